@@ -7,7 +7,7 @@ use Rattle.std.specs.List.{concat, AllByRecursion}
 use Rattle.arena.specs.Lists.{times, is_on, without, first_of, behind_in, numbers_from}
 use Rattle.arena.specs.Linked.{Linked, list_at}
 use Rattle.arena.specs.Row.{Row, capacity_of, value_at, holds_value, is_lent, listed, moved, after_put, after_lend, after_take, after_move, after_restore, restore_answer, empty_row}
-use Rattle.arena.specs.Kept.{row_of, ArenaRule, free_in, chains_in}
+use Rattle.arena.specs.Invariant.{row_of, ArenaRule, free_in, chains_in}
 use Rattle.arena.proofs.Times.{times-append, times-cons_is, without-absent, without_all-absent, length-once, length-numbers}
 use Rattle.arena.proofs.Behind.{behind_in-nowhere}
 use Rattle.arena.proofs.Parts.{parted-put, parted-lend, parted-take, parted-move, parted-restore, held-not_free, parted-from, times-tail}

@@ -3,4 +3,4 @@ pub mod Lists
 pub mod Row
 pub mod Lends
 pub mod Linked
-pub mod Kept
+pub mod Invariant

@@ -35,7 +35,7 @@ impl<T> Model for Arena<T> {
 
     ghost coded = { row_code T.code };
 
-    ghost use Rattle.arena.specs.Kept.{row_of, ArenaRule};
+    ghost use Rattle.arena.specs.Invariant.{row_of, ArenaRule};
 
     ghost view = { λ a. row_of a.values.items a.links };
 

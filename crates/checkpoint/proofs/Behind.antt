@@ -14,7 +14,7 @@ use Rattle.image.specs.Image.{read}
 use Rattle.image.proofs.Walk.{read_is_good}
 use Rattle.oplog.specs.Front.{chain, front}
 use Rattle.device_map.specs.Layout.{device_size, image, layout_of, other, part_bytes}
-use Rattle.oplog.specs.Stands.{named_area, run}
+use Rattle.oplog.specs.Recovery.{named_area, run}
 use Rattle.meaning.specs.State.{State}
 
 -- the image of a device, where it is one
@@ -29,7 +29,7 @@ image_fine g number now is_image long are some =
 -- by the records behind those of the named half
 pub refused_behind : (g : Geometry) (c : List ℕ) (n : ℕ) (x : State) → NamedHolds g c n true x → refused g c ≡ records_fault g x (other n) (front (layout_of g) (other n) c)
 refused_behind g c n x is =
-    past_chain g c is.header is.whole n is.named is.sound is.first is.said is.one ∙ named_sound g is.first n c x is.ran
+    past_chain g c is.header is.whole n is.named is.sound is.first is.decoded is.one ∙ named_sound g is.first n c x is.ran
     ∙ ap (λ (t : Bool). behind g is.first n c t (Some x)) (sym is.chain)
 
 none_behind : (g : Geometry) (h : ℕ) (o : Option State) → fault_or_later (BadRecord h) (first_bad_record g 0 o []) None ≡ None
@@ -39,7 +39,7 @@ none_behind g h (Some x) = refl
 -- by the records of the named half, where there are none behind
 pub refused_alone : (g : Geometry) (c : List ℕ) (n : ℕ) (x : State) → HasHeader g c → device_size (layout_of g) ≤ length c → n ≡ named_area (layout_of g) c → are_chained (layout_of g) c ≡ false → image_fault g (part_bytes (layout_of g) (image n) c) ≡ None
     → read g (part_bytes (layout_of g) (image n) c) ≡ Some x → (chain (layout_of g) n c == 1) ≡ false → refused g c ≡ records_fault g x n (front (layout_of g) n c)
-refused_alone g c n x head long named one good said shut =
-    past_chain g c head long n named good x said one
+refused_alone g c n x head long named one good decoded shut =
+    past_chain g c head long n named good x decoded one
     ∙ ap (λ (t : Bool). fault_or_later (BadRecord n) (first_bad_record g 0 (Some x) (front (layout_of g) n c)) (behind g x n c t (run (means g) (Some x) (front (layout_of g) n c)))) shut
     ∙ ap (λ (o : Option OpenFault). fault_or_later (BadRecord n) (first_bad_record g 0 (Some x) (front (layout_of g) n c)) o) (none_behind g (other n) (run (means g) (Some x) (front (layout_of g) n c)))

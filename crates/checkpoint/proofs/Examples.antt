@@ -64,9 +64,9 @@ summary_of (Some x) = Some (reply_to small x AskSummary)
 abbrev summary_with : List ℕ → Option Reply
 summary_with bytes = summary_of (holds small bytes)
 
-stands_for_nothing : summary_with formatted ≡ Some (Summary 0 0 0)
+recovers_for_nothing : summary_with formatted ≡ Some (Summary 0 0 0)
 unfolding image_size message_in_fields kind_numbered data_of
-stands_for_nothing = refl
+recovers_for_nothing = refl
 
 other_root_bytes_name_area_0 : summary_with (changed 64 7 formatted) ≡ Some (Summary 0 0 0)
 unfolding image_size message_in_fields kind_numbered data_of

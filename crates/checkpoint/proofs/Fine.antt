@@ -1,4 +1,4 @@
--- A device that stands for a state isn't refused.
+-- A device that recovers to a state isn't refused.
 use Rattle.std.proofs.Common.{◌≡◌, ⊎_elim, ℕ, ◌<◌, ◌≤◌, ◌==◌, ◌&&◌, ◌++◌, cond, nat_le, not, Bool, true, false, List, length, Option, Some, None, is_some, refl, sym, ◌∙◌, ap, subst}
 use Rattle.std.specs.Prelude.{if◌then◌else◌}
 use Rattle.std.proofs.lemmas.Bool.{and_parts, cases_Bool, cond-true, cond-false, leb-true, not-true}
@@ -15,7 +15,7 @@ use Rattle.disk.specs.Device.{AreBytes}
 use Rattle.image.specs.Image.{read}
 use Rattle.oplog.specs.Front.{chain, front}
 use Rattle.device_map.specs.Layout.{Layout, layout_of, device_size, header, image, other, part_bytes}
-use Rattle.oplog.specs.Stands.{in_force, is_laid_out, named_area, run}
+use Rattle.oplog.specs.Recovery.{in_force, is_laid_out, named_area, run}
 use Rattle.oplog.proofs.Kept.{named_area-below, run-append}
 use Rattle.meaning.specs.State.{State}
 
@@ -24,7 +24,7 @@ some_before : (g : Geometry) (o : Option State) (rs : List (List ℕ)) (x : Stat
 some_before g None rs x ran = cc
 some_before g (Some y) rs x ran = (y, refl)
 
-module _ (g : Geometry) (c : List ℕ) (x : State) (are : AreBytes c) (stood : holds g c ≡ Some x) where
+module _ (g : Geometry) (c : List ℕ) (x : State) (are : AreBytes c) (recovered_before : holds g c ≡ Some x) where
   abbrev l : Layout
   l = layout_of g
 
@@ -32,7 +32,7 @@ module _ (g : Geometry) (c : List ℕ) (x : State) (are : AreBytes c) (stood : h
   n = named_area l c
 
   laid : is_laid_out (means g) l c ≡ true
-  laid = laid_where (is_laid_out (means g) l c) _ x stood
+  laid = laid_where (is_laid_out (means g) l c) _ x recovered_before
 
   tests : ((is_header g (part_bytes l header c) && nat_le (device_size l) (length c)) ≡ true) × (not (are_chained l c) ≡ true)
   tests = and_parts (is_header g (part_bytes l header c) && nat_le (device_size l) (length c)) (not (are_chained l c)) laid
@@ -47,7 +47,7 @@ module _ (g : Geometry) (c : List ℕ) (x : State) (are : AreBytes c) (stood : h
   one = not-true (are_chained l c) tests.1
 
   ran : run (means g) (read g (part_bytes l (image n) c)) (in_force l n c) ≡ Some x
-  ran = sym (cond-true (is_laid_out (means g) l c) (run (means g) (read g (part_bytes l (image n) c)) (in_force l n c)) None laid) ∙ stood
+  ran = sym (cond-true (is_laid_out (means g) l c) (run (means g) (read g (part_bytes l (image n) c)) (in_force l n c)) None laid) ∙ recovered_before
 
   first : (y : State) × (read g (part_bytes l (image n) c) ≡ Some y)
   first = some_before g (read g (part_bytes l (image n) c)) (in_force l n c) x ran

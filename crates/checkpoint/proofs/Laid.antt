@@ -1,4 +1,4 @@
--- What stands on a device that is laid out, and what it stands for once its gate is open.
+-- What stands on a device that is laid out, and what it recovers to once its gate is open.
 use Rattle.std.proofs.Common.{◌≡◌, ◌≢◌, ◌⊎◌, ℕ, zero, suc, ◌+◌, ◌-◌, ◌<◌, ◌≤◌, Bool, true, ◌&&◌, not, cond, eqb, List, [], ◌∷◌, ◌++◌, length, take, drop, get_or, replicate, Option, Some, None, inl, inr, ⊎_elim, refl, sym, ◌∙◌, ap, subst, arith}
 use Rattle.std.specs.Prelude.{nat_le, if◌then◌else◌}
 use Rattle.std.proofs.lemmas.Slice.Eq.{bytes_eq-Decides}
@@ -17,7 +17,7 @@ use Rattle.image.specs.Image.{image_of, read, version_in}
 use Rattle.image.proofs.Reading.{read_again}
 use Rattle.oplog.specs.Front.{chain, front, gates, open_gates, rows}
 use Rattle.device_map.specs.Layout.{Layout, slice, layout_of, part_bytes, part_at, device_size, half, half_size, header, image, image_size}
-use Rattle.oplog.specs.Stands.{named_area, in_force, is_laid_out, run, stands_as}
+use Rattle.oplog.specs.Recovery.{named_area, in_force, is_laid_out, run, recovers_as}
 use Rattle.oplog.proofs.Slices.{slice_slice}
 use Rattle.meaning.specs.State.{State, empty}
 use Rattle.meaning.proofs.Kept.{empty_is_state}
@@ -88,7 +88,7 @@ module _ (g : Geometry) (c : List ℕ) (laid : IsLaid g c) where
   in_force_none : in_force l 0 c ≡ []
   in_force_none = ap (λ (b : ℕ). cond (eqb b 1) (front l 0 c ++ front l 1 c) (front l 0 c)) no_chain_0 ∙ no_front
 
--- Behind its header, an empty device stands for the empty state once its gate is open.
+-- Behind its header, an empty device recovers to the empty state once its gate is open.
 pub holds_empty : (g : Geometry) (c : List ℕ) → device_size (layout_of g) ≤ length c → IsHeaded g c → get_or c 0 0 ≡ 1 → holds g c ≡ Some empty
 holds_empty g c long headed is_open =
     let l : Layout = layout_of g in
@@ -97,7 +97,7 @@ holds_empty g c long headed is_open =
     let whole : nat_le (device_size l) (length c) ≡ true = le-leb (device_size l) (length c) long in
     let one_chain : not (eqb (chain l 0 c) 1 && eqb (chain l 1 c) 1) ≡ true = ap (λ (b : ℕ). not (eqb b 1 && eqb (chain l 1 c) 1)) (no_chain_0 g c laid) in
     let laid_out : is_laid_out (means g) l c ≡ true = (λ i. head i && whole i && one_chain i) in
-    ap (λ (n : ℕ). stands_as (means g) l n c) (names_0 g c laid)
+    ap (λ (n : ℕ). recovers_as (means g) l n c) (names_0 g c laid)
     ∙ ap (λ (t : Bool). if t then run (means g) (read g (part_bytes l (image 0) c)) (in_force l 0 c) else None) laid_out
     ∙ ap (λ (bytes : List ℕ). run (means g) (read g bytes) (in_force l 0 c)) (image_there g c laid)
     ∙ ap (λ (x : Option State). run (means g) x (in_force l 0 c)) (read_again g empty (empty_is_state g))
@@ -130,7 +130,7 @@ headed g c bytes are long laid = record {
   header = subst (λ (l : List ℕ). Has (overlaid c 1 bytes) 1 l) are (has_put c 1 bytes (omega (arith, long, ap (λ (l : List ℕ). length l) are)));
 }
 
--- The gate is opened behind a whole header: whatever a crash leaves of it, the device is shut or stands for the empty state.
+-- The gate is opened behind a whole header: whatever a crash leaves of it, the device is shut or recovers to the empty state.
 pub torn_open : (g : Geometry) (c torn : List ℕ) → device_size (layout_of g) ≤ length c → IsHeaded g c → SameOutside 0 1 c torn → IsShut (length c) torn ⊎ (holds g torn ≡ Some empty)
 torn_open g c torn long headed same =
     ⊎_elim

@@ -1,4 +1,4 @@
--- A device that stands for a state has the header of one geometry.
+-- A device that recovers to a state has the header of one geometry.
 use Rattle.std.proofs.Common.{◌≡◌, ◌&&◌, nat_le, length, ℕ, zero, suc, Bool, true, false, cond, List, [], take, drop, Option, Some, None, refl, sym, ◌∙◌, arith}
 use Rattle.std.proofs.lemmas.Slice.Eq.{bytes_eq-Decides}
 use Rattle.affinity.specs.declared.geometry.Geometry.{Geometry}
@@ -9,7 +9,7 @@ use Rattle.checkpoint.specs.Header.{HasHeader, header_of, is_header}
 use Rattle.checkpoint.specs.Recovery.{holds, means}
 use Rattle.checkpoint.proofs.Heads.{numbers_there, two_bytes}
 use Rattle.device_map.specs.Layout.{device_size, header, layout_of, part_bytes}
-use Rattle.oplog.specs.Stands.{is_laid_out}
+use Rattle.oplog.specs.Recovery.{is_laid_out}
 use Rattle.meaning.specs.State.{State}
 
 numbers_again : (g : Geometry) → IsRead little_number 2 (take 16 (drop 8 (header_of g))) (numbers_of g)

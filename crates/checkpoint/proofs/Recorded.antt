@@ -8,7 +8,7 @@ use Rattle.affinity.specs.declared.geometry.Geometry.{Geometry}
 use Rattle.affinity.specs.Kind.{is_changing}
 use Rattle.checkpoint.specs.declared.fault.OpenFault.TheVariants as faults
 use Rattle.checkpoint.specs.Loading.{IsFaultOfBytes, fault_of_log, record_fault}
-use Rattle.checkpoint.specs.Recovery.{apply, apply_said, is_record_there}
+use Rattle.checkpoint.specs.Recovery.{apply, apply_decoded, is_record_there}
 use Rattle.checkpoint.specs.Refusals.{fault_if}
 use Rattle.disk.specs.Device.{AreBytes}
 use Rattle.messages.specs.declared.Msg.{Msg}
@@ -31,26 +31,26 @@ not_done _ differs = refl
 
 -- of a message that is logged
 module _ (g : Geometry) (x : State) (m : Msg) (bytes : List ℕ) (whole : IsMessage m) (logged : IsLogged g m) (are : bytes ≡ record_of m) where
-  said : apply g x bytes ≡ apply_said g x bytes (Some m)
-  said = ap (λ (o : Option Msg). apply_said g x bytes o) (ap message_in_fields are ∙ record_says g m whole logged.1)
+  decoded : apply g x bytes ≡ apply_decoded g x bytes (Some m)
+  decoded = ap (λ (o : Option Msg). apply_decoded g x bytes o) (ap message_in_fields are ∙ record_says g m whole logged.1)
 
   -- that is carried out
   pub carried : reply_to g x m ≡ Done → apply g x bytes ≡ Some (next_state g x m)
   carried done =
       let same : bytes_eq bytes (record_of m) ≡ true = (bytes_eq-Decides bytes (record_of m)).1 are in
-      said ∙ (λ i. if same i && logged.1 i && (logged.0 i && is_done (done i)) then Some (next_state g x m) else None)
+      decoded ∙ (λ i. if same i && logged.1 i && (logged.0 i && is_done (done i)) then Some (next_state g x m) else None)
 
   -- that isn't
   pub not_carried : (reply_to g x m ≡ Done → ⊥) → apply g x bytes ≡ None
   not_carried differs =
-      said ∙ ap (λ (b : Bool). if b then Some (next_state g x m) else None)
+      decoded ∙ ap (λ (b : Bool). if b then Some (next_state g x m) else None)
       (and_right (bytes_eq bytes (record_of m) && is_in_range g m) (is_loggable m (reply_to g x m)) (and_right (is_changing (kind m)) (is_done (reply_to g x m)) (not_done (reply_to g x m) differs)))
 
 -- of bytes that are the record of no message that is logged
 pub no_record : (g : Geometry) (x : State) (bytes : List ℕ) → length bytes ≡ 520 → AreBytes bytes → IsNoRecord g bytes → apply g x bytes ≡ None
 no_record g x bytes size are none = by (message_in_fields bytes) refl
   where
-    by : (o : Option Msg) → message_in_fields bytes ≡ o → apply_said g x bytes o ≡ None
+    by : (o : Option Msg) → message_in_fields bytes ≡ o → apply_decoded g x bytes o ≡ None
     by None is = refl
     by (Some m) is =
         ap (λ (b : Bool). if b then Some (next_state g x m) else None)

@@ -1,4 +1,4 @@
--- One test after another, and what a device stands for that passes all of them.
+-- One test after another, and what a device recovers to that passes all of them.
 use Rattle.std.proofs.Common.{◌≡◌, ◌≢◌, ℕ, zero, suc, ◌+◌, ◌<◌, ◌≤◌, Bool, true, false, not, ◌&&◌, ◌==◌, List, [], ◌∷◌, ◌++◌, length, Option, Some, None, is_some, Result, Ok, Err, IfErr, inr, refl, sym, ◌∙◌, ap, subst, arith, length-append}
 use Rattle.std.specs.Prelude.{if◌then◌else◌, nat_le, nat_lt}
 use Rattle.std.proofs.lemmas.Bool.{and_left, and_right, cond-false, cond-true, le-leb, le-ltb}
@@ -18,7 +18,7 @@ use Rattle.image.specs.Image.{has_head, read, version_in}
 use Rattle.messages.specs.declared.Msg.TheVariants.{Summary}
 use Rattle.oplog.specs.Front.{chain, front}
 use Rattle.device_map.specs.Layout.{Layout, layout_of, device_size, header, image, other, part_bytes}
-use Rattle.oplog.specs.Stands.{in_force, is_laid_out, named_area, run}
+use Rattle.oplog.specs.Recovery.{in_force, is_laid_out, named_area, run}
 use Rattle.oplog.proofs.Kept.{run-append}
 use Rattle.parcel.specs.Tree.{state_in}
 use Rattle.meaning.specs.Serial.{reply_to}
@@ -180,10 +180,10 @@ module _ (g : Geometry) (c : List ℕ) (head : HasHeader g c) (long : device_siz
         (fault_from _ _ (λ f it. past_image ∙ first_if (are_chained (layout_of g) c) BadChain (records_of n (read g bytes)) f it) e is)
 
     -- and no more than one half is chained
-    module _ (x : State) (said : read g bytes ≡ Some x) (one : are_chained (layout_of g) c ≡ false) where
+    module _ (x : State) (decoded : read g bytes ≡ Some x) (one : are_chained (layout_of g) c ≡ false) where
       pub past_chain : refused g c ≡ in_force_fault g x n c
       unfolding tests_of behind_image records_of
-      past_chain = past_image ∙ cond-false (are_chained (layout_of g) c) (Some BadChain) (records_of n (read g bytes)) one ∙ ap (λ (o : Option State). records_of n o) said
+      past_chain = past_image ∙ cond-false (are_chained (layout_of g) c) (Some BadChain) (records_of n (read g bytes)) one ∙ ap (λ (o : Option State). records_of n o) decoded
 
       pub records_refused : (e : OpenFault) → IsFaultOfBytes (in_force_fault g x n c) e → IsRefused c e
       records_refused e is = refused_with g c head enough e (fault_from _ _ (λ f it. past_chain ∙ it) e is)
@@ -191,14 +191,14 @@ module _ (g : Geometry) (c : List ℕ) (head : HasHeader g c) (long : device_siz
       pub not_refused : in_force_fault g x n c ≡ None → refused g c ≡ None
       not_refused is = past_chain ∙ is
 
-      pub stands_for : (y : State) → run (means g) (Some x) (in_force (layout_of g) n c) ≡ Some y → holds g c ≡ Some y
-      stands_for y ran =
+      pub recovers_for : (y : State) → run (means g) (Some x) (in_force (layout_of g) n c) ≡ Some y → holds g c ≡ Some y
+      recovers_for y ran =
           let is_head : is_header g (part_bytes (layout_of g) header c) ≡ true = (bytes_eq-Decides (part_bytes (layout_of g) header c) (header_of g)).1 head in
           let whole : nat_le (device_size (layout_of g)) (length c) ≡ true = le-leb (device_size (layout_of g)) (length c) long in
           let laid_out : is_laid_out (means g) (layout_of g) c ≡ true = λ i. is_head i && whole i && not (one i) in
           ap (λ (k : ℕ). if is_laid_out (means g) (layout_of g) c then run (means g) (read g (part_bytes (layout_of g) (image k) c)) (in_force (layout_of g) k c) else None) (sym names)
           ∙ ap (λ (t : Bool). if t then run (means g) (read g bytes) (in_force (layout_of g) n c) else None) laid_out
-          ∙ ap (λ (o : Option State). run (means g) o (in_force (layout_of g) n c)) said ∙ ran
+          ∙ ap (λ (o : Option State). run (means g) o (in_force (layout_of g) n c)) decoded ∙ ran
 
 -- ---- what is told of it
 

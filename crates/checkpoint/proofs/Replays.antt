@@ -12,7 +12,7 @@ use Rattle.disk.specs.Device.{Medium, Moment, moments}
 use Rattle.oplog.specs.Front.{front, record_at}
 use Rattle.device_map.specs.Layout.{Layout}
 use Rattle.oplog.specs.Log.{Log, layout}
-use Rattle.oplog.specs.Stands.{run}
+use Rattle.oplog.specs.Recovery.{run}
 use Rattle.oplog.proofs.Reading.{front_record}
 use Rattle.meaning.specs.State.{State}
 

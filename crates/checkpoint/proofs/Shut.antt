@@ -4,8 +4,8 @@ use Rattle.std.proofs.lemmas.Bool.{cases_eq}
 use Rattle.std.proofs.lemmas.List.{get_or-take}
 use Rattle.checkpoint.specs.Formatting.{IsShut, IsShutNow}
 use Rattle.checkpoint.specs.Refusals.{IsUnformatted}
-use Rattle.disk.specs.Device.{AreBytes, Medium, Leaves, IsSynced, SameOutside, synced}
-use Rattle.disk.specs.Moments.{LeavesOnly}
+use Rattle.disk.specs.Device.{AreBytes, Medium, IsCrashImage, IsSynced, SameOutside, synced}
+use Rattle.disk.specs.Moments.{CrashImagesAre}
 use Rattle.disk.proofs.Leaves.{calm_left, itself}
 use Rattle.disk.proofs.Moments.{started, then, weaker}
 use Rattle.disk.proofs.Outside.{same_item}
@@ -28,7 +28,7 @@ torn_gate old c was same =
     (λ (shut : get_or c 0 0 ≢ 1). inr (record { size = same.size; gate = shut }))
     (cases_eq (get_or c 0 0) 1)
 
--- what a crash may leave of a device of which nothing is loose, and whose first byte is not 1
+-- what a crash may leave of a device of which nothing is unsynced, and whose first byte is not 1
 pub calm_shut : (n : ℕ) (m : Medium) → IsSynced m → length m.now ≡ n → get_or m.now 0 0 ≢ 1 → IsShutNow n m
 calm_shut n m calm long shut c left =
     let is : c ≡ m.now = calm_left m c calm left in
@@ -42,8 +42,8 @@ stored_shut n w0 w1 some long stored =
 
 -- While an open gate is shut, behind a sync: the old device, or a shut one.
 pub shutting : (w0 w1 w2 : Medium) → AreBytes w0.now → IsSynced w1 → w1.now ≡ w0.now → get_or w1.now 0 0 ≡ 1
-    → LeavesOnly w0 w1 (λ c. Leaves w0 c ⊎ IsShut (length w0.now) c) → ChangesOnly w1 w2 (SameOutside 0 1)
-    → LeavesOnly w0 w2 (λ c. Leaves w0 c ⊎ IsShut (length w0.now) c)
+    → CrashImagesAre w0 w1 (λ c. IsCrashImage w0 c ⊎ IsShut (length w0.now) c) → ChangesOnly w1 w2 (SameOutside 0 1)
+    → CrashImagesAre w0 w2 (λ c. IsCrashImage w0 c ⊎ IsShut (length w0.now) c)
 shutting w0 w1 w2 are calm kept was begun moments =
     then w0 w1 w2 _ begun
     (weaker w1 w2 _ _ moments
@@ -51,12 +51,12 @@ shutting w0 w1 w2 are calm kept was begun moments =
     let is : after.old ≡ w0.now = calm_left w1 after.old calm after.left ∙ kept in
     let change = subst (λ (l : List ℕ). SameOutside 0 1 l c) is after.change in
     ⊎_elim
-    (λ (same : c ≡ w0.now). inl (subst (λ (l : List ℕ). Leaves w0 l) (sym same) (itself w0.now w0.loose are)))
+    (λ (same : c ≡ w0.now). inl (subst (λ (l : List ℕ). IsCrashImage w0 l) (sym same) (itself w0.now w0.unsynced are)))
     (λ (shut : IsShut (length w0.now) c). inr shut)
     (torn_gate w0.now c (sym (ap (λ (l : List ℕ). get_or l 0 0) kept) ∙ was) change)))
 
 -- What is written behind the gate of a shut device leaves it shut.
-pub still_shut : (n : ℕ) (w0 w1 : Medium) (at k : ℕ) → 1 ≤ at → IsShutNow n w0 → ChangesOnly w0 w1 (SameOutside at k) → LeavesOnly w0 w1 (IsShut n)
+pub still_shut : (n : ℕ) (w0 w1 : Medium) (at k : ℕ) → 1 ≤ at → IsShutNow n w0 → ChangesOnly w0 w1 (SameOutside at k) → CrashImagesAre w0 w1 (IsShut n)
 still_shut n w0 w1 at k behind shut moments =
     weaker w0 w1 _ _ moments
     (λ c after.
@@ -68,7 +68,7 @@ shut_unformatted n c long shut =
     (omega (arith, long, shut.size), λ marks. shut.gate (sym (get_or-take 8 c 0 0 (omega arith)) ∙ ap (λ (l : List ℕ). get_or l 0 0) marks))
 
 -- before the first call
-pub begun : (m : Medium) → LeavesOnly m m (λ c. Leaves m c ⊎ IsShut (length m.now) c)
+pub begun : (m : Medium) → CrashImagesAre m m (λ c. IsCrashImage m c ⊎ IsShut (length m.now) c)
 begun m = started m _ (λ c left. inl left)
 
 -- what one read of the first byte tells

@@ -11,7 +11,7 @@ use Rattle.checkpoint.specs.Loading.{IsFaultOfBytes}
 use Rattle.checkpoint.specs.Refusals.{fault_or_later, first_bad, first_bad_piece}
 use Rattle.disk.specs.Device.{AreBytes}
 use Rattle.disk.proofs.Bytes.{bytes-range, bytes_by_recursion}
-use Rattle.image.specs.Image.{AreGood, has_head, is_good, is_version, piece_in, read, said_before, version_in}
+use Rattle.image.specs.Image.{AreGood, has_head, is_good, is_version, piece_in, read, decoded_before, version_in}
 use Rattle.image.specs.Pieces.{aggregate_of, block_in, part_of, piece_at, piece_count, piece_of, piece_size, volume_of, volume_piece_number, with_part, with_piece}
 use Rattle.image.proofs.Joining.{piece_inside, whole_image}
 use Rattle.image.proofs.Numbers.{number_there}
@@ -61,11 +61,11 @@ module _ (version : ℕ) (g : Geometry) (n : ℕ) (x : State) (bytes : List ℕ)
 -- ---- one piece
 
 module _ (g : Geometry) (bytes : List ℕ) (version n : ℕ) (ver : version ≡ version_in bytes) (below : n < piece_count g)
-    (x : State) (so_far : x ≡ said_before (version_in bytes) g bytes n) (out : List ℕ) (there : out ≡ piece_in g bytes n) where
-  pub said_next : with_piece version g x n out ≡ said_before (version_in bytes) g bytes (n + 1)
-  said_next = (λ i. with_piece (ver i) g (so_far i) n (there i)) ∙ ap (λ (k : ℕ). said_before (version_in bytes) g bytes k) (sym (add-one n))
+    (x : State) (so_far : x ≡ decoded_before (version_in bytes) g bytes n) (out : List ℕ) (there : out ≡ piece_in g bytes n) where
+  pub decoded_next : with_piece version g x n out ≡ decoded_before (version_in bytes) g bytes (n + 1)
+  decoded_next = (λ i. with_piece (ver i) g (so_far i) n (there i)) ∙ ap (λ (k : ℕ). decoded_before (version_in bytes) g bytes k) (sym (add-one n))
 
-  spelled : piece_of version g (with_piece version g x n out) n ≡ piece_of (version_in bytes) g (said_before (version_in bytes) g bytes (suc n)) n
+  spelled : piece_of version g (with_piece version g x n out) n ≡ piece_of (version_in bytes) g (decoded_before (version_in bytes) g bytes (suc n)) n
   spelled = λ i. piece_of (ver i) g (with_piece (ver i) g (so_far i) n (there i)) n
 
   pub is_good_here : out ≡ piece_of version g (with_piece version g x n out) n → is_good g bytes n ≡ true
@@ -139,25 +139,25 @@ module _ (g h : Geometry) (same : h ≡ g) (number n at size : ℕ) (buffer : Li
       omega (arith, place, its_size, length-take size buffer, room, is, more)
 
 module _ (g h : Geometry) (same : h ≡ g) (bytes : List ℕ) (version n : ℕ) (ver : version ≡ version_in bytes) (below : n < piece_count g)
-    (x : State) (so_far : x ≡ said_before (version_in bytes) g bytes n) (out : List ℕ) (there : out ≡ piece_in g bytes n) where
-  pub good_turn : out ≡ piece_of version h (with_piece version h x n out) n → AreGood g bytes n → AreGood g bytes (n + 1)
-  good_turn here good =
+    (x : State) (so_far : x ≡ decoded_before (version_in bytes) g bytes n) (out : List ℕ) (there : out ≡ piece_in g bytes n) where
+  pub good_queued : out ≡ piece_of version h (with_piece version h x n out) n → AreGood g bytes n → AreGood g bytes (n + 1)
+  good_queued here good =
       good_next g bytes n good (is_good_here g bytes version n ver below x so_far out there (subst (λ (k : Geometry). out ≡ piece_of version k (with_piece version k x n out) n) same here))
 
-  pub said_turn : (y : State) → y ≡ with_piece version h x n out → y ≡ said_before (version_in bytes) g bytes (n + 1)
-  said_turn y is = is ∙ ap (λ (k : Geometry). with_piece version k x n out) same ∙ said_next g bytes version n ver below x so_far out there
+  pub decoded_turn : (y : State) → y ≡ with_piece version h x n out → y ≡ decoded_before (version_in bytes) g bytes (n + 1)
+  decoded_turn y is = is ∙ ap (λ (k : Geometry). with_piece version k x n out) same ∙ decoded_next g bytes version n ver below x so_far out there
 
-  pub bad_turn : (out ≡ piece_of version h (with_piece version h x n out) n → false ≡ true) → AreGood g bytes n → (e : OpenFault) → e ≡ BadPiece n
+  pub bad_queued : (out ≡ piece_of version h (with_piece version h x n out) n → false ≡ true) → AreGood g bytes n → (e : OpenFault) → e ≡ BadPiece n
       → IsFaultOfBytes (fault_or_later BadPiece (first_bad_piece g bytes) None) e
-  bad_turn bad good e is =
+  bad_queued bad good e is =
       subst (λ (f : OpenFault). IsFaultOfBytes (fault_or_later BadPiece (first_bad_piece g bytes) None) f) (sym is)
       (ap (λ (o : Option ℕ). fault_or_later BadPiece o None)
       (bad_piece g bytes n below good
       (is_bad_here g bytes version n ver below x so_far out there
       (λ here. false≢true (bad (subst (λ (k : Geometry). out ≡ piece_of version k (with_piece version k x n out) n) (sym same) here))))))
 
-pub free_turn : (version : ℕ) (g h : Geometry) → h ≡ g → (n : ℕ) (x y : State) (out : List ℕ) → y ≡ with_piece version h x n out → AreFree g n x → AreFree g (n + 1) y
-free_turn version g h same n x y out is before =
+pub free_queued : (version : ℕ) (g h : Geometry) → h ≡ g → (n : ℕ) (x y : State) (out : List ℕ) → y ≡ with_piece version h x n out → AreFree g n x → AreFree g (n + 1) y
+free_queued version g h same n x y out is before =
     subst (λ (z : State). AreFree g (n + 1) z) (sym (is ∙ ap (λ (k : Geometry). with_piece version k x n out) same)) (free_next version g n x out before)
 
 -- ---- the whole image
@@ -174,12 +174,12 @@ image_bytes g number now is_image long are =
 
 pub all_read : (g : Geometry) (number : ℕ) (now : List ℕ) → number < 2 → device_size (layout_of g) ≤ length now → AreBytes now
     → has_head (part_bytes (layout_of g) (image number) now) ≡ true → (n : ℕ) → n ≡ piece_count g → (x : State)
-    → x ≡ said_before (version_in (part_bytes (layout_of g) (image number) now)) g (part_bytes (layout_of g) (image number) now) n
+    → x ≡ decoded_before (version_in (part_bytes (layout_of g) (image number) now)) g (part_bytes (layout_of g) (image number) now) n
     → AreGood g (part_bytes (layout_of g) (image number) now) n → read g (part_bytes (layout_of g) (image number) now) ≡ Some x
-all_read g number now is_image long are head n all x said good =
+all_read g number now is_image long are head n all x decoded good =
     let bytes = part_bytes (layout_of g) (image number) now in
     good_is_read g bytes (image_bytes g number now is_image long are) head (subst (λ (k : ℕ). AreGood g bytes k) all good)
-    ∙ ap (λ (y : State). Some y) (sym (said ∙ ap (λ (k : ℕ). said_before (version_in bytes) g bytes k) all))
+    ∙ ap (λ (y : State). Some y) (sym (decoded ∙ ap (λ (k : ℕ). decoded_before (version_in bytes) g bytes k) all))
 
 -- ---- a piece of either version
 

@@ -4,13 +4,13 @@ use Rattle.affinity.specs.declared.geometry.Geometry.{Geometry}
 use Rattle.checkpoint.specs.Header.{header_of}
 use Rattle.checkpoint.specs.Recovery.{holds}
 use Rattle.checkpoint.specs.Refusals.{IsUnformatted}
-use Rattle.disk.specs.Device.{Medium, Leaves}
+use Rattle.disk.specs.Device.{Medium, IsCrashImage}
 use Rattle.device_map.specs.Layout.{slice, layout_of, part_at, half, image, image_size}
 use Rattle.meaning.specs.State.{empty}
 
--- What a crash before might have left, what isn't formatted, or a sound device that stands for the empty state.
-abbrev pub FormatLeaves : Geometry → Medium → List ℕ → Type 0
-FormatLeaves g before c = Leaves before c ⊎ (IsUnformatted c ⊎ (holds g c ≡ Some empty))
+-- What a crash before might have left, what isn't formatted, or a sound device that recovers to the empty state.
+abbrev pub FormatCrashImages : Geometry → Medium → List ℕ → Type 0
+FormatCrashImages g before c = IsCrashImage before c ⊎ (IsUnformatted c ⊎ (holds g c ≡ Some empty))
 
 -- n bytes, the first of them not 1
 pub record IsShut (n : ℕ) (c : List ℕ) : Type 0 where
@@ -19,7 +19,7 @@ pub record IsShut (n : ℕ) (c : List ℕ) : Type 0 where
 
 -- so is whatever a crash leaves now
 abbrev pub IsShutNow : ℕ → Medium → Type 0
-IsShutNow n m = (c : List ℕ) → Leaves m c → IsShut n c
+IsShutNow n m = (c : List ℕ) → IsCrashImage m c → IsShut n c
 
 -- These bytes stand there.
 abbrev pub Has : List ℕ → ℕ → List ℕ → Type 0

@@ -12,7 +12,7 @@ use Rattle.oplog.specs.declared.fault.LogFault.{LogFault}
 use Rattle.oplog.specs.declared.fault.LogFault.TheVariants as log
 use Rattle.oplog.specs.Front.{chain, front}
 use Rattle.device_map.specs.Layout.{Layout, device_size, image, layout_of, other, part_bytes}
-use Rattle.oplog.specs.Stands.{named_area, run}
+use Rattle.oplog.specs.Recovery.{named_area, run}
 use Rattle.meaning.specs.State.{State}
 
 -- A call adds one to the count of the device's failures exactly where it answers `Device`.
@@ -88,5 +88,5 @@ pub record NamedHolds (g : Geometry) (c : List ℕ) (area : ℕ) (chained : Bool
   pub one : are_chained (layout_of g) c ≡ false
   pub sound : image_fault g (part_bytes (layout_of g) (image area) c) ≡ None
   pub first : State
-  pub said : read g (part_bytes (layout_of g) (image area) c) ≡ Some first
+  pub decoded : read g (part_bytes (layout_of g) (image area) c) ≡ Some first
   pub ran : run (means g) (Some first) (front (layout_of g) area c) ≡ Some x

@@ -1,4 +1,4 @@
--- What a device stands for: the state of its named image, with the records in force run on it.
+-- What a device recovers to: the state of its named image, with the records in force run on it.
 use Rattle.std.specs.Prelude.{ℕ, Bool, ◌&&◌, if◌then◌else◌, List, Option, Some, None}
 use Rattle.std.specs.Str.{bytes_eq}
 use Rattle.affinity.specs.declared.geometry.Geometry.{Geometry}
@@ -8,7 +8,7 @@ use Rattle.messages.specs.declared.Msg.{Msg}
 use Rattle.messages.specs.Messages.{is_in_range}
 use Rattle.message.specs.Records.{message_in_fields, record_of}
 use Rattle.device_map.specs.Layout.{layout_of}
-use Rattle.oplog.specs.Stands.{Meaning, stands}
+use Rattle.oplog.specs.Recovery.{Meaning, recovers}
 use Rattle.meaning.specs.Serial.{is_loggable, next_state, reply_to}
 use Rattle.meaning.specs.State.{State}
 
@@ -16,18 +16,18 @@ use Rattle.meaning.specs.State.{State}
 abbrev pub is_record_there : Geometry → State → List ℕ → Msg → Bool
 is_record_there g x bytes m = bytes_eq bytes (record_of m) && is_in_range g m && is_loggable m (reply_to g x m)
 
-abbrev pub apply_said : Geometry → State → List ℕ → Option Msg → Option State
-apply_said g x bytes None = None
-apply_said g x bytes (Some m) = if is_record_there g x bytes m then Some (next_state g x m) else None
+abbrev pub apply_decoded : Geometry → State → List ℕ → Option Msg → Option State
+apply_decoded g x bytes None = None
+apply_decoded g x bytes (Some m) = if is_record_there g x bytes m then Some (next_state g x m) else None
 
 -- what becomes of a state by the record with these bytes; none where they are no record that can stand there
 abbrev pub apply : Geometry → State → List ℕ → Option State
-apply g x bytes = apply_said g x bytes (message_in_fields bytes)
+apply g x bytes = apply_decoded g x bytes (message_in_fields bytes)
 
 -- what images, records and headers mean
 abbrev pub means : Geometry → Meaning State
 means g = record { read = read g; apply = apply g; is_header = is_header g }
 
--- the state that a device of this geometry stands for; none where it isn't sound
+-- the state that a device of this geometry recovers to; none where it isn't sound
 abbrev pub holds : Geometry → List ℕ → Option State
-holds g c = stands (means g) (layout_of g) c
+holds g c = recovers (means g) (layout_of g) c

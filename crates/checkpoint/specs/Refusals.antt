@@ -9,7 +9,7 @@ use Rattle.image.specs.Image.{has_head, is_good, read}
 use Rattle.image.specs.Pieces.{piece_count}
 use Rattle.oplog.specs.Front.{chain, front}
 use Rattle.device_map.specs.Layout.{layout_of, part_bytes, device_size, image, other}
-use Rattle.oplog.specs.Stands.{named_area, run}
+use Rattle.oplog.specs.Recovery.{named_area, run}
 use Rattle.meaning.specs.State.{State}
 
 -- the least of n numbers from i on that fails

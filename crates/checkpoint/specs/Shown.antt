@@ -8,12 +8,12 @@ use Rattle.checkpoint.specs.Refusals.{refused}
 use Rattle.image.specs.Image.{version_in}
 use Rattle.messages.specs.declared.Msg.TheVariants.{Summary}
 use Rattle.device_map.specs.Layout.{layout_of, image, part_bytes}
-use Rattle.oplog.specs.Stands.{in_force, named_area}
+use Rattle.oplog.specs.Recovery.{in_force, named_area}
 use Rattle.parcel.specs.Tree.{state_in}
 use Rattle.meaning.specs.Serial.{reply_to}
 use Rattle.meaning.specs.State.{State}
 
--- All was loaded from a device with these bytes, which isn't refused: the tree has the state that it stands for.
+-- All was loaded from a device with these bytes, which isn't refused: the tree has the state that it recovers to.
 pub record IsLoaded (c : List ℕ) (l : Loaded) : Type 0 where
   pub header : HasHeader l.tree.geometry c
   pub sound : refused l.tree.geometry c ≡ None
@@ -30,7 +30,7 @@ pub record ShowsLoaded (l : Loaded) (s : Shown) : Type 0 where
   pub version : s.version ≡ l.version
   pub summary : s.summary ≡ reply_to l.tree.geometry (state_in l.tree) Summary
 
--- This is what a device with these bytes holds: it isn't refused, and stands for a state of which the summary is told.
+-- This is what a device with these bytes holds: it isn't refused, and recovers to a state of which the summary is told.
 pub record IsShown (c : List ℕ) (s : Shown) : Type 0 where
   -- the numbers are those of its header
   pub header : HasHeader s.geometry c

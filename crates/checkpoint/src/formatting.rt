@@ -4,11 +4,11 @@
 //! leaves the old device, or one whose gate is shut, or the whole new one.
 ghost use Rattle.std.specs.Prelude.{◌≡◌, ◌≢◌, ◌⊎◌, ◌↔◌, ◌+◌, ◌-◌, ◌<◌, ◌≤◌, Some, length, replicate, OnOk, IfOk, IfErr, MatchResult, IsErrOf, IsFalse, IsTrue};
 ghost use Rattle.affinity.specs.declared.geometry.Geometry.{Geometry};
-ghost use Rattle.checkpoint.specs.Formatting.{FormatLeaves, IsLaid, IsShut, IsShutNow};
+ghost use Rattle.checkpoint.specs.Formatting.{FormatCrashImages, IsLaid, IsShut, IsShutNow};
 ghost use Rattle.checkpoint.specs.Recovery.{holds};
 ghost use Rattle.checkpoint.specs.Version.{named_version};
-ghost use Rattle.disk.specs.Device.{IsDeviceCall, IsSynced, Leaves, SameOutside, overlaid};
-ghost use Rattle.disk.specs.Moments.{LeavesOnly};
+ghost use Rattle.disk.specs.Device.{IsDeviceCall, IsSynced, IsCrashImage, SameOutside, overlaid};
+ghost use Rattle.disk.specs.Moments.{CrashImagesAre};
 ghost use Rattle.oplog.specs.Beyond.{KeepsBeyond};
 ghost use Rattle.oplog.specs.Changes.{ChangesOnly};
 ghost use Rattle.device_map.specs.Layout.{Layout, device_size, layout_of};
@@ -70,8 +70,8 @@ fn is_open(gate: u8) -> bool
 /// it might open the gate of a device that was shut.
 fn shut_gate<D: Disk>(disk: &mut D) -> Result<(), DiskFault>
     requires { 0 < length (D.medium disk.old).now }
-    ensures any_moment { D.keeps → LeavesOnly (D.medium disk.old) (D.medium disk.new)
-        (λ c. Leaves (D.medium disk.old) c ⊎ IsShut (length (D.medium disk.old).now) c) }
+    ensures any_moment { D.keeps → CrashImagesAre (D.medium disk.old) (D.medium disk.new)
+        (λ c. IsCrashImage (D.medium disk.old) c ⊎ IsShut (length (D.medium disk.old).now) c) }
     ensures shut { OnOk result (D.keeps →
         IsShutNow (length (D.medium disk.old).now) (D.medium disk.new)) }
     ensures beyond { D.keeps → (l : Layout) → KeepsBeyond l (D.medium disk.old) (D.medium disk.new) }
@@ -112,9 +112,9 @@ fn open_gate<D: Disk>(disk: &mut D, g: &Geometry) -> Result<(), DiskFault>
     requires whole { device_size (layout_of g.now) ≤ length (D.medium disk.old).now }
     requires shut { D.keeps → IsShutNow (length (D.medium disk.old).now) (D.medium disk.old) }
     requires laid { D.keeps → IsLaid g.now (D.medium disk.old).now }
-    ensures any_moment { D.keeps → LeavesOnly (D.medium disk.old) (D.medium disk.new)
+    ensures any_moment { D.keeps → CrashImagesAre (D.medium disk.old) (D.medium disk.new)
         (λ c. IsShut (length (D.medium disk.old).now) c ⊎ (holds g.now c ≡ Some empty)) }
-    ensures stands { OnOk result (D.keeps → holds g.now (D.medium disk.new).now ≡ Some empty) }
+    ensures recovers { OnOk result (D.keeps → holds g.now (D.medium disk.new).now ≡ Some empty) }
     ensures version { OnOk result (D.keeps → named_version g.now (D.medium disk.new).now ≡ 2) }
     ensures beyond { D.keeps → KeepsBeyond (layout_of g.now) (D.medium disk.old) (D.medium disk.new) }
     ensures synced { OnOk result (D.keeps → IsSynced (D.medium disk.new)) }
@@ -132,9 +132,9 @@ fn format_on<D: Disk>(disk: &mut D, zeros: &[u8], g: &Geometry) -> Result<(), Di
     requires zeros { zeros.now ≡ replicate (length zeros.now) 0 }
     requires some { 0 < length zeros.now }
     requires whole { device_size (layout_of g.now) ≤ length (D.medium disk.old).now }
-    ensures any_moment { D.keeps → LeavesOnly (D.medium disk.old) (D.medium disk.new)
-        (FormatLeaves g.now (D.medium disk.old)) }
-    ensures stands { OnOk result (D.keeps → holds g.now (D.medium disk.new).now ≡ Some empty) }
+    ensures any_moment { D.keeps → CrashImagesAre (D.medium disk.old) (D.medium disk.new)
+        (FormatCrashImages g.now (D.medium disk.old)) }
+    ensures recovers { OnOk result (D.keeps → holds g.now (D.medium disk.new).now ≡ Some empty) }
     ensures version { OnOk result (D.keeps → named_version g.now (D.medium disk.new).now ≡ 2) }
     ensures beyond { D.keeps → KeepsBeyond (layout_of g.now) (D.medium disk.old) (D.medium disk.new) }
     ensures synced { OnOk result (D.keeps → IsSynced (D.medium disk.new)) }
@@ -146,14 +146,14 @@ fn format_on<D: Disk>(disk: &mut D, zeros: &[u8], g: &Geometry) -> Result<(), Di
     open_gate(disk, g)
 }
 
-/// Makes a device of this geometry that stands for the empty state, and hands it back with nothing
-/// loose. A crash at any moment of the call leaves what a crash before it could leave, or a device
+/// Makes a device of this geometry that recovers to the empty state, and hands it back with nothing
+/// unsynced. A crash at any moment of the call leaves what a crash before it could leave, or a device
 /// that isn't formatted, or the new device.
 ///
 /// `TooShort` exactly where the device is shorter than `device_len`, and `OutOfMemory` where there is
 /// no memory: then no call of the device was made. `Device` exactly where the device failed.
 pub fn format<D: Disk>(alloc: Global, d: D, g: Geometry) -> Result<D, FormatError<D>>
-    ensures stands { IfOk result (λ r. D.keeps → holds g (D.medium r).now ≡ Some empty) }
+    ensures recovers { IfOk result (λ r. D.keeps → holds g (D.medium r).now ≡ Some empty) }
     ensures version { IfOk result (λ r. D.keeps → named_version g (D.medium r).now ≡ 2) }
 
     // What a longer device has behind its parts stays, also in what a crash leaves.
@@ -162,8 +162,8 @@ pub fn format<D: Disk>(alloc: Global, d: D, g: Geometry) -> Result<D, FormatErro
         (λ e. KeepsBeyond (layout_of g) (D.medium d) (D.medium e.disk)) }
     ensures synced { IfOk result (λ r. D.keeps → IsSynced (D.medium r)) }
     ensures any_moment { D.keeps → MatchResult result
-        (λ r. LeavesOnly (D.medium d) (D.medium r) (FormatLeaves g (D.medium d)))
-        (λ e. LeavesOnly (D.medium d) (D.medium e.disk) (FormatLeaves g (D.medium d))) }
+        (λ r. CrashImagesAre (D.medium d) (D.medium r) (FormatCrashImages g (D.medium d)))
+        (λ e. CrashImagesAre (D.medium d) (D.medium e.disk) (FormatCrashImages g (D.medium d))) }
     ensures long { IfOk result (λ r. device_size (layout_of g) ≤ length (D.medium d).now) }
     ensures short { IfErr result (λ e. e.fault ≡ FormatFault.TooShort
         ↔ length (D.medium d).now < device_size (layout_of g)) }

@@ -22,7 +22,7 @@ pub struct Shown {
     pub area: usize,
     /// How many records are in force.
     pub records: usize,
-    /// What `summary` is answered in the state that the device stands for.
+    /// What `summary` is answered in the state that the device recovers to.
     pub summary: Reply,
     /// The version of the named image.
     pub version: u8,

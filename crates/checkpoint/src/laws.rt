@@ -7,7 +7,7 @@ ghost use Rattle.checkpoint.specs.Refusals.{refused};
 ghost use Rattle.disk.specs.Device.{AreBytes};
 ghost use Rattle.meaning.specs.State.{State};
 
-/// A device that stands for a state isn't refused.
-pub fn a_device_that_stands_is_not_refused()
+/// A device that recovers to a state isn't refused.
+pub fn a_device_that_recovers_is_not_refused()
     ensures { (g : Geometry) (c : List ℕ) (x : State) → AreBytes c → holds g c ≡ Some x → (HasHeader g c) × (refused g c ≡ None) }
 {}

@@ -1,4 +1,4 @@
-//! What a device stands for, how one is made, and what one holds.
+//! What a device recovers to, how one is made, and what one holds.
 //!
 //! A device holds the state of its named image with the records in force run on it; `specs/Recovery.antt` says so of
 //! its bytes, and `specs/Refusals.antt` says which devices are refused and why. `format` makes a device that stands
@@ -10,7 +10,7 @@
 mod fault;
 mod formatting;
 mod header;
-mod heading;
+mod header_and_root;
 mod imaging;
 mod inspecting;
 pub mod laws;

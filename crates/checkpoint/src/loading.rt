@@ -12,13 +12,13 @@ ghost use Rattle.oplog.specs.Calls.{HasParts};
 ghost use Rattle.oplog.specs.Front.{chain, front};
 ghost use Rattle.device_map.specs.Layout.{device_size, image, layout_of, part_bytes};
 ghost use Rattle.oplog.specs.Log.{layout, new_log, renamed};
-ghost use Rattle.oplog.specs.Stands.{in_force, named_area, run};
+ghost use Rattle.oplog.specs.Recovery.{in_force, named_area, run};
 ghost use Rattle.parcel.specs.Tree.{IsWholeTree, state_in};
 ghost use Rattle.meaning.specs.State.{empty};
 
 use crate::OpenFault;
-use crate::heading::named_area;
-pub use crate::heading::read_header;
+use crate::header_and_root::named_area;
+pub use crate::header_and_root::read_header;
 use crate::imaging::read_pieces;
 use crate::reading::{is_chained, version_of};
 pub use crate::replaying::replay;
@@ -32,7 +32,7 @@ use std::alloc::Global;
 /// What was loaded from a device.
 #[derive(Drop)]
 pub(crate) struct Loaded {
-    /// The state that the device stands for.
+    /// The state that the device recovers to.
     pub tree: Tree,
     /// The log, with the named half for the current one and no room.
     pub log: Halves,

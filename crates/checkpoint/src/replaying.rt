@@ -7,7 +7,7 @@ ghost use Rattle.disk.specs.Device.{moments};
 ghost use Rattle.oplog.specs.Calls.{HasFront, HasParts};
 ghost use Rattle.oplog.specs.Front.{front, record_at};
 ghost use Rattle.oplog.specs.Log.{layout};
-ghost use Rattle.oplog.specs.Stands.{run};
+ghost use Rattle.oplog.specs.Recovery.{run};
 ghost use Rattle.parcel.specs.Tree.{IsWholeTree, state_in};
 
 use crate::OpenFault;

@@ -18,15 +18,15 @@ use Rattle.disk.specs.declared.fault.FileFault.TheVariants as file
 use Rattle.commands.specs.Calls.{Ends, EndsFormat, EndsHelp, EndsPlain, EndsRefused, EndsServe, EndsShow, status_at, status_of_refusal}
 use Rattle.commands.specs.Services.{AsksServe, with_few_workers}
 use Rattle.commands.specs.Faults.{status_of}
-use Rattle.words.proofs.Asking.{no_mistake, two_names}
-use Rattle.words.proofs.Options.{in_range}
-use Rattle.words.specs.Words.{Asks, AsksFormat, AsksNoService, AsksPlain, AsksShow, IsReason, command_of}
+use Rattle.arguments.proofs.Asking.{no_mistake, two_names}
+use Rattle.arguments.proofs.Options.{in_range}
+use Rattle.arguments.specs.Arguments.{Asks, AsksFormat, AsksNoService, AsksPlain, AsksShow, IsReason, command_of}
 use Rattle.commands.specs.declared.faults.Fault.{Fault}
 use Rattle.commands.specs.declared.faults.Fault.TheVariants.{Read, Write, GeometryOutOfRange, OutOfMemory, Device, NoWorkers, NoTicketLeft, Format as ByFormat, Open as ByOpen}
-use Rattle.words.specs.declared.words.WordRefusal.{WordRefusal}
-use Rattle.words.specs.declared.words.WordRefusal.TheVariants as refusal
-use Rattle.words.specs.declared.words.Request.{Request}
-use Rattle.words.specs.declared.words.Request.TheVariants.{Help, Plain, Format, Show, Serve}
+use Rattle.arguments.specs.declared.parsing.WordRefusal.{WordRefusal}
+use Rattle.arguments.specs.declared.parsing.WordRefusal.TheVariants as refusal
+use Rattle.arguments.specs.declared.parsing.Request.{Request}
+use Rattle.arguments.specs.declared.parsing.Request.TheVariants.{Help, Plain, Format, Show, Serve}
 
 -- ---- words that ask for no service
 

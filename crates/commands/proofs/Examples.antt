@@ -7,7 +7,7 @@ use Rattle.messages.specs.declared.Reply.TheVariants.{Summary}
 use Rattle.device_map.specs.Layout.{image_size}
 use Rattle.commands.specs.Lines.{formatted_line, shown_lines}
 use Rattle.commands.specs.Services.{AsksServe, with_few_workers}
-use Rattle.words.proofs.Examples as given
+use Rattle.arguments.proofs.Examples as given
 
 small_is_formatted : formatted_line small ≡ codes "formatted 8840" ++ 10 ∷ []
 unfolding image_size digits

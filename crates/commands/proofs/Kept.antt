@@ -2,21 +2,21 @@
 use Rattle.std.proofs.Common.{ℕ, List, [], ◌++◌, map, Option, subst}
 use Rattle.std.specs.Prelude.{Result, Ok, Err}
 use Rattle.checkpoint.proofs.Fine.{fine, head}
-use Rattle.disk.specs.Device.{Leaves, Medium}
+use Rattle.disk.specs.Device.{IsCrashImage, Medium}
 use Rattle.legal_runs.specs.Events.{loggable}
 use Rattle.legal_runs.specs.Runs.{went}
 use Rattle.runs.specs.Machine.{machine_of}
 use Rattle.runs.specs.Stages.{events_of}
 use Rattle.meaning.specs.Serial.{fold}
-use Rattle.serving.proofs.Told.{holds_all, written_are_kept}
-use Rattle.serving.specs.Ends.{HasServed, settled_in}
-use Rattle.serving.specs.Lines.{asked, text, ticketed}
-use Rattle.serving.specs.Told.{AreKept, HoldsLog}
+use Rattle.serving.proofs.Logged.{holds_all, written_are_kept}
+use Rattle.serving.specs.Ends.{HasServed, committed_in}
+use Rattle.serving.specs.Lines.{admitted, text, ticketed}
+use Rattle.serving.specs.Logged.{AreInLog, HoldsLog}
 use Rattle.serving.specs.declared.server.ServeFault.{ServeFault}
 use Rattle.serving.specs.declared.server.ServeFault.TheVariants as faults
 use Rattle.commands.proofs.OnDevice.{is_idle}
-use Rattle.commands.specs.Faults.{as_told}
-use Rattle.commands.specs.Kept.{HoldsWhatWasTold, KeepsWhatWasTold, UnlessUntold}
+use Rattle.commands.specs.Faults.{as_fault}
+use Rattle.commands.specs.Acknowledged.{HoldsAcknowledged, KeepsAcknowledged, UnlessUnsent}
 use Rattle.commands.specs.Serving.{HasServedBy, machine_at_start}
 use Rattle.commands.specs.declared.faults.Fault.{Fault}
 use Rattle.commands.specs.declared.faults.Fault.TheVariants as ends
@@ -24,54 +24,54 @@ use Rattle.commands.specs.declared.service.Service.{Service}
 
 module _ (keeps : Type 0) (s : Service) (old new : Medium) (end : Result (Unit {0}) ServeFault) (input left before written : Option (List ℕ))
     (h : HasServedBy keeps s old new end input left before written) where
-  held : (row : _) → HasServed keeps (machine_at_start s h.start) h.now row input before written → keeps → (c : List ℕ) → Leaves new c
-      → HoldsWhatWasTold old input before written c
+  held : (row : _) → HasServed keeps (machine_at_start s h.start) h.now row input before written → keeps → (c : List ℕ) → IsCrashImage new c
+      → HoldsAcknowledged old input before written c
   held row served keep c leaves =
       let g = h.start.geometry in
-      let x = settled_in h.start in
+      let x = committed_in h.start in
       let log = went (machine_of (machine_at_start s h.start)) (events_of served.stages) in
       let idle = is_idle s.slots h.start h.fresh in
-      let on_device : HoldsLog g x (ticketed 0 (asked g served.taken)) log c =
-      subst (λ (t : ℕ). HoldsLog g x (ticketed t (asked g served.taken)) log c) h.fresh.next
+      let on_device : HoldsLog g x (ticketed 0 (admitted g served.taken)) log c =
+      subst (λ (t : ℕ). HoldsLog g x (ticketed t (admitted g served.taken)) log c) h.fresh.next
       (holds_all keeps (machine_at_start s h.start) h.now input served.taken served.stages idle h.fresh.no_doubt served.run keep c
-      (subst (λ (m : Medium). Leaves m c) h.given_back leaves)) in
+      (subst (λ (m : Medium). IsCrashImage m c) h.given_back leaves)) in
       let state = fold g x (loggable (log ++ on_device.more)) in
       record {
         geometry = g;
         start = x;
-        stood = record { header = λ _. h.header keep; stood = λ _. h.stood keep };
+        recovered_before = record { header = λ _. h.header keep; recovered_before = λ _. h.recovered_before keep };
         taken = served.taken;
         first = served.run.first;
-        told = map text served.said;
+        sent = map text served.retired;
         output = served.output;
         log = log;
-        kept = subst (λ (t : ℕ). AreKept g log t served.taken (map text served.said)) h.fresh.next
+        kept = subst (λ (t : ℕ). AreInLog g log t served.taken (map text served.retired)) h.fresh.next
             (written_are_kept keeps (machine_at_start s h.start) h.now row input before written idle served);
         holds = on_device;
-        header = head g c state leaves.bytes on_device.stands;
-        not_refused = fine g c state leaves.bytes on_device.stands;
+        header = head g c state leaves.bytes on_device.recovers;
+        not_refused = fine g c state leaves.bytes on_device.recovers;
       }
 
 -- whatever the end
-pub keeps_what_was_told : (keeps : Type 0) (s : Service) (old new : Medium) (end : Result (Unit {0}) ServeFault) (input left before written : Option (List ℕ))
-    → HasServedBy keeps s old new end input left before written → KeepsWhatWasTold keeps old new (as_told end) input before written
-keeps_what_was_told keeps s old new (Ok _) input left before written h =
+pub keeps_acknowledged : (keeps : Type 0) (s : Service) (old new : Medium) (end : Result (Unit {0}) ServeFault) (input left before written : Option (List ℕ))
+    → HasServedBy keeps s old new end input left before written → KeepsAcknowledged keeps old new (as_fault end) input before written
+keeps_acknowledged keeps s old new (Ok _) input left before written h =
     held keeps s old new (Ok tt) input left before written h [] h.served.run.served
-keeps_what_was_told keeps s old new (Err faults.Device) input left before written h =
+keeps_acknowledged keeps s old new (Err faults.Device) input left before written h =
     held keeps s old new (Err faults.Device) input left before written h h.served.run.0 h.served.run.1
-keeps_what_was_told keeps s old new (Err faults.Write) input left before written h = tt
-keeps_what_was_told keeps s old new (Err faults.Read) input left before written h =
+keeps_acknowledged keeps s old new (Err faults.Write) input left before written h = tt
+keeps_acknowledged keeps s old new (Err faults.Read) input left before written h =
     held keeps s old new (Err faults.Read) input left before written h [] h.served.run
-keeps_what_was_told keeps s old new (Err faults.Exhausted) input left before written h =
+keeps_acknowledged keeps s old new (Err faults.Exhausted) input left before written h =
     held keeps s old new (Err faults.Exhausted) input left before written h [] h.served.run
-keeps_what_was_told keeps s old new (Err faults.NoWorkers) input left before written h =
+keeps_acknowledged keeps s old new (Err faults.NoWorkers) input left before written h =
     held keeps s old new (Err faults.NoWorkers) input left before written h [] h.served.run
-keeps_what_was_told keeps s old new (Err faults.OutOfMemory) input left before written h =
+keeps_acknowledged keeps s old new (Err faults.OutOfMemory) input left before written h =
     held keeps s old new (Err faults.OutOfMemory) input left before written h [] h.served.run
 
 -- what follows of what is so follows of it at each end
 pub told_so : {P Q : Type 0} (end : Result (Unit {0}) Fault) (before written : Option (List ℕ)) → (P → Q)
-    → UnlessUntold end before written P → UnlessUntold end before written Q
+    → UnlessUnsent end before written P → UnlessUnsent end before written Q
 told_so (Err ends.Write) before written f k = tt
 told_so (Err (ends.Open fault)) before written f k = k
 told_so (Ok _) before written f k = f k

@@ -6,23 +6,23 @@ use Rattle.affinity.specs.declared.geometry.Geometry.{Geometry}
 use Rattle.checkpoint.specs.Header.{HasHeader}
 use Rattle.checkpoint.specs.Recovery.{holds}
 use Rattle.disk.proofs.Leaves.{itself}
-use Rattle.disk.specs.Device.{AreBytes, Leaves, Medium}
-use Rattle.journal.specs.Opening.{OpeningLeaves}
+use Rattle.disk.specs.Device.{AreBytes, IsCrashImage, Medium}
+use Rattle.journal.specs.Opening.{OpeningCrashImages}
 use Rattle.legal_runs.specs.Laws.{IsIdle}
 use Rattle.runs.specs.Stages.{Stage}
 use Rattle.meaning.specs.Serial.{fold}
 use Rattle.messages.specs.declared.Msg.{Msg}
-use Rattle.scheduler.specs.Kept.{IsJustOpened, CoreView, StandsNow, world_of}
-use Rattle.serving.specs.Ends.{HasRunLines, settled_in}
+use Rattle.scheduler.specs.CoreView.{IsJustOpened, CoreView, RecoversNow, core_state_of}
+use Rattle.serving.specs.Ends.{HasRunLines, committed_in}
 use Rattle.serving.specs.Serve.{HasEmptyLog, ServesSo}
 use Rattle.serving.specs.declared.server.ServeFault.{ServeFault}
 use Rattle.serving.specs.declared.server.ServeFault.TheVariants as faults
-use Rattle.commands.specs.Faults.{as_told}
-use Rattle.commands.specs.Serving.{EndsOnDevice, HasLived, HasNoRecords, HasServedBy, HasServedNothing, IsLife, StandsFor, StoodFor, Went, machine_at_start, run_behind}
+use Rattle.commands.specs.Faults.{as_fault}
+use Rattle.commands.specs.Serving.{EndsOnDevice, CrashesSafely, HasNoRecords, HasServedBy, HasServedNothing, IsIncarnation, RecoversFor, RecoveredTo, Went, machine_at_start, run_behind}
 use Rattle.commands.specs.declared.service.Service.{Service}
 
 -- no message is in a core that was just opened
-pub is_idle : (slots : ℕ) (c : CoreView) → IsJustOpened slots c → IsIdle (world_of c)
+pub is_idle : (slots : ℕ) (c : CoreView) → IsJustOpened slots c → IsIdle (core_state_of c)
 is_idle slots c just = record { none_waits = just.none_waits; none_held = rw (just.none_logged, just.none_ran, just.none_out) refl }
 
 -- ---- the run
@@ -30,37 +30,37 @@ is_idle slots c just = record { none_waits = just.none_waits; none_held = rw (ju
 -- what is known of the core before and after
 module _ (keeps : Type 0) (s : Service) (old : Medium) (start now : CoreView) (end : Result (Unit {0}) ServeFault)
     (input left before written : Option (List ℕ)) where
-  pub is_life : IsJustOpened s.slots start → (keeps → HasHeader start.geometry old.now) → (keeps → holds start.geometry old.now ≡ Some (settled_in start))
+  pub is_incarnation : IsJustOpened s.slots start → (keeps → HasHeader start.geometry old.now) → (keeps → holds start.geometry old.now ≡ Some (committed_in start))
       → (taken : List (List ℕ)) (stages : List Stage) → HasRunLines keeps (machine_at_start s start) now input taken stages → keeps
-      → IsLife s start old now.medium stages
-  is_life fresh header stood taken stages run keep = λ k within. record {
+      → IsIncarnation s start old now.medium stages
+  is_incarnation fresh header recovered_before taken stages run keep = λ k within. record {
     header = header keep;
-    stood = stood keep;
+    recovered_before = recovered_before keep;
     idle = is_idle s.slots start fresh;
     legal = run.legal;
     crash = λ c left. run.crash keep k c within left;
   }
 
   abbrev pub has_served_by : IsJustOpened s.slots start → (keeps → HasHeader start.geometry old.now)
-      → (keeps → holds start.geometry old.now ≡ Some (settled_in start)) → (keeps → OpeningLeaves old start.medium)
+      → (keeps → holds start.geometry old.now ≡ Some (committed_in start)) → (keeps → OpeningCrashImages old start.medium)
       → ServesSo keeps s.workers start (now, end) input left before written
-      → (keeps → StandsNow now) → HasServedBy keeps s old now.medium end input left before written
-  has_served_by fresh header stood opening served leaves = record {
+      → (keeps → RecoversNow now) → HasServedBy keeps s old now.medium end input left before written
+  has_served_by fresh header recovered_before opening served leaves = record {
     start = start;
     now = now;
     fresh = fresh;
     header = header;
-    stood = stood;
+    recovered_before = recovered_before;
     opening = opening;
     served = served;
     leaves = leaves;
     given_back = refl;
-    life = let behind = run_behind keeps (machine_at_start s start) now input before written end served.run in is_life fresh header stood behind.0 behind.1 behind.2;
+    incarnation = let behind = run_behind keeps (machine_at_start s start) now input before written end served.run in is_incarnation fresh header recovered_before behind.0 behind.1 behind.2;
   }
 
 -- such a service is one that has lived
 pub has_lived : (keeps : Type 0) (s : Service) (old new : Medium) (end : Result (Unit {0}) ServeFault) (input left before written : Option (List ℕ))
-    → HasServedBy keeps s old new end input left before written → HasLived keeps s old new (as_told end) input left before written
+    → HasServedBy keeps s old new end input left before written → CrashesSafely keeps s old new (as_fault end) input left before written
 has_lived keeps s old new (Ok _) input left before written h = (Ok tt, refl, h)
 has_lived keeps s old new (Err faults.NoWorkers) input left before written h = (Err faults.NoWorkers, refl, h)
 has_lived keeps s old new (Err faults.Read) input left before written h = (Err faults.Read, refl, h)
@@ -69,21 +69,21 @@ has_lived keeps s old new (Err faults.Device) input left before written h = (Err
 has_lived keeps s old new (Err faults.OutOfMemory) input left before written h = (Err faults.OutOfMemory, refl, h)
 has_lived keeps s old new (Err faults.Exhausted) input left before written h = (Err faults.Exhausted, refl, h)
 
--- ---- what the device stands for
+-- ---- what the device recovers to
 
--- a core that has not failed: its device stands for what is settled
-stands_for : (keeps : Type 0) (now : CoreView) → now.doubt ≡ [] → (keeps → StandsNow now) → AreBytes now.medium.now
-    → StandsFor keeps now.medium now.geometry (settled_in now)
-stands_for keeps now none leaves bytes = record {
-  now = λ k. one k now.medium.now (itself now.medium.now now.medium.loose bytes);
+-- a core that has not failed: its device recovers to what is committed
+recovers_for : (keeps : Type 0) (now : CoreView) → now.doubt ≡ [] → (keeps → RecoversNow now) → AreBytes now.medium.now
+    → RecoversFor keeps now.medium now.geometry (committed_in now)
+recovers_for keeps now none leaves bytes = record {
+  now = λ k. one k now.medium.now (itself now.medium.now now.medium.unsynced bytes);
   each = one;
 }
   where
-    one : keeps → (c : List ℕ) → Leaves now.medium c → holds now.geometry c ≡ Some (settled_in now)
+    one : keeps → (c : List ℕ) → IsCrashImage now.medium c → holds now.geometry c ≡ Some (committed_in now)
     one k c left =
         let some = leaves k c left in
         let nothing : take some.added now.doubt ≡ [] = rw none (take_all some.added [] (omega arith)) in
-        some.is ∙ ap (λ (ms : List Msg). Some (fold now.geometry (settled_in now) ms)) nothing
+        some.is ∙ ap (λ (ms : List Msg). Some (fold now.geometry (committed_in now) ms)) nothing
 
 -- ---- each end, in the words of the serial server
 
@@ -94,32 +94,32 @@ no_records now g new same back none = rw (back, ← same) none
 module _ (keeps : Type 0) (s : Service) (old new : Medium) (end : Result (Unit {0}) ServeFault) (input left before written : Option (List ℕ))
     (h : HasServedBy keeps s old new end input left before written) (no_doubt : h.now.failed ≡ false → h.now.doubt ≡ [])
     (bytes : AreBytes new.now) where
-  abbrev stood_for : StoodFor keeps old h.start.geometry (settled_in h.start)
-  stood_for = record { header = h.header; stood = h.stood }
+  abbrev recovered_to : RecoveredTo keeps old h.start.geometry (committed_in h.start)
+  recovered_to = record { header = h.header; recovered_before = h.recovered_before }
 
-  stands_so : h.now.geometry ≡ h.start.geometry → h.now.failed ≡ false → StandsFor keeps new h.start.geometry (settled_in h.now)
-  stands_so same works =
-      let own = stands_for keeps h.now (no_doubt works) h.leaves (subst (λ (m : Medium). AreBytes m.now) h.given_back bytes) in
-      subst (λ (m : Medium). StandsFor keeps m h.start.geometry (settled_in h.now)) (sym h.given_back)
-      (subst (λ (g : Geometry). StandsFor keeps h.now.medium g (settled_in h.now)) same own)
+  recovers_so : h.now.geometry ≡ h.start.geometry → h.now.failed ≡ false → RecoversFor keeps new h.start.geometry (committed_in h.now)
+  recovers_so same works =
+      let own = recovers_for keeps h.now (no_doubt works) h.leaves (subst (λ (m : Medium). AreBytes m.now) h.given_back bytes) in
+      subst (λ (m : Medium). RecoversFor keeps m h.start.geometry (committed_in h.now)) (sym h.given_back)
+      (subst (λ (g : Geometry). RecoversFor keeps h.now.medium g (committed_in h.now)) same own)
 
   abbrev went : h.now.geometry ≡ h.start.geometry → h.now.failed ≡ false → Went keeps old new
   went same works = record {
     geometry = h.start.geometry;
-    start = settled_in h.start;
-    end = settled_in h.now;
-    before = stood_for;
-    after = stands_so same works;
+    start = committed_in h.start;
+    end = committed_in h.now;
+    before = recovered_to;
+    after = recovers_so same works;
   }
 
   served_nothing : h.now ≡ h.start → left ≡ input → written ≡ before → HasServedNothing keeps old new input left before written
   served_nothing same unread unwritten =
-      (went (ap (λ (c : CoreView). c.geometry) same) (ap (λ (c : CoreView). c.failed) same ∙ h.fresh.works), ap settled_in same, unread, unwritten)
+      (went (ap (λ (c : CoreView). c.geometry) same) (ap (λ (c : CoreView). c.failed) same ∙ h.fresh.works), ap committed_in same, unread, unwritten)
 
 -- what a service says of each of its ends
 pub ends_on_device : (keeps : Type 0) (s : Service) (old new : Medium) (end : Result (Unit {0}) ServeFault) (input left before written : Option (List ℕ))
     → (h : HasServedBy keeps s old new end input left before written) → (h.now.failed ≡ false → h.now.doubt ≡ []) → AreBytes new.now
-    → EndsOnDevice keeps s old new (as_told end) input left before written
+    → EndsOnDevice keeps s old new (as_fault end) input left before written
 ends_on_device keeps s old new (Ok _) input left before written h no_doubt bytes =
     let same = h.served.run.served.run.geometry in (
       h.served.no_workers,
@@ -135,9 +135,9 @@ ends_on_device keeps s old new (Err faults.Read) input left before written h no_
 ends_on_device keeps s old new (Err faults.Exhausted) input left before written h no_doubt bytes =
     (h.served.no_workers, (went keeps s old new (Err faults.Exhausted) input left before written h no_doubt bytes h.served.run.run.geometry h.served.ends.1, h.served.ends.3))
 ends_on_device keeps s old new (Err faults.Device) input left before written h no_doubt bytes =
-    (h.served.no_workers, (h.start.geometry, settled_in h.start, stood_for keeps s old new (Err faults.Device) input left before written h no_doubt bytes, h.served.ends.2))
+    (h.served.no_workers, (h.start.geometry, committed_in h.start, recovered_to keeps s old new (Err faults.Device) input left before written h no_doubt bytes, h.served.ends.2))
 ends_on_device keeps s old new (Err faults.Write) input left before written h no_doubt bytes =
-    (h.served.no_workers, (h.start.geometry, settled_in h.start, stood_for keeps s old new (Err faults.Write) input left before written h no_doubt bytes))
+    (h.served.no_workers, (h.start.geometry, committed_in h.start, recovered_to keeps s old new (Err faults.Write) input left before written h no_doubt bytes))
 ends_on_device keeps s old new (Err faults.NoWorkers) input left before written h no_doubt bytes =
     (h.served.no_workers, served_nothing keeps s old new (Err faults.NoWorkers) input left before written h no_doubt bytes h.served.ends.0 h.served.ends.1 h.served.ends.2)
 ends_on_device keeps s old new (Err faults.OutOfMemory) input left before written h no_doubt bytes =

@@ -9,11 +9,11 @@ use Rattle.checkpoint.proofs.OneGeometry.{one_geometry}
 use Rattle.checkpoint.specs.Recovery.{holds}
 use Rattle.disk.proofs.Leaves.{calm_left}
 use Rattle.disk.proofs.Moments.{counts_now}
-use Rattle.disk.specs.Device.{IsSynced, Leaves, Medium}
+use Rattle.disk.specs.Device.{IsSynced, IsCrashImage, Medium}
 use Rattle.disk.specs.Memory.{Memory}
 use Rattle.disk.specs.Moments.{left_since, moment}
 use Rattle.disk.specs.declared.torn.Torn.{Torn}
-use Rattle.journal.specs.Opening.{IsPastSync, OpeningLeaves, StandsAs}
+use Rattle.journal.specs.Opening.{IsPastSync, OpeningCrashImages, RecoversAs}
 use Rattle.legal_runs.specs.Events.{loggable}
 use Rattle.legal_runs.specs.Runs.{went}
 use Rattle.runs.specs.Machine.{machine_of}
@@ -21,20 +21,20 @@ use Rattle.runs.specs.Stages.{events_of}
 use Rattle.meaning.specs.Output.{WritesOutput, serial_out}
 use Rattle.meaning.specs.Serial.{fold}
 use Rattle.meaning.specs.State.{State, empty}
-use Rattle.serving.proofs.Recovering.{none_written, stands_recovered}
-use Rattle.serving.proofs.Told.{holds_all}
-use Rattle.serving.specs.Ends.{settled_in}
-use Rattle.serving.specs.Lines.{asked, ticketed}
-use Rattle.serving.specs.Restart.{RecoversTo, StandsRecovered}
-use Rattle.serving.specs.Told.{HoldsLog}
+use Rattle.serving.proofs.Recovering.{none_written, bytes_recover}
+use Rattle.serving.proofs.Logged.{holds_all}
+use Rattle.serving.specs.Ends.{committed_in}
+use Rattle.serving.specs.Lines.{admitted, ticketed}
+use Rattle.serving.specs.Restart.{RecoversTo, BytesRecover}
+use Rattle.serving.specs.Logged.{HoldsLog}
 use Rattle.serving.specs.declared.server.ServeFault.{ServeFault}
 use Rattle.serving.specs.declared.server.ServeFault.TheVariants as faults
-use Rattle.commands.proofs.Kept.{keeps_what_was_told}
+use Rattle.commands.proofs.Kept.{keeps_acknowledged}
 use Rattle.commands.proofs.OnDevice.{is_idle}
-use Rattle.commands.specs.Faults.{as_told}
-use Rattle.commands.specs.Kept.{HoldsWhatWasTold}
+use Rattle.commands.specs.Faults.{as_fault}
+use Rattle.commands.specs.Acknowledged.{HoldsAcknowledged}
 use Rattle.commands.specs.Promise.{GoesOn, HoldsRecovered, LeavesRecovered, UnlessUnopened, unless_unsent}
-use Rattle.commands.specs.Serving.{EndsOnDevice, HasLived, HasServedBy, HasServedUntilCrash, StoodFor, machine_at_start}
+use Rattle.commands.specs.Serving.{EndsOnDevice, CrashesSafely, HasServedBy, HasServedUntilCrash, RecoveredTo, machine_at_start}
 use Rattle.commands.specs.declared.faults.Fault.{Fault}
 use Rattle.commands.specs.declared.faults.Fault.TheVariants as ends
 use Rattle.commands.specs.declared.service.Service.{Service}
@@ -43,22 +43,22 @@ use Rattle.commands.specs.declared.service.Service.{Service}
 
 -- Where a write failed, no line counts as written.
 unsent : (keeps : Type 0) (s : Service) (old new : Medium) (input left before written : Option (List ℕ))
-    → HasServedBy keeps s old new (Err faults.Write) input left before written → keeps → (c : List ℕ) → Leaves new c
-    → HoldsWhatWasTold old input None written c
+    → HasServedBy keeps s old new (Err faults.Write) input left before written → keeps → (c : List ℕ) → IsCrashImage new c
+    → HoldsAcknowledged old input None written c
 unsent keeps s old new input left before written h keep c leaves =
     let g = h.start.geometry in
-    let x = settled_in h.start in
+    let x = committed_in h.start in
     let taken = h.served.run.0 in
     let log = went (machine_of (machine_at_start s h.start)) (events_of h.served.run.1) in
-    let on_device : HoldsLog g x (ticketed 0 (asked g taken)) log c =
-    subst (λ (t : ℕ). HoldsLog g x (ticketed t (asked g taken)) log c) h.fresh.next
+    let on_device : HoldsLog g x (ticketed 0 (admitted g taken)) log c =
+    subst (λ (t : ℕ). HoldsLog g x (ticketed t (admitted g taken)) log c) h.fresh.next
     (holds_all keeps (machine_at_start s h.start) h.now input taken h.served.run.1 (is_idle s.slots h.start h.fresh) h.fresh.no_doubt h.served.run.2 keep c
-    (subst (λ (m : Medium). Leaves m c) h.given_back leaves)) in
+    (subst (λ (m : Medium). IsCrashImage m c) h.given_back leaves)) in
     let state = fold g x (loggable (log ++ on_device.more)) in
     record {
       geometry = g;
       start = x;
-      stood = record { header = λ _. h.header keep; stood = λ _. h.stood keep };
+      recovered_before = record { header = λ _. h.header keep; recovered_before = λ _. h.recovered_before keep };
       taken = taken;
       first = h.served.run.2.first;
       told = [];
@@ -66,48 +66,48 @@ unsent keeps s old new input left before written h keep c leaves =
       log = log;
       kept = tt;
       holds = on_device;
-      header = head g c state leaves.bytes on_device.stands;
-      not_refused = fine g c state leaves.bytes on_device.stands;
+      header = head g c state leaves.bytes on_device.recovers;
+      not_refused = fine g c state leaves.bytes on_device.recovers;
     }
 
 held_at : (keeps : Type 0) (s : Service) (old new : Medium) (end : Result (Unit {0}) ServeFault) (input left before written : Option (List ℕ))
-    → HasServedBy keeps s old new end input left before written → keeps → (c : List ℕ) → Leaves new c
-    → HoldsWhatWasTold old input (unless_unsent (as_told end) before) written c
-held_at keeps s old new (Ok _) input left before written h = keeps_what_was_told keeps s old new (Ok tt) input left before written h
+    → HasServedBy keeps s old new end input left before written → keeps → (c : List ℕ) → IsCrashImage new c
+    → HoldsAcknowledged old input (unless_unsent (as_fault end) before) written c
+held_at keeps s old new (Ok _) input left before written h = keeps_acknowledged keeps s old new (Ok tt) input left before written h
 held_at keeps s old new (Err faults.Device) input left before written h =
-    keeps_what_was_told keeps s old new (Err faults.Device) input left before written h
+    keeps_acknowledged keeps s old new (Err faults.Device) input left before written h
 held_at keeps s old new (Err faults.Write) input left before written h = unsent keeps s old new input left before written h
 held_at keeps s old new (Err faults.Read) input left before written h =
-    keeps_what_was_told keeps s old new (Err faults.Read) input left before written h
+    keeps_acknowledged keeps s old new (Err faults.Read) input left before written h
 held_at keeps s old new (Err faults.Exhausted) input left before written h =
-    keeps_what_was_told keeps s old new (Err faults.Exhausted) input left before written h
+    keeps_acknowledged keeps s old new (Err faults.Exhausted) input left before written h
 held_at keeps s old new (Err faults.NoWorkers) input left before written h =
-    keeps_what_was_told keeps s old new (Err faults.NoWorkers) input left before written h
+    keeps_acknowledged keeps s old new (Err faults.NoWorkers) input left before written h
 held_at keeps s old new (Err faults.OutOfMemory) input left before written h =
-    keeps_what_was_told keeps s old new (Err faults.OutOfMemory) input left before written h
+    keeps_acknowledged keeps s old new (Err faults.OutOfMemory) input left before written h
 
--- What holds all that was told stands for where a restart goes on.
-pub recovered : (old : Medium) (input before written : Option (List ℕ)) (c : List ℕ) → HoldsWhatWasTold old input before written c
+-- What holds all that was sent recovers to where a restart goes on.
+pub recovered : (old : Medium) (input before written : Option (List ℕ)) (c : List ℕ) → HoldsAcknowledged old input before written c
     → HoldsRecovered old input before written c
 recovered old input before written c h = record {
   geometry = h.geometry;
   start = h.start;
-  stood = h.stood;
-  recovered = stands_recovered h.geometry h.start 0 input before written h.taken h.told h.log c h.first h.output h.kept h.holds;
+  recovered_before = h.recovered_before;
+  recovered = bytes_recover h.geometry h.start 0 input before written h.taken h.told h.log c h.first h.output h.kept h.holds;
 }
 
 pub leaves_recovered : (keeps : Type 0) (s : Service) (old new : Medium) (end : Result (Unit {0}) ServeFault)
     (input left before written : Option (List ℕ)) → HasServedBy keeps s old new end input left before written
-    → LeavesRecovered keeps old new (as_told end) input before written
+    → LeavesRecovered keeps old new (as_fault end) input before written
 leaves_recovered keeps s old new end input left before written h = at end h
   where
     all : (end : Result (Unit {0}) ServeFault) → HasServedBy keeps s old new end input left before written → keeps → (c : List ℕ)
-        → Leaves new c → HoldsRecovered old input (unless_unsent (as_told end) before) written c
+        → IsCrashImage new c → HoldsRecovered old input (unless_unsent (as_fault end) before) written c
     all end h keep c leaves =
-        recovered old input (unless_unsent (as_told end) before) written c (held_at keeps s old new end input left before written h keep c leaves)
+        recovered old input (unless_unsent (as_fault end) before) written c (held_at keeps s old new end input left before written h keep c leaves)
 
     at : (end : Result (Unit {0}) ServeFault) → HasServedBy keeps s old new end input left before written
-        → LeavesRecovered keeps old new (as_told end) input before written
+        → LeavesRecovered keeps old new (as_fault end) input before written
     at (Ok _) h = all (Ok tt) h
     at (Err faults.Device) h = all (Err faults.Device) h
     at (Err faults.Write) h = all (Err faults.Write) h
@@ -134,11 +134,11 @@ opened_then (Err (ends.Format fault)) f h = f h
 some_same : {x y : State} → ◌≡◌ {A = Option State} (Some x) (Some y) → x ≡ y
 some_same e = cc
 
--- A device that stands for this state was opened with this geometry, and for this state.
-opened_so : (g h : Geometry) (x y : State) (old : Medium) → holds g old.now ≡ Some x → StoodFor (Unit {0}) old h y → (h ≡ g) × (y ≡ x)
-opened_so g h x y old stands stood =
-    let same : h ≡ g = one_geometry h g old.now (stood.header tt) x stands in
-    (same, some_same (sym (stood.stood tt) ∙ ap (λ (k : Geometry). holds k old.now) same ∙ stands))
+-- A device that recovers to this state was opened with this geometry, and for this state.
+opened_so : (g h : Geometry) (x y : State) (old : Medium) → holds g old.now ≡ Some x → RecoveredTo (Unit {0}) old h y → (h ≡ g) × (y ≡ x)
+opened_so g h x y old recovers recovered_before =
+    let same : h ≡ g = one_geometry h g old.now (recovered_before.header tt) x recovers in
+    (same, some_same (sym (recovered_before.recovered_before tt) ∙ ap (λ (k : Geometry). holds k old.now) same ∙ recovers))
 
 written_so : (input before written : Option (List ℕ)) (P Q : List ℕ → List ℕ → Type 0) → ((bytes out : List ℕ) → P bytes out → Q bytes out)
     → WritesOutput input before written P → WritesOutput input before written Q
@@ -149,37 +149,37 @@ written_so (Some bytes) before written P Q f h = (h.0, h.1, f bytes h.0 h.2)
 serves_so : (g : Geometry) (x : State) (s : Service) (old new : Medium) (end : Result (Unit {0}) Fault)
     (input left before written : Option (List ℕ)) → holds g old.now ≡ Some x → EndsOnDevice (Unit {0}) s old new end input left before written
     → OnOk end (WritesOutput input before written (λ bytes out. out ≡ serial_out g x bytes))
-serves_so g x s old new (Err fault) input left before written stands h = tt
-serves_so g x s old new (Ok done) input left before written stands h =
+serves_so g x s old new (Err fault) input left before written recovers h = tt
+serves_so g x s old new (Ok done) input left before written recovers h =
     let w = h.1.0 in
-    let own = opened_so g w.geometry x w.start old stands w.before in
+    let own = opened_so g w.geometry x w.start old recovers w.before in
     written_so input before written _ _
     (λ bytes out served. served.output ∙ (λ i. serial_out (own.0 i) (own.1 i) bytes)) h.1.3
 
-module _ (g : Geometry) (old new : Medium) (made : holds g old.now ≡ Some empty) (c : List ℕ) (leaves : Leaves new c) where
+module _ (g : Geometry) (old new : Medium) (made : holds g old.now ≡ Some empty) (c : List ℕ) (leaves : IsCrashImage new c) where
   left_so : (input before written : Option (List ℕ)) → HoldsRecovered old input before written c
-      → StandsRecovered g empty input before written c
+      → BytesRecover g empty input before written c
   left_so input before written h =
-      let own = opened_so g h.geometry empty h.start old made h.stood in
-      subst (λ (k : Geometry). StandsRecovered k empty input before written c) own.0
-      (subst (λ (y : State). StandsRecovered h.geometry y input before written c) own.1 h.recovered)
+      let own = opened_so g h.geometry empty h.start old made h.recovered_before in
+      subst (λ (k : Geometry). BytesRecover k empty input before written c) own.0
+      (subst (λ (y : State). BytesRecover h.geometry y input before written c) own.1 h.recovered)
 
-  -- A crash while it is opened leaves what stands for the same.
-  crashed_so : IsSynced old → OpeningLeaves old new → holds g c ≡ Some empty
-  crashed_so calm h = ⊎_elim (λ (was : Leaves old c). ap (holds g) (calm_left old c calm was) ∙ made) (λ (k : StandsAs old.now c). k.same g empty made)
+  -- A crash while it is opened leaves what recovers to the same.
+  crashed_so : IsSynced old → OpeningCrashImages old new → holds g c ≡ Some empty
+  crashed_so calm h = ⊎_elim (λ (was : IsCrashImage old c). ap (holds g) (calm_left old c calm was) ∙ made) (λ (k : RecoversAs old.now c). k.same g empty made)
       (⊎_elim
       (λ (same : new ≡ h.synced).
-      inl (h.first.each c (counts_now h.synced (moment old) c h.first.later (subst (λ (m : Medium). Leaves m c) same leaves))))
+      inl (h.first.each c (counts_now h.synced (moment old) c h.first.later (subst (λ (m : Medium). IsCrashImage m c) same leaves))))
       (λ (past : IsPastSync old h.synced new). ⊎_elim (λ (was : left_since h.synced (moment old) c). inl (h.first.each c was))
-      (λ (k : StandsAs old.now c). inr k)
+      (λ (k : RecoversAs old.now c). inr k)
       (past.later.before (moment old) c h.first.later
       (counts_now new (moment old) c (let a = h.first.later in let b = past.later.later in omega (arith, a, b)) leaves))) h.rest)
 
   -- where it could not be opened
-  left_unopened : (input before written : Option (List ℕ)) → IsSynced old → OpeningLeaves old new → written ≡ before
-      → StandsRecovered g empty input before written c
+  left_unopened : (input before written : Option (List ℕ)) → IsSynced old → OpeningCrashImages old new → written ≡ before
+      → BytesRecover g empty input before written c
   left_unopened input before written calm opening unwritten =
-      record { now = empty; stands = crashed_so calm opening; recovers = silent input }
+      record { now = empty; holds_now = crashed_so calm opening; recovers = silent input }
     where
       silent : (input : Option (List ℕ)) → WritesOutput input before written (RecoversTo g empty empty)
       silent None = tt
@@ -188,14 +188,14 @@ module _ (g : Geometry) (old new : Medium) (made : holds g old.now ≡ Some empt
 
   module _ (s : Service) (input left before written : Option (List ℕ)) where
     left_served : (end : Result (Unit {0}) Fault)
-        → (ended : Result (Unit {0}) ServeFault) × (end ≡ as_told ended) × HasServedBy (Unit {0}) s old new ended input left before written
-        → StandsRecovered g empty input (unless_unsent end before) written c
+        → (ended : Result (Unit {0}) ServeFault) × (end ≡ as_fault ended) × HasServedBy (Unit {0}) s old new ended input left before written
+        → BytesRecover g empty input (unless_unsent end before) written c
     left_served end h = left_so input (unless_unsent end before) written
         (subst (λ (e : Result (Unit {0}) Fault). HoldsRecovered old input (unless_unsent e before) written c) (sym h.1)
-        (recovered old input (unless_unsent (as_told h.0) before) written c (held_at (Unit {0}) s old new h.0 input left before written h.2 tt c leaves)))
+        (recovered old input (unless_unsent (as_fault h.0) before) written c (held_at (Unit {0}) s old new h.0 input left before written h.2 tt c leaves)))
 
-    left_at : (end : Result (Unit {0}) Fault) → IsSynced old → HasLived (Unit {0}) s old new end input left before written
-        → EndsOnDevice (Unit {0}) s old new end input left before written → StandsRecovered g empty input (unless_unsent end before) written c
+    left_at : (end : Result (Unit {0}) Fault) → IsSynced old → CrashesSafely (Unit {0}) s old new end input left before written
+        → EndsOnDevice (Unit {0}) s old new end input left before written → BytesRecover g empty input (unless_unsent end before) written c
     left_at (Err (ends.Open fault)) calm h e = left_unopened input before written calm (h tt) e.2
     left_at (Ok done) calm h e = left_served (Ok done) h
     left_at (Err ends.Read) calm h e = left_served (Err ends.Read) h
@@ -215,10 +215,10 @@ pub goes_on : (g : Geometry) (s : Service) (began : Medium) (torn : Torn) (crash
     → EndsOnDevice (Unit {0}) s crashed.medium last second next_input next_left next_before next_written
     → GoesOn g first second input before written next_input next_before next_written
 goes_on g s began torn crashed last first second input left before written next_input next_left next_before next_written made calm h ends =
-    let one = left_at g began h.ended.medium made crashed.medium.now h.leaves s input left before written first calm h.lived h.ends in
+    let one = left_at g began h.ended.medium made crashed.medium.now h.leaves s input left before written first calm h.crash_safe h.ends in
     record {
       now = one.now;
       recovers = one.recovers;
       whole = serves_so g empty s began h.ended.medium first input left before written made h.ends;
-      next = serves_so g one.now s crashed.medium last second next_input next_left next_before next_written one.stands ends;
+      next = serves_so g one.now s crashed.medium last second next_input next_left next_before next_written one.holds_now ends;
     }

@@ -4,7 +4,7 @@ use Rattle.std.specs.Prelude.{Result, Ok, Err, IfErr, OnOk}
 use Rattle.std.specs.Io.KnownBytes.{Appends}
 use Rattle.checkpoint.specs.Shown.{IsShown}
 use Rattle.checkpoint.specs.declared.inspecting.Shown.{Shown}
-use Rattle.commands.specs.Ends.{EndsShowing, TellsOf}
+use Rattle.commands.specs.Ends.{EndsShowing, ShowsBytes}
 use Rattle.commands.specs.Lines.{shown_lines}
 use Rattle.commands.specs.declared.faults.Fault.{Fault}
 use Rattle.commands.specs.declared.faults.Fault.TheVariants.{Write}
@@ -16,7 +16,7 @@ shows shown lines (Ok _) old new are written fault = (shown, subst (Appends old 
 shows shown lines (Err e) old new are written fault = subst (λ f. EndsShowing (Err f) old new) (sym fault) tt
 
 -- the same of the device that holds this
-pub tells_of : (bytes : List ℕ) (shown : Shown) (lines : List ℕ) (end : Result (Unit {0}) Fault) (old new : Option (List ℕ)) → IsShown bytes shown → lines ≡ shown_lines shown
-    → OnOk end (Appends old new lines) → IfErr end (λ fault. fault ≡ Write) → TellsOf bytes end old new
-tells_of bytes shown lines (Ok _) old new is are written fault = (shown, is, subst (Appends old new) are written)
-tells_of bytes shown lines (Err e) old new is are written fault = subst (λ f. TellsOf bytes (Err f) old new) (sym fault) tt
+pub shows_bytes : (bytes : List ℕ) (shown : Shown) (lines : List ℕ) (end : Result (Unit {0}) Fault) (old new : Option (List ℕ)) → IsShown bytes shown → lines ≡ shown_lines shown
+    → OnOk end (Appends old new lines) → IfErr end (λ fault. fault ≡ Write) → ShowsBytes bytes end old new
+shows_bytes bytes shown lines (Ok _) old new is are written fault = (shown, is, subst (Appends old new) are written)
+shows_bytes bytes shown lines (Err e) old new is are written fault = subst (λ f. ShowsBytes bytes (Err f) old new) (sym fault) tt

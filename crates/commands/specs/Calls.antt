@@ -8,11 +8,11 @@ use Rattle.commands.specs.declared.faults.Fault.{Fault}
 use Rattle.commands.specs.declared.faults.Fault.TheVariants.{Write, GeometryOutOfRange, OutOfMemory}
 use Rattle.commands.specs.declared.service.Service.{Service}
 use Rattle.commands.specs.Services.{with_few_workers}
-use Rattle.words.specs.Words.{service_numbers}
-use Rattle.words.specs.declared.words.Request.{Request}
-use Rattle.words.specs.declared.words.Request.TheVariants.{Help, Plain, Format, Show, Serve}
-use Rattle.words.specs.declared.words.WordRefusal.{WordRefusal}
-use Rattle.words.specs.declared.words.WordRefusal.TheVariants as refusal
+use Rattle.arguments.specs.Arguments.{service_numbers}
+use Rattle.arguments.specs.declared.parsing.Request.{Request}
+use Rattle.arguments.specs.declared.parsing.Request.TheVariants.{Help, Plain, Format, Show, Serve}
+use Rattle.arguments.specs.declared.parsing.WordRefusal.{WordRefusal}
+use Rattle.arguments.specs.declared.parsing.WordRefusal.TheVariants as refusal
 
 -- What was written where the request came to this end, and what is left of the input: that of its command.
 -- Help and the version read nothing. Their text, and whether it was written, is open. The service is that of the numbers that were given.

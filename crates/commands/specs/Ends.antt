@@ -41,8 +41,8 @@ EndsShowing (Err OutOfMemory) old new = new ≡ old
 EndsShowing (Err (Open fault)) old new = new ≡ old
 EndsShowing (Err _) old new = ⊥
 
--- The same where the device has these bytes: what is told is what it holds, and a refusal is that of its bytes.
-abbrev pub TellsOf : List ℕ → Result (Unit {0}) Fault → Option (List ℕ) → Option (List ℕ) → Type 0
-TellsOf bytes (Ok _) old new = (shown : Shown) × IsShown bytes shown × Appends old new (shown_lines shown)
-TellsOf bytes (Err (Open fault)) old new = IsRefused bytes fault
-TellsOf bytes (Err _) old new = Unit {0}
+-- The same where the device has these bytes: what is sent is what it holds, and a refusal is that of its bytes.
+abbrev pub ShowsBytes : List ℕ → Result (Unit {0}) Fault → Option (List ℕ) → Option (List ℕ) → Type 0
+ShowsBytes bytes (Ok _) old new = (shown : Shown) × IsShown bytes shown × Appends old new (shown_lines shown)
+ShowsBytes bytes (Err (Open fault)) old new = IsRefused bytes fault
+ShowsBytes bytes (Err _) old new = Unit {0}

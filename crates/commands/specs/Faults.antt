@@ -48,9 +48,9 @@ of_serve serving.OutOfMemory = OutOfMemory
 of_serve serving.Exhausted = NoTicketLeft
 
 -- how a service on a device ends, with the fault of the program
-abbrev pub as_told : Result (Unit {0}) ServeFault → Result (Unit {0}) Fault
-as_told (Ok _) = Ok tt
-as_told (Err fault) = Err (of_serve fault)
+abbrev pub as_fault : Result (Unit {0}) ServeFault → Result (Unit {0}) Fault
+as_fault (Ok _) = Ok tt
+as_fault (Err fault) = Err (of_serve fault)
 
 -- the fault of the program where the file of a device can't be made or opened
 abbrev pub fault_of_file : FileFault → Fault

@@ -1,11 +1,11 @@
 -- What a service promises its client over a crash: bytes in, bytes out.
 use Rattle.std.specs.Prelude.{◌≡◌, ℕ, List, Option, None, Result, Err, OnOk}
 use Rattle.affinity.specs.declared.geometry.Geometry.{Geometry}
-use Rattle.disk.specs.Device.{Leaves, Medium}
+use Rattle.disk.specs.Device.{IsCrashImage, Medium}
 use Rattle.meaning.specs.Output.{WritesOutput, serial_out}
 use Rattle.meaning.specs.State.{State, empty}
-use Rattle.serving.specs.Restart.{RecoversTo, StandsRecovered}
-use Rattle.commands.specs.Serving.{StoodFor}
+use Rattle.serving.specs.Restart.{RecoversTo, BytesRecover}
+use Rattle.commands.specs.Serving.{RecoveredTo}
 use Rattle.commands.specs.declared.faults.Fault.{Fault}
 use Rattle.commands.specs.declared.faults.Fault.TheVariants.{Write, Open}
 
@@ -27,12 +27,12 @@ pub record GoesOn (g : Geometry) (first second : Result (Unit {0}) Fault)
 
 -- ---- the same of the bytes of a device
 
--- The device stood for a state, and these bytes stand for one to which a restart recovers from there.
+-- The device recovered to a state, and these bytes recover to one to which a restart recovers from there.
 pub record HoldsRecovered (old : Medium) (input before written : Option (List ℕ)) (bytes : List ℕ) : Type 0 where
   pub geometry : Geometry
   pub start : State
-  pub stood : StoodFor (Unit {0}) old geometry start
-  pub recovered : StandsRecovered geometry start input before written bytes
+  pub recovered_before : RecoveredTo (Unit {0}) old geometry start
+  pub recovered : BytesRecover geometry start input before written bytes
 
 -- So it is at each end, unless the device could not be opened.
 abbrev pub UnlessUnopened : Result (Unit {0}) Fault → Type 0 → Type 0
@@ -43,4 +43,4 @@ UnlessUnopened _ P = P
 abbrev pub LeavesRecovered : Type 0 → Medium → Medium → Result (Unit {0}) Fault → Option (List ℕ) → Option (List ℕ)
     → Option (List ℕ) → Type 0
 LeavesRecovered keeps old new end input before written = UnlessUnopened end
-    (keeps → (c : List ℕ) → Leaves new c → HoldsRecovered old input (unless_unsent end before) written c)
+    (keeps → (c : List ℕ) → IsCrashImage new c → HoldsRecovered old input (unless_unsent end before) written c)

@@ -3,7 +3,7 @@ use Rattle.std.specs.Prelude.{◌≡◌, ℕ, List, [], ◌∷◌, codes, min}
 use Rattle.clap.specs.Words.{Text}
 use Rattle.commands.specs.Serving.{numbers_of_service}
 use Rattle.commands.specs.declared.service.Service.{Service}
-use Rattle.words.specs.Words.{IsNamed, command_of, device_at, findings, service_at}
+use Rattle.arguments.specs.Arguments.{IsNamed, command_of, device_at, findings, service_at}
 
 -- the numbers of a service that is asked for with these: it has 64 workers at most, and no words pass that give it more
 abbrev pub with_few_workers : List ℕ → List ℕ

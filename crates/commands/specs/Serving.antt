@@ -1,4 +1,4 @@
--- What it is to serve a device: what was written when the service ends, what the device stands for then, and what a crash meanwhile leaves.
+-- What it is to serve a device: what was written when the service ends, what the device recovers to then, and what a crash meanwhile leaves.
 use Rattle.std.specs.Prelude.{◌≡◌, ◌≢◌, ◌⊎◌, ◌↔◌, ◌+◌, ◌≤◌, ℕ, List, [], ◌∷◌, length, take, replicate, Option, Some, None, Result, Ok, Err}
 use Rattle.std.specs.Io.KnownBytes.{IsAtEnd}
 use Rattle.affinity.specs.declared.geometry.Geometry.{Geometry}
@@ -6,29 +6,29 @@ use Rattle.checkpoint.specs.Header.{HasHeader}
 use Rattle.checkpoint.specs.Recovery.{holds}
 use Rattle.checkpoint.specs.Refusals.{IsRefused}
 use Rattle.checkpoint.specs.declared.fault.OpenFault.TheVariants as open_faults
-use Rattle.disk.specs.Device.{Leaves, Medium}
+use Rattle.disk.specs.Device.{IsCrashImage, Medium}
 use Rattle.disk.specs.Memory.{Memory, after_crash}
 use Rattle.disk.specs.Moments.{moment}
 use Rattle.disk.specs.RealFile.{FileKeeps}
 use Rattle.disk.specs.declared.fault.FileFault.{FileFault}
 use Rattle.disk.specs.declared.torn.Torn.{Torn}
-use Rattle.journal.specs.Opening.{IsRefusedUnwritten, OpeningLeaves}
-use Rattle.legal_runs.specs.Lives.{Ran}
-use Rattle.runs.specs.Lives.{IsRunLife}
+use Rattle.journal.specs.Opening.{IsRefusedUnwritten, OpeningCrashImages}
+use Rattle.legal_runs.specs.Incarnations.{Ran}
+use Rattle.runs.specs.Incarnations.{IsRunIncarnation}
 use Rattle.runs.specs.Machine.{MachineView, machine_of}
 use Rattle.runs.specs.Stages.{Stage, device_after, events_of}
 use Rattle.messages.specs.Lines.{lines}
 use Rattle.device_map.specs.Layout.{layout_of}
-use Rattle.oplog.specs.Stands.{in_force, named_area}
+use Rattle.oplog.specs.Recovery.{in_force, named_area}
 use Rattle.meaning.specs.Output.{IsBeginning, WritesOutput}
 use Rattle.meaning.specs.State.{State}
-use Rattle.scheduler.specs.Kept.{IsJustOpened, CoreView, StandsNow}
-use Rattle.serving.specs.Ends.{AreServed, HasRunLines, ServesLinesBefore, ServesWholeLines, settled_in}
+use Rattle.scheduler.specs.CoreView.{IsJustOpened, CoreView, RecoversNow}
+use Rattle.serving.specs.Ends.{AreServed, HasRunLines, ServesLinesBefore, ServesWholeLines, committed_in}
 use Rattle.serving.specs.Runs.{with_lent}
 use Rattle.serving.specs.Serve.{HasRunSo, ServesSo}
 use Rattle.serving.specs.declared.server.ServeFault.{ServeFault}
 use Rattle.serving.specs.declared.server.ServeFault.TheVariants as serve_faults
-use Rattle.commands.specs.Faults.{as_told, fault_of_file}
+use Rattle.commands.specs.Faults.{as_fault, fault_of_file}
 use Rattle.commands.specs.declared.faults.Fault.{Fault}
 use Rattle.commands.specs.declared.faults.Fault.TheVariants.{Read, Write, OutOfMemory, Device, NoWorkers, NoTicketLeft, Open}
 use Rattle.commands.specs.declared.service.Service.{Service}
@@ -39,23 +39,23 @@ numbers_of_service s = s.workers ∷ s.slots ∷ s.every ∷ []
 
 -- ---- the device before and after, as a reader of it sees it
 
--- The device stood for this state, with these numbers of a server in its header.
-pub record StoodFor (keeps : Type 0) (old : Medium) (g : Geometry) (start : State) : Type 0 where
+-- The device recovered to this state, with these numbers of a server in its header.
+pub record RecoveredTo (keeps : Type 0) (old : Medium) (g : Geometry) (start : State) : Type 0 where
   pub header : keeps → HasHeader g old.now
-  pub stood : keeps → holds g old.now ≡ Some start
+  pub recovered_before : keeps → holds g old.now ≡ Some start
 
--- The device stands for this state, and so does whatever a crash leaves now.
-pub record StandsFor (keeps : Type 0) (new : Medium) (g : Geometry) (x : State) : Type 0 where
+-- The device recovers to this state, and so does whatever a crash leaves now.
+pub record RecoversFor (keeps : Type 0) (new : Medium) (g : Geometry) (x : State) : Type 0 where
   pub now : keeps → holds g new.now ≡ Some x
-  pub each : keeps → (c : List ℕ) → Leaves new c → holds g c ≡ Some x
+  pub each : keeps → (c : List ℕ) → IsCrashImage new c → holds g c ≡ Some x
 
--- The device was opened, where it stood for the one state, and was left so that it stands for the other.
+-- The device was opened, where it recovered to the one state, and was left so that it recovers to the other.
 pub record Went (keeps : Type 0) (old new : Medium) : Type 0 where
   pub geometry : Geometry
   pub start : State
   pub end : State
-  pub before : StoodFor keeps old geometry start
-  pub after : StandsFor keeps new geometry end
+  pub before : RecoveredTo keeps old geometry start
+  pub after : RecoversFor keeps new geometry end
 
 -- No record of the log is in force.
 abbrev pub HasNoRecords : Geometry → Medium → Type 0
@@ -63,15 +63,15 @@ HasNoRecords g m = in_force (layout_of g) (named_area (layout_of g) m.now) m.now
 
 -- ---- how a service ends
 
--- Nothing was served: nothing was read or written, and the device stands for what it stood for.
+-- Nothing was served: nothing was read or written, and the device recovers to what it recovered to.
 abbrev pub HasServedNothing : Type 0 → Medium → Medium → Option (List ℕ) → Option (List ℕ) → Option (List ℕ) → Option (List ℕ) → Type 0
 HasServedNothing keeps old new input left before written = (w : Went keeps old new) × (w.end ≡ w.start) × (left ≡ input)
     × (written ≡ before)
 
 -- What each end says.
 -- No fault: the input has ended, and the output is that of the serial server for all of it, from the state for which the device
--- stood. The device stands for the state where that server is then, with no record in force.
--- A failed read: just the lines that were read whole are answered, and the device stands for the state behind them. No ticket left:
+-- stood. The device recovers to the state where that server is then, with no record in force.
+-- A failed read: just the lines that were read whole are answered, and the device recovers to the state behind them. No ticket left:
 -- just the lines before one whose message is in range.
 -- A failed device: the first lines of the serial server's output. A failed write: it is open what was written.
 -- No workers, or no memory: nothing was served. A device that can't be opened: nothing was read or written, and it is refused for
@@ -86,10 +86,10 @@ EndsOnDevice keeps s old new (Err Read) input left before written = (s.workers �
 EndsOnDevice keeps s old new (Err NoTicketLeft) input left before written = (s.workers ≢ 0) × ((w : Went keeps old new)
     × WritesOutput input before written (ServesLinesBefore w.geometry w.start w.end))
 EndsOnDevice keeps s old new (Err Device) input left before written = (s.workers ≢ 0)
-    × ((g : Geometry) × (start : State) × StoodFor keeps old g start
+    × ((g : Geometry) × (start : State) × RecoveredTo keeps old g start
     × WritesOutput input before written (IsBeginning g start))
 EndsOnDevice keeps s old new (Err Write) input left before written = (s.workers ≢ 0)
-    × ((g : Geometry) × (start : State) × StoodFor keeps old g start)
+    × ((g : Geometry) × (start : State) × RecoveredTo keeps old g start)
 EndsOnDevice keeps s old new (Err NoWorkers) input left before written = (s.workers ≡ 0)
     × HasServedNothing keeps old new input left before written
 EndsOnDevice keeps s old new (Err OutOfMemory) input left before written = (s.workers ≢ 0)
@@ -118,15 +118,15 @@ run_behind keeps start now input before written (Err serve_faults.Exhausted) h =
 run_behind keeps start now input before written (Err serve_faults.NoWorkers) h = (h.taken, h.stages, h.run)
 run_behind keeps start now input before written (Err serve_faults.OutOfMemory) h = (h.taken, h.stages, h.run)
 
--- With this run it is a life of the device, in the sense of the law of lives in `machine`, for every k: it was opened, it made the run,
+-- With this run it is a incarnation of the device, in the sense of the law of lives in `machine`, for every k: it was opened, it made the run,
 -- and the crash comes at any moment since event k ended.
-abbrev pub IsLife : Service → CoreView → Medium → Medium → List Stage → Type 0
-IsLife s start old new stages = (k : ℕ) → k ≤ length stages → IsRunLife (record {
+abbrev pub IsIncarnation : Service → CoreView → Medium → Medium → List Stage → Type 0
+IsIncarnation s start old new stages = (k : ℕ) → k ≤ length stages → IsRunIncarnation (record {
   began = old;
   ended = new;
   since = moment (device_after start.medium (take k stages));
   geometry = start.geometry;
-  life = Ran (machine_of (machine_at_start s start)) (events_of stages) k;
+  incarnation = Ran (machine_of (machine_at_start s start)) (events_of stages) k;
 }) (machine_of (machine_at_start s start)) (events_of stages) k
 
 -- The device was opened as a server in which no message is, which served and came to this end. Behind what was written there is a legal
@@ -137,21 +137,21 @@ pub record HasServedBy (keeps : Type 0) (s : Service) (old new : Medium) (end : 
   pub now : CoreView
   pub fresh : IsJustOpened s.slots start
   pub header : keeps → HasHeader start.geometry old.now
-  pub stood : keeps → holds start.geometry old.now ≡ Some (settled_in start)
-  pub opening : keeps → OpeningLeaves old start.medium
+  pub recovered_before : keeps → holds start.geometry old.now ≡ Some (committed_in start)
+  pub opening : keeps → OpeningCrashImages old start.medium
   pub served : ServesSo keeps s.workers start (now, end) input left before written
-  pub leaves : keeps → StandsNow now
+  pub leaves : keeps → RecoversNow now
   pub given_back : new ≡ now.medium
-  pub life : keeps → let behind = run_behind keeps (machine_at_start s start) now input before written end served.run
-      in IsLife s start old new behind.1
+  pub incarnation : keeps → let behind = run_behind keeps (machine_at_start s start) now input before written end served.run
+      in IsIncarnation s start old new behind.1
 
--- So it was; or the device could not be opened. A crash while it is opened leaves what stands for the same, or is refused for the
+-- So it was; or the device could not be opened. A crash while it is opened leaves what recovers to the same, or is refused for the
 -- same fault.
-abbrev pub HasLived : Type 0 → Service → Medium → Medium → Result (Unit {0}) Fault → Option (List ℕ) → Option (List ℕ) → Option (List ℕ)
+abbrev pub CrashesSafely : Type 0 → Service → Medium → Medium → Result (Unit {0}) Fault → Option (List ℕ) → Option (List ℕ) → Option (List ℕ)
     → Option (List ℕ) → Type 0
-HasLived keeps s old new (Err (Open fault)) input left before written = keeps → OpeningLeaves old new
-HasLived keeps s old new end input left before written =
-    (ended : Result (Unit {0}) ServeFault) × (end ≡ as_told ended) × HasServedBy keeps s old new ended input left before written
+CrashesSafely keeps s old new (Err (Open fault)) input left before written = keeps → OpeningCrashImages old new
+CrashesSafely keeps s old new end input left before written =
+    (ended : Result (Unit {0}) ServeFault) × (end ≡ as_fault ended) × HasServedBy keeps s old new ended input left before written
 
 -- ---- a device in memory that is crashed
 
@@ -161,9 +161,9 @@ pub record HasServedUntilCrash (s : Service) (old : Medium) (torn : Torn) (crash
     (input left before written : Option (List ℕ)) : Type 0 where
   pub ended : Memory
   pub ends : EndsOnDevice (Unit {0}) s old ended.medium end input left before written
-  pub lived : HasLived (Unit {0}) s old ended.medium end input left before written
+  pub crash_safe : CrashesSafely (Unit {0}) s old ended.medium end input left before written
   pub crash : crashed ≡ after_crash torn ended
-  pub leaves : Leaves ended.medium crashed.medium.now
+  pub leaves : IsCrashImage ended.medium crashed.medium.now
 
 -- ---- a device in a file
 
@@ -179,7 +179,7 @@ pub record HasServedFile (s : Service) (end : Result (Unit {0}) Fault) (input le
   pub old : Medium
   pub new : Medium
   pub ends : EndsOnDevice FileKeeps s old new end input left before written
-  pub lived : HasLived FileKeeps s old new end input left before written
+  pub crash_safe : CrashesSafely FileKeeps s old new end input left before written
 
 abbrev pub EndsInFile : Service → Result (Unit {0}) Fault → Option (List ℕ) → Option (List ℕ) → Option (List ℕ) → Option (List ℕ) → Type 0
 EndsInFile s end input left before written = HasNotBegun end input left before written ⊎ HasServedFile s end input left before written

@@ -9,9 +9,9 @@ ghost use Rattle.disk.specs.Torn.{HasBytes};
 ghost use Rattle.meaning.specs.State.{empty};
 
 use crate::faults::Fault;
-use crate::on_device::serve_on;
+use crate::serve::serve_on;
 use crate::service::Service;
-use crate::stopping::serve_stopped;
+use crate::serve_stopped::serve_stopped;
 use affinity::Geometry;
 use checkpoint::{device_len, format};
 use disk::{MemDisk, Torn};
@@ -22,7 +22,7 @@ use std::thread::Threads;
 
 /// A device of the empty state, in memory.
 fn made(alloc: Global, geometry: Geometry) -> Result<MemDisk, Fault>
-    ensures stands { IfOk result (λ d. holds geometry (medium_of d).now ≡ Some empty) }
+    ensures recovers { IfOk result (λ d. holds geometry (medium_of d).now ≡ Some empty) }
     ensures synced { IfOk result (λ d. IsSynced (medium_of d)) }
     ensures streams { IfErr result (λ fault. (fault ≢ faults.Read) × (fault ≢ faults.Write)) }
 {

@@ -5,24 +5,24 @@
 #![tactic(auto)]
 
 mod again;
-mod answering;
+mod plain;
 mod faults;
-mod formatting;
+mod format;
 mod lines;
-mod on_device;
+mod serve;
 mod program;
 mod reports;
 mod service;
-mod showing;
-mod stopping;
+mod show;
+mod serve_stopped;
 
 pub use again::serve_again;
-pub use answering::answer_input;
+pub use plain::answer_input;
 pub use faults::Fault;
-pub use formatting::format_device;
-pub use on_device::{serve_device, serve_on};
+pub use format::format_device;
+pub use serve::{serve_device, serve_on};
 pub use program::command;
 pub use reports::{WRONG_WORDS, report, report_unread_words};
 pub use service::Service;
-pub use showing::show_device;
-pub use stopping::serve_stopped;
+pub use show::show_device;
+pub use serve_stopped::serve_stopped;

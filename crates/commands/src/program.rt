@@ -3,25 +3,25 @@ ghost use Rattle.std.specs.Prelude.{◌≡◌, ◌⊎◌, ℕ, List, [], ◌∷�
 ghost use Rattle.affinity.specs.Geometry.{standard};
 ghost use Rattle.commands.specs.Calls.{Ends, EndsFormat, EndsHelp, EndsPlain, EndsRefused, EndsServe, EndsShow, status_of_refusal};
 ghost use Rattle.commands.specs.Services.{AsksServe, with_few_workers};
-ghost use Rattle.words.specs.Words.{AsksFormat, AsksHelp, AsksNoService, AsksPlain, AsksShow, AsksVersion, AreRefused, service_numbers};
+ghost use Rattle.arguments.specs.Arguments.{AsksFormat, AsksHelp, AsksNoService, AsksPlain, AsksShow, AsksVersion, AreRefused, service_numbers};
 ghost use Rattle.affinity.specs.declared.geometry.Geometry.{Geometry};
 ghost use Rattle.commands.specs.Serving.{numbers_of_service};
 ghost use Rattle.commands.specs.declared.service.Service.{Service};
 
-use crate::answering::answer_input;
+use crate::plain::answer_input;
 use crate::faults::Fault;
-use crate::formatting::format_device;
-use crate::on_device::serve_device;
+use crate::format::format_device;
+use crate::serve::serve_device;
 use crate::reports::{WRONG_WORDS, report};
 use crate::service::Service;
-use crate::showing::show_device;
+use crate::show::show_device;
 use std::alloc::Global;
 use std::fs::File;
 use std::io::{Read, Write};
 use std::rt::Files;
 use std::sync::Wait;
 use std::thread::Threads;
-use words::{Request, ServiceNumbers, WordRefusal, read_words};
+use arguments::{Request, ServiceNumbers, WordRefusal, read_words};
 
 /// The service that has these numbers, with 64 workers where more are given.
 fn service_of(numbers: ServiceNumbers) -> Service

@@ -2,48 +2,48 @@
 use Rattle.std.proofs.Common.{◌≡◌, ◌+◌, ◌≤◌, ℕ, Bool, List, length, Result, Ok, Err, refl, sym, ap, subst}
 use Rattle.disk.specs.declared.fault.DiskFault.{DiskFault}
 use Rattle.disk.specs.declared.fault.DiskFault.TheVariants.{OutOfRange, Device}
-use Rattle.disk.specs.Device.{AreBytes, Medium, MayLeave, Leaves, IsSynced, SameOutside, moments, overlaid, synced, Reads, Writes, Syncs}
-use Rattle.disk.specs.Moments.{LeavesOnly}
+use Rattle.disk.specs.Device.{AreBytes, Medium, IsTornFrom, IsCrashImage, IsSynced, SameOutside, moments, overlaid, synced, Reads, Writes, Syncs}
+use Rattle.disk.specs.Moments.{CrashImagesAre}
 use Rattle.disk.proofs.Overlays.{overlaid_outside}
 use Rattle.disk.proofs.Leaves.{itself, calm_left, put_back, undone, same_but_range}
 use Rattle.disk.proofs.Moments.{next, same, leaves_now}
 
-module _ (old mid new : Medium) (P : List ℕ → Type 0) (so_far : LeavesOnly old mid P) where
+module _ (old mid new : Medium) (P : List ℕ → Type 0) (so_far : CrashImagesAre old mid P) where
   -- A read changes nothing, whatever it answers.
-  pub after_read : (at : ℕ) (out : List ℕ) (r : Result (Unit {0}) DiskFault) → Reads at out r mid new → LeavesOnly old new P
+  pub after_read : (at : ℕ) (out : List ℕ) (r : Result (Unit {0}) DiskFault) → Reads at out r mid new → CrashImagesAre old new P
   after_read at out (Ok _) reads = same old mid new P so_far (ap moments (reads.ok.0))
   after_read at out (Err OutOfRange) reads = same old mid new P so_far (ap moments (reads.outside refl))
   after_read at out (Err Device) reads = same old mid new P so_far (ap moments (reads.device refl))
 
   -- A sync leaves no more than there was, whatever it answers.
-  pub after_sync : (r : Result (Unit {0}) DiskFault) → Syncs r mid new → LeavesOnly old new P
+  pub after_sync : (r : Result (Unit {0}) DiskFault) → Syncs r mid new → CrashImagesAre old new P
   after_sync (Ok _) syncs =
       next old mid new P so_far (ap (λ (m : Medium). m.past) syncs.ok)
       (λ c left.
-      let is : c ≡ mid.now = calm_left (synced mid) c refl (subst (λ (m : Medium). Leaves m c) syncs.ok left) in
-      subst P (sym is) (leaves_now old mid P so_far mid.now (itself mid.now mid.loose (subst AreBytes is left.bytes))))
+      let is : c ≡ mid.now = calm_left (synced mid) c refl (subst (λ (m : Medium). IsCrashImage m c) syncs.ok left) in
+      subst P (sym is) (leaves_now old mid P so_far mid.now (itself mid.now mid.unsynced (subst AreBytes is left.bytes))))
   after_sync (Err OutOfRange) syncs = absurd (syncs.outside refl)
   after_sync (Err Device) syncs = same old mid new P so_far (ap moments (syncs.device refl))
 
   module _ (at : ℕ) (bytes : List ℕ) (inside : at + length bytes ≤ length mid.now) (are : AreBytes mid.now) where
     -- A write, whatever it answers: what a crash before it may leave, with anything in the range, has P.
-    pub after_write : (r : Result (Unit {0}) DiskFault) → Writes at bytes r mid new → ((c torn : List ℕ) → Leaves mid c → SameOutside at (length bytes) c torn → P torn) → LeavesOnly old new P
+    pub after_write : (r : Result (Unit {0}) DiskFault) → Writes at bytes r mid new → ((c torn : List ℕ) → IsCrashImage mid c → SameOutside at (length bytes) c torn → P torn) → CrashImagesAre old new P
     after_write (Ok _) writes here =
         next old mid new P so_far (ap (λ (m : Medium). m.past) writes.ok)
         (λ c left.
-        let left' = subst (λ (m : Medium). Leaves m c) writes.ok left in
+        let left' = subst (λ (m : Medium). IsCrashImage m c) writes.ok left in
         let outside = overlaid_outside mid.now at bytes in
-        here (put_back at (length bytes) mid.now c) c (undone at (length bytes) mid.now (overlaid mid.now at bytes) mid.loose c inside outside are left')
-        (same_but_range at (length bytes) mid.now (overlaid mid.now at bytes) mid.loose c inside outside are left'))
+        here (put_back at (length bytes) mid.now c) c (undone at (length bytes) mid.now (overlaid mid.now at bytes) mid.unsynced c inside outside are left')
+        (same_but_range at (length bytes) mid.now (overlaid mid.now at bytes) mid.unsynced c inside outside are left'))
     after_write (Err OutOfRange) writes here = same old mid new P so_far (ap moments (writes.outside refl))
     after_write (Err Device) writes here =
         let fails = writes.device refl in
         next old mid new P so_far fails.past
         (λ c left.
-        let left' = subst (λ (l : List Bool). MayLeave new.now l c) fails.loose left in
-        here (put_back at (length bytes) mid.now c) c (undone at (length bytes) mid.now new.now mid.loose c inside fails.bytes are left')
-        (same_but_range at (length bytes) mid.now new.now mid.loose c inside fails.bytes are left'))
+        let left' = subst (λ (l : List Bool). IsTornFrom new.now l c) fails.unsynced left in
+        here (put_back at (length bytes) mid.now c) c (undone at (length bytes) mid.now new.now mid.unsynced c inside fails.bytes are left')
+        (same_but_range at (length bytes) mid.now new.now mid.unsynced c inside fails.bytes are left'))
 
-    -- The same of a device of which nothing is loose: what a read gives, with anything in the range, has P.
-    pub after_calm_write : IsSynced mid → (r : Result (Unit {0}) DiskFault) → Writes at bytes r mid new → ((torn : List ℕ) → SameOutside at (length bytes) mid.now torn → P torn) → LeavesOnly old new P
+    -- The same of a device of which nothing is unsynced: what a read gives, with anything in the range, has P.
+    pub after_calm_write : IsSynced mid → (r : Result (Unit {0}) DiskFault) → Writes at bytes r mid new → ((torn : List ℕ) → SameOutside at (length bytes) mid.now torn → P torn) → CrashImagesAre old new P
     after_calm_write calm r writes here = after_write r writes (λ c torn left. subst (λ (d : List ℕ). SameOutside at (length bytes) d torn → P torn) (sym (calm_left mid c calm left)) (here torn))

@@ -2,7 +2,7 @@
 use Rattle.std.proofs.Common.{◌≡◌, ◌<◌, ℕ, true, false, List, [], ◌∷◌, inl, inr, refl, slice_index, lit<, lit≤, arith}
 use Rattle.std.specs.List.{AllByRecursion}
 use Rattle.std.proofs.lemmas.List.Elements.{All-from_recursion}
-use Rattle.disk.specs.Device.{AreBytes, Medium, MayLeave, overlaid, marked, begun, written, synced}
+use Rattle.disk.specs.Device.{AreBytes, Medium, IsTornFrom, overlaid, marked, begun, written, synced}
 use Rattle.disk.specs.Moments.{moment, left_since}
 use Rattle.disk.specs.Torn.{torn_from}
 use Rattle.disk.proofs.Moments.{bytes_since}
@@ -27,20 +27,20 @@ two_bytes = below (0 ∷ 255 ∷ []) (lit< tt, (lit< tt, tt))
 no_byte : AreBytes (0 ∷ 256 ∷ []) → ⊥
 no_byte are = let second : 256 < 256 = are 1 0 (lit< tt) in omega (arith, second)
 
--- any byte at the loose offset, and the same elsewhere
-torn_there : MayLeave (1 ∷ 2 ∷ 3 ∷ []) (false ∷ true ∷ false ∷ []) (1 ∷ 77 ∷ 3 ∷ [])
+-- any byte at the unsynced offset, and the same elsewhere
+torn_there : IsTornFrom (1 ∷ 2 ∷ 3 ∷ []) (false ∷ true ∷ false ∷ []) (1 ∷ 77 ∷ 3 ∷ [])
 torn_there = record { same = (refl, (refl, tt)); bytes = below (1 ∷ 77 ∷ 3 ∷ []) (lit< tt, (lit< tt, (lit< tt, tt))) }
 
-greatest_byte : MayLeave (1 ∷ 2 ∷ []) (false ∷ true ∷ []) (1 ∷ 255 ∷ [])
+greatest_byte : IsTornFrom (1 ∷ 2 ∷ []) (false ∷ true ∷ []) (1 ∷ 255 ∷ [])
 greatest_byte = record { same = (refl, tt); bytes = below (1 ∷ 255 ∷ []) (lit< tt, (lit< tt, tt)) }
 
-no_greater_one : MayLeave (1 ∷ 2 ∷ []) (false ∷ true ∷ []) (1 ∷ 256 ∷ []) → ⊥
+no_greater_one : IsTornFrom (1 ∷ 2 ∷ []) (false ∷ true ∷ []) (1 ∷ 256 ∷ []) → ⊥
 no_greater_one left = let second : 256 < 256 = left.bytes 1 0 (lit< tt) in omega (arith, second)
 
-not_elsewhere : MayLeave (1 ∷ 2 ∷ 3 ∷ []) (false ∷ true ∷ false ∷ []) (1 ∷ 2 ∷ 4 ∷ []) → ⊥
+not_elsewhere : IsTornFrom (1 ∷ 2 ∷ 3 ∷ []) (false ∷ true ∷ false ∷ []) (1 ∷ 2 ∷ 4 ∷ []) → ⊥
 not_elsewhere left = let last = left.same.1.0 in cc
 
-no_longer : MayLeave (1 ∷ []) (true ∷ []) (1 ∷ 1 ∷ []) → ⊥
+no_longer : IsTornFrom (1 ∷ []) (true ∷ []) (1 ∷ 1 ∷ []) → ⊥
 no_longer left = left.same
 
 -- bytes 5 and 6 are written, then synced, then 5 is written over
@@ -50,12 +50,12 @@ twice = written 0 (9 ∷ []) (synced (written 0 (5 ∷ 6 ∷ []) (begun (1 ∷ 2
 three_moments_before : moment twice ≡ 3
 three_moments_before = refl
 
--- at first the old bytes, or anything while both are loose; at the end only the first byte
+-- at first the old bytes, or anything while both are unsynced; at the end only the first byte
 old_at_first : left_since twice 0 (1 ∷ 2 ∷ [])
 old_at_first = inr (inr (inl (lit≤ tt, record { same = tt; bytes = below (1 ∷ 2 ∷ []) (lit< tt, (lit< tt, tt)) })))
 
-torn_while_loose : left_since twice 1 (7 ∷ 8 ∷ [])
-torn_while_loose = inr (inr (inl (lit≤ tt, record { same = tt; bytes = below (7 ∷ 8 ∷ []) (lit< tt, (lit< tt, tt)) })))
+torn_while_unsynced : left_since twice 1 (7 ∷ 8 ∷ [])
+torn_while_unsynced = inr (inr (inl (lit≤ tt, record { same = tt; bytes = below (7 ∷ 8 ∷ []) (lit< tt, (lit< tt, tt)) })))
 
 torn_at_the_end : left_since twice 3 (7 ∷ 6 ∷ [])
 torn_at_the_end = inl (lit≤ tt, record { same = (refl, tt); bytes = below (7 ∷ 6 ∷ []) (lit< tt, (lit< tt, tt)) })
@@ -63,7 +63,7 @@ torn_at_the_end = inl (lit≤ tt, record { same = (refl, tt); bytes = below (7 �
 no_greater_one_at_any_moment : left_since twice 0 (1 ∷ 256 ∷ []) → ⊥
 no_greater_one_at_any_moment left = let second : 256 < 256 = bytes_since twice 0 (1 ∷ 256 ∷ []) left 1 0 (lit< tt) in omega (arith, second)
 
--- the two loose places get what they are told by their place, and by how many lie below them
+-- the two unsynced places get what they are told by their place, and by how many lie below them
 torn_by_place : torn_from (λ place below. slice_index (10 ∷ 20 ∷ 30 ∷ []) place) 0 0 (false ∷ true ∷ true ∷ []) (1 ∷ 2 ∷ 3 ∷ []) ≡ 1 ∷ 20 ∷ 30 ∷ []
 torn_by_place = refl
 

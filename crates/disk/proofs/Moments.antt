@@ -1,24 +1,24 @@
 -- How what a crash leaves at each moment goes on from call to call.
 use Rattle.std.proofs.Common.{◌≡◌, ◌⊎◌, ◌≤◌, ℕ, List, [], ◌∷◌, length, inl, inr, ⊎_elim, ap, subst, arith}
-use Rattle.disk.specs.Device.{AreBytes, Moment, Medium, MayLeave, Leaves, moments}
-use Rattle.disk.specs.Moments.{moment, LeftSince, left_since, LeavesOnly}
+use Rattle.disk.specs.Device.{AreBytes, Moment, Medium, IsTornFrom, IsCrashImage, moments}
+use Rattle.disk.specs.Moments.{moment, LeftSince, left_since, CrashImagesAre}
 
 -- no moment comes after the newest
 none_later : (ms : List Moment) (t : ℕ) (c : List ℕ) → length ms ≤ t → LeftSince ms t c → ⊥
 none_later [] t c late since = since
 none_later (m ∷ earlier) t c late since =
-    ⊎_elim (λ (here : (t ≤ length earlier) × MayLeave m.now m.loose c). omega (arith, here.0, late)) (none_later earlier t c (omega (arith, late))) since
+    ⊎_elim (λ (here : (t ≤ length earlier) × IsTornFrom m.now m.unsynced c). omega (arith, here.0, late)) (none_later earlier t c (omega (arith, late))) since
 
 -- what a crash may leave now it might have left at some moment since an earlier one
-pub counts_now : (m : Medium) (t : ℕ) (c : List ℕ) → t ≤ moment m → Leaves m c → left_since m t c
+pub counts_now : (m : Medium) (t : ℕ) (c : List ℕ) → t ≤ moment m → IsCrashImage m c → left_since m t c
 counts_now m t c late left = inl (late, left)
 
 -- since this moment there is no other
-pub only_now : (m : Medium) (c : List ℕ) → left_since m (moment m) c → Leaves m c
-only_now m c since = ⊎_elim (λ (here : (moment m ≤ moment m) × Leaves m c). here.1) (λ earlier. absurd (none_later m.past (moment m) c (omega arith) earlier)) since
+pub only_now : (m : Medium) (c : List ℕ) → left_since m (moment m) c → IsCrashImage m c
+only_now m c since = ⊎_elim (λ (here : (moment m ≤ moment m) × IsCrashImage m c). here.1) (λ earlier. absurd (none_later m.past (moment m) c (omega arith) earlier)) since
 
 -- before the first call
-pub started : (m : Medium) (P : List ℕ → Type 0) → ((c : List ℕ) → Leaves m c → P c) → LeavesOnly m m P
+pub started : (m : Medium) (P : List ℕ → Type 0) → ((c : List ℕ) → IsCrashImage m c → P c) → CrashImagesAre m m P
 started m P here = record {
   later = omega arith;
   each = λ c since. here c (only_now m c since);
@@ -26,10 +26,10 @@ started m P here = record {
 }
 
 -- one moment more
-pub next : (old mid new : Medium) (P : List ℕ → Type 0) → LeavesOnly old mid P → new.past ≡ moments mid → ((c : List ℕ) → Leaves new c → P c) → LeavesOnly old new P
+pub next : (old mid new : Medium) (P : List ℕ → Type 0) → CrashImagesAre old mid P → new.past ≡ moments mid → ((c : List ℕ) → IsCrashImage new c → P c) → CrashImagesAre old new P
 next old mid new P so_far past here =
     let since : (t : ℕ) (c : List ℕ) → left_since new t c → P c ⊎ left_since mid t c =
-    λ t c left. ⊎_elim (λ (now : (t ≤ length new.past) × Leaves new c). inl (here c now.1)) (λ earlier. inr (subst (λ (ms : List Moment). LeftSince ms t c) past earlier)) left in
+    λ t c left. ⊎_elim (λ (now : (t ≤ length new.past) × IsCrashImage new c). inl (here c now.1)) (λ earlier. inr (subst (λ (ms : List Moment). LeftSince ms t c) past earlier)) left in
     record {
       later = omega (arith, so_far.later, ap length past);
       each = λ c left. ⊎_elim (λ (p : P c). p) (so_far.each c) (since (moment old) c left);
@@ -37,7 +37,7 @@ next old mid new P so_far past here =
     }
 
 -- a call that changes nothing of what a crash leaves, now or earlier
-pub same : (old mid new : Medium) (P : List ℕ → Type 0) → LeavesOnly old mid P → moments new ≡ moments mid → LeavesOnly old new P
+pub same : (old mid new : Medium) (P : List ℕ → Type 0) → CrashImagesAre old mid P → moments new ≡ moments mid → CrashImagesAre old new P
 same old mid new P so_far unchanged =
     let since : (t : ℕ) (c : List ℕ) → left_since new t c → left_since mid t c = λ t c. subst (λ (ms : List Moment). LeftSince ms t c) unchanged in
     record {
@@ -47,7 +47,7 @@ same old mid new P so_far unchanged =
     }
 
 -- a weaker fact of each
-pub weaker : (old new : Medium) (P Q : List ℕ → Type 0) → LeavesOnly old new P → ((c : List ℕ) → P c → Q c) → LeavesOnly old new Q
+pub weaker : (old new : Medium) (P Q : List ℕ → Type 0) → CrashImagesAre old new P → ((c : List ℕ) → P c → Q c) → CrashImagesAre old new Q
 weaker old new P Q so_far enough = record {
   later = so_far.later;
   each = λ c left. enough c (so_far.each c left);
@@ -55,7 +55,7 @@ weaker old new P Q so_far enough = record {
 }
 
 -- one stretch of calls after another
-pub then : (old mid new : Medium) (P : List ℕ → Type 0) → LeavesOnly old mid P → LeavesOnly mid new P → LeavesOnly old new P
+pub then : (old mid new : Medium) (P : List ℕ → Type 0) → CrashImagesAre old mid P → CrashImagesAre mid new P → CrashImagesAre old new P
 then old mid new P first second = record {
   later = omega (arith, first.later, second.later);
   each = λ c left. ⊎_elim (first.each c) (λ (p : P c). p) (second.before (moment old) c first.later left);
@@ -63,13 +63,13 @@ then old mid new P first second = record {
 }
 
 -- what a crash leaves at the end
-pub leaves_now : (old new : Medium) (P : List ℕ → Type 0) → LeavesOnly old new P → (c : List ℕ) → Leaves new c → P c
+pub leaves_now : (old new : Medium) (P : List ℕ → Type 0) → CrashImagesAre old new P → (c : List ℕ) → IsCrashImage new c → P c
 leaves_now old new P so_far c left = so_far.each c (counts_now new (moment old) c so_far.later left)
 
 some_bytes : (ms : List Moment) (t : ℕ) (c : List ℕ) → LeftSince ms t c → AreBytes c
 some_bytes [] t c since = absurd since
 some_bytes (m ∷ earlier) t c since =
-    ⊎_elim (λ (here : (t ≤ length earlier) × MayLeave m.now m.loose c). here.1.bytes) (some_bytes earlier t c) since
+    ⊎_elim (λ (here : (t ≤ length earlier) × IsTornFrom m.now m.unsynced c). here.1.bytes) (some_bytes earlier t c) since
 
 -- what a crash leaves at any moment are bytes
 pub bytes_since : (m : Medium) (t : ℕ) (c : List ℕ) → left_since m t c → AreBytes c

@@ -58,15 +58,15 @@ module _ {X : Type 0} where
   item-overlaid (x ∷ xs) (suc at) y d items inside = item-overlaid xs at y d items (omega (arith, inside))
 
 -- the same of marks
-module _ (loose : List Bool) (at n : ℕ) where
-  pub length-marked : length (marked loose at n) ≡ length loose
-  length-marked = length-overlaid loose at (replicate n true)
+module _ (unsynced : List Bool) (at n : ℕ) where
+  pub length-marked : length (marked unsynced at n) ≡ length unsynced
+  length-marked = length-overlaid unsynced at (replicate n true)
 
-  pub take-marked : take at (marked loose at n) ≡ take at loose
-  take-marked = take-overlaid loose at (replicate n true)
+  pub take-marked : take at (marked unsynced at n) ≡ take at unsynced
+  take-marked = take-overlaid unsynced at (replicate n true)
 
-  pub drop-marked : drop (at + n) (marked loose at n) ≡ drop (at + n) loose
-  drop-marked = rw (length-replicate n true) at (drop-overlaid loose at (replicate n true))
+  pub drop-marked : drop (at + n) (marked unsynced at n) ≡ drop (at + n) unsynced
+  drop-marked = rw (length-replicate n true) at (drop-overlaid unsynced at (replicate n true))
 
 -- A write differs within its range alone.
 pub overlaid_outside : {X : Type 0} (xs : List X) (at : ℕ) (items : List X) → SameOutside at (length items) xs (overlaid xs at items)
@@ -76,9 +76,9 @@ overlaid_outside xs at items = record {
   size = length-overlaid xs at items;
 }
 
-pub marked_outside : (loose : List Bool) (at n : ℕ) → SameOutside at n loose (marked loose at n)
-marked_outside loose at n = record {
-  before = take-marked loose at n;
-  after = drop-marked loose at n;
-  size = length-marked loose at n;
+pub marked_outside : (unsynced : List Bool) (at n : ℕ) → SameOutside at n unsynced (marked unsynced at n)
+marked_outside unsynced at n = record {
+  before = take-marked unsynced at n;
+  after = drop-marked unsynced at n;
+  size = length-marked unsynced at n;
 }

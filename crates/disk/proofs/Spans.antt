@@ -1,27 +1,27 @@
 -- The range that a sync looks at, after each call.
 use Rattle.std.proofs.Common.{◌≡◌, ◌⊎◌, ℕ, ◌+◌, ◌-◌, ◌≤◌, false, List, length, replicate, sym, subst, arith}
 use Rattle.disk.specs.Device.{Medium, SameOutside, overlaid, marked, written}
-use Rattle.disk.specs.Shadow.{lost}
-use Rattle.disk.specs.Span.{HoldsLoose}
+use Rattle.disk.specs.GhostDevice.{lost}
+use Rattle.disk.specs.Span.{HoldsUnsynced}
 use Rattle.disk.proofs.Outside.{covered, same_back, same_both, wider}
 use Rattle.disk.proofs.Overlays.{length-overlaid, overlaid_outside, marked_outside}
 
 -- The range from a to e grows to the one from b to f, which holds n places from `at` on.
-module _ (a e b f at n : ℕ) (m : Medium) (kept : List ℕ) (ordered : a ≤ e) (from : b ≤ at) (to : at + n ≤ f) (inside : f ≤ length m.now) (grows : (a ≡ e) ⊎ ((b ≤ a) × (e ≤ f))) (holds : HoldsLoose a e m kept) where
-  marks : SameOutside b (f - b) (replicate (length m.now) false) (marked m.loose at n)
+module _ (a e b f at n : ℕ) (m : Medium) (kept : List ℕ) (ordered : a ≤ e) (from : b ≤ at) (to : at + n ≤ f) (inside : f ≤ length m.now) (grows : (a ≡ e) ⊎ ((b ≤ a) × (e ≤ f))) (holds : HoldsUnsynced a e m kept) where
+  marks : SameOutside b (f - b) (replicate (length m.now) false) (marked m.unsynced at n)
   marks =
-      same_both b (f - b) (replicate (length m.now) false) m.loose (marked m.loose at n)
-      (covered a e b f (replicate (length m.now) false) m.loose ordered (omega (arith, from, to)) grows holds.marks)
-      (wider at n m.loose (marked m.loose at n) (marked_outside m.loose at n) b (f - b) from (omega (arith, from, to)))
+      same_both b (f - b) (replicate (length m.now) false) m.unsynced (marked m.unsynced at n)
+      (covered a e b f (replicate (length m.now) false) m.unsynced ordered (omega (arith, from, to)) grows holds.marks)
+      (wider at n m.unsynced (marked m.unsynced at n) (marked_outside m.unsynced at n) b (f - b) from (omega (arith, from, to)))
 
-  pub holds_lost : HoldsLoose b f (lost at n m) kept
+  pub holds_lost : HoldsUnsynced b f (lost at n m) kept
   holds_lost = record {
     inside = inside;
     kept = covered a e b f m.now kept ordered (omega (arith, from, to)) grows holds.kept;
     marks = marks;
   }
 
-  pub holds_written : (bytes : List ℕ) → length bytes ≡ n → HoldsLoose b f (written at bytes m) kept
+  pub holds_written : (bytes : List ℕ) → length bytes ≡ n → HoldsUnsynced b f (written at bytes m) kept
   holds_written bytes size =
       let over = overlaid m.now at bytes in
       let long : length over ≡ length m.now = length-overlaid m.now at bytes in
@@ -31,6 +31,6 @@ module _ (a e b f at n : ℕ) (m : Medium) (kept : List ℕ) (ordered : a ≤ e)
             (same_back b (f - b) m.now over (wider at (length bytes) m.now over (overlaid_outside m.now at bytes) b (f - b) from (omega (arith, from, to, size))))
             (covered a e b f m.now kept ordered (omega (arith, from, to)) grows holds.kept);
         marks =
-            subst (λ (k : ℕ). SameOutside b (f - b) (replicate k false) (marked m.loose at (length bytes))) (sym long)
-            (subst (λ (k : ℕ). SameOutside b (f - b) (replicate (length m.now) false) (marked m.loose at k)) (sym size) marks);
+            subst (λ (k : ℕ). SameOutside b (f - b) (replicate k false) (marked m.unsynced at (length bytes))) (sym long)
+            (subst (λ (k : ℕ). SameOutside b (f - b) (replicate (length m.now) false) (marked m.unsynced at k)) (sym size) marks);
       }

@@ -3,17 +3,17 @@ use Rattle.std.specs.Prelude.{◌≡◌, ℕ, zero, suc, ◌+◌, ◌<◌, All, 
 use Rattle.disk.specs.declared.fault.DiskFault.{DiskFault}
 use Rattle.disk.specs.declared.fault.DiskFault.TheVariants.{OutOfRange, Device}
 
--- A device at one moment: what a read gives, and for each offset whether it is loose, that is, written since the
+-- A device at one moment: what a read gives, and for each offset whether it is unsynced, that is, written since the
 -- last sync that succeeded.
 pub record Moment : Type 0 where
   pub now : List ℕ
-  pub loose : List Bool
+  pub unsynced : List Bool
 
 -- A device as contracts see it. `past` has the moments before this one, the newest first, and `faults` counts how
 -- often the device has failed. Both are for contracts alone: no memory holds them, and they have no greatest value.
 pub record Medium : Type 0 where
   pub now : List ℕ
-  pub loose : List Bool
+  pub unsynced : List Bool
   pub past : List Moment
   pub faults : ℕ
 
@@ -21,28 +21,28 @@ pub record Medium : Type 0 where
 abbrev pub AreBytes : List ℕ → Type 0
 AreBytes numbers = All (λ b. b < 256) numbers
 
--- A list of the same length that has the same items at all offsets that are not loose. An offset past the end of the
--- marks counts as loose.
-abbrev pub SameButLoose : List ℕ → List Bool → List ℕ → Type 0
-SameButLoose [] loose [] = Unit {0}
-SameButLoose [] loose (x ∷ c) = ⊥
-SameButLoose (b ∷ now) loose [] = ⊥
-SameButLoose (b ∷ now) [] (x ∷ c) = SameButLoose now [] c
-SameButLoose (b ∷ now) (true ∷ loose) (x ∷ c) = SameButLoose now loose c
-SameButLoose (b ∷ now) (false ∷ loose) (x ∷ c) = (x ≡ b) × SameButLoose now loose c
+-- A list of the same length that has the same items at all offsets that are not unsynced. An offset past the end of the
+-- marks counts as unsynced.
+abbrev pub SameButUnsynced : List ℕ → List Bool → List ℕ → Type 0
+SameButUnsynced [] unsynced [] = Unit {0}
+SameButUnsynced [] unsynced (x ∷ c) = ⊥
+SameButUnsynced (b ∷ now) unsynced [] = ⊥
+SameButUnsynced (b ∷ now) [] (x ∷ c) = SameButUnsynced now [] c
+SameButUnsynced (b ∷ now) (true ∷ unsynced) (x ∷ c) = SameButUnsynced now unsynced c
+SameButUnsynced (b ∷ now) (false ∷ unsynced) (x ∷ c) = (x ≡ b) × SameButUnsynced now unsynced c
 
--- A crash leaves any bytes at the loose offsets and keeps all others. It changes no length.
-pub record MayLeave (now : List ℕ) (loose : List Bool) (c : List ℕ) : Type 0 where
-  pub same : SameButLoose now loose c
+-- A crash leaves any bytes at the unsynced offsets and keeps all others. It changes no length.
+pub record IsTornFrom (now : List ℕ) (unsynced : List Bool) (c : List ℕ) : Type 0 where
+  pub same : SameButUnsynced now unsynced c
   pub bytes : AreBytes c
 
 -- what a crash may leave of the device as it stands
-abbrev pub Leaves : Medium → List ℕ → Type 0
-Leaves m c = MayLeave m.now m.loose c
+abbrev pub IsCrashImage : Medium → List ℕ → Type 0
+IsCrashImage m c = IsTornFrom m.now m.unsynced c
 
--- nothing is loose
+-- nothing is unsynced
 abbrev pub IsSynced : Medium → Type 0
-IsSynced m = m.loose ≡ replicate (length m.now) false
+IsSynced m = m.unsynced ≡ replicate (length m.now) false
 
 -- the list with these items from an offset on; what would lie past its end is left out
 abbrev pub overlaid : {X : Type 0} → List X → ℕ → List X → List X
@@ -53,7 +53,7 @@ overlaid (x ∷ xs) (suc at) items = x ∷ overlaid xs at items
 
 -- the marks after a write of n bytes
 abbrev pub marked : List Bool → ℕ → ℕ → List Bool
-marked loose at n = overlaid loose at (replicate n true)
+marked unsynced at n = overlaid unsynced at (replicate n true)
 
 -- two lists of one length that differ at most in the n items from this offset on
 pub record SameOutside {X : Type 0} (at n : ℕ) (old new : List X) : Type 0 where
@@ -63,32 +63,32 @@ pub record SameOutside {X : Type 0} (at n : ℕ) (old new : List X) : Type 0 whe
 
 -- every moment so far, this one first
 abbrev pub moments : Medium → List Moment
-moments m = record { now = m.now; loose = m.loose } ∷ m.past
+moments m = record { now = m.now; unsynced = m.unsynced } ∷ m.past
 
 -- a device that has just been made, with these bytes
 abbrev pub begun : List ℕ → Medium
-begun bytes = record { now = bytes; loose = replicate (length bytes) false; past = []; faults = 0 }
+begun bytes = record { now = bytes; unsynced = replicate (length bytes) false; past = []; faults = 0 }
 
 -- a device that was found with these bytes, none of which counts as synced
 abbrev pub found : List ℕ → Medium
-found bytes = record { now = bytes; loose = replicate (length bytes) true; past = []; faults = 0 }
+found bytes = record { now = bytes; unsynced = replicate (length bytes) true; past = []; faults = 0 }
 
 -- after a write
 abbrev pub written : ℕ → List ℕ → Medium → Medium
-written at bytes m = record { now = overlaid m.now at bytes; loose = marked m.loose at (length bytes); past = moments m; faults = m.faults }
+written at bytes m = record { now = overlaid m.now at bytes; unsynced = marked m.unsynced at (length bytes); past = moments m; faults = m.faults }
 
 -- after a sync: a crash leaves what a read gives
 abbrev pub synced : Medium → Medium
-synced m = record { now = m.now; loose = replicate (length m.now) false; past = moments m; faults = m.faults }
+synced m = record { now = m.now; unsynced = replicate (length m.now) false; past = moments m; faults = m.faults }
 
 -- after a read or a sync that failed
 abbrev pub failed : Medium → Medium
-failed m = record { now = m.now; loose = m.loose; past = m.past; faults = m.faults + 1 }
+failed m = record { now = m.now; unsynced = m.unsynced; past = m.past; faults = m.faults + 1 }
 
 -- A write of n bytes failed: its range counts as written, and what a read gives there is open.
 pub record FailsToWrite (at n : ℕ) (old new : Medium) : Type 0 where
   pub bytes : SameOutside at n old.now new.now
-  pub loose : new.loose ≡ marked old.loose at n
+  pub unsynced : new.unsynced ≡ marked old.unsynced at n
   pub past : new.past ≡ moments old
   pub faults : new.faults ≡ old.faults + 1
 

@@ -1,10 +1,10 @@
 -- The words of a device: its calls, what a crash leaves at each moment, and devices of a file and in memory.
 pub mod BackingFile
 pub mod Device
-pub mod Fuse
+pub mod InjectedFault
 pub mod Memory
 pub mod Moments
 pub mod RealFile
-pub mod Shadow
+pub mod GhostDevice
 pub mod Span
 pub mod Torn

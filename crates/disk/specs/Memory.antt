@@ -2,44 +2,44 @@
 use Rattle.std.specs.Prelude.{ℕ, ◌+◌, ◌-◌, ◌^◌, min, if◌then◌else◌, nat_lt, List, length, Result, Ok, Err}
 use Rattle.disk.specs.declared.fault.DiskFault.{DiskFault}
 use Rattle.disk.specs.declared.fault.DiskFault.TheVariants.{OutOfRange, Device}
-use Rattle.disk.specs.declared.fuse.Fuse.{Fuse}
-use Rattle.disk.specs.declared.fuse.Fuse.TheVariants.{Off}
+use Rattle.disk.specs.declared.injected_fault.InjectedFault.{InjectedFault}
+use Rattle.disk.specs.declared.injected_fault.InjectedFault.TheVariants.{Off}
 use Rattle.disk.specs.declared.torn.Torn.{Torn}
 use Rattle.disk.specs.declared.memory.MemDisk.{MemDisk}
 use Rattle.disk.specs.Device.{Medium, begun, overlaid, written, synced, failed}
-use Rattle.disk.specs.Shadow.{lost}
-use Rattle.disk.specs.Fuse.{is_blown, burned}
+use Rattle.disk.specs.GhostDevice.{lost}
+use Rattle.disk.specs.InjectedFault.{is_blown, burned}
 use Rattle.disk.specs.Torn.{torn_byte, torn_from}
 
 pub record Memory : Type 0 where
   pub medium : Medium
   -- what the last sync left
   pub kept : List ℕ
-  -- at a loose offset, the byte that was last asked to be written there
+  -- at a unsynced offset, the byte that was last asked to be written there
   pub asked : List ℕ
-  pub fuse : Fuse
+  pub injected_fault : InjectedFault
   -- the reads, writes and syncs so far
   pub calls : ℕ
 
 abbrev pub memory_of : MemDisk → Memory
-memory_of d = record { medium = d.shadow.medium; kept = d.kept.items; asked = d.asked.items; fuse = d.meter.fuse; calls = d.meter.calls }
+memory_of d = record { medium = d.ghost_device.medium; kept = d.kept.items; asked = d.asked.items; injected_fault = d.meter.injected_fault; calls = d.meter.calls }
 
 abbrev pub medium_of : MemDisk → Medium
-medium_of d = d.shadow.medium
+medium_of d = d.ghost_device.medium
 
 -- a device that has just been made, with these bytes
 abbrev pub made : List ℕ → Memory
-made bytes = record { medium = begun bytes; kept = bytes; asked = bytes; fuse = Off; calls = 0 }
+made bytes = record { medium = begun bytes; kept = bytes; asked = bytes; injected_fault = Off; calls = 0 }
 
--- one call more that the fuses count
+-- one call more that the injected faults count
 abbrev pub counted : Memory → Memory
-counted m = record m { fuse = burned m.fuse; calls = min (m.calls + 1) (2 ^ 64 - 1) }
+counted m = record m { injected_fault = burned m.injected_fault; calls = min (m.calls + 1) (2 ^ 64 - 1) }
 
 -- the answer to a call for n bytes from this offset on
 abbrev pub call_result : ℕ → ℕ → Memory → Result (Unit {0}) DiskFault
 call_result at n m =
     if nat_lt (length m.medium.now) (at + n) then Err OutOfRange
-    else if is_blown m.fuse then Err Device
+    else if is_blown m.injected_fault then Err Device
     else Ok tt
 
 abbrev pub after_read : Result (Unit {0}) DiskFault → Memory → Memory
@@ -60,7 +60,7 @@ after_sync (Err Device) m = record (counted m) { medium = failed m.medium }
 
 -- what a crash of this kind leaves
 abbrev pub crashed : Torn → Memory → List ℕ
-crashed kind m = torn_from (torn_byte kind m.kept m.asked) 0 0 m.medium.loose m.medium.now
+crashed kind m = torn_from (torn_byte kind m.kept m.asked) 0 0 m.medium.unsynced m.medium.now
 
 -- the device after it
 abbrev pub after_crash : Torn → Memory → Memory

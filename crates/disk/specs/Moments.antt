@@ -1,6 +1,6 @@
 -- What a crash leaves at some moment, or at every moment, of a stretch of calls.
 use Rattle.std.specs.Prelude.{◌⊎◌, ◌≤◌, ℕ, List, [], ◌∷◌, length}
-use Rattle.disk.specs.Device.{Moment, Medium, MayLeave, moments}
+use Rattle.disk.specs.Device.{Moment, Medium, IsTornFrom, moments}
 
 -- The number of a moment is how many came before it.
 abbrev pub moment : Medium → ℕ
@@ -9,14 +9,14 @@ moment m = length m.past
 -- one of these moments, with number t or a greater one, may leave c
 abbrev pub LeftSince : List Moment → ℕ → List ℕ → Type 0
 LeftSince [] t c = ⊥
-LeftSince (m ∷ earlier) t c = ((t ≤ length earlier) × MayLeave m.now m.loose c) ⊎ LeftSince earlier t c
+LeftSince (m ∷ earlier) t c = ((t ≤ length earlier) × IsTornFrom m.now m.unsynced c) ⊎ LeftSince earlier t c
 
 -- a crash at some moment from number t on might have left c
 abbrev pub left_since : Medium → ℕ → List ℕ → Type 0
 left_since m t c = LeftSince (moments m) t c
 
 -- A crash at any moment from `old` to `new`, both among them, leaves only what has P.
-pub record LeavesOnly (old new : Medium) (P : List ℕ → Type 0) : Type 0 where
+pub record CrashImagesAre (old new : Medium) (P : List ℕ → Type 0) : Type 0 where
   pub later : moment old ≤ moment new
   pub each : (c : List ℕ) → left_since new (moment old) c → P c
   -- of a run that began earlier: what it might have left before, or what has P

@@ -21,7 +21,7 @@ read_gives keeps at out now = absurd keeps
 
 -- a file as contracts see it
 abbrev pub file_medium : FileBacked (HostFile File) → Medium
-file_medium d = d.file.shadow.medium
+file_medium d = d.file.ghost_device.medium
 
 -- the fault that is told of an error of the system
 abbrev pub fault_of : ErrorKind → FileFault

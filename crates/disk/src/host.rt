@@ -3,7 +3,7 @@ ghost use Rattle.std.specs.Prelude.{◌≡◌, ◌<◌, ◌^◌, length, replica
 ghost use Rattle.disk.specs.Device.{AreBytes, begun, found};
 
 use crate::backing::BackingFile;
-use crate::shadow::{Call, Shadow};
+use crate::ghost_device::{Call, GhostDevice};
 use std::fs::OpenFile;
 use std::io;
 use std::os::unix::fs::FileExt;
@@ -13,29 +13,29 @@ use std::os::unix::fs::FileExt;
 pub struct HostFile<T: FileExt + OpenFile + Drop> {
     file: T,
     size: u64,
-    shadow: Shadow,
-    ghost size_is: { length shadow.medium.now ≡ size },
-    ghost fits: { length shadow.medium.now < 2 ^ 64 },
-    ghost are_bytes: { AreBytes shadow.medium.now },
+    ghost_device: GhostDevice,
+    ghost size_is: { length ghost_device.medium.now ≡ size },
+    ghost fits: { length ghost_device.medium.now < 2 ^ 64 },
+    ghost are_bytes: { AreBytes ghost_device.medium.now },
 }
 
 impl<T: FileExt + OpenFile + Drop> HostFile<T> {
     /// A file of this length, which is synced. What contracts see of its bytes are zeros, whatever it holds: see `FileKeeps`.
     pub fn synced(file: T, size: u64) -> HostFile<T>
-        ensures { result.shadow.medium ≡ begun (replicate size 0) }
+        ensures { result.ghost_device.medium ≡ begun (replicate size 0) }
     {
-        let mut shadow = Shadow::new();
-        shadow.note(&Call::Zeroed(size), &[]);
-        HostFile { file, size, shadow }
+        let mut ghost_device = GhostDevice::new();
+        ghost_device.note(&Call::Zeroed(size), &[]);
+        HostFile { file, size, ghost_device }
     }
 
     /// A file of this length, of which nothing counts as synced.
     pub fn found(file: T, size: u64) -> HostFile<T>
-        ensures { result.shadow.medium ≡ found (replicate size 0) }
+        ensures { result.ghost_device.medium ≡ found (replicate size 0) }
     {
-        let mut shadow = Shadow::new();
-        shadow.note(&Call::Found(size), &[]);
-        HostFile { file, size, shadow }
+        let mut ghost_device = GhostDevice::new();
+        ghost_device.note(&Call::Found(size), &[]);
+        HostFile { file, size, ghost_device }
     }
 }
 
@@ -44,7 +44,7 @@ impl<T: FileExt + OpenFile + Drop> HostFile<T> {
 impl<T: FileExt + OpenFile + Drop> BackingFile for HostFile<T> {
     ghost use Rattle.disk.specs.RealFile.{FileKeeps};
 
-    ghost medium = { λ f. f.shadow.medium };
+    ghost medium = { λ f. f.ghost_device.medium };
 
     ghost keeps = { FileKeeps };
 
@@ -55,7 +55,7 @@ impl<T: FileExt + OpenFile + Drop> BackingFile for HostFile<T> {
     fn read_exact_at(&mut self, out: &mut [u8], at: u64) -> io::Result<()> {
         let answer = self.file.read_exact_at(out, at);
         if answer.is_err() {
-            self.shadow.note(&Call::Failed, &[]);
+            self.ghost_device.note(&Call::Failed, &[]);
         }
         answer
     }
@@ -63,9 +63,9 @@ impl<T: FileExt + OpenFile + Drop> BackingFile for HostFile<T> {
     fn write_all_at(&mut self, bytes: &[u8], at: u64) -> io::Result<()> {
         let answer = self.file.write_all_at(bytes, at);
         if answer.is_err() {
-            self.shadow.note(&Call::Lost(at), bytes);
+            self.ghost_device.note(&Call::Lost(at), bytes);
         } else {
-            self.shadow.note(&Call::Wrote(at), bytes);
+            self.ghost_device.note(&Call::Wrote(at), bytes);
         }
         answer
     }
@@ -73,9 +73,9 @@ impl<T: FileExt + OpenFile + Drop> BackingFile for HostFile<T> {
     fn sync_data(&mut self) -> io::Result<()> {
         let answer = self.file.sync_data();
         if answer.is_err() {
-            self.shadow.note(&Call::Failed, &[]);
+            self.ghost_device.note(&Call::Failed, &[]);
         } else {
-            self.shadow.note(&Call::Synced, &[]);
+            self.ghost_device.note(&Call::Synced, &[]);
         }
         answer
     }

@@ -10,11 +10,11 @@ mod backing;
 mod device;
 mod fault;
 mod file;
-mod fuse;
+mod injected_fault;
 mod host;
 mod memory;
 mod ranges;
-mod shadow;
+mod ghost_device;
 mod span;
 mod torn;
 

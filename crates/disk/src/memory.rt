@@ -1,14 +1,14 @@
 //! A device in memory, for tests: it fails and crashes on purpose.
 ghost use Rattle.std.specs.Prelude.{◌≡◌, ◌+◌, ◌<◌, ◌^◌, ◌↔◌, length, IfOk, IsErrOf, replicate};
 ghost use Rattle.disk.specs.declared.fault.DiskFault.TheVariants.{OutOfRange};
-ghost use Rattle.disk.specs.declared.fuse.Fuse.TheVariants.{FailAt, StopAt};
-ghost use Rattle.disk.specs.Device.{AreBytes, Leaves, Reads, Writes, Syncs, IsDeviceCall};
-ghost use Rattle.disk.specs.Span.{HoldsLoose};
+ghost use Rattle.disk.specs.declared.injected_fault.InjectedFault.TheVariants.{FailAt, StopAt};
+ghost use Rattle.disk.specs.Device.{AreBytes, IsCrashImage, Reads, Writes, Syncs, IsDeviceCall};
+ghost use Rattle.disk.specs.Span.{HoldsUnsynced};
 ghost use Rattle.disk.specs.Torn.{HasBytes};
 
-use crate::fuse::{Fuse, Meter};
+use crate::injected_fault::{InjectedFault, Meter};
 use crate::ranges::{clear, mark, overlay, refresh, start_of};
-use crate::shadow::{Call, Shadow};
+use crate::ghost_device::{Call, GhostDevice};
 use crate::span::Span;
 use crate::torn::tear;
 use crate::{Disk, DiskFault, Torn};
@@ -20,21 +20,21 @@ pub struct MemDisk {
     bytes: Vec<u8>,
     // What the last sync left.
     kept: Vec<u8>,
-    // At a loose offset, the byte that was last asked to be written there.
+    // At a unsynced offset, the byte that was last asked to be written there.
     asked: Vec<u8>,
-    loose: Vec<bool>,
-    // Outside it nothing is loose, and `kept` has the same bytes.
+    unsynced: Vec<bool>,
+    // Outside it nothing is unsynced, and `kept` has the same bytes.
     span: Span,
     meter: Meter,
-    shadow: Shadow,
-    ghost now_is: { shadow.medium.now ≡ bytes.items },
-    ghost loose_is: { shadow.medium.loose ≡ loose.items },
+    ghost_device: GhostDevice,
+    ghost now_is: { ghost_device.medium.now ≡ bytes.items },
+    ghost unsynced_is: { ghost_device.medium.unsynced ≡ unsynced.items },
     ghost kept_size: { length kept.items ≡ length bytes.items },
     ghost asked_size: { length asked.items ≡ length bytes.items },
-    ghost loose_size: { length loose.items ≡ length bytes.items },
-    ghost holds_loose: { HoldsLoose span.start span.end shadow.medium kept.items },
-    ghost fits: { length shadow.medium.now < 2 ^ 64 },
-    ghost are_bytes: { AreBytes shadow.medium.now },
+    ghost unsynced_size: { length unsynced.items ≡ length bytes.items },
+    ghost holds_unsynced: { HoldsUnsynced span.start span.end ghost_device.medium kept.items },
+    ghost fits: { length ghost_device.medium.now < 2 ^ 64 },
+    ghost are_bytes: { AreBytes ghost_device.medium.now },
 }
 
 impl MemDisk {
@@ -53,17 +53,17 @@ impl MemDisk {
     {
         let kept = bytes.to_vec(alloc)?;
         let asked = bytes.to_vec(alloc)?;
-        let loose = vec![in alloc; false; bytes.len()]?;
-        let mut shadow = Shadow::new();
-        shadow.note(&Call::Begun, &bytes);
+        let unsynced = vec![in alloc; false; bytes.len()]?;
+        let mut ghost_device = GhostDevice::new();
+        ghost_device.note(&Call::Begun, &bytes);
         Ok(MemDisk {
             bytes,
             kept,
             asked,
-            loose,
+            unsynced,
             span: Span::none(),
             meter: Meter::new(),
-            shadow,
+            ghost_device,
         })
     }
 
@@ -74,62 +74,62 @@ impl MemDisk {
         self.bytes.as_slice()
     }
 
-    /// Lets the n-th call from now on fail, and later ones go on. The fuse that was set before counts no more.
+    /// Lets the n-th call from now on fail, and later ones go on. The injected fault that was set before counts no more.
     pub fn fail_at(&mut self, n: u64)
         requires { 0 < n }
-        ensures { memory_of self.new ≡ record (memory_of self.old) { fuse = FailAt n } }
+        ensures { memory_of self.new ≡ record (memory_of self.old) { injected_fault = FailAt n } }
     {
-        self.meter.fuse = Fuse::FailAt(n);
+        self.meter.injected_fault = InjectedFault::FailAt(n);
     }
 
-    /// Lets the n-th call from now on fail, and all later ones. The fuse that was set before counts no more.
+    /// Lets the n-th call from now on fail, and all later ones. The injected fault that was set before counts no more.
     pub fn stop_at(&mut self, n: u64)
         requires { 0 < n }
-        ensures { memory_of self.new ≡ record (memory_of self.old) { fuse = StopAt n } }
+        ensures { memory_of self.new ≡ record (memory_of self.old) { injected_fault = StopAt n } }
     {
-        self.meter.fuse = Fuse::StopAt(n);
+        self.meter.injected_fault = InjectedFault::StopAt(n);
     }
 
-    /// The device after a crash, with its fuses off and no calls. It takes no memory.
+    /// The device after a crash, with its injected faults off and no calls. It takes no memory.
     pub fn crash(self, torn: Torn) -> MemDisk
         requires { HasBytes torn }
         ensures after { memory_of result ≡ after_crash torn (memory_of self) }
-        ensures may { Leaves (medium_of self) (medium_of result).now }
+        ensures may { IsCrashImage (medium_of self) (medium_of result).now }
     {
         let MemDisk {
             mut bytes,
             mut kept,
             asked,
-            mut loose,
+            mut unsynced,
             span: _,
             meter: _,
-            shadow: _,
+            ghost_device: _,
         } = self;
-        tear(&torn, &kept, &asked, &loose, &mut bytes);
+        tear(&torn, &kept, &asked, &unsynced, &mut bytes);
         kept.copy_from_slice(&bytes);
-        loose.fill(false);
-        let mut shadow = Shadow::new();
-        shadow.note(&Call::Begun, &bytes);
+        unsynced.fill(false);
+        let mut ghost_device = GhostDevice::new();
+        ghost_device.note(&Call::Begun, &bytes);
         MemDisk {
             bytes,
             kept,
             asked,
-            loose,
+            unsynced,
             span: Span::none(),
             meter: Meter::new(),
-            shadow,
+            ghost_device,
         }
     }
 
-    /// A device as a crash would leave this one now, with its fuses off and no calls. This one goes on. `AllocError` where there is no
+    /// A device as a crash would leave this one now, with its injected faults off and no calls. This one goes on. `AllocError` where there is no
     /// memory.
     pub fn crashed(&self, alloc: Global, torn: &Torn) -> Result<MemDisk, AllocError>
         requires { HasBytes torn.now }
         ensures after { IfOk result (λ d. memory_of d ≡ made (crashed torn.now (memory_of self.now))) }
-        ensures may { IfOk result (λ d. Leaves (medium_of self.now) (medium_of d).now) }
+        ensures may { IfOk result (λ d. IsCrashImage (medium_of self.now) (medium_of d).now) }
     {
         let mut bytes = self.bytes.to_vec(alloc)?;
-        tear(torn, &self.kept, &self.asked, &self.loose, &mut bytes);
+        tear(torn, &self.kept, &self.asked, &self.unsynced, &mut bytes);
         let after = MemDisk::of_bytes(alloc, bytes)?;
         Ok(after)
     }
@@ -165,7 +165,7 @@ impl Disk for MemDisk {
     {
         let start = start_of(self.len(), at, out.len())?;
         if self.meter.spend() {
-            self.shadow.note(&Call::Failed, &[]);
+            self.ghost_device.note(&Call::Failed, &[]);
             return Err(DiskFault::Device);
         }
         out.copy_from_slice(&self.bytes[start..start + out.len()]);
@@ -184,13 +184,13 @@ impl Disk for MemDisk {
         let fails = self.meter.spend();
         self.span = self.span.with(start, start + bytes.len());
         overlay(&mut self.asked, start, bytes);
-        mark(&mut self.loose, start, bytes.len());
+        mark(&mut self.unsynced, start, bytes.len());
         if fails {
-            self.shadow.note(&Call::Lost(at), bytes);
+            self.ghost_device.note(&Call::Lost(at), bytes);
             return Err(DiskFault::Device);
         }
         overlay(&mut self.bytes, start, bytes);
-        self.shadow.note(&Call::Wrote(at), bytes);
+        self.ghost_device.note(&Call::Wrote(at), bytes);
         Ok(())
     }
 
@@ -202,13 +202,13 @@ impl Disk for MemDisk {
         ensures after { memory_of self.new ≡ after_sync result (memory_of self.old) }
     {
         if self.meter.spend() {
-            self.shadow.note(&Call::Failed, &[]);
+            self.ghost_device.note(&Call::Failed, &[]);
             return Err(DiskFault::Device);
         }
         refresh(&mut self.kept, &self.bytes, self.span);
-        clear(&mut self.loose, self.span);
+        clear(&mut self.unsynced, self.span);
         self.span = Span::none();
-        self.shadow.note(&Call::Synced, &[]);
+        self.ghost_device.note(&Call::Synced, &[]);
         Ok(())
     }
 

@@ -16,7 +16,7 @@ pub enum Torn {
 }
 
 impl Torn {
-    /// The byte that it puts at the loose offset i, with k loose ones below it.
+    /// The byte that it puts at the unsynced offset i, with k unsynced ones below it.
     fn byte(&self, kept: &[u8], asked: &[u8], i: usize, k: usize) -> u8
         requires has_bytes { HasBytes self.now }
         requires in_kept { i < length kept.now }
@@ -32,17 +32,17 @@ impl Torn {
     }
 }
 
-/// Puts at each loose offset of these bytes what such a crash leaves there.
-pub(crate) fn tear(kind: &Torn, kept: &[u8], asked: &[u8], loose: &[bool], bytes: &mut [u8])
+/// Puts at each unsynced offset of these bytes what such a crash leaves there.
+pub(crate) fn tear(kind: &Torn, kept: &[u8], asked: &[u8], unsynced: &[bool], bytes: &mut [u8])
     requires has_bytes { HasBytes kind.now }
     requires kept { length kept.now ≡ length bytes.old }
     requires asked { length asked.now ≡ length bytes.old }
-    requires loose { length loose.now ≡ length bytes.old }
-    ensures { bytes.new ≡ torn_from (torn_byte kind.now kept.now asked.now) 0 0 loose.now bytes.old }
+    requires unsynced { length unsynced.now ≡ length bytes.old }
+    ensures { bytes.new ≡ torn_from (torn_byte kind.now kept.now asked.now) 0 0 unsynced.now bytes.old }
 {
     let mut below = 0;
-    for (i, is_loose) in loose.iter().enumerate() {
-        if *is_loose {
+    for (i, is_unsynced) in unsynced.iter().enumerate() {
+        if *is_unsynced {
             bytes[i] = kind.byte(kept, asked, i, below);
             below += 1;
         }

@@ -180,7 +180,7 @@ fn is_opened(
 }
 
 #[test]
-fn what_a_device_stands_for_is_opened(rt: HostRuntime) -> Result<(), Fail> {
+fn what_a_device_recovers_for_is_opened(rt: HostRuntime) -> Result<(), Fail> {
     for (changes, lines, area) in OPENED {
         is_opened(&rt, rt.alloc(), changes, lines, area)?;
     }

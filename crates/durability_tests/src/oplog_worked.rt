@@ -9,7 +9,7 @@ use std::process::Abort;
 use std::test::Fail;
 
 /// The byte that names an area, the room, the half that is named and the one that records are appended to.
-fn stands(rt: &impl Abort, server: &Server, want: [u64; 4]) {
+fn recovers(rt: &impl Abort, server: &Server, want: [u64; 4]) {
     let [root, room, named, current] = want;
     counts(rt, server.byte(64), root);
     counts(rt, server.log.room() as u64, room);
@@ -21,7 +21,7 @@ fn stands(rt: &impl Abort, server: &Server, want: [u64; 4]) {
 fn goes(rt: &impl Abort, server: &mut Server, rows: &[(Step, [u64; 4])]) {
     for (step, want) in rows {
         answers(rt, server.does(*step), Ok(()));
-        stands(rt, server, *want);
+        recovers(rt, server, *want);
     }
 }
 
@@ -57,10 +57,10 @@ fn a_half_that_was_cleared_has_room(rt: HostRuntime) -> Result<(), Fail> {
 fn a_record_is_appended_and_read(rt: HostRuntime) -> Result<(), Fail> {
     let mut server = Server::new(rt.alloc(), 4)?;
     counts(&rt, server.disk.len(), 8840);
-    stands(&rt, &server, [0, 0, 0, 0]);
+    recovers(&rt, &server, [0, 0, 0, 0]);
     holds(&rt, server.takes(Way::Named, &[Msg::MakeVol(0, 0)]));
     holds(&rt, !server.log.failed());
-    stands(&rt, &server, [1, 3, 1, 1]);
+    recovers(&rt, &server, [1, 3, 1, 1]);
     // The root byte, the gate, and the first byte of the record.
     counts(&rt, server.byte(2340), 1);
     counts(&rt, server.byte(2344), 1);

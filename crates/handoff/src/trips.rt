@@ -41,29 +41,29 @@ fn reading(tree: &mut Tree, k: u16) -> Option<Job>
 
 // Offers a job. Says whether the place took it.
 #[inline(always)]
-fn offer(bench: &Bench, desk: &mut DispatchSeat, g: &Geometry, k: usize, job: Job) -> bool
-    requires bench { (desk.old.bench ≡ bench.now) × (k < bench.now.slots) }
-    requires lent { AreOfGeometry g.now desk.old.lent }
+fn offer(bench: &Bench, dispatch_seat: &mut DispatchSeat, g: &Geometry, k: usize, job: Job) -> bool
+    requires bench { (dispatch_seat.old.bench ≡ bench.now) × (k < bench.now.slots) }
+    requires lent { AreOfGeometry g.now dispatch_seat.old.lent }
     requires job { job.geometry ≡ g.now }
-    ensures bench { desk.new.bench ≡ desk.old.bench }
-    ensures lent { AreOfGeometry g.now desk.new.lent }
+    ensures bench { dispatch_seat.new.bench ≡ dispatch_seat.old.bench }
+    ensures lent { AreOfGeometry g.now dispatch_seat.new.lent }
 {
-    bench.offer(desk, k, job).is_ok()
+    bench.offer(dispatch_seat, k, job).is_ok()
 }
 
 // Offers a job at each place. Says whether there is one for each.
-fn offer_first(bench: &Bench, desk: &mut DispatchSeat, tree: &mut Tree, places: u16) -> bool
-    requires bench { (desk.old.bench ≡ bench.now) × (places ≡ bench.now.slots) }
-    requires lent { AreOfGeometry tree.old.geometry desk.old.lent }
-    ensures bench { (desk.new.bench ≡ desk.old.bench) × (tree.new.geometry ≡ tree.old.geometry) }
-    ensures lent { AreOfGeometry tree.old.geometry desk.new.lent }
+fn offer_first(bench: &Bench, dispatch_seat: &mut DispatchSeat, tree: &mut Tree, places: u16) -> bool
+    requires bench { (dispatch_seat.old.bench ≡ bench.now) × (places ≡ bench.now.slots) }
+    requires lent { AreOfGeometry tree.old.geometry dispatch_seat.old.lent }
+    ensures bench { (dispatch_seat.new.bench ≡ dispatch_seat.old.bench) × (tree.new.geometry ≡ tree.old.geometry) }
+    ensures lent { AreOfGeometry tree.old.geometry dispatch_seat.new.lent }
 {
     let g = tree.geometry();
     for k in 0..places {
         let Some(job) = reading(tree, k) else {
             return false;
         };
-        if !offer(bench, desk, &g, usize::from(k), job) {
+        if !offer(bench, dispatch_seat, &g, usize::from(k), job) {
             return false;
         }
     }
@@ -72,32 +72,32 @@ fn offer_first(bench: &Bench, desk: &mut DispatchSeat, tree: &mut Tree, places: 
 
 // Takes the result at a place, if it is there, and offers its message and its parcels again. Says
 // whether a block was read there.
-fn trip(bench: &Bench, desk: &mut DispatchSeat, g: &Geometry, k: usize) -> bool
-    requires bench { (desk.old.bench ≡ bench.now) × (k < bench.now.slots) }
-    requires lent { AreOfGeometry g.now desk.old.lent }
-    ensures bench { desk.new.bench ≡ desk.old.bench }
-    ensures lent { AreOfGeometry g.now desk.new.lent }
+fn trip(bench: &Bench, dispatch_seat: &mut DispatchSeat, g: &Geometry, k: usize) -> bool
+    requires bench { (dispatch_seat.old.bench ≡ bench.now) × (k < bench.now.slots) }
+    requires lent { AreOfGeometry g.now dispatch_seat.old.lent }
+    ensures bench { dispatch_seat.new.bench ≡ dispatch_seat.old.bench }
+    ensures lent { AreOfGeometry g.now dispatch_seat.new.lent }
 {
-    let Some(done) = bench.collect(desk, k) else {
+    let Some(done) = bench.collect(dispatch_seat, k) else {
         return false;
     };
     let was_read = matches!(done.reply(), Reply::Block(_));
     let (ticket, message) = (done.ticket(), *done.msg());
     let parcels = done.into_parcels();
     let job = Job::new(*g, ticket.wrapping_add(1), message, STANDING, parcels);
-    offer(bench, desk, g, k, job) && was_read
+    offer(bench, dispatch_seat, g, k, job) && was_read
 }
 
 // Looks at each place once. Says how many round trips ended.
-fn round(bench: &Bench, desk: &mut DispatchSeat, g: &Geometry, places: usize) -> u64
-    requires bench { (desk.old.bench ≡ bench.now) × (places ≡ bench.now.slots) }
-    requires lent { AreOfGeometry g.now desk.old.lent }
-    ensures bench { desk.new.bench ≡ desk.old.bench }
-    ensures lent { AreOfGeometry g.now desk.new.lent }
+fn round(bench: &Bench, dispatch_seat: &mut DispatchSeat, g: &Geometry, places: usize) -> u64
+    requires bench { (dispatch_seat.old.bench ≡ bench.now) × (places ≡ bench.now.slots) }
+    requires lent { AreOfGeometry g.now dispatch_seat.old.lent }
+    ensures bench { dispatch_seat.new.bench ≡ dispatch_seat.old.bench }
+    ensures lent { AreOfGeometry g.now dispatch_seat.new.lent }
 {
     let mut ended = 0u64;
     for k in 0..places {
-        if trip(bench, desk, g, k) {
+        if trip(bench, dispatch_seat, g, k) {
             ended = ended.wrapping_add(1);
         }
     }
@@ -108,22 +108,22 @@ fn round(bench: &Bench, desk: &mut DispatchSeat, g: &Geometry, places: usize) ->
 fn go_round<R: Wait>(
     rt: &R,
     bench: &Bench,
-    desk: &mut DispatchSeat,
+    dispatch_seat: &mut DispatchSeat,
     g: &Geometry,
     places: usize,
     trips: u64,
 )
-    requires bench { (desk.old.bench ≡ bench.now) × (places ≡ bench.now.slots) }
-    requires lent { AreOfGeometry g.now desk.old.lent }
-    ensures { desk.new.bench ≡ desk.old.bench }
+    requires bench { (dispatch_seat.old.bench ≡ bench.now) × (places ≡ bench.now.slots) }
+    requires lent { AreOfGeometry g.now dispatch_seat.old.lent }
+    ensures { dispatch_seat.new.bench ≡ dispatch_seat.old.bench }
 {
     let mut left = trips;
     for _ in rt.forever() {
         if left == 0 {
             break;
         }
-        bench.wait(rt, desk);
-        left = left.saturating_sub(round(bench, desk, g, places));
+        bench.wait(rt, dispatch_seat);
+        left = left.saturating_sub(round(bench, dispatch_seat, g, places));
     }
 }
 
@@ -142,24 +142,24 @@ pub fn make_trips<R: Threads + Wait + Sync>(
     }
     let places = usize::from(workers);
     let tree = Tree::new(alloc, g)?;
-    let (bench, desk, seats) = Bench::open(alloc, places, places)?;
+    let (bench, dispatch_seat, seats) = Bench::open(alloc, places, places)?;
     let gate = OpenGate;
     let (bench, gate) = (&bench, &gate);
     thread::scope(
         thread::scope_env(),
         rt,
         move |scope| -> Result<bool, AllocError>
-            requires desk { (desk.bench ≡ bench.now) × (bench.now.slots ≡ places) × (places ≡ workers) }
-            requires lent { AreOfGeometry tree.geometry desk.lent }
+            requires dispatch_seat { (dispatch_seat.bench ≡ bench.now) × (bench.now.slots ≡ places) × (places ≡ workers) }
+            requires lent { AreOfGeometry tree.geometry dispatch_seat.lent }
             requires seats { All (λ w. w ≡ bench.now) seats.items }
         {
-            let (mut desk, mut tree) = (desk, tree);
-            bench.start(rt, scope, &mut desk, seats, gate)?;
-            let all = offer_first(bench, &mut desk, &mut tree, workers);
+            let (mut dispatch_seat, mut tree) = (dispatch_seat, tree);
+            bench.start(rt, scope, &mut dispatch_seat, seats, gate)?;
+            let all = offer_first(bench, &mut dispatch_seat, &mut tree, workers);
             if all {
-                go_round(rt, bench, &mut desk, &tree.geometry(), places, trips);
+                go_round(rt, bench, &mut dispatch_seat, &tree.geometry(), places, trips);
             }
-            bench.stop(&mut desk);
+            bench.stop(&mut dispatch_seat);
             Ok(all)
         },
     )

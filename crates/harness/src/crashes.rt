@@ -17,7 +17,7 @@ pub const NEW: usize = 4;
 /// The crash that leaves 1, 77, 1 in turn.
 pub const MIXED: usize = 5;
 
-/// One of the kinds of crash, by its number below `KINDS`. The first two put different bytes wherever something is loose,
+/// One of the kinds of crash, by its number below `KINDS`. The first two put different bytes wherever something is unsynced,
 /// so where they leave the same, each kind does.
 pub fn torn(alloc: Global, kind: usize) -> Result<Torn, AllocError>
     ensures { IfOk result HasBytes }

@@ -186,7 +186,7 @@ fn reopen_at(
         same_again(is_told, false, first, second)?;
         let device = device.crash(torn(alloc, kind)?);
         if device.bytes() == last.as_slice() {
-            // Nothing is loose.
+            // Nothing is unsynced.
             if kind == 1 {
                 break;
             }
@@ -292,7 +292,7 @@ impl<T: Trial> Stops<'_, T> {
             is_whole = progress.is_whole;
             let device = device.crash(torn(self.alloc, kind)?);
             if kind == 1 && device.bytes() == last.as_slice() {
-                break; // nothing is loose
+                break; // nothing is unsynced
             }
             last = device.bytes().to_vec(self.alloc)?;
             self.look(&progress, first, device)?;

@@ -8,7 +8,7 @@ use Rattle.messages.specs.declared.Block.{Block}
 use Rattle.meaning.specs.State.{State, empty}
 use Rattle.stripe.specs.Entries.{stripe_bytes}
 use Rattle.stripe.specs.Stripe.{BlockEntry}
-use Rattle.image.specs.Pieces.{piece_size, piece_part_size, piece_of, part_piece, aggregate_of, volume_of, part_of, volume_piece_number, stripe_piece_number, has_volume, volume_piece, stripe_piece, stripe_entries, entry_if, joined_below, has_file_in, is_made_in, block_in, said_by}
+use Rattle.image.specs.Pieces.{piece_size, piece_part_size, piece_of, part_piece, aggregate_of, volume_of, part_of, volume_piece_number, stripe_piece_number, has_volume, volume_piece, stripe_piece, stripe_entries, entry_if, joined_below, has_file_in, is_made_in, block_in, decoded_by}
 use Rattle.image.proofs.Numbers.{number_there}
 use Rattle.image.proofs.Taken.{first_of, zeros_of_volume, no_block_in_zeros}
 
@@ -43,15 +43,15 @@ entries_same g x y a v s same = λ i. joined_below g.files (λ f. joined_below g
 
 module _ (version : ℕ) (g : Geometry) (ps qs : ℕ → List ℕ) where
   volume_same : (a v : ℕ) → ps (volume_piece_number g a v) ≡ qs (volume_piece_number g a v)
-      → volume_piece version g (said_by version g ps) a v ≡ volume_piece version g (said_by version g qs) a v
-  volume_same a v same = ap (λ (l : List ℕ). volume_piece version g (said_by version g (λ j. l)) a v) same
+      → volume_piece version g (decoded_by version g ps) a v ≡ volume_piece version g (decoded_by version g qs) a v
+  volume_same a v same = ap (λ (l : List ℕ). volume_piece version g (decoded_by version g (λ j. l)) a v) same
 
   stripe_same : (a v s : ℕ) → ps (volume_piece_number g a v) ≡ qs (volume_piece_number g a v)
       → ps (stripe_piece_number g a v s) ≡ qs (stripe_piece_number g a v s)
-      → stripe_piece g (said_by version g ps) a v s ≡ stripe_piece g (said_by version g qs) a v s
+      → stripe_piece g (decoded_by version g ps) a v s ≡ stripe_piece g (decoded_by version g qs) a v s
   stripe_same a v s first here =
       ap (stripe_bytes g.quota)
-      (entries_same g (said_by version g ps) (said_by version g qs) a v s
+      (entries_same g (decoded_by version g ps) (decoded_by version g qs) a v s
       (λ f b on.
       let there : ps (stripe_piece_number g a v (group g f b)) ≡ qs (stripe_piece_number g a v (group g f b)) =
       ap (λ (j : ℕ). ps (stripe_piece_number g a v j)) on ∙ here ∙ sym (ap (λ (j : ℕ). qs (stripe_piece_number g a v j)) on) in
@@ -61,11 +61,11 @@ module _ (version : ℕ) (g : Geometry) (ps qs : ℕ → List ℕ) where
   -- a piece depends on what is said by itself and by its volume's piece
   pub piece_same : (n : ℕ) → ps (volume_piece_number g (aggregate_of g n) (volume_of g n))
       ≡ qs (volume_piece_number g (aggregate_of g n) (volume_of g n)) → ps n ≡ qs n
-      → piece_of version g (said_by version g ps) n ≡ piece_of version g (said_by version g qs) n
+      → piece_of version g (decoded_by version g ps) n ≡ piece_of version g (decoded_by version g qs) n
   piece_same n first here = by (part_of g n) refl
     where
-      by : (p : ℕ) → part_of g n ≡ p → part_piece version g (said_by version g ps) (aggregate_of g n) (volume_of g n) p
-          ≡ part_piece version g (said_by version g qs) (aggregate_of g n) (volume_of g n) p
+      by : (p : ℕ) → part_of g n ≡ p → part_piece version g (decoded_by version g ps) (aggregate_of g n) (volume_of g n) p
+          ≡ part_piece version g (decoded_by version g qs) (aggregate_of g n) (volume_of g n) p
       by zero part = volume_same (aggregate_of g n) (volume_of g n) first
       by (suc s) part =
           let number : stripe_piece_number g (aggregate_of g n) (volume_of g n) s ≡ n =
@@ -82,17 +82,17 @@ unmade : (version : ℕ) (g : Geometry) (x : State) (a v : ℕ) → x.made (a, v
 unmade version g x a v off = rw off refl
 
 module _ (version : ℕ) (g : Geometry) (pieces : ℕ → List ℕ) (n i : ℕ) (behind : n ≤ i) where
-  pub zero_piece : piece_of version g (said_by version g (first_of g pieces n)) i ≡ replicate (piece_size g i) 0
+  pub zero_piece : piece_of version g (decoded_by version g (first_of g pieces n)) i ≡ replicate (piece_size g i) 0
   zero_piece = by (part_of g i) refl
     where
-      by : (p : ℕ) → part_of g i ≡ p → part_piece version g (said_by version g (first_of g pieces n)) (aggregate_of g i)
+      by : (p : ℕ) → part_of g i ≡ p → part_piece version g (decoded_by version g (first_of g pieces n)) (aggregate_of g i)
           (volume_of g i) p ≡ replicate (piece_part_size g p) 0
       by zero part =
           let a : ℕ = aggregate_of g i in
           let v : ℕ = volume_of g i in
           let number = number_there g i in
           let zeros = zeros_of_volume g pieces n a v (omega (arith, number, part, behind)) in
-          unmade version g (said_by version g (first_of g pieces n)) a v
+          unmade version g (decoded_by version g (first_of g pieces n)) a v
           (not_there (has_volume g (a, v)) (is_made_in (first_of g pieces n (volume_piece_number g a v))) (ap is_made_in zeros))
         where
           not_there : (h p : Bool) → p ≡ false → (h && p) ≡ false
@@ -102,7 +102,7 @@ module _ (version : ℕ) (g : Geometry) (pieces : ℕ → List ℕ) (n i : ℕ) 
           let a : ℕ = aggregate_of g i in
           let v : ℕ = volume_of g i in
           let number = number_there g i in
-          let x : State = said_by version g (first_of g pieces n) in
+          let x : State = decoded_by version g (first_of g pieces n) in
           let none : (f b : ℕ) → group g f b ≡ s → x.blocks (a, v, f, b) ≡ None =
           λ f b on. if_none (has_volume g (a, v)) _
           (no_block_in_zeros g pieces n a v (group g f b) f b (omega (arith, number, part, on, behind))) in

@@ -10,7 +10,7 @@ use Rattle.meaning.specs.Serial.{fold, reply_to}
 use Rattle.meaning.specs.State.{State, empty}
 use Rattle.image.specs.Pieces.{piece_of}
 use Rattle.image.specs.Touched.{may_change}
-use Rattle.image.specs.Image.{image_of, read, said_before, is_good}
+use Rattle.image.specs.Image.{image_of, read, decoded_before, is_good}
 
 -- a block that begins with this byte
 abbrev block_of : ℕ → Block
@@ -121,17 +121,17 @@ bytes_behind_the_label = refl
 -- ---- piece by piece
 
 -- what the first n pieces say
-abbrev said_of : ℕ → List ℕ → Reply
-said_of n bytes = reply_to small (said_before 2 small bytes n) AskSummary
+abbrev decoded_of : ℕ → List ℕ → Reply
+decoded_of n bytes = reply_to small (decoded_before 2 small bytes n) AskSummary
 
-nothing_said : said_of 0 (image_of 2 small two_blocks) ≡ Summary 0 0 0
-nothing_said = refl
+nothing_decoded : decoded_of 0 (image_of 2 small two_blocks) ≡ Summary 0 0 0
+nothing_decoded = refl
 
-volume_said : said_of 1 (image_of 2 small two_blocks) ≡ Summary 1 2 0
-volume_said = refl
+volume_decoded : decoded_of 1 (image_of 2 small two_blocks) ≡ Summary 1 2 0
+volume_decoded = refl
 
-stripe_said : said_of 2 (image_of 2 small two_blocks) ≡ Summary 1 2 2
-stripe_said = refl
+stripe_decoded : decoded_of 2 (image_of 2 small two_blocks) ≡ Summary 1 2 2
+stripe_decoded = refl
 
 -- A block out of range is in its stripe's piece, and the volume's is good.
 bad_stripe : is_good small (changed 130 4 (image_of 2 small two_blocks)) 1 ≡ false

@@ -7,7 +7,7 @@ pub mod Joining
 pub mod Reading
 pub mod Order
 pub mod Counted
-pub mod Said
+pub mod Decoded
 pub mod Taken
 pub mod Agreeing
 pub mod Walk

@@ -19,7 +19,7 @@ use Rattle.stripe.specs.Entries.{entry_bytes, entries_in}
 use Rattle.stripe.specs.Stripe.{BlockEntry, content_at}
 use Rattle.stripe.proofs.EntryBytes.{entries_again}
 use Rattle.image.specs.Pieces.{has_volume, volume_piece_number, volume_piece, stripe_entries, entry_if, joined_below, label_bytes, label_in, bytes_at}
-use Rattle.image.specs.Image.{image_of, said_state, read, is_image, is_version, version_in, piece_in}
+use Rattle.image.specs.Image.{image_of, decoded_state, read, is_image, is_version, version_in, piece_in}
 use Rattle.image.proofs.Cuts.{volume_again, stripe_again}
 use Rattle.image.proofs.FileNumber.{number_small, bits_there}
 use Rattle.image.proofs.Measures.{entries_good, state_is_measured}
@@ -132,23 +132,23 @@ if_there false o None same needs = refl
 if_there false o (Some content) same needs = absurd (true≢false (sym (needs refl)))
 
 module _ (g : Geometry) (x : State) (a v : ℕ) where
-  pub made_said : (version : ℕ) → (get_or (volume_piece version g x a v) 0 0 == 1) ≡ x.made (a, v)
-  made_said version = by (x.made (a, v))
+  pub made_decoded : (version : ℕ) → (get_or (volume_piece version g x a v) 0 0 == 1) ≡ x.made (a, v)
+  made_decoded version = by (x.made (a, v))
     where
       by : (t : Bool) → (get_or (if t then 1 ∷ one_if (x.sealed (a, v)) ∷ [] ++ replicate 6 0 ++ little_bytes 8 (file_bits g x a v) ++ label_bytes version (x.labels (a, v)) ++ replicate 16 0 else replicate 64 0) 0 0 == 1) ≡ t
       by true = refl
       by false = refl
 
-  pub sealed_said : (version : ℕ) → (get_or (volume_piece version g x a v) 1 0 == 1) ≡ (x.made (a, v) && x.sealed (a, v))
-  sealed_said version = by (x.made (a, v)) (x.sealed (a, v))
+  pub sealed_decoded : (version : ℕ) → (get_or (volume_piece version g x a v) 1 0 == 1) ≡ (x.made (a, v) && x.sealed (a, v))
+  sealed_decoded version = by (x.made (a, v)) (x.sealed (a, v))
     where
       by : (t u : Bool) → (get_or (if t then 1 ∷ one_if u ∷ [] ++ replicate 6 0 ++ little_bytes 8 (file_bits g x a v) ++ label_bytes version (x.labels (a, v)) ++ replicate 16 0 else replicate 64 0) 1 0 == 1) ≡ (t && u)
       by true true = refl
       by true false = refl
       by false u = refl
 
-  pub number_said : (version : ℕ) → bytes_at 8 8 (volume_piece version g x a v) ≡ little_bytes 8 (if x.made (a, v) then file_bits g x a v else 0)
-  number_said version = by (x.made (a, v))
+  pub number_decoded : (version : ℕ) → bytes_at 8 8 (volume_piece version g x a v) ≡ little_bytes 8 (if x.made (a, v) then file_bits g x a v else 0)
+  number_decoded version = by (x.made (a, v))
     where
       by : (t : Bool) → bytes_at 8 8 (if t then 1 ∷ one_if (x.sealed (a, v)) ∷ [] ++ replicate 6 0 ++ little_bytes 8 (file_bits g x a v) ++ label_bytes version (x.labels (a, v)) ++ replicate 16 0 else replicate 64 0) ≡ little_bytes 8 (if t then file_bits g x a v else 0)
       by true = refl
@@ -164,34 +164,34 @@ module _ (g : Geometry) (x : State) (is : IsState g x) where
   has : (k : VolumeKey) → x.made k ≡ true → has_volume g k ≡ true
   has k made = and_from _ _ (lt-ltb k.0 g.aggregates (is.made k made).0) (lt-ltb k.1 g.volumes (is.made k made).1)
 
-  volume_said : (k : VolumeKey) → has_volume g k ≡ true → piece_in g (image_of 2 g x) (volume_piece_number g k.0 k.1) ≡ volume_piece 2 g x k.0 k.1
-  volume_said k there =
+  volume_decoded : (k : VolumeKey) → has_volume g k ≡ true → piece_in g (image_of 2 g x) (volume_piece_number g k.0 k.1) ≡ volume_piece 2 g x k.0 k.1
+  volume_decoded k there =
       let parts = and_parts (nat_lt k.0 g.aggregates) (nat_lt k.1 g.volumes) there in
       volume_again g k.0 k.1 (ltb-true k.0 g.aggregates parts.0) (ltb-true k.1 g.volumes parts.1) 2 x (state_is_measured g x is)
 
-  made_again : (k : VolumeKey) → (said_state 2 g (image_of 2 g x)).made k ≡ x.made k
+  made_again : (k : VolumeKey) → (decoded_state 2 g (image_of 2 g x)).made k ≡ x.made k
   made_again k =
       and_there (has_volume g k) _ (x.made k)
-      (λ there. ap (λ (l : List ℕ). get_or l 0 0 == 1) (volume_said k there) ∙ made_said g x k.0 k.1 2)
+      (λ there. ap (λ (l : List ℕ). get_or l 0 0 == 1) (volume_decoded k there) ∙ made_decoded g x k.0 k.1 2)
       (has k)
 
-  sealed_again : (k : VolumeKey) → (said_state 2 g (image_of 2 g x)).sealed k ≡ x.sealed k
+  sealed_again : (k : VolumeKey) → (decoded_state 2 g (image_of 2 g x)).sealed k ≡ x.sealed k
   sealed_again k =
       and_there (has_volume g k) _ (x.sealed k)
-      (λ there. ap (λ (l : List ℕ). get_or l 1 0 == 1) (volume_said k there) ∙ sealed_said g x k.0 k.1 2 ∙ both (x.made k) (x.sealed k) (is.sealed k))
+      (λ there. ap (λ (l : List ℕ). get_or l 1 0 == 1) (volume_decoded k there) ∙ sealed_decoded g x k.0 k.1 2 ∙ both (x.made k) (x.sealed k) (is.sealed k))
       (λ e. has k (is.sealed k e))
     where
       both : (t u : Bool) → (u ≡ true → t ≡ true) → (t && u) ≡ u
       both true u needs = refl
       both false u needs = sym (false_from_ne_true u (λ e. true≢false (sym (needs e))))
 
-  files_again : (k : FileKey) → (said_state 2 g (image_of 2 g x)).files k ≡ x.files k
+  files_again : (k : FileKey) → (decoded_state 2 g (image_of 2 g x)).files k ≡ x.files k
   files_again k =
       let n : ℕ = if x.made (k.0, k.1) then file_bits g x k.0 k.1 else 0 in
       and_there (has_volume g (k.0, k.1)) _ (x.files k)
       (λ there.
-      ap (λ (l : List ℕ). has_file (little_number 8 (bytes_at 8 8 l)) k.2) (volume_said (k.0, k.1) there)
-      ∙ ap (λ (l : List ℕ). has_file (little_number 8 l) k.2) (number_said g x k.0 k.1 2)
+      ap (λ (l : List ℕ). has_file (little_number 8 (bytes_at 8 8 l)) k.2) (volume_decoded (k.0, k.1) there)
+      ∙ ap (λ (l : List ℕ). has_file (little_number 8 l) k.2) (number_decoded g x k.0 k.1 2)
       ∙ bits (x.made (k.0, k.1)) refl)
       (λ e. has (k.0, k.1) (is.files k e).1)
     where
@@ -205,7 +205,7 @@ module _ (g : Geometry) (x : State) (is : IsState g x) where
           ap (λ (m : ℕ). has_file m k.2) (eight_bytes (file_bits g x k.0 k.1) (omega (arith, small, most))) ∙ bits_there g.files (λ f. x.files (k.0, k.1, f)) within k.2
       bits false made = bits_there 0 (λ f. false) (λ f e. absurd (true≢false (sym e))) k.2 ∙ sym (false_from_ne_true (x.files k) (λ e. true≢false (sym (is.files k e).1 ∙ made)))
 
-  blocks_again : (k : BlockKey) → (said_state 2 g (image_of 2 g x)).blocks k ≡ x.blocks k
+  blocks_again : (k : BlockKey) → (decoded_state 2 g (image_of 2 g x)).blocks k ≡ x.blocks k
   blocks_again k =
       let s : ℕ = group g k.2 k.3 in
       if_there (has_volume g (k.0, k.1)) _ (x.blocks k)
@@ -216,12 +216,12 @@ module _ (g : Geometry) (x : State) (is : IsState g x) where
       ∙ entries_hold g x is k.0 k.1 k.2 k.3)
       (λ some. has (k.0, k.1) (is.files (k.0, k.1, k.2) (is.blocks k some).1).1)
 
-  labels_again : (k : VolumeKey) → (said_state 2 g (image_of 2 g x)).labels k ≡ x.labels k
+  labels_again : (k : VolumeKey) → (decoded_state 2 g (image_of 2 g x)).labels k ≡ x.labels k
   labels_again k =
       if_there (has_volume g k) _ (x.labels k)
       (λ there.
-      ap (label_in 2) (volume_said k there)
-      ∙ ap (λ (t : Bool). if t then Some (bytes_at 16 32 (volume_piece 2 g x k.0 k.1)) else None) (made_said g x k.0 k.1 2)
+      ap (label_in 2) (volume_decoded k there)
+      ∙ ap (λ (t : Bool). if t then Some (bytes_at 16 32 (volume_piece 2 g x k.0 k.1)) else None) (made_decoded g x k.0 k.1 2)
       ∙ by (x.made k) (x.labels k) refl refl)
       (λ some. has k (sym (is.labels k) ∙ some))
     where
@@ -233,8 +233,8 @@ module _ (g : Geometry) (x : State) (is : IsState g x) where
       by false None made has_none = refl
       by false (Some label) made has_one = absurd (true≢false (sym (ap (λ (o : Option (List ℕ)). is_some o) has_one) ∙ is.labels k ∙ made))
 
-  pub said_again : said_state 2 g (image_of 2 g x) ≡ x
-  said_again = λ i. record {
+  pub decoded_again : decoded_state 2 g (image_of 2 g x) ≡ x
+  decoded_again = λ i. record {
     made = λ k. made_again k i;
     sealed = λ k. sealed_again k i;
     files = λ k. files_again k i;
@@ -244,22 +244,22 @@ module _ (g : Geometry) (x : State) (is : IsState g x) where
 
   pub read_again : read g (image_of 2 g x) ≡ Some x
   read_again =
-      let same = (bytes_eq-Decides (image_of 2 g x) (image_of 2 g (said_state 2 g (image_of 2 g x)))).1 (ap (image_of 2 g) (sym said_again)) in
-      ap (λ (t : Bool). if t then Some (said_state 2 g (image_of 2 g x)) else None) same ∙ ap (λ (y : State). Some y) said_again
+      let same = (bytes_eq-Decides (image_of 2 g x) (image_of 2 g (decoded_state 2 g (image_of 2 g x)))).1 (ap (image_of 2 g) (sym decoded_again)) in
+      ap (λ (t : Bool). if t then Some (decoded_state 2 g (image_of 2 g x)) else None) same ∙ ap (λ (y : State). Some y) decoded_again
 
 -- what is read is spelled
 pub spelling : (g : Geometry) (bytes : List ℕ) (x : State) → read g bytes ≡ Some x → bytes ≡ image_of (version_in bytes) g x
 spelling g bytes x is = by (is_image g bytes) refl is
   where
-    by : (t : Bool) → is_image g bytes ≡ t → (if t then Some (said_state (version_in bytes) g bytes) else None) ≡ Some x → bytes ≡ image_of (version_in bytes) g x
+    by : (t : Bool) → is_image g bytes ≡ t → (if t then Some (decoded_state (version_in bytes) g bytes) else None) ≡ Some x → bytes ≡ image_of (version_in bytes) g x
     by false off same = absurd (none_is_not_some same)
       where
         none_is_not_some : None ≡ Some x → ⊥
         none_is_not_some e = cc
     by true on same =
-        let parts = and_parts (is_version (version_in bytes)) (bytes_eq bytes (image_of (version_in bytes) g (said_state (version_in bytes) g bytes))) on in
-        let spelled = (bytes_eq-Decides bytes (image_of (version_in bytes) g (said_state (version_in bytes) g bytes))).0 parts.1 in
+        let parts = and_parts (is_version (version_in bytes)) (bytes_eq bytes (image_of (version_in bytes) g (decoded_state (version_in bytes) g bytes))) on in
+        let spelled = (bytes_eq-Decides bytes (image_of (version_in bytes) g (decoded_state (version_in bytes) g bytes))).0 parts.1 in
         spelled ∙ ap (image_of (version_in bytes) g) (one_value same)
       where
-        one_value : Some (said_state (version_in bytes) g bytes) ≡ Some x → said_state (version_in bytes) g bytes ≡ x
+        one_value : Some (decoded_state (version_in bytes) g bytes) ≡ Some x → decoded_state (version_in bytes) g bytes ≡ x
         one_value e = cc

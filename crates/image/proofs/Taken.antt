@@ -8,11 +8,11 @@ use Rattle.affinity.proofs.Placed.{group_below}
 use Rattle.meaning.specs.State.{State, VolumeKey, BlockKey, empty, is_volume, is_block_of}
 use Rattle.stripe.specs.Entries.{entries_in}
 use Rattle.stripe.specs.Stripe.{content_at}
-use Rattle.image.specs.Pieces.{pieces_of_volume, piece_count, piece_size, aggregate_of, volume_of, part_of, volume_piece_number, stripe_piece_number, has_volume, is_made_in, is_sealed_in, has_file_in, label_in, block_in, said_by, with_piece, with_part}
-use Rattle.image.specs.Image.{piece_in, said_before}
+use Rattle.image.specs.Pieces.{pieces_of_volume, piece_count, piece_size, aggregate_of, volume_of, part_of, volume_piece_number, stripe_piece_number, has_volume, is_made_in, is_sealed_in, has_file_in, label_in, block_in, decoded_by, with_piece, with_part}
+use Rattle.image.specs.Image.{piece_in, decoded_before}
 use Rattle.image.proofs.Numbers.{part_there, size_there, aggregate_there, volume_there, number_there, in_volumes, in_aggregates}
 use Rattle.image.proofs.FileNumber.{bits_there}
-use Rattle.image.proofs.Said.{is_volume_there}
+use Rattle.image.proofs.Decoded.{is_volume_there}
 
 -- the first n pieces, and zeros in the place of the others
 abbrev pub first_of : Geometry → (ℕ → List ℕ) → ℕ → ℕ → List ℕ
@@ -72,7 +72,7 @@ no_value : {X : Type 0} (h : Bool) (o : Option X) → o ≡ None → None ≡ (i
 no_value true o off = sym off
 no_value false o off = refl
 
-pub none_before : (version : ℕ) (g : Geometry) (pieces : ℕ → List ℕ) → empty ≡ said_by version g (first_of g pieces 0)
+pub none_before : (version : ℕ) (g : Geometry) (pieces : ℕ → List ℕ) → empty ≡ decoded_by version g (first_of g pieces 0)
 none_before version g pieces = λ i. record {
   made = λ k. none_told (has_volume g k) _ (ap is_made_in (zeros k)) i;
   sealed = λ k. none_told (has_volume g k) _ (ap is_sealed_in (zeros k)) i;
@@ -192,8 +192,8 @@ module _ (version : ℕ) (g : Geometry) (pieces : ℕ → List ℕ) (n : ℕ) (b
       by false u off _ = if_same (has_volume g (k.0, k.1)) _ _
           (λ there. ap (λ (l : List ℕ). block_in g l k.2 k.3) (other_volume (k.0, k.1) (suc (group g k.2 k.3)) few off there))
 
-  pub one_more_piece : with_piece version g (said_by version g (first_of g pieces n)) n (pieces n)
-      ≡ said_by version g (first_of g pieces (suc n))
+  pub one_more_piece : with_piece version g (decoded_by version g (first_of g pieces n)) n (pieces n)
+      ≡ decoded_by version g (first_of g pieces (suc n))
   one_more_piece = by (part_of g n) refl
     where
       same_first : (s : ℕ) (k : VolumeKey) → part_of g n ≡ suc s
@@ -201,8 +201,8 @@ module _ (version : ℕ) (g : Geometry) (pieces : ℕ → List ℕ) (n : ℕ) (b
       same_first s k part = sym (first_number n k) ∙ other_part k.0 k.1 0 (omega arith) (λ first. omega (arith, part, first))
           ∙ first_number (suc n) k
 
-      by : (p : ℕ) → part_of g n ≡ p → with_part version g (said_by version g (first_of g pieces n)) (aggregate_of g n)
-          (volume_of g n) p (pieces n) ≡ said_by version g (first_of g pieces (suc n))
+      by : (p : ℕ) → part_of g n ≡ p → with_part version g (decoded_by version g (first_of g pieces n)) (aggregate_of g n)
+          (volume_of g n) p (pieces n) ≡ decoded_by version g (first_of g pieces (suc n))
       by zero part = λ i. record {
         made = λ k. mark_told is_made_in k part i;
         sealed = λ k. mark_told is_sealed_in k part i;
@@ -224,7 +224,7 @@ module _ (version : ℕ) (g : Geometry) (pieces : ℕ → List ℕ) (n : ℕ) (b
 
 -- what the first n pieces say, taken in one after the other
 pub taken : (version : ℕ) (g : Geometry) (bytes : List ℕ) (n : ℕ) → n ≤ piece_count g
-    → said_before version g bytes n ≡ said_by version g (first_of g (piece_in g bytes) n)
+    → decoded_before version g bytes n ≡ decoded_by version g (first_of g (piece_in g bytes) n)
 taken version g bytes zero few = none_before version g (piece_in g bytes)
 taken version g bytes (suc n) few =
     ap (λ (x : State). with_piece version g x n (piece_in g bytes n)) (taken version g bytes n (omega (arith, few)))

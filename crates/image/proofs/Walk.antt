@@ -11,14 +11,14 @@ use Rattle.affinity.proofs.Placed.{group_below}
 use Rattle.messages.specs.Messages.{AreSizedBytes}
 use Rattle.messages.specs.declared.Block.{Block}
 use Rattle.meaning.specs.State.{State, VolumeKey, IsState, sum_below}
-use Rattle.image.specs.Pieces.{pieces_of_volume, piece_count, piece_at, piece_size, piece_of, aggregate_of, volume_of, part_of, volume_piece_number, has_volume, is_made_in, is_sealed_in, has_file_in, label_in, block_in, bytes_at, said_by}
-use Rattle.image.specs.Image.{image_head, image_of, read, is_image, is_version, has_head, version_in, piece_in, said_state, said_before, is_good, AreGood}
+use Rattle.image.specs.Pieces.{pieces_of_volume, piece_count, piece_at, piece_size, piece_of, aggregate_of, volume_of, part_of, volume_piece_number, has_volume, is_made_in, is_sealed_in, has_file_in, label_in, block_in, bytes_at, decoded_by}
+use Rattle.image.specs.Image.{image_head, image_of, read, is_image, is_version, has_head, version_in, piece_in, decoded_state, decoded_before, is_good, AreGood}
 use Rattle.image.proofs.Agreeing.{piece_same, zero_piece}
 use Rattle.image.proofs.Cuts.{is_piece, piece_again}
 use Rattle.image.proofs.Joining.{by_pieces}
 use Rattle.image.proofs.Measures.{all-take, all-drop, all-zeros}
 use Rattle.image.proofs.Numbers.{number_there}
-use Rattle.image.proofs.Said.{is_volume_there, is_measured, is_state}
+use Rattle.image.proofs.Decoded.{is_volume_there, is_measured, is_state}
 use Rattle.image.proofs.Taken.{first_of, first_there, first_behind, no_block_in_zeros, and_same, if_same, taken}
 
 -- ---- the bytes of pieces
@@ -55,8 +55,8 @@ module _ (g : Geometry) (bytes : List ℕ) (are : AreSizedBytes (piece_at g (pie
 
 module _ (version : ℕ) (g : Geometry) (bytes : List ℕ) where
   -- A piece is that of what the image says where it is that of what is said so far.
-  so_far : (n i : ℕ) → i < n → piece_of version g (said_state version g bytes) i
-      ≡ piece_of version g (said_by version g (first_of g (piece_in g bytes) n)) i
+  so_far : (n i : ℕ) → i < n → piece_of version g (decoded_state version g bytes) i
+      ≡ piece_of version g (decoded_by version g (first_of g (piece_in g bytes) n)) i
   so_far n i less =
       let number = number_there g i in
       piece_same version g (piece_in g bytes) (first_of g (piece_in g bytes) n) i
@@ -64,7 +64,7 @@ module _ (version : ℕ) (g : Geometry) (bytes : List ℕ) where
       (sym (first_there g (piece_in g bytes) n i less))
 
   pub no_blocks_yet : (n : ℕ) → n < piece_count g → part_of g n ≡ 0 → (f b : ℕ)
-      → (said_before version g bytes n).blocks (aggregate_of g n, volume_of g n, f, b) ≡ None
+      → (decoded_before version g bytes n).blocks (aggregate_of g n, volume_of g n, f, b) ≡ None
   no_blocks_yet n below part f b =
       let number = number_there g n in
       ap (λ (x : State). x.blocks (aggregate_of g n, volume_of g n, f, b)) (taken version g bytes n (omega (arith, below)))
@@ -76,7 +76,7 @@ module _ (version : ℕ) (g : Geometry) (bytes : List ℕ) where
       if_none false o off = refl
 
   -- all pieces, taken in one after the other
-  all_taken : said_before version g bytes (piece_count g) ≡ said_state version g bytes
+  all_taken : decoded_before version g bytes (piece_count g) ≡ decoded_state version g bytes
   all_taken =
       taken version g bytes (piece_count g) (omega arith)
       ∙ (λ i. record {
@@ -107,21 +107,21 @@ module _ (version : ℕ) (g : Geometry) (bytes : List ℕ) where
 module _ (g : Geometry) (bytes : List ℕ) where
   pub good_is_seen : (n : ℕ) → n < piece_count g
       → (is_good g bytes n ≡ true) ↔ (piece_in g bytes n
-      ≡ piece_of (version_in bytes) g (said_before (version_in bytes) g bytes (suc n)) n)
+      ≡ piece_of (version_in bytes) g (decoded_before (version_in bytes) g bytes (suc n)) n)
   good_is_seen n below =
       let version : ℕ = version_in bytes in
-      let same : piece_of version g (said_state version g bytes) n ≡ piece_of version g (said_before version g bytes (suc n)) n =
+      let same : piece_of version g (decoded_state version g bytes) n ≡ piece_of version g (decoded_before version g bytes (suc n)) n =
       so_far version g bytes (suc n) n (omega arith)
       ∙ ap (λ (x : State). piece_of version g x n) (sym (taken version g bytes (suc n) below)) in
-      let decides = bytes_eq-Decides (piece_in g bytes n) (piece_of version g (said_state version g bytes) n) in
+      let decides = bytes_eq-Decides (piece_in g bytes n) (piece_of version g (decoded_state version g bytes) n) in
       ((λ on. decides.0 on ∙ same), (λ e. decides.1 (e ∙ sym same)))
 
   pub good_is_spelled : (n : ℕ) → is_good g bytes n ≡ true
-      → piece_in g bytes n ≡ piece_of (version_in bytes) g (said_state (version_in bytes) g bytes) n
-  good_is_spelled n on = (bytes_eq-Decides (piece_in g bytes n) (piece_of (version_in bytes) g (said_state (version_in bytes) g bytes) n)).0 on
+      → piece_in g bytes n ≡ piece_of (version_in bytes) g (decoded_state (version_in bytes) g bytes) n
+  good_is_spelled n on = (bytes_eq-Decides (piece_in g bytes n) (piece_of (version_in bytes) g (decoded_state (version_in bytes) g bytes) n)).0 on
 
   pub first_are_a_state : AreSizedBytes (piece_at g (piece_count g)) bytes → (n : ℕ) → n ≤ piece_count g → AreGood g bytes n
-      → IsState g (said_before (version_in bytes) g bytes n)
+      → IsState g (decoded_before (version_in bytes) g bytes n)
   first_are_a_state are n few good =
       let version : ℕ = version_in bytes in
       let first : ℕ → List ℕ = first_of g (piece_in g bytes) n in
@@ -134,35 +134,35 @@ module _ (g : Geometry) (bytes : List ℕ) where
       (cases_lt i n)))
 
   pub good_is_read : AreSizedBytes (piece_at g (piece_count g)) bytes → has_head bytes ≡ true → AreGood g bytes (piece_count g)
-      → read g bytes ≡ Some (said_before (version_in bytes) g bytes (piece_count g))
+      → read g bytes ≡ Some (decoded_before (version_in bytes) g bytes (piece_count g))
   good_is_read are head good =
       let version : ℕ = version_in bytes in
       let parts = and_parts (is_version version) (bytes_eq (bytes_at 0 64 bytes) (image_head version)) head in
       let begins = (bytes_eq-Decides (bytes_at 0 64 bytes) (image_head version)).0 parts.1 in
-      let spelled : bytes ≡ image_of version g (said_state version g bytes) =
-      by_pieces version g (said_state version g bytes) bytes begins are.0 (λ i below. good_is_spelled i (good i below)) in
+      let spelled : bytes ≡ image_of version g (decoded_state version g bytes) =
+      by_pieces version g (decoded_state version g bytes) bytes begins are.0 (λ i below. good_is_spelled i (good i below)) in
       let is : is_image g bytes ≡ true = and_from _ _ parts.0
-      ((bytes_eq-Decides bytes (image_of version g (said_state version g bytes))).1 spelled) in
-      ap (λ (t : Bool). if t then Some (said_state version g bytes) else None) is ∙ ap (λ (x : State). Some x) (sym (all_taken version g bytes))
+      ((bytes_eq-Decides bytes (image_of version g (decoded_state version g bytes))).1 spelled) in
+      ap (λ (t : Bool). if t then Some (decoded_state version g bytes) else None) is ∙ ap (λ (x : State). Some x) (sym (all_taken version g bytes))
 
   pub read_is_good : AreSizedBytes (piece_at g (piece_count g)) bytes → is_some (read g bytes) ≡ true
       → (has_head bytes ≡ true) × AreGood g bytes (piece_count g)
   read_is_good are some = by (is_image g bytes) refl some
     where
-      by : (t : Bool) → is_image g bytes ≡ t → is_some (if t then Some (said_state (version_in bytes) g bytes) else None) ≡ true
+      by : (t : Bool) → is_image g bytes ≡ t → is_some (if t then Some (decoded_state (version_in bytes) g bytes) else None) ≡ true
           → (has_head bytes ≡ true) × AreGood g bytes (piece_count g)
       by false off none = absurd (true≢false (sym none))
       by true on _ =
           let version : ℕ = version_in bytes in
-          let parts = and_parts (is_version version) (bytes_eq bytes (image_of version g (said_state version g bytes))) on in
-          let spelled : bytes ≡ image_of version g (said_state version g bytes) =
-          (bytes_eq-Decides bytes (image_of version g (said_state version g bytes))).0 parts.1 in
+          let parts = and_parts (is_version version) (bytes_eq bytes (image_of version g (decoded_state version g bytes))) on in
+          let spelled : bytes ≡ image_of version g (decoded_state version g bytes) =
+          (bytes_eq-Decides bytes (image_of version g (decoded_state version g bytes))).0 parts.1 in
           let begins : bytes_at 0 64 bytes ≡ image_head version = ap (λ (l : List ℕ). bytes_at 0 64 l) spelled in (
             and_from _ _ parts.0 ((bytes_eq-Decides (bytes_at 0 64 bytes) (image_head version)).1 begins),
             λ n below.
-                (bytes_eq-Decides (piece_in g bytes n) (piece_of version g (said_state version g bytes) n)).1
+                (bytes_eq-Decides (piece_in g bytes n) (piece_of version g (decoded_state version g bytes) n)).1
                 (ap (λ (l : List ℕ). piece_in g l n) spelled
-                ∙ piece_again version g (said_state version g bytes)
+                ∙ piece_again version g (decoded_state version g bytes)
                 (is_measured version g (piece_in g bytes) (piece_bytes g bytes are)) n below),
           )
 
@@ -171,6 +171,6 @@ module _ (g : Geometry) (bytes : List ℕ) where
       let good = read_is_good are (ap (λ (o : Option State). is_some o) is) in
       subst (IsState g) (one_value (sym (good_is_read are good.0 good.1) ∙ is)) (first_are_a_state are (piece_count g) (omega arith) good.1)
     where
-      one_value : Some (said_before (version_in bytes) g bytes (piece_count g)) ≡ Some x
-          → said_before (version_in bytes) g bytes (piece_count g) ≡ x
+      one_value : Some (decoded_before (version_in bytes) g bytes (piece_count g)) ≡ Some x
+          → decoded_before (version_in bytes) g bytes (piece_count g) ≡ x
       one_value e = cc

@@ -5,7 +5,7 @@ use Rattle.std.specs.Str.{bytes_eq}
 use Rattle.affinity.specs.declared.geometry.Geometry.{Geometry}
 use Rattle.device_map.specs.Layout.{image_head_size}
 use Rattle.meaning.specs.State.{State, empty}
-use Rattle.image.specs.Pieces.{piece_count, piece_at, piece_size, piece_of, joined_below, bytes_at, said_by, with_piece}
+use Rattle.image.specs.Pieces.{piece_count, piece_at, piece_size, piece_of, joined_below, bytes_at, decoded_by, with_piece}
 
 -- ---- writing
 
@@ -26,23 +26,23 @@ abbrev pub piece_in : Geometry → List ℕ → ℕ → List ℕ
 piece_in g bytes n = bytes_at (piece_at g n) (piece_size g n) bytes
 
 -- what the bytes of an image say
-abbrev pub said_state : ℕ → Geometry → List ℕ → State
-said_state version g bytes = said_by version g (piece_in g bytes)
+abbrev pub decoded_state : ℕ → Geometry → List ℕ → State
+decoded_state version g bytes = decoded_by version g (piece_in g bytes)
 
 abbrev pub is_version : ℕ → Bool
 is_version version = (version == 1) || (version == 2)
 
 -- They are the image of what they say.
 abbrev pub is_image : Geometry → List ℕ → Bool
-is_image g bytes = let version = version_in bytes in is_version version && bytes_eq bytes (image_of version g (said_state version g bytes))
+is_image g bytes = let version = version_in bytes in is_version version && bytes_eq bytes (image_of version g (decoded_state version g bytes))
 
 -- the state of an image, if these bytes are one
 abbrev pub read : Geometry → List ℕ → Option State
-read g bytes = if is_image g bytes then Some (said_state (version_in bytes) g bytes) else None
+read g bytes = if is_image g bytes then Some (decoded_state (version_in bytes) g bytes) else None
 
 -- Piece n is that of what the image says.
 abbrev pub is_good : Geometry → List ℕ → ℕ → Bool
-is_good g bytes n = let version = version_in bytes in bytes_eq (piece_in g bytes n) (piece_of version g (said_state version g bytes) n)
+is_good g bytes n = let version = version_in bytes in bytes_eq (piece_in g bytes n) (piece_of version g (decoded_state version g bytes) n)
 
 -- The head is a version and zeros.
 abbrev pub has_head : List ℕ → Bool
@@ -51,9 +51,9 @@ has_head bytes = let version = version_in bytes in is_version version && bytes_e
 -- ---- piece by piece
 
 -- the state that the first n pieces say, taken in one after the other
-abbrev pub said_before : ℕ → Geometry → List ℕ → ℕ → State
-said_before version g bytes zero = empty
-said_before version g bytes (suc n) = with_piece version g (said_before version g bytes n) n (piece_in g bytes n)
+abbrev pub decoded_before : ℕ → Geometry → List ℕ → ℕ → State
+decoded_before version g bytes zero = empty
+decoded_before version g bytes (suc n) = with_piece version g (decoded_before version g bytes n) n (piece_in g bytes n)
 
 -- The first n pieces are good.
 abbrev pub AreGood : Geometry → List ℕ → ℕ → Type 0

@@ -115,8 +115,8 @@ abbrev pub block_in : Geometry → List ℕ → ℕ → ℕ → Option Block
 block_in g bytes f b = content_at (entries_in g.quota bytes) f b
 
 -- the state that pieces say, where these are the bytes of each
-abbrev pub said_by : ℕ → Geometry → (ℕ → List ℕ) → State
-said_by version g pieces =
+abbrev pub decoded_by : ℕ → Geometry → (ℕ → List ℕ) → State
+decoded_by version g pieces =
     let of_volume : VolumeKey → List ℕ = λ k. pieces (volume_piece_number g k.0 k.1) in
     record {
       made = λ k. has_volume g k && is_made_in (of_volume k);

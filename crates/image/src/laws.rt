@@ -4,7 +4,7 @@
 ghost use Rattle.std.specs.Prelude.{◌≡◌, ◌<◌, ◌≤◌, ◌↔◌, ℕ, suc, true, false, List, Some, None, is_some, length, if◌then◌else◌, ◌==◌};
 ghost use Rattle.affinity.specs.Geometry.{group};
 ghost use Rattle.affinity.specs.declared.geometry.Geometry.{Geometry};
-ghost use Rattle.image.specs.Image.{AreGood, has_head, image_of, is_good, read, said_before, version_in, piece_in};
+ghost use Rattle.image.specs.Image.{AreGood, has_head, image_of, is_good, read, decoded_before, version_in, piece_in};
 ghost use Rattle.image.specs.Pieces.{aggregate_of, part_of, piece_at, piece_count, piece_of, piece_size, stripe_entries, volume_of};
 ghost use Rattle.image.specs.Touched.{may_change};
 ghost use Rattle.messages.specs.Messages.{AreSizedBytes};
@@ -35,14 +35,14 @@ pub fn what_is_read_is_a_state()
 /// An image is read exactly where its head and all its pieces are good, as what these say one after the other.
 pub fn an_image_is_read_piece_by_piece()
     ensures state { (g : Geometry) (bytes : List ℕ) → AreSizedBytes (piece_at g (piece_count g)) bytes
-        → (n : ℕ) → n ≤ piece_count g → AreGood g bytes n → IsState g (said_before (version_in bytes) g bytes n) }
+        → (n : ℕ) → n ≤ piece_count g → AreGood g bytes n → IsState g (decoded_before (version_in bytes) g bytes n) }
     ensures no_blocks { (version : ℕ) (g : Geometry) (bytes : List ℕ) (n : ℕ) → n < piece_count g → part_of g n ≡ 0
-        → (f b : ℕ) → (said_before version g bytes n).blocks (aggregate_of g n, volume_of g n, f, b) ≡ None }
+        → (f b : ℕ) → (decoded_before version g bytes n).blocks (aggregate_of g n, volume_of g n, f, b) ≡ None }
     ensures good { (g : Geometry) (bytes : List ℕ) (n : ℕ) → n < piece_count g → (is_good g bytes n ≡ true)
-        ↔ (piece_in g bytes n ≡ piece_of (version_in bytes) g (said_before (version_in bytes) g bytes (suc n)) n) }
+        ↔ (piece_in g bytes n ≡ piece_of (version_in bytes) g (decoded_before (version_in bytes) g bytes (suc n)) n) }
     ensures all_good { (g : Geometry) (bytes : List ℕ) → AreSizedBytes (piece_at g (piece_count g)) bytes
         → has_head bytes ≡ true → AreGood g bytes (piece_count g)
-        → read g bytes ≡ Some (said_before (version_in bytes) g bytes (piece_count g)) }
+        → read g bytes ≡ Some (decoded_before (version_in bytes) g bytes (piece_count g)) }
     ensures only_good { (g : Geometry) (bytes : List ℕ) → AreSizedBytes (piece_at g (piece_count g)) bytes
         → is_some (read g bytes) ≡ true → (has_head bytes ≡ true) × AreGood g bytes (piece_count g) }
 {}

@@ -12,12 +12,12 @@ use Rattle.disk.specs.Moments.{moment}
 use Rattle.image.specs.Pieces.{piece_count}
 use Rattle.journal.specs.declared.opening.Parts.{Parts}
 use Rattle.journal.specs.Costs.{count_runs, finish_takes, opening_takes, runs_after}
-use Rattle.journal.specs.Stretches.{AreAllMarked}
+use Rattle.journal.specs.Extents.{AreAllDirty}
 use Rattle.journal.proofs.Places.{some_piece}
 use Rattle.oplog.specs.Costs.{Takes}
 use Rattle.oplog.specs.Front.{chain}
 use Rattle.device_map.specs.Layout.{layout_of}
-use Rattle.oplog.specs.Stands.{named_area}
+use Rattle.oplog.specs.Recovery.{named_area}
 use Rattle.meaning.specs.State.{State}
 
 -- ---- rows
@@ -28,37 +28,37 @@ no_run : count_runs (false ∷ false ∷ []) ≡ 0
 no_run = refl
 
 -- ---- there are at most half as many runs as pieces
-few_after : (before : Bool) (marks : List Bool) → runs_after before marks + runs_after before marks ≤ length marks + 1
+few_after : (before : Bool) (dirty : List Bool) → runs_after before dirty + runs_after before dirty ≤ length dirty + 1
 few_after before [] = omega arith
-few_after before (false ∷ marks) = let rest = few_after false marks in omega (arith, rest)
+few_after before (false ∷ dirty) = let rest = few_after false dirty in omega (arith, rest)
 few_after false (true ∷ []) = omega arith
-few_after false (true ∷ (false ∷ marks)) = let rest = few_after false marks in omega (arith, rest)
-few_after false (true ∷ (true ∷ marks)) = let rest = few_after true marks in omega (arith, rest)
-few_after true (true ∷ marks) = let rest = few_after true marks in omega (arith, rest)
+few_after false (true ∷ (false ∷ dirty)) = let rest = few_after false dirty in omega (arith, rest)
+few_after false (true ∷ (true ∷ dirty)) = let rest = few_after true dirty in omega (arith, rest)
+few_after true (true ∷ dirty) = let rest = few_after true dirty in omega (arith, rest)
 
-pub few_runs : (marks : List Bool) → count_runs marks ≤ (length marks + 1) / 2
-few_runs marks = let few = few_after false marks in omega (arith, few)
+pub few_runs : (dirty : List Bool) → count_runs dirty ≤ (length dirty + 1) / 2
+few_runs dirty = let few = few_after false dirty in omega (arith, few)
 
 -- ---- an image that is written in order
 
 -- After so many moments the pieces from n on are still to be looked at, and the bytes between two places are of a run that
 -- is still to be written.
-pub record RunsLeft (marks : List Bool) (n from at start now : ℕ) : Type 0 where
-  pub begun : from < at → now + 1 + runs_after true (drop n marks) ≡ start + count_runs marks
-  pub ended : at ≤ from → now + runs_after false (drop n marks) ≡ start + count_runs marks
+pub record RunsLeft (dirty : List Bool) (n from at start now : ℕ) : Type 0 where
+  pub begun : from < at → now + 1 + runs_after true (drop n dirty) ≡ start + count_runs dirty
+  pub ended : at ≤ from → now + runs_after false (drop n dirty) ≡ start + count_runs dirty
 
-pub runs_begun : (marks : List Bool) (start : ℕ) → RunsLeft marks 0 0 0 start start
-runs_begun marks start = record { begun = λ some. absurd (omega (arith, some)); ended = λ none. refl }
+pub runs_begun : (dirty : List Bool) (start : ℕ) → RunsLeft dirty 0 0 0 start start
+runs_begun dirty start = record { begun = λ some. absurd (omega (arith, some)); ended = λ none. refl }
 
-piece_next : (marks : List Bool) (n : ℕ) (is : Bool) → n < length marks → get_or marks n true ≡ is → drop n marks ≡ is ∷ drop (n + 1) marks
-piece_next marks n is few here = drop_more marks n true few ∙ ap (λ (b : Bool). b ∷ drop (n + 1) marks) here
+piece_next : (dirty : List Bool) (n : ℕ) (is : Bool) → n < length dirty → get_or dirty n true ≡ is → drop n dirty ≡ is ∷ drop (n + 1) dirty
+piece_next dirty n is few here = drop_more dirty n true few ∙ ap (λ (b : Bool). b ∷ drop (n + 1) dirty) here
 
 -- A piece that isn't marked ends a run, which is written then.
-pub run_closed : (marks : List Bool) (n from at from' at' start now now' : ℕ) → n < length marks → get_or marks n true ≡ false → from' ≡ at' → (from < at → now' ≡ now + 1) → (at ≤ from → now' ≡ now) → RunsLeft marks n from at start now → RunsLeft marks (n + 1) from' at' start now'
-run_closed marks n from at from' at' start now now' few off ends wrote kept left =
-    let next = piece_next marks n false few off in
-    let after : runs_after true (drop n marks) ≡ runs_after false (drop (n + 1) marks) = ap (runs_after true) next in
-    let before : runs_after false (drop n marks) ≡ runs_after false (drop (n + 1) marks) = ap (runs_after false) next in
+pub run_closed : (dirty : List Bool) (n from at from' at' start now now' : ℕ) → n < length dirty → get_or dirty n true ≡ false → from' ≡ at' → (from < at → now' ≡ now + 1) → (at ≤ from → now' ≡ now) → RunsLeft dirty n from at start now → RunsLeft dirty (n + 1) from' at' start now'
+run_closed dirty n from at from' at' start now now' few off ends wrote kept left =
+    let next = piece_next dirty n false few off in
+    let after : runs_after true (drop n dirty) ≡ runs_after false (drop (n + 1) dirty) = ap (runs_after true) next in
+    let before : runs_after false (drop n dirty) ≡ runs_after false (drop (n + 1) dirty) = ap (runs_after false) next in
     record {
       begun = λ some. absurd (omega (arith, some, ends));
       ended = λ none.
@@ -69,11 +69,11 @@ run_closed marks n from at from' at' start now now' few off ends wrote kept left
     }
 
 -- A marked piece begins a run, or goes on with it.
-pub run_goes_on : (marks : List Bool) (n from at from' at' start now now' : ℕ) → n < length marks → get_or marks n true ≡ true → from' ≡ from → at < at' → from ≤ at → now' ≡ now → RunsLeft marks n from at start now → RunsLeft marks (n + 1) from' at' start now'
-run_goes_on marks n from at from' at' start now now' few on begins rises order same left =
-    let next = piece_next marks n true few on in
-    let after : runs_after true (drop n marks) ≡ runs_after true (drop (n + 1) marks) = ap (runs_after true) next in
-    let before : runs_after false (drop n marks) ≡ suc (runs_after true (drop (n + 1) marks)) = ap (runs_after false) next in
+pub run_goes_on : (dirty : List Bool) (n from at from' at' start now now' : ℕ) → n < length dirty → get_or dirty n true ≡ true → from' ≡ from → at < at' → from ≤ at → now' ≡ now → RunsLeft dirty n from at start now → RunsLeft dirty (n + 1) from' at' start now'
+run_goes_on dirty n from at from' at' start now now' few on begins rises order same left =
+    let next = piece_next dirty n true few on in
+    let after : runs_after true (drop n dirty) ≡ runs_after true (drop (n + 1) dirty) = ap (runs_after true) next in
+    let before : runs_after false (drop n dirty) ≡ suc (runs_after true (drop (n + 1) dirty)) = ap (runs_after false) next in
     record {
       begun = λ some.
           ⊎_elim
@@ -84,19 +84,19 @@ run_goes_on marks n from at from' at' start now now' few on begins rises order s
     }
 
 -- A write failed.
-pub run_failed : (marks : List Bool) (n from at start now new : ℕ) → RunsLeft marks n from at start now → (from < at → new ≤ now + 1) → (at ≤ from → new ≡ now) → new ≤ start + (count_runs marks + 1)
-run_failed marks n from at start now new left wrote kept =
+pub run_failed : (dirty : List Bool) (n from at start now new : ℕ) → RunsLeft dirty n from at start now → (from < at → new ≤ now + 1) → (at ≤ from → new ≡ now) → new ≤ start + (count_runs dirty + 1)
+run_failed dirty n from at start now new left wrote kept =
     ⊎_elim
     (λ (more : from < at). omega (arith, wrote more, left.begun more))
     (λ (none : at ≤ from). omega (arith, kept none, left.ended none))
     (cases_lt from at)
 
 -- No piece is left, and the last run is written.
-pub run_ended : (marks : List Bool) (n from at start now new : ℕ) → length marks ≤ n → RunsLeft marks n from at start now → (from < at → new ≡ now + 1) → (at ≤ from → new ≡ now) → new ≡ start + count_runs marks
-run_ended marks n from at start now new all left wrote kept =
-    let none : drop n marks ≡ [] = drop_all n marks all in
-    let after : runs_after true (drop n marks) ≡ 0 = ap (runs_after true) none in
-    let before : runs_after false (drop n marks) ≡ 0 = ap (runs_after false) none in
+pub run_ended : (dirty : List Bool) (n from at start now new : ℕ) → length dirty ≤ n → RunsLeft dirty n from at start now → (from < at → new ≡ now + 1) → (at ≤ from → new ≡ now) → new ≡ start + count_runs dirty
+run_ended dirty n from at start now new all left wrote kept =
+    let none : drop n dirty ≡ [] = drop_all n dirty all in
+    let after : runs_after true (drop n dirty) ≡ 0 = ap (runs_after true) none in
+    let before : runs_after false (drop n dirty) ≡ 0 = ap (runs_after false) none in
     ⊎_elim
     (λ (more : from < at). omega (arith, after, wrote more, left.begun more))
     (λ (none : at ≤ from). omega (arith, before, kept none, left.ended none))
@@ -104,21 +104,21 @@ run_ended marks n from at start now new all left wrote kept =
 
 -- ---- the whole image
 
-all_after : (marks : List Bool) → ((n : ℕ) → n < length marks → get_or marks n true ≡ true) → runs_after true marks ≡ 0
+all_after : (dirty : List Bool) → ((n : ℕ) → n < length dirty → get_or dirty n true ≡ true) → runs_after true dirty ≡ 0
 all_after [] all = refl
-all_after (true ∷ marks) all = all_after marks (λ n few. all (suc n) (omega (arith, few)))
-all_after (false ∷ marks) all = absurd (true≢false (sym (all 0 (omega arith))))
+all_after (true ∷ dirty) all = all_after dirty (λ n few. all (suc n) (omega (arith, few)))
+all_after (false ∷ dirty) all = absurd (true≢false (sym (all 0 (omega arith))))
 
-whole_run : (marks : List Bool) → 0 < length marks → ((n : ℕ) → n < length marks → get_or marks n true ≡ true) → count_runs marks ≡ 1
+whole_run : (dirty : List Bool) → 0 < length dirty → ((n : ℕ) → n < length dirty → get_or dirty n true ≡ true) → count_runs dirty ≡ 1
 whole_run [] some all = absurd (omega (arith, some))
-whole_run (true ∷ marks) some all = ap suc (all_after marks (λ n few. all (suc n) (omega (arith, few))))
-whole_run (false ∷ marks) some all = absurd (true≢false (sym (all 0 (omega arith))))
+whole_run (true ∷ dirty) some all = ap suc (all_after dirty (λ n few. all (suc n) (omega (arith, few))))
+whole_run (false ∷ dirty) some all = absurd (true≢false (sym (all 0 (omega arith))))
 
 -- It is one run.
-pub one_run : (g : Geometry) (marks : List Bool) → length marks ≡ piece_count g → AreAllMarked g marks → count_runs marks ≡ 1
-one_run g marks size all =
+pub one_run : (g : Geometry) (dirty : List Bool) → length dirty ≡ piece_count g → AreAllDirty g dirty → count_runs dirty ≡ 1
+one_run g dirty size all =
     let some = some_piece g in
-    whole_run marks (omega (arith, size, some)) (λ n few. all n (omega (arith, size, few)))
+    whole_run dirty (omega (arith, size, some)) (λ n few. all n (omega (arith, size, few)))
 
 -- ---- a call
 pub takes_most : {T E : Type 0} (r : Result T E) (n : ℕ) (old new : Medium) → Takes r n old new → moment new ≤ moment old + n

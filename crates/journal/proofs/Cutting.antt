@@ -4,24 +4,24 @@ use Rattle.std.proofs.lemmas.List.{append-nil}
 use Rattle.affinity.specs.declared.geometry.Geometry.{Geometry}
 use Rattle.checkpoint.specs.Recovery.{holds, means}
 use Rattle.disk.specs.declared.fault.DiskFault.{DiskFault}
-use Rattle.disk.specs.Device.{AreBytes, Leaves, Medium, Syncs, synced}
-use Rattle.disk.specs.Moments.{LeavesOnly}
+use Rattle.disk.specs.Device.{AreBytes, IsCrashImage, Medium, Syncs, synced}
+use Rattle.disk.specs.Moments.{CrashImagesAre}
 use Rattle.disk.proofs.Calls.{after_sync}
 use Rattle.disk.proofs.Leaves.{calm_left, itself}
 use Rattle.disk.proofs.Moments.{started, then, weaker}
 use Rattle.image.specs.Image.{read}
 use Rattle.journal.specs.Steps.{IsStanding, run_on}
-use Rattle.journal.specs.Stretches.{image_in}
+use Rattle.journal.specs.Extents.{image_in}
 use Rattle.journal.specs.Journal.{records_in}
 use Rattle.journal.proofs.Forced.{forced_alone, forced_both}
-use Rattle.journal.proofs.Pointing.{clear_moments, clear_stands}
+use Rattle.journal.proofs.Pointing.{clear_moments, clear_recovers}
 use Rattle.journal.proofs.Standing.{as_other, both_of, chain_other, half_same, holds_by, laid_by, ready_none, shut_current, shut_force}
 use Rattle.oplog.specs.Changes.{ChangesOnly, Chained, Cleared, Flipped, IsReady, IsSameButChain, IsSameButGates, IsSameButRoot}
-use Rattle.oplog.specs.Crash.{StandsBy, StandsEitherWay}
+use Rattle.oplog.specs.Crash.{RecoversBy, RecoversEitherWay}
 use Rattle.oplog.specs.Front.{chain, front}
 use Rattle.device_map.specs.Layout.{layout_of, device_size, part_bytes, half, image, root, other}
-use Rattle.oplog.specs.Stands.{in_force, stands_as}
-use Rattle.oplog.proofs.AfterCrash.{chain_by_area, chained_by_area, flip_by_area, torn_root_stands}
+use Rattle.oplog.specs.Recovery.{in_force, recovers_as}
+use Rattle.oplog.proofs.AfterCrash.{chain_by_area, chained_by_area, flip_by_area, torn_root_recovers}
 use Rattle.oplog.proofs.Kept.{front_beside, named_area-below}
 use Rattle.oplog.proofs.Ready.{ready_kept}
 use Rattle.oplog.proofs.Slices.{same_but_none}
@@ -29,29 +29,29 @@ use Rattle.meaning.specs.State.{State}
 
 -- the area that a device names is 0 or 1
 pub named_below : (g : Geometry) (n h : ℕ) (x : Option State) (m : Medium) → AreBytes m.now → IsStanding g n h x m → n < 2
-named_below g n h x m are stands = subst (λ (k : ℕ). k < 2) (stands m.now (itself m.now m.loose are)).named (named_area-below (layout_of g) m.now)
+named_below g n h x m are recovers = subst (λ (k : ℕ). k < 2) (recovers m.now (itself m.now m.unsynced are)).named (named_area-below (layout_of g) m.now)
 
 -- ---- the beginning
 
-module _ (g : Geometry) (n : ℕ) (x : Option State) (is_area : n < 2) (w0 w1 w2 : Medium) (stands : IsStanding g n n x w0) (clears : ChangesOnly w0 w1 (IsSameButGates (layout_of g) (other n))) (cleared : Cleared (layout_of g) (other n) w0 w1)
+module _ (g : Geometry) (n : ℕ) (x : Option State) (is_area : n < 2) (w0 w1 w2 : Medium) (recovers : IsStanding g n n x w0) (clears : ChangesOnly w0 w1 (IsSameButGates (layout_of g) (other n))) (cleared : Cleared (layout_of g) (other n) w0 w1)
     (chains : ChangesOnly w1 w2 (IsSameButChain (layout_of g) n)) where
-  empty : (c : List ℕ) → Leaves w1 c → (front (layout_of g) (other n) c ≡ []) × (chain (layout_of g) (other n) c ≢ 1)
+  empty : (c : List ℕ) → IsCrashImage w1 c → (front (layout_of g) (other n) c ≡ []) × (chain (layout_of g) (other n) c ≢ 1)
   empty c left =
       let is : c ≡ w1.now = calm_left w1 c cleared.calm left in (
         ap (λ (l : List ℕ). front (layout_of g) (other n) l) is ∙ ready_none (layout_of g) (other n) w1 cleared.ready,
         λ one. let shut : chain (layout_of g) (other n) c ≡ 0 = ap (λ (l : List ℕ). chain (layout_of g) (other n) l) is ∙ cleared.chain in absurd (omega (arith, one, shut)),
       )
 
-  pub chain_moments : LeavesOnly w0 w2 (λ c. holds g c ≡ x)
+  pub chain_moments : CrashImagesAre w0 w2 (λ c. holds g c ≡ x)
   chain_moments =
-      then w0 w1 w2 _ (clear_moments g n x is_area w0 w1 stands clears)
-      (weaker w1 w2 _ _ (chain_by_area (means g) (layout_of g) n x w1 w2 is_area (clear_stands g n x is_area w0 w1 stands clears) empty chains) (λ c stood. holds_by g _ _ x c stood))
+      then w0 w1 w2 _ (clear_moments g n x is_area w0 w1 recovers clears)
+      (weaker w1 w2 _ _ (chain_by_area (means g) (layout_of g) n x w1 w2 is_area (clear_recovers g n x is_area w0 w1 recovers clears) empty chains) (λ c recovered_before. holds_by g _ _ x c recovered_before))
 
   module _ (are : AreBytes w1.now) (fits : device_size (layout_of g) ≤ length w0.now) (chained : Chained (layout_of g) n w1 w2) where
-    pub begun_stands : IsStanding g n (other n) x w2
-    begun_stands =
-        let left = itself w1.now w1.loose are in
-        chained_by_area (means g) (layout_of g) n x w1 w2 is_area (clear_stands g n x is_area w0 w1 stands clears w1.now left) (empty w1.now left) chained
+    pub begun_recovers : IsStanding g n (other n) x w2
+    begun_recovers =
+        let left = itself w1.now w1.unsynced are in
+        chained_by_area (means g) (layout_of g) n x w1 w2 is_area (clear_recovers g n x is_area w0 w1 recovers clears w1.now left) (empty w1.now left) chained
 
     long_1 : length w1.now ≡ length w0.now
     long_1 = cleared.same.same.size
@@ -74,54 +74,54 @@ module _ (g : Geometry) (n : ℕ) (x : Option State) (is_area : n < 2) (w0 w1 w2
 
     pub begun_forced : AreBytes w0.now → AreBytes w2.now → records_in g w2.now ≡ records_in g w0.now
     begun_forced are_0 are_2 =
-        forced_both g n x w2.now is_area (begun_stands w2.now (itself w2.now w2.loose are_2))
+        forced_both g n x w2.now is_area (begun_recovers w2.now (itself w2.now w2.unsynced are_2))
         ∙ (λ i. first_same i ++ begun_none i) ∙ append-nil (front (layout_of g) n w0.now)
-        ∙ sym (forced_alone g n x w0.now is_area (stands w0.now (itself w0.now w0.loose are_0)))
+        ∙ sym (forced_alone g n x w0.now is_area (recovers w0.now (itself w0.now w0.unsynced are_0)))
 
     pub begun_images : (i : ℕ) → i < 2 → image_in g i w2 ≡ image_in g i w0
     begun_images i is_image = chained.same.same.others (image i) (λ is. omega (arith, is, is_area)) ∙ cleared.same.same.others (image i) (λ is. omega (arith, is))
 
 -- ---- the end
 
-module _ (g : Geometry) (n used : ℕ) (x : Option State) (bytes : List ℕ) (w0 : Medium) (stands : IsStanding g n (other n) x w0) where
-  begun : LeavesOnly w0 w0 (StandsBy (means g) (layout_of g) n (other n) x)
-  begun = started w0 _ stands
+module _ (g : Geometry) (n used : ℕ) (x : Option State) (bytes : List ℕ) (w0 : Medium) (recovers : IsStanding g n (other n) x w0) where
+  begun : CrashImagesAre w0 w0 (RecoversBy (means g) (layout_of g) n (other n) x)
+  begun = started w0 _ recovers
 
-  pub sync_moments : (w1 : Medium) (r : Result (Unit {0}) DiskFault) → Syncs r w0 w1 → LeavesOnly w0 w1 (λ c. holds g c ≡ x)
+  pub sync_moments : (w1 : Medium) (r : Result (Unit {0}) DiskFault) → Syncs r w0 w1 → CrashImagesAre w0 w1 (λ c. holds g c ≡ x)
   sync_moments w1 r syncs = weaker w0 w1 _ _ (after_sync w0 w0 w1 _ begun r syncs) (holds_by g n (other n) x)
 
   module _ (is_area : n < 2) (some : is_some x ≡ true) (is : image_in g (other n) w0 ≡ bytes) (behind : run_on g (read g bytes) (front (layout_of g) (other n) w0.now) ≡ x) (w2 : Medium) where
-    own_stands : (c : List ℕ) → c ≡ w0.now → StandsBy (means g) (layout_of g) n (other n) x c → (stands_as (means g) (layout_of g) (other n) c ≡ x) × (eqb (chain (layout_of g) (other n) c) 1 ≡ false)
-    own_stands c same stood =
-        let laid = laid_by g n x c stood.is some in
-        let shut = chain_other g n c is_area laid stood.current in (
+    own_recovers : (c : List ℕ) → c ≡ w0.now → RecoversBy (means g) (layout_of g) n (other n) x c → (recovers_as (means g) (layout_of g) (other n) c ≡ x) × (eqb (chain (layout_of g) (other n) c) 1 ≡ false)
+    own_recovers c same recovered_before =
+        let laid = laid_by g n x c recovered_before.is some in
+        let shut = chain_other g n c is_area laid recovered_before.current in (
           as_other g (other n) x bytes c (front (layout_of g) (other n) w0.now) laid (ap (λ (l : List ℕ). part_bytes (layout_of g) (image (other n)) l) same ∙ is)
               (shut_force (layout_of g) (other n) c shut ∙ ap (λ (l : List ℕ). front (layout_of g) (other n) l) same) behind,
           shut,
         )
 
-    still_left : (c : List ℕ) → Leaves (synced w0) c → c ≡ w0.now
+    still_left : (c : List ℕ) → IsCrashImage (synced w0) c → c ≡ w0.now
     still_left c left = calm_left (synced w0) c refl left
 
     module _ (are : AreBytes w0.now) where
-      now_own : StandsBy (means g) (layout_of g) n (other n) x w0.now
-      now_own = stands w0.now (itself w0.now w0.loose are)
+      now_own : RecoversBy (means g) (layout_of g) n (other n) x w0.now
+      now_own = recovers w0.now (itself w0.now w0.unsynced are)
 
-      either_way : StandsEitherWay (means g) (layout_of g) x (synced w0)
+      either_way : RecoversEitherWay (means g) (layout_of g) x (synced w0)
       either_way c left =
           let same = still_left c left in
-          let stood : StandsBy (means g) (layout_of g) n (other n) x c = subst (λ (l : List ℕ). StandsBy (means g) (layout_of g) n (other n) x l) (sym same) now_own in
-          both_of (λ (k : ℕ). stands_as (means g) (layout_of g) k c ≡ x) n is_area stood.is (own_stands c same stood).0
+          let recovered_before : RecoversBy (means g) (layout_of g) n (other n) x c = subst (λ (l : List ℕ). RecoversBy (means g) (layout_of g) n (other n) x l) (sym same) now_own in
+          both_of (λ (k : ℕ). recovers_as (means g) (layout_of g) k c ≡ x) n is_area recovered_before.is (own_recovers c same recovered_before).0
 
-      pub name_moments : LeavesOnly w0 (synced w0) (λ c. holds g c ≡ x) → ChangesOnly (synced w0) w2 (IsSameButRoot (layout_of g)) → LeavesOnly w0 w2 (λ c. holds g c ≡ x)
+      pub name_moments : CrashImagesAre w0 (synced w0) (λ c. holds g c ≡ x) → ChangesOnly (synced w0) w2 (IsSameButRoot (layout_of g)) → CrashImagesAre w0 w2 (λ c. holds g c ≡ x)
       name_moments so_far flips =
           then w0 (synced w0) w2 _ so_far
-          (weaker (synced w0) w2 _ _ (torn_root_stands (means g) (layout_of g) x (synced w0) w2 either_way flips) (λ c stood. holds_by g _ _ x c stood))
+          (weaker (synced w0) w2 _ _ (torn_root_recovers (means g) (layout_of g) x (synced w0) w2 either_way flips) (λ c recovered_before. holds_by g _ _ x c recovered_before))
 
       module _ (flipped : Flipped (layout_of g) (other n) (synced w0) w2) where
-        pub named_stands : IsStanding g (other n) (other n) x w2
-        named_stands =
-            let own = own_stands w0.now refl now_own in
+        pub named_recovers : IsStanding g (other n) (other n) x w2
+        named_recovers =
+            let own = own_recovers w0.now refl now_own in
             flip_by_area (means g) (layout_of g) (other n) (other n) x (synced w0) w2 flipped (shut_current (layout_of g) (other n) w0.now own.1) own.0
 
         pub named_ready : device_size (layout_of g) ≤ length w0.now → IsReady (layout_of g) (other n) used w0 → IsReady (layout_of g) (other n) used w2
@@ -137,7 +137,7 @@ module _ (g : Geometry) (n used : ℕ) (x : Option State) (bytes : List ℕ) (w0
         pub named_alone : records_in g w2.now ≡ front (layout_of g) (other n) w2.now
         named_alone =
             ap (λ (k : ℕ). in_force (layout_of g) k w2.now) flipped.named
-            ∙ shut_force (layout_of g) (other n) w2.now (ap (λ (b : ℕ). eqb b 1) half_named.1 ∙ (own_stands w0.now refl now_own).1)
+            ∙ shut_force (layout_of g) (other n) w2.now (ap (λ (b : ℕ). eqb b 1) half_named.1 ∙ (own_recovers w0.now refl now_own).1)
 
         pub named_before : records_in g w0.now ≡ front (layout_of g) n w0.now ++ records_in g w2.now
         named_before = forced_both g n x w0.now is_area now_own ∙ ap (λ rs. front (layout_of g) n w0.now ++ rs) (sym half_named.0 ∙ sym named_alone)

@@ -3,20 +3,20 @@ use Rattle.std.proofs.Common.{◌≡◌, ◌<◌, ℕ, true, false, eqb, cond, n
 use Rattle.checkpoint.specs.Header.{is_header}
 use Rattle.checkpoint.specs.Recovery.{holds, means}
 use Rattle.disk.specs.Device.{AreBytes, Medium}
-use Rattle.disk.specs.Moments.{LeavesOnly}
+use Rattle.disk.specs.Moments.{CrashImagesAre}
 use Rattle.disk.proofs.Leaves.{calm_left, itself}
 use Rattle.disk.proofs.Moments.{leaves_now, then, weaker}
 use Rattle.image.specs.Image.{read}
 use Rattle.journal.specs.Steps.{IsFinished, IsStanding, IsUnfinished, run_on}
-use Rattle.journal.specs.Stretches.{Imaged, image_in}
+use Rattle.journal.specs.Extents.{Imaged, image_in}
 use Rattle.journal.proofs.Standing.{as_other, both_of, chain_other, half_same, holds_by, holds_moments, shut_current, shut_force}
 use Rattle.oplog.specs.Changes.{ChangesOnly, Flipped, IsSameBut, IsSameButRoot}
-use Rattle.oplog.specs.Crash.{StandsBy, StandsEitherWay}
+use Rattle.oplog.specs.Crash.{RecoversBy, RecoversEitherWay}
 use Rattle.oplog.specs.Front.{chain, front}
 use Rattle.device_map.specs.Layout.{layout_of, device_size, half, header, image, other}
 use Rattle.oplog.specs.Log.{Log}
-use Rattle.oplog.specs.Stands.{is_laid_out, named_area, stands_as}
-use Rattle.oplog.proofs.AfterCrash.{flip_by_area, image_by_area, torn_root_stands}
+use Rattle.oplog.specs.Recovery.{is_laid_out, named_area, recovers_as}
+use Rattle.oplog.proofs.AfterCrash.{flip_by_area, image_by_area, torn_root_recovers}
 use Rattle.oplog.proofs.Kept.{run-append}
 use Rattle.meaning.specs.State.{State}
 
@@ -27,23 +27,23 @@ module _ (log : Log) (bytes : List ℕ) (w0 : Medium) (is_area : log.named < 2) 
   abbrev x : Option State
   x = holds log.geometry w0.now
 
-  by_both : (c : List ℕ) → c ≡ w0.now → StandsBy (means log.geometry) (layout_of log.geometry) n (other n) x c
+  by_both : (c : List ℕ) → c ≡ w0.now → RecoversBy (means log.geometry) (layout_of log.geometry) n (other n) x c
   by_both c same = record {
     named = ap (λ (l : List ℕ). named_area (layout_of log.geometry) l) same ∙ unfinished.named;
     current = λ i. cond ((ap (λ (l : List ℕ). eqb (chain (layout_of log.geometry) n l) 1) same ∙ unfinished.chained) i) (other n) n;
-    is = λ i. stands_as (means log.geometry) (layout_of log.geometry) (sym unfinished.named i) (same i);
+    is = λ i. recovers_as (means log.geometry) (layout_of log.geometry) (sym unfinished.named i) (same i);
   }
 
   module _ (w1 : Medium) (writes : ChangesOnly w0 w1 (IsSameBut (layout_of log.geometry) (image (other n)))) where
-    by_image : LeavesOnly w0 w1 (StandsBy (means log.geometry) (layout_of log.geometry) n (other n) x)
+    by_image : CrashImagesAre w0 w1 (RecoversBy (means log.geometry) (layout_of log.geometry) n (other n) x)
     by_image = image_by_area (means log.geometry) (layout_of log.geometry) n (other n) x w0 w1 is_area (λ c left. by_both c (calm_left w0 c unfinished.calm left)) writes
 
-    pub finish_image_moments : LeavesOnly w0 w1 (λ c. holds log.geometry c ≡ x)
+    pub finish_image_moments : CrashImagesAre w0 w1 (λ c. holds log.geometry c ≡ x)
     finish_image_moments = holds_moments log.geometry n (other n) x w0 w1 by_image
 
     module _ (are : AreBytes w1.now) (imaged : Imaged log.geometry (other n) bytes w0 w1) where
-      image_stands : IsStanding log.geometry n (other n) x w1
-      image_stands = leaves_now w0 w1 _ by_image
+      image_recovers : IsStanding log.geometry n (other n) x w1
+      image_recovers = leaves_now w0 w1 _ by_image
 
       half_kept : (front (layout_of log.geometry) (other n) w1.now ≡ front (layout_of log.geometry) (other n) w0.now)
           × (chain (layout_of log.geometry) (other n) w1.now ≡ chain (layout_of log.geometry) (other n) w0.now)
@@ -58,13 +58,13 @@ module _ (log : Log) (bytes : List ℕ) (w0 : Medium) (is_area : log.named < 2) 
           ∙ unfinished.laid
 
       no_chain : eqb (chain (layout_of log.geometry) (other n) w1.now) 1 ≡ false
-      no_chain = chain_other log.geometry n w1.now is_area laid (image_stands w1.now (itself w1.now w1.loose are)).current
+      no_chain = chain_other log.geometry n w1.now is_area laid (image_recovers w1.now (itself w1.now w1.unsynced are)).current
 
       both_lead : run_on log.geometry (read log.geometry (image_in log.geometry n w0)) (front (layout_of log.geometry) n w0.now ++ front (layout_of log.geometry) (other n) w0.now) ≡ x
       both_lead =
           sym (λ i. cond (unfinished.laid i) (run_on log.geometry (read log.geometry (image_in log.geometry n w0))
           (cond (unfinished.chained i) (front (layout_of log.geometry) n w0.now ++ front (layout_of log.geometry) (other n) w0.now) (front (layout_of log.geometry) n w0.now))) None)
-          ∙ sym (ap (λ (k : ℕ). stands_as (means log.geometry) (layout_of log.geometry) k w0.now) unfinished.named)
+          ∙ sym (ap (λ (k : ℕ). recovers_as (means log.geometry) (layout_of log.geometry) k w0.now) unfinished.named)
 
       leads : run_on log.geometry (read log.geometry bytes) (front (layout_of log.geometry) (other n) w0.now) ≡ x
       leads =
@@ -72,25 +72,25 @@ module _ (log : Log) (bytes : List ℕ) (w0 : Medium) (is_area : log.named < 2) 
           ∙ sym (run-append (means log.geometry) (read log.geometry (image_in log.geometry n w0)) (front (layout_of log.geometry) n w0.now) (front (layout_of log.geometry) (other n) w0.now))
           ∙ both_lead
 
-      other_stands : stands_as (means log.geometry) (layout_of log.geometry) (other n) w1.now ≡ x
-      other_stands =
+      other_recovers : recovers_as (means log.geometry) (layout_of log.geometry) (other n) w1.now ≡ x
+      other_recovers =
           as_other log.geometry (other n) x bytes w1.now (front (layout_of log.geometry) (other n) w0.now) laid imaged.is
           (shut_force (layout_of log.geometry) (other n) w1.now no_chain ∙ half_kept.0) leads
 
-      either_way : StandsEitherWay (means log.geometry) (layout_of log.geometry) x w1
+      either_way : RecoversEitherWay (means log.geometry) (layout_of log.geometry) x w1
       either_way c left =
-          both_of (λ (k : ℕ). stands_as (means log.geometry) (layout_of log.geometry) k c ≡ x) n is_area (image_stands c left).is
-          (ap (λ (l : List ℕ). stands_as (means log.geometry) (layout_of log.geometry) (other n) l) (calm_left w1 c imaged.calm left) ∙ other_stands)
+          both_of (λ (k : ℕ). recovers_as (means log.geometry) (layout_of log.geometry) k c ≡ x) n is_area (image_recovers c left).is
+          (ap (λ (l : List ℕ). recovers_as (means log.geometry) (layout_of log.geometry) (other n) l) (calm_left w1 c imaged.calm left) ∙ other_recovers)
 
       module _ (w2 : Medium) where
-        pub finish_moments : ChangesOnly w1 w2 (IsSameButRoot (layout_of log.geometry)) → LeavesOnly w0 w2 (λ c. holds log.geometry c ≡ x)
+        pub finish_moments : ChangesOnly w1 w2 (IsSameButRoot (layout_of log.geometry)) → CrashImagesAre w0 w2 (λ c. holds log.geometry c ≡ x)
         finish_moments flips =
             then w0 w1 w2 _ finish_image_moments
-            (weaker w1 w2 _ _ (torn_root_stands (means log.geometry) (layout_of log.geometry) x w1 w2 either_way flips) (λ c stood. holds_by log.geometry _ _ x c stood))
+            (weaker w1 w2 _ _ (torn_root_recovers (means log.geometry) (layout_of log.geometry) x w1 w2 either_way flips) (λ c recovered_before. holds_by log.geometry _ _ x c recovered_before))
 
         pub finished : Flipped (layout_of log.geometry) (other n) w1 w2 → IsFinished log w0 w2
         finished flipped = record {
-          stands = flip_by_area (means log.geometry) (layout_of log.geometry) (other n) (other n) x w1 w2 flipped (shut_current (layout_of log.geometry) (other n) w1.now no_chain) other_stands;
+          recovers = flip_by_area (means log.geometry) (layout_of log.geometry) (other n) (other n) x w1 w2 flipped (shut_current (layout_of log.geometry) (other n) w1.now no_chain) other_recovers;
           front = (half_same (layout_of log.geometry) (other n) w1.now w2.now (flipped.same.same.others (half (other n)) (λ is. omega (arith, is)))).0 ∙ half_kept.0;
           named = flipped.named;
           reads = ap (λ (l : List ℕ). read log.geometry l) (flipped.same.same.others (image (other n)) (λ is. omega (arith, is)) ∙ imaged.is) ∙ unfinished.reads;

@@ -8,11 +8,11 @@ use Rattle.image.specs.Image.{version_in}
 use Rattle.image.specs.Pieces.{piece_count}
 use Rattle.journal.specs.Keeping.{IsFresh, IsCutState, IsSoundJournal}
 use Rattle.journal.specs.Steps.{IsFlipped, IsStanding, IsWritten, named_now}
-use Rattle.journal.specs.Stretches.{image_in}
+use Rattle.journal.specs.Extents.{image_in}
 use Rattle.journal.proofs.Cutting.{named_below}
 use Rattle.journal.proofs.Forced.{forced_calm, front_count}
 use Rattle.journal.proofs.Patches.{image_long}
-use Rattle.journal.proofs.Rows.{all_agree, none_marked}
+use Rattle.journal.proofs.Rows.{all_agree, no_dirty}
 use Rattle.journal.proofs.Standing.{holds_now}
 use Rattle.oplog.specs.Calls.{HasParts}
 use Rattle.oplog.specs.Changes.{IsReady}
@@ -28,10 +28,10 @@ module _ (log : Log) (frozen : List ℕ) (named others due : List Bool) (left : 
       record {
         by = record {
           some = sound'.some;
-          stands = subst (λ (h : ℕ). IsStanding log.geometry log.named h (holds log.geometry w0.now) w0) placed.0 sound'.stands;
+          recovers = subst (λ (h : ℕ). IsStanding log.geometry log.named h (holds log.geometry w0.now) w0) placed.0 sound'.recovers;
         };
         ready = subst (λ (h : ℕ). IsReady (layout_of log.geometry) h log.used w0) placed.0 sound'.ready;
-        is = all_agree log.geometry (image_in log.geometry (other log.named) w0) frozen (λ n few. sound'.by_cut.written n few (none_marked due n placed.1 (omega (arith, few, size'))))
+        is = all_agree log.geometry (image_in log.geometry (other log.named) w0) frozen (λ n few. sound'.by_cut.written n few (no_dirty due n placed.1 (omega (arith, few, size'))))
             (image_long log.geometry (other log.named) w0 (omega arith) whole) size;
         behind = sound'.by_cut.behind;
       }
@@ -40,14 +40,14 @@ module _ (log : Log) (frozen : List ℕ) (named others due : List Bool) (left : 
   flip_sound w1 are are' placed' written sound flipped =
       let placed = subst (λ (l : Option ℕ). IsCutState log due l) none_left placed' in
       let sound' = subst (λ (l : Option ℕ). IsSoundJournal log frozen named others due l w0) none_left sound in
-      let is_area = named_below log.geometry log.named log.current (holds log.geometry w0.now) w0 are sound.stands in
-      let same = holds_now log.geometry (other log.named) (other log.named) (holds log.geometry w0.now) w1 are' flipped.at.stands in
+      let is_area = named_below log.geometry log.named log.current (holds log.geometry w0.now) w0 are sound.recovers in
+      let same = holds_now log.geometry (other log.named) (other log.named) (holds log.geometry w0.now) w1 are' flipped.at.recovers in
       let back : other (other log.named) ≡ log.named = omega (arith, is_area) in
       record {
         some = ap is_some same ∙ sound.some;
-        stands =
+        recovers =
             subst (λ (h : ℕ). IsStanding log.geometry (other log.named) h (holds log.geometry w1.now) w1) (sym placed.0)
-            (subst (λ (o : Option State). IsStanding log.geometry (other log.named) (other log.named) o w1) (sym same) flipped.at.stands);
+            (subst (λ (o : Option State). IsStanding log.geometry (other log.named) (other log.named) o w1) (sym same) flipped.at.recovers);
         ready = subst (λ (h : ℕ). IsReady (layout_of log.geometry) h log.used w1) (sym placed.0) flipped.at.ready;
         forced = forced_calm log.geometry w1 flipped.at.calm;
         count = λ none. ap length flipped.alone ∙ front_count (layout_of log.geometry) (other log.named) log.used w1 flipped.at.ready;
@@ -67,7 +67,7 @@ module _ (log : Log) (frozen : List ℕ) (named others due : List Bool) (left : 
       → named_version log.geometry w1.now ≡ 2
   flip_version w1 are' written sound flipped =
       let sound' = subst (λ (l : Option ℕ). IsSoundJournal log frozen named others due l w0) none_left sound in
-      ap (λ (n : ℕ). version_in (image_in log.geometry n w1)) (flipped.at.stands w1.now (itself w1.now w1.loose are')).named
+      ap (λ (n : ℕ). version_in (image_in log.geometry n w1)) (flipped.at.recovers w1.now (itself w1.now w1.unsynced are')).named
       ∙ ap version_in (flipped.images (other log.named) (omega arith) ∙ written.is) ∙ sound'.by_cut.version
 
 -- the same of rows that were exchanged

@@ -3,15 +3,15 @@ use Rattle.std.proofs.Common.{◌≡◌, ◌≢◌, ◌<◌, ◌≤◌, ◌==◌
 use Rattle.std.proofs.lemmas.List.Sums.{prefix_len-le-length}
 use Rattle.affinity.specs.declared.geometry.Geometry.{Geometry}
 use Rattle.checkpoint.specs.Recovery.{means}
-use Rattle.disk.specs.Device.{IsSynced, Leaves, Medium}
+use Rattle.disk.specs.Device.{IsSynced, IsCrashImage, Medium}
 use Rattle.disk.proofs.Leaves.{calm_left}
 use Rattle.journal.specs.Journal.{records_in}
 use Rattle.journal.proofs.Standing.{open_by, shut_by, shut_force}
 use Rattle.oplog.specs.Changes.{HasMore, IsReady, IsSameBut}
-use Rattle.oplog.specs.Crash.{StandsBy}
+use Rattle.oplog.specs.Crash.{RecoversBy}
 use Rattle.oplog.specs.Front.{chain, front, gates, open_gates}
 use Rattle.device_map.specs.Layout.{Layout, half, layout_of, other, part_bytes, root}
-use Rattle.oplog.specs.Stands.{in_force, named_area}
+use Rattle.oplog.specs.Recovery.{in_force, named_area}
 use Rattle.oplog.proofs.AfterCrash.{named_kept}
 use Rattle.oplog.proofs.Kept.{grown_force, named_area-below, same_forced, same_named}
 use Rattle.oplog.proofs.RecordRows.{length-rows}
@@ -19,23 +19,23 @@ use Rattle.meaning.specs.State.{State}
 
 -- ---- by one half, or by both
 
-pub forced_alone : (g : Geometry) (n : ℕ) (x : Option State) (c : List ℕ) → n < 2 → StandsBy (means g) (layout_of g) n n x c → records_in g c ≡ front (layout_of g) n c
-forced_alone g n x c is_area stood =
-    ap (λ (k : ℕ). in_force (layout_of g) k c) stood.named ∙ shut_force (layout_of g) n c (shut_by n (eqb (chain (layout_of g) n c) 1) is_area stood.current)
+pub forced_alone : (g : Geometry) (n : ℕ) (x : Option State) (c : List ℕ) → n < 2 → RecoversBy (means g) (layout_of g) n n x c → records_in g c ≡ front (layout_of g) n c
+forced_alone g n x c is_area recovered_before =
+    ap (λ (k : ℕ). in_force (layout_of g) k c) recovered_before.named ∙ shut_force (layout_of g) n c (shut_by n (eqb (chain (layout_of g) n c) 1) is_area recovered_before.current)
 
-pub forced_both : (g : Geometry) (n : ℕ) (x : Option State) (c : List ℕ) → n < 2 → StandsBy (means g) (layout_of g) n (other n) x c → records_in g c ≡ front (layout_of g) n c ++ front (layout_of g) (other n) c
-forced_both g n x c is_area stood =
-    ap (λ (k : ℕ). in_force (layout_of g) k c) stood.named
-    ∙ ap (λ (t : Bool). cond t (front (layout_of g) n c ++ front (layout_of g) (other n) c) (front (layout_of g) n c)) (open_by n (eqb (chain (layout_of g) n c) 1) is_area stood.current)
+pub forced_both : (g : Geometry) (n : ℕ) (x : Option State) (c : List ℕ) → n < 2 → RecoversBy (means g) (layout_of g) n (other n) x c → records_in g c ≡ front (layout_of g) n c ++ front (layout_of g) (other n) c
+forced_both g n x c is_area recovered_before =
+    ap (λ (k : ℕ). in_force (layout_of g) k c) recovered_before.named
+    ∙ ap (λ (t : Bool). cond t (front (layout_of g) n c ++ front (layout_of g) (other n) c) (front (layout_of g) n c)) (open_by n (eqb (chain (layout_of g) n c) 1) is_area recovered_before.current)
 
 -- ---- while something changes
 
 -- records are added to the current half
-pub forced_more : (g : Geometry) (n h : ℕ) (x : Option State) (more : List (List ℕ)) (a c : List ℕ) → n < 2 → h < 2 → StandsBy (means g) (layout_of g) n h x a → HasMore (layout_of g) h more a c → records_in g c ≡ records_in g a ++ more
-forced_more g n h x more a c is_area is_half stood has =
-    ap (λ (k : ℕ). in_force (layout_of g) k c) (same_named (means g) (layout_of g) h more a c is_half has ∙ stood.named)
-    ∙ grown_force (means g) (layout_of g) h more a c is_half has n is_area stood.current
-    ∙ ap (λ (k : ℕ). in_force (layout_of g) k a ++ more) (sym stood.named)
+pub forced_more : (g : Geometry) (n h : ℕ) (x : Option State) (more : List (List ℕ)) (a c : List ℕ) → n < 2 → h < 2 → RecoversBy (means g) (layout_of g) n h x a → HasMore (layout_of g) h more a c → records_in g c ≡ records_in g a ++ more
+forced_more g n h x more a c is_area is_half recovered_before has =
+    ap (λ (k : ℕ). in_force (layout_of g) k c) (same_named (means g) (layout_of g) h more a c is_half has ∙ recovered_before.named)
+    ∙ grown_force (means g) (layout_of g) h more a c is_half has n is_area recovered_before.current
+    ∙ ap (λ (k : ℕ). in_force (layout_of g) k a ++ more) (sym recovered_before.named)
 
 -- a part is written that is neither the root zone nor a half
 pub forced_kept : (g : Geometry) (p : ℕ) (a c : List ℕ) → root ≢ p → ((h : ℕ) → h < 2 → half h ≢ p) → IsSameBut (layout_of g) p a c → records_in g c ≡ records_in g a
@@ -45,8 +45,8 @@ forced_kept g p a c apart halves same =
     ap (λ (k : ℕ). in_force (layout_of g) k c) (named_kept (layout_of g) p a c apart same)
     ∙ same_forced (means g) (layout_of g) n a c (same.others (half n) (halves n is_area)) (same.others (half (other n)) (halves (other n) (omega arith)))
 
--- nothing is loose
-pub forced_calm : (g : Geometry) (m : Medium) → IsSynced m → (c : List ℕ) → Leaves m c → records_in g c ≡ records_in g m.now
+-- nothing is unsynced
+pub forced_calm : (g : Geometry) (m : Medium) → IsSynced m → (c : List ℕ) → IsCrashImage m c → records_in g c ≡ records_in g m.now
 forced_calm g m calm c left = ap (records_in g) (calm_left m c calm left)
 
 -- ---- how many

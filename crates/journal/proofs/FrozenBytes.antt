@@ -6,7 +6,7 @@ use Rattle.affinity.specs.declared.geometry.Geometry.{Geometry}
 use Rattle.image.specs.Image.{image_head, image_of}
 use Rattle.image.specs.Pieces.{joined_below, piece_at, piece_count, piece_of, piece_size}
 use Rattle.image.proofs.Joining.{piece_inside, whole_image}
-use Rattle.journal.specs.Stretches.{AreSpelled, stretch_in, stretch_of}
+use Rattle.journal.specs.Extents.{AreSpelled, extent_in, extent_of}
 use Rattle.device_map.specs.Layout.{image_size, slice}
 use Rattle.meaning.specs.State.{State, sum_below}
 
@@ -53,42 +53,42 @@ rest_put at k bytes part inside size =
 pub rest_more : (at k : ℕ) (now old : List ℕ) → drop at now ≡ drop at old → drop (at + k) now ≡ drop (at + k) old
 rest_more at k now old same = sym (drop-drop k at now) ∙ ap (drop k) same ∙ drop-drop k at old
 
--- what a stretch that isn't marked says of its piece
-pub piece_there : (g : Geometry) (x : State) (n : ℕ) (bytes : List ℕ) → stretch_in g bytes n ≡ stretch_of g x n → slice bytes (piece_at g n) (piece_size g n) ≡ piece_of 2 g x n
+-- what a extent that isn't marked says of its piece
+pub piece_there : (g : Geometry) (x : State) (n : ℕ) (bytes : List ℕ) → extent_in g bytes n ≡ extent_of g x n → slice bytes (piece_at g n) (piece_size g n) ≡ piece_of 2 g x n
 piece_there g x zero bytes is = sym (drop-take 64 (piece_size g 0) bytes) ∙ ap (drop 64) is ∙ drop_at (image_head 2) (piece_of 2 g x 0) 64 refl
 piece_there g x (suc n) bytes is = is
 
 pub one_there : (g : Geometry) (x : State) (n at k : ℕ) (bytes old : List ℕ) → at ≡ piece_at g n → k ≡ piece_size g n → take at bytes ≡ first_pieces g x n → drop at bytes ≡ drop at old
-    → stretch_in g old n ≡ stretch_of g x n → take (at + k) bytes ≡ first_pieces g x (n + 1)
+    → extent_in g old n ≡ extent_of g x n → take (at + k) bytes ≡ first_pieces g x (n + 1)
 one_there g x n at k bytes old place size so_far rest is =
     let piece : take k (drop at bytes) ≡ piece_of 2 g x n = ap (take k) rest ∙ (λ i. take (size i) (drop (place i) old)) ∙ piece_there g x n old is in
     take-add at k bytes ∙ one_more g x n (take at bytes) (take k (drop at bytes)) so_far piece
 
--- An image with its head has the stretches that it had.
-pub headed : (g : Geometry) (x : State) (marks : List Bool) (old new : List ℕ) → take 64 new ≡ image_head 2 → drop 64 new ≡ drop 64 old → AreSpelled g x marks old → AreSpelled g x marks new
-headed g x marks old new head rest right zero few unmarked =
+-- An image with its head has the extents that it had.
+pub headed : (g : Geometry) (x : State) (dirty : List Bool) (old new : List ℕ) → take 64 new ≡ image_head 2 → drop 64 new ≡ drop 64 old → AreSpelled g x dirty old → AreSpelled g x dirty new
+headed g x dirty old new head rest right zero few unmarked =
     take-add 64 (piece_size g 0) new ∙ (λ i. head i ++ take (piece_size g 0) (rest i)) ∙ ap (λ (l : List ℕ). image_head 2 ++ l) (piece_there g x 0 old (right 0 few unmarked))
-headed g x marks old new head rest right (suc n) few unmarked =
+headed g x dirty old new head rest right (suc n) few unmarked =
     ap (take (piece_size g (suc n))) (rest_more 64 (sum_below (suc n) (piece_size g)) new old rest) ∙ right (suc n) few unmarked
 
 -- ---- one piece after the other
 
 -- The first pieces are those of a state, and the rest is as it was: where what isn't marked was right at first.
-pub record IsFrozenTo (g : Geometry) (x : State) (marks : List Bool) (first : List ℕ) (n at : ℕ) (bytes : List ℕ) : Type 0 where
+pub record IsFrozenTo (g : Geometry) (x : State) (dirty : List Bool) (first : List ℕ) (n at : ℕ) (bytes : List ℕ) : Type 0 where
   pub place : at ≡ piece_at g n
   pub size : length bytes ≡ length first
   pub rest : drop at bytes ≡ drop at first
-  pub so_far : AreSpelled g x marks first → take at bytes ≡ first_pieces g x n
+  pub so_far : AreSpelled g x dirty first → take at bytes ≡ first_pieces g x n
 
-module _ (g : Geometry) (x : State) (marks : List Bool) (first : List ℕ) (n at k : ℕ) (bytes : List ℕ) (long : length first ≡ image_size g) (few : n < piece_count g) (size : k ≡ piece_size g n)
-    (so_far : IsFrozenTo g x marks first n at bytes) where
+module _ (g : Geometry) (x : State) (dirty : List Bool) (first : List ℕ) (n at k : ℕ) (bytes : List ℕ) (long : length first ≡ image_size g) (few : n < piece_count g) (size : k ≡ piece_size g n)
+    (so_far : IsFrozenTo g x dirty first n at bytes) where
   inside : at + k ≤ length bytes
   inside = let in_image = piece_inside g n few in omega (arith, in_image, long, size, so_far.place, so_far.size)
 
   -- a piece that is marked is spelled
-  pub put_one : (k' : ℕ) (part : List ℕ) → k' ≡ k → length part ≡ k → part ≡ piece_of 2 g x n → IsFrozenTo g x marks first (n + 1) (at + k) (take at bytes ++ (part ++ drop k' (drop at bytes)))
+  pub put_one : (k' : ℕ) (part : List ℕ) → k' ≡ k → length part ≡ k → part ≡ piece_of 2 g x n → IsFrozenTo g x dirty first (n + 1) (at + k) (take at bytes ++ (part ++ drop k' (drop at bytes)))
   put_one k' part same size' is =
-      subst (λ (j : ℕ). IsFrozenTo g x marks first (n + 1) (at + k) (take at bytes ++ (part ++ drop j (drop at bytes)))) (sym same)
+      subst (λ (j : ℕ). IsFrozenTo g x dirty first (n + 1) (at + k) (take at bytes ++ (part ++ drop j (drop at bytes)))) (sym same)
       (record {
         place = (λ i. so_far.place i + size i) ∙ sym (piece_after g n);
         size = put_long at k bytes part inside size' ∙ so_far.size;
@@ -97,7 +97,7 @@ module _ (g : Geometry) (x : State) (marks : List Bool) (first : List ℕ) (n at
       })
 
   -- one that isn't is there already
-  pub pass_one : get_or marks n true ≡ false → IsFrozenTo g x marks first (n + 1) (at + k) bytes
+  pub pass_one : get_or dirty n true ≡ false → IsFrozenTo g x dirty first (n + 1) (at + k) bytes
   pass_one unmarked = record {
     place = (λ i. so_far.place i + size i) ∙ sym (piece_after g n);
     size = so_far.size;

@@ -1,4 +1,4 @@
--- What a device stands for of which the named area was loaded.
+-- What a device recovers to of which the named area was loaded.
 use Rattle.std.proofs.Common.{◌≡◌, ◌==◌, ◌&&◌, ◌≤◌, ℕ, Bool, true, false, not, List, [], Option, Some, None, is_some, length, refl, sym, ◌∙◌, ap, subst, true≢false}
 use Rattle.std.specs.Prelude.{nat_le}
 use Rattle.std.proofs.lemmas.Bool.{le-leb}
@@ -11,7 +11,7 @@ use Rattle.checkpoint.specs.Recovery.{holds, means}
 use Rattle.checkpoint.specs.Refusals.{IsRefused, refused}
 use Rattle.checkpoint.specs.Version.{named_version}
 use Rattle.checkpoint.proofs.Replays.{same_bytes}
-use Rattle.checkpoint.proofs.Refusing.{alone_ran, alone_sound, both_ran, both_sound, not_refused, other_refused, records_refused, stands_for}
+use Rattle.checkpoint.proofs.Refusing.{alone_ran, alone_sound, both_ran, both_sound, not_refused, other_refused, records_refused, recovers_for}
 use Rattle.disk.specs.Device.{AreBytes, IsSynced, Medium, moments}
 use Rattle.disk.proofs.Leaves.{calm_left}
 use Rattle.image.specs.Image.{image_of, read}
@@ -19,19 +19,19 @@ use Rattle.image.specs.Pieces.{piece_count}
 use Rattle.image.proofs.Reading.{read_again}
 use Rattle.journal.specs.declared.opening.Parts.{Parts}
 use Rattle.journal.specs.Journal.{JournalView}
-use Rattle.journal.specs.Marks.{opened_marks}
+use Rattle.journal.specs.DirtyPieces.{opened_dirty}
 use Rattle.journal.specs.Keeping.{IsSoundJournal, held_of}
 use Rattle.journal.specs.Opening.{IsOpened}
 use Rattle.journal.specs.Parts.{AreLoaded, AreUnloaded, IsMade, IsMadeOf, KeepsRoom}
 use Rattle.journal.specs.Steps.{IsAlone, IsPointed, IsUnfinished, pointed, run_on}
-use Rattle.journal.specs.Stretches.{AreAllMarked}
-use Rattle.journal.proofs.Logging.{settled_of}
+use Rattle.journal.specs.Extents.{AreAllDirty}
+use Rattle.journal.proofs.Logging.{committed_of}
 use Rattle.journal.proofs.Saving.{opened_sound, pointed_version}
 use Rattle.journal.proofs.Standing.{holds_now, shut_current}
 use Rattle.oplog.specs.Front.{chain, front}
 use Rattle.device_map.specs.Layout.{layout_of, device_size, header, image_size, other, part_bytes}
 use Rattle.oplog.specs.Log.{Log, new_log, renamed}
-use Rattle.oplog.specs.Stands.{in_force, is_laid_out, named_area, run, stands_as}
+use Rattle.oplog.specs.Recovery.{in_force, is_laid_out, named_area, run, recovers_as}
 use Rattle.parcel.specs.Tree.{IsWholeTree, state_in}
 use Rattle.meaning.specs.State.{State, IsState}
 
@@ -42,20 +42,20 @@ module _ (g : Geometry) (c : List ℕ) (n : ℕ) (x : State) (is : NamedHolds g 
   shut = sym is.chain
 
   pub alone_holds : holds g c ≡ Some x
-  alone_holds = stands_for g c is.header is.whole n is.named is.sound is.first is.said is.one x (alone_ran g is.first n c x is.ran shut)
+  alone_holds = recovers_for g c is.header is.whole n is.named is.sound is.first is.decoded is.one x (alone_ran g is.first n c x is.ran shut)
 
   pub alone_fine : refused g c ≡ None
-  alone_fine = not_refused g c is.header is.whole n is.named is.sound is.first is.said is.one (alone_sound g is.first n c x is.ran shut)
+  alone_fine = not_refused g c is.header is.whole n is.named is.sound is.first is.decoded is.one (alone_sound g is.first n c x is.ran shut)
 
-pub alone_stands : (log : Log) (m : Medium) (x : State) → NamedHolds log.geometry m.now log.named false x → IsSynced m → IsAlone log m
-alone_stands log m x is calm = record {
+pub alone_recovers : (log : Log) (m : Medium) (x : State) → NamedHolds log.geometry m.now log.named false x → IsSynced m → IsAlone log m
+alone_recovers log m x is calm = record {
   some = ap is_some (alone_holds log.geometry m.now log.named x is);
-  stands = λ c left.
+  recovers = λ c left.
       let same = calm_left m c calm left in
       record {
         named = ap (λ (l : List ℕ). named_area (layout_of log.geometry) l) same ∙ sym is.named;
         current = shut_current (layout_of log.geometry) log.named c (ap (λ (l : List ℕ). chain (layout_of log.geometry) log.named l == 1) same ∙ sym is.chain);
-        is = λ i. stands_as (means log.geometry) (layout_of log.geometry) (is.named i) (same i);
+        is = λ i. recovers_as (means log.geometry) (layout_of log.geometry) (is.named i) (same i);
       };
 }
 
@@ -73,14 +73,14 @@ module _ (g : Geometry) (c : List ℕ) (n : ℕ) (x : State) (is : NamedHolds g 
 
   pub behind_refused : (e : OpenFault) → IsFaultOfBytes (records_fault g x (other n) (front (layout_of g) (other n) c)) e → IsRefused c e
   behind_refused e fault =
-      records_refused g c is.header is.whole n is.named is.sound is.first is.said is.one e (other_refused g is.first n c x is.ran follows e fault)
+      records_refused g c is.header is.whole n is.named is.sound is.first is.decoded is.one e (other_refused g is.first n c x is.ran follows e fault)
 
   module _ (y : State) (more : run (means g) (Some x) (front (layout_of g) (other n) c) ≡ Some y) where
     pub behind_holds : holds g c ≡ Some y
-    behind_holds = stands_for g c is.header is.whole n is.named is.sound is.first is.said is.one y (both_ran g is.first n c x is.ran follows y more)
+    behind_holds = recovers_for g c is.header is.whole n is.named is.sound is.first is.decoded is.one y (both_ran g is.first n c x is.ran follows y more)
 
     pub behind_fine : refused g c ≡ None
-    behind_fine = not_refused g c is.header is.whole n is.named is.sound is.first is.said is.one (both_sound g is.first n c x is.ran follows y more)
+    behind_fine = not_refused g c is.header is.whole n is.named is.sound is.first is.decoded is.one (both_sound g is.first n c x is.ran follows y more)
 
 pub unfinished_cut : (log : Log) (m : Medium) (x : State) (bytes : List ℕ) → NamedHolds log.geometry m.now log.named true x → IsSynced m → IsState log.geometry x → bytes ≡ image_of 2 log.geometry x → IsUnfinished log bytes m
 unfinished_cut log m x bytes is calm is_state spelled = record {
@@ -90,7 +90,7 @@ unfinished_cut log m x bytes is calm is_state spelled = record {
   chained = follows log.geometry m.now log.named x is;
   reads =
       ap (read log.geometry) spelled ∙ read_again log.geometry x is_state
-      ∙ sym (ap (λ (o : Option State). run_on log.geometry o (front (layout_of log.geometry) log.named m.now)) is.said ∙ is.ran);
+      ∙ sym (ap (λ (o : Option State). run_on log.geometry o (front (layout_of log.geometry) log.named m.now)) is.decoded ∙ is.ran);
 }
 
 -- ---- a test the other way round
@@ -118,15 +118,15 @@ held_after g log n t u x w0 w1 is chained only held =
 pub kept_then : (p q r : Parts) → KeepsRoom p q → KeepsRoom q r → KeepsRoom p r
 kept_then p q r first second = record {
   frozen = second.frozen ∙ first.frozen;
-  named_marks = second.named_marks ∙ first.named_marks;
-  other_marks = second.other_marks ∙ first.other_marks;
+  named_dirty = second.named_dirty ∙ first.named_dirty;
+  other_dirty = second.other_dirty ∙ first.other_dirty;
   due = second.due ∙ first.due;
 }
 
 -- loaded with this log, of parts whose room has the sizes of a geometry
 pub are_loaded : (p q : Parts) (g : Geometry) (log : Log) (m : Medium) → q.halves ≡ log → log.geometry ≡ g → log.failed ≡ false → log.current ≡ log.named → IsWholeTree q.tree → q.tree.geometry ≡ g → KeepsRoom p q
-    → length p.frozen.items ≡ image_size g → length p.named_marks.items ≡ piece_count g → length p.other_marks.items ≡ piece_count g → AreAllMarked g p.other_marks.items → device_size (layout_of g) ≤ length m.now → AreLoaded q m
-are_loaded p q g log m is_log of fine together tree geometry room frozen named marks all whole =
+    → length p.frozen.items ≡ image_size g → length p.named_dirty.items ≡ piece_count g → length p.other_dirty.items ≡ piece_count g → AreAllDirty g p.other_dirty.items → device_size (layout_of g) ≤ length m.now → AreLoaded q m
+are_loaded p q g log m is_log of fine together tree geometry room frozen named dirty all whole =
     let same : q.halves.geometry ≡ g = ap (λ (l : Log). l.geometry) is_log ∙ of in
     record {
       tree = tree;
@@ -135,11 +135,11 @@ are_loaded p q g log m is_log of fine together tree geometry room frozen named m
       together = ap (λ (l : Log). l.current) is_log ∙ together ∙ sym (ap (λ (l : Log). l.named) is_log);
       whole = subst (λ (h : Geometry). device_size (layout_of h) ≤ length m.now) (sym same) whole;
       frozen = room.frozen ∙ frozen ∙ sym (ap image_size same);
-      named_marks = (λ i. length (room.named_marks i).items) ∙ named ∙ sym (ap piece_count same);
-      other_marks = (λ i. length (room.other_marks i).items) ∙ marks ∙ sym (ap piece_count same);
+      named_dirty = (λ i. length (room.named_dirty i).items) ∙ named ∙ sym (ap piece_count same);
+      other_dirty = (λ i. length (room.other_dirty i).items) ∙ dirty ∙ sym (ap piece_count same);
       all =
-          subst (λ (h : Geometry). AreAllMarked h q.other_marks.items) (sym same)
-          (subst (λ (row : List Bool). AreAllMarked g row) (sym (λ i. (room.other_marks i).items)) all);
+          subst (λ (h : Geometry). AreAllDirty h q.other_dirty.items) (sym same)
+          (subst (λ (row : List Bool). AreAllDirty g row) (sym (λ i. (room.other_dirty i).items)) all);
     }
 
 -- once the last point is made
@@ -156,15 +156,15 @@ made p q r w2 w3 taken same room loaded room' tree log long =
           subst (λ (h : Geometry). device_size (layout_of h) ≤ length w3.now) (sym is)
           (subst (λ (n : ℕ). device_size (layout_of q.halves.geometry) ≤ n) (sym long) loaded.whole);
       frozen = kept.frozen ∙ taken.frozen ∙ sym (ap image_size (is ∙ same));
-      named_marks = (λ i. length (kept.named_marks i).items) ∙ taken.named_marks ∙ sym (ap piece_count (is ∙ same));
-      other_marks = (λ i. length (kept.other_marks i).items) ∙ taken.other_marks ∙ sym (ap piece_count (is ∙ same));
-      marks = (λ i. record { named = (kept.named_marks i).items; others = (kept.other_marks i).items }) ∙ taken.marks ∙ sym (ap opened_marks (is ∙ same));
+      named_dirty = (λ i. length (kept.named_dirty i).items) ∙ taken.named_dirty ∙ sym (ap piece_count (is ∙ same));
+      other_dirty = (λ i. length (kept.other_dirty i).items) ∙ taken.other_dirty ∙ sym (ap piece_count (is ∙ same));
+      dirty = (λ i. record { named = (kept.named_dirty i).items; others = (kept.other_dirty i).items }) ∙ taken.dirty ∙ sym (ap opened_dirty (is ∙ same));
       due = (λ i. length (kept.due i).items) ∙ taken.due ∙ sym (ap piece_count (is ∙ same));
     }
 
 -- ---- in the words of contracts
 
-pub opened : (p : Parts) (old m : Medium) (j : JournalView) → IsMade p m → IsMadeOf old.now p m → IsWholeTree p.tree → j ≡ held_of p.halves p.named_marks.items p.other_marks.items None false m → IsOpened old j (state_in p.tree)
+pub opened : (p : Parts) (old m : Medium) (j : JournalView) → IsMade p m → IsMadeOf old.now p m → IsWholeTree p.tree → j ≡ held_of p.halves p.named_dirty.items p.other_dirty.items None false m → IsOpened old j (state_in p.tree)
 opened p old m j made is whole same =
     subst (λ (h : JournalView). IsOpened old h (state_in p.tree)) (sym same)
     (record {
@@ -173,14 +173,14 @@ opened p old m j made is whole same =
       was = ap (λ (g : Geometry). holds g old.now) made.geometry ∙ is.was;
       is = is.is;
       version = is.version;
-      sound = settled_of p.halves p.frozen.items p.named_marks.items p.other_marks.items p.due.items None false m is.sound;
+      sound = committed_of p.halves p.frozen.items p.named_dirty.items p.other_dirty.items p.due.items None false m is.sound;
       emptied = is.emptied;
-      marks = made.marks;
+      dirty = made.dirty;
       state = subst (λ (g : Geometry). IsState g (state_in p.tree)) (sym made.geometry) whole.state;
     })
 
 pub made_of : (p : Parts) (log : Log) (old w2 w3 : Medium) (frozen : List ℕ) → AreBytes w3.now → HasHeader p.tree.geometry old.now → refused p.tree.geometry old.now ≡ None → holds p.tree.geometry old.now ≡ Some (state_in p.tree)
-    → p.halves ≡ pointed log → p.tree.geometry ≡ log.geometry → p.frozen.items ≡ frozen → frozen ≡ image_of 2 p.tree.geometry (state_in p.tree) → IsWholeTree p.tree → AreAllMarked log.geometry p.other_marks.items
+    → p.halves ≡ pointed log → p.tree.geometry ≡ log.geometry → p.frozen.items ≡ frozen → frozen ≡ image_of 2 p.tree.geometry (state_in p.tree) → IsWholeTree p.tree → AreAllDirty log.geometry p.other_dirty.items
     → IsAlone log w2 → holds log.geometry w2.now ≡ Some (state_in p.tree) → IsPointed log frozen w2 w3 → IsMadeOf old.now p w3
 made_of p log old w2 w3 frozen are head fine was is_log geometry items spelled whole all alone held made =
     let same : p.halves.geometry ≡ log.geometry = ap (λ (l : Log). l.geometry) is_log in
@@ -189,13 +189,13 @@ made_of p log old w2 w3 frozen are head fine was is_log geometry items spelled w
       header = head;
       fine = fine;
       was = was;
-      is = ap (λ (g : Geometry). holds g w3.now) same ∙ holds_now log.geometry (other log.named) (other log.named) (holds log.geometry w2.now) w3 are made.at.stands ∙ held;
+      is = ap (λ (g : Geometry). holds g w3.now) same ∙ holds_now log.geometry (other log.named) (other log.named) (holds log.geometry w2.now) w3 are made.at.recovers ∙ held;
       version =
           ap (λ (g : Geometry). named_version g w3.now) same
           ∙ pointed_version log frozen w2 w3 (state_in p.tree) are (spelled ∙ ap (λ (g : Geometry). image_of 2 g (state_in p.tree)) geometry) made;
       emptied = subst (λ (g : Geometry). in_force (layout_of g) (named_area (layout_of g) w3.now) w3.now ≡ []) (sym same) made.emptied;
       sound =
-          subst (λ (l : List ℕ). IsSoundJournal p.halves l p.named_marks.items p.other_marks.items p.due.items None w3) (sym items)
-          (subst (λ (l : Log). IsSoundJournal l frozen p.named_marks.items p.other_marks.items p.due.items None w3) (sym is_log)
-          (opened_sound log frozen p.named_marks.items p.other_marks.items p.due.items w2 w3 (state_in p.tree) alone held is_state (spelled ∙ ap (λ (g : Geometry). image_of 2 g (state_in p.tree)) geometry) all are made));
+          subst (λ (l : List ℕ). IsSoundJournal p.halves l p.named_dirty.items p.other_dirty.items p.due.items None w3) (sym items)
+          (subst (λ (l : Log). IsSoundJournal l frozen p.named_dirty.items p.other_dirty.items p.due.items None w3) (sym is_log)
+          (opened_sound log frozen p.named_dirty.items p.other_dirty.items p.due.items w2 w3 (state_in p.tree) alone held is_state (spelled ∙ ap (λ (g : Geometry). image_of 2 g (state_in p.tree)) geometry) all are made));
     }

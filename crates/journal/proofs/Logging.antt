@@ -4,9 +4,9 @@ use Rattle.std.proofs.lemmas.List.{length-map, take-map}
 use Rattle.std.proofs.lemmas.Slice.Eq.{bytes_eq-Decides}
 use Rattle.std.specs.Str.{bytes_eq}
 use Rattle.affinity.specs.declared.geometry.Geometry.{Geometry}
-use Rattle.checkpoint.specs.Recovery.{apply, apply_said, holds, means}
-use Rattle.disk.specs.Device.{AreBytes, Leaves, Medium}
-use Rattle.disk.specs.Moments.{LeavesOnly}
+use Rattle.checkpoint.specs.Recovery.{apply, apply_decoded, holds, means}
+use Rattle.disk.specs.Device.{AreBytes, IsCrashImage, Medium}
+use Rattle.disk.specs.Moments.{CrashImagesAre}
 use Rattle.disk.proofs.Leaves.{itself}
 use Rattle.disk.proofs.Moments.{weaker}
 use Rattle.image.specs.Image.{image_head, read}
@@ -14,11 +14,11 @@ use Rattle.image.specs.Touched.{may_change}
 use Rattle.image.proofs.Untouched.{piece_stays}
 use Rattle.meaning.proofs.Kept.{step_kept}
 use Rattle.std.specs.List.{AllByRecursion}
-use Rattle.journal.specs.Journal.{AreCarriedOut, HoldsSome, IsSettled, records_in}
+use Rattle.journal.specs.Journal.{AreCarriedOut, HoldsSome, IsCommitted, records_in}
 use Rattle.journal.specs.Keeping.{IsCutOr, IsFresh, IsCutState, IsSoundJournal, coming, held_of}
-use Rattle.journal.specs.Marks.{MarksTouched}
+use Rattle.journal.specs.DirtyPieces.{DirtiesTouched}
 use Rattle.journal.specs.Steps.{IsStanding, run_on}
-use Rattle.journal.specs.Stretches.{AgreeUnmarked, image_in, stretch_of}
+use Rattle.journal.specs.Extents.{AgreeOnClean, image_in, extent_of}
 use Rattle.journal.proofs.Cutting.{named_below}
 use Rattle.journal.proofs.Forced.{forced_more, used_most}
 use Rattle.journal.proofs.Standing.{holds_by, holds_now}
@@ -32,8 +32,8 @@ use Rattle.oplog.specs.Front.{chain, front}
 use Rattle.device_map.specs.Layout.{layout_of, image, other}
 use Rattle.oplog.specs.Log.{Log}
 use Rattle.oplog.specs.Logged.{records_of}
-use Rattle.oplog.specs.Stands.{run}
-use Rattle.oplog.proofs.AfterCrash.{append_stands, all_by_area}
+use Rattle.oplog.specs.Recovery.{run}
+use Rattle.oplog.proofs.AfterCrash.{append_recovers, all_by_area}
 use Rattle.oplog.proofs.Kept.{run-append}
 use Rattle.meaning.specs.Serial.{fold, is_loggable, next_state, reply_to}
 use Rattle.meaning.specs.State.{State, IsState}
@@ -44,7 +44,7 @@ use Rattle.meaning.specs.State.{State, IsState}
 applied : (g : Geometry) (x : State) (m : Msg) → message_in_fields (record_of m) ≡ Some m → is_in_range g m ≡ true → is_loggable m (reply_to g x m) ≡ true → apply g x (record_of m) ≡ Some (next_state g x m)
 applied g x m says in_range loggable =
     let same : bytes_eq (record_of m) (record_of m) ≡ true = (bytes_eq-Decides (record_of m) (record_of m)).1 refl in
-    ap (apply_said g x (record_of m)) says ∙ (λ i. cond (same i && in_range i && loggable i) (Some (next_state g x m)) None)
+    ap (apply_decoded g x (record_of m)) says ∙ (λ i. cond (same i && in_range i && loggable i) (Some (next_state g x m)) None)
 
 pub run_records : (g : Geometry) (x : State) (ms : List Msg) → AreCarriedOut g x ms → run_on g (Some x) (records_of ms) ≡ Some (fold g x ms)
 run_records g x [] out = refl
@@ -68,16 +68,16 @@ current_below n true is_area = omega arith
 current_below n false is_area = is_area
 
 pub half_below : (g : Geometry) (n h : ℕ) (x : Option State) (m : Medium) → AreBytes m.now → IsStanding g n h x m → h < 2
-half_below g n h x m are stands =
-    let is_area = named_below g n h x m are stands in
-    subst (λ (k : ℕ). k < 2) (stands m.now (itself m.now m.loose are)).current (current_below n (eqb (chain (layout_of g) n m.now) 1) is_area)
+half_below g n h x m are recovers =
+    let is_area = named_below g n h x m are recovers in
+    subst (λ (k : ℕ). k < 2) (recovers m.now (itself m.now m.unsynced are)).current (current_below n (eqb (chain (layout_of g) n m.now) 1) is_area)
 
 -- what none of these messages touches stays, and what they lead to is a state
-one_stays : (g : Geometry) (x : State) (m : Msg) (n : ℕ) → IsState g x → may_change g m n ≡ false → stretch_of g (next_state g x m) n ≡ stretch_of g x n
+one_stays : (g : Geometry) (x : State) (m : Msg) (n : ℕ) → IsState g x → may_change g m n ≡ false → extent_of g (next_state g x m) n ≡ extent_of g x n
 one_stays g x m zero is off = ap (λ (l : List ℕ). image_head 2 ++ l) (piece_stays 2 g x is m 0 off)
 one_stays g x m (suc n) is off = piece_stays 2 g x is m (suc n) off
 
-all_stay : (g : Geometry) (x : State) (ms : List Msg) (n : ℕ) → IsState g x → AreCarriedOut g x ms → AllByRecursion (λ m. may_change g m n ≡ false) ms → stretch_of g (fold g x ms) n ≡ stretch_of g x n
+all_stay : (g : Geometry) (x : State) (ms : List Msg) (n : ℕ) → IsState g x → AreCarriedOut g x ms → AllByRecursion (λ m. may_change g m n ≡ false) ms → extent_of g (fold g x ms) n ≡ extent_of g x n
 all_stay g x [] n is out off = refl
 all_stay g x (m ∷ ms) n is out off = all_stay g (next_state g x m) ms n (step_kept g x m is out.0) out.3 off.1 ∙ one_stays g x m n is off.0
 
@@ -85,16 +85,16 @@ carried_state : (g : Geometry) (x : State) (ms : List Msg) → IsState g x → A
 carried_state g x [] is out = is
 carried_state g x (m ∷ ms) is out = carried_state g (next_state g x m) ms (step_kept g x m is out.0) out.3
 
-pub fresh_more : (g : Geometry) (x : State) (ms : List Msg) (old new : List Bool) (bytes : List ℕ) → IsState g x → AreCarriedOut g x ms → MarksTouched g ms old new → IsFresh g (Some x) old bytes → IsFresh g (Some (fold g x ms)) new bytes
+pub fresh_more : (g : Geometry) (x : State) (ms : List Msg) (old new : List Bool) (bytes : List ℕ) → IsState g x → AreCarriedOut g x ms → DirtiesTouched g ms old new → IsFresh g (Some x) old bytes → IsFresh g (Some (fold g x ms)) new bytes
 fresh_more g x ms old new bytes is_state out touched fresh y is n few unmarked =
     let kept = (touched n few).0 unmarked in
-    fresh x refl n few kept.0 ∙ sym (all_stay g x ms n is_state out kept.1) ∙ ap (λ (o : Option State). stretch_of g (unwrap_or o x) n) is
+    fresh x refl n few kept.0 ∙ sym (all_stay g x ms n is_state out kept.1) ∙ ap (λ (o : Option State). extent_of g (unwrap_or o x) n) is
 
 -- the journal's facts, in the words of contracts
-pub settled_of : {a b : List Bool} → (log : Log) (frozen : List ℕ) (named others due : List Bool) (left : Option ℕ) (failed : Bool) (m : Medium) → IsSoundJournal log frozen named others due left m → IsSettled (held_of log a b left failed m)
-settled_of log frozen named others due left failed m sound = record {
+pub committed_of : {a b : List Bool} → (log : Log) (frozen : List ℕ) (named others due : List Bool) (left : Option ℕ) (failed : Bool) (m : Medium) → IsSoundJournal log frozen named others due left m → IsCommitted (held_of log a b left failed m)
+committed_of log frozen named others due left failed m sound = record {
   some = sound.some;
-  each = λ c gone. holds_by log.geometry log.named log.current (holds log.geometry m.now) c (sound.stands c gone);
+  each = λ c gone. holds_by log.geometry log.named log.current (holds log.geometry m.now) c (sound.recovers c gone);
   forced = sound.forced;
   room = λ none.
       let count = sound.count none in
@@ -115,14 +115,14 @@ coming_used log used frozen (Some k) m = refl
 
 module _ (log : Log) (frozen : List ℕ) (named others due : List Bool) (left : Option ℕ) (ms : List Msg) (w0 w1 : Medium) (are : AreBytes w0.now) (sound : IsSoundJournal log frozen named others due left w0) where
   is_area : log.named < 2
-  is_area = named_below log.geometry log.named log.current (holds log.geometry w0.now) w0 are sound.stands
+  is_area = named_below log.geometry log.named log.current (holds log.geometry w0.now) w0 are sound.recovers
 
   is_half : log.current < 2
-  is_half = half_below log.geometry log.named log.current (holds log.geometry w0.now) w0 are sound.stands
+  is_half = half_below log.geometry log.named log.current (holds log.geometry w0.now) w0 are sound.recovers
 
-  pub log_moments : Grows log ms w0 w1 → (x : State) → holds log.geometry w0.now ≡ Some x → AreCarriedOut log.geometry x ms → LeavesOnly w0 w1 (HoldsSome log.geometry x ms)
+  pub log_moments : Grows log ms w0 w1 → (x : State) → holds log.geometry w0.now ≡ Some x → AreCarriedOut log.geometry x ms → CrashImagesAre w0 w1 (HoldsSome log.geometry x ms)
   log_moments grows x is out =
-      weaker w0 w1 _ _ (append_stands (means log.geometry) (layout_of log.geometry) log.named log.current (holds log.geometry w0.now) (records_of ms) w0 w1 is_area is_half sound.stands grows)
+      weaker w0 w1 _ _ (append_recovers (means log.geometry) (layout_of log.geometry) log.named log.current (holds log.geometry w0.now) (records_of ms) w0 w1 is_area is_half sound.recovers grows)
       (λ c some. record {
         added = some.added;
         at_most = let most = some.at_most in omega (arith, most, length-map ms record_of);
@@ -133,12 +133,12 @@ module _ (log : Log) (frozen : List ℕ) (named others due : List Bool) (left : 
 
   pub log_records : HasAdded log ms w0 w1 → records_in log.geometry w1.now ≡ records_in log.geometry w0.now ++ records_of ms
   log_records has =
-      forced_more log.geometry log.named log.current (holds log.geometry w0.now) (records_of ms) w0.now w1.now is_area is_half (sound.stands w0.now (itself w0.now w0.loose are)) has.has
+      forced_more log.geometry log.named log.current (holds log.geometry w0.now) (records_of ms) w0.now w1.now is_area is_half (sound.recovers w0.now (itself w0.now w0.unsynced are)) has.has
 
-  log_forced : HasAdded log ms w0 w1 → (c : List ℕ) → Leaves w1 c → records_in log.geometry c ≡ records_in log.geometry w1.now
+  log_forced : HasAdded log ms w0 w1 → (c : List ℕ) → IsCrashImage w1 c → records_in log.geometry c ≡ records_in log.geometry w1.now
   log_forced has c left =
       let after = has.left c left in
-      forced_more log.geometry log.named log.current (holds log.geometry w0.now) (records_of ms) after.old c is_area is_half (sound.stands after.old after.left) after.change
+      forced_more log.geometry log.named log.current (holds log.geometry w0.now) (records_of ms) after.old c is_area is_half (sound.recovers after.old after.left) after.change
       ∙ ap (λ rs. rs ++ records_of ms) (sound.forced after.old after.left) ∙ sym (log_records has)
 
   log_count : HasAdded log ms w0 w1 → left ≡ None → length (records_in log.geometry w1.now) ≡ log.used + length ms
@@ -151,13 +151,13 @@ module _ (log : Log) (frozen : List ℕ) (named others due : List Bool) (left : 
     leads : run_on log.geometry (holds log.geometry w0.now) (records_of ms) ≡ Some (fold log.geometry x ms)
     leads = ap (λ (o : Option State). run_on log.geometry o (records_of ms)) is ∙ run_records log.geometry x ms out
 
-    stands : IsStanding log.geometry log.named log.current (Some (fold log.geometry x ms)) w1
-    stands =
+    recovers : IsStanding log.geometry log.named log.current (Some (fold log.geometry x ms)) w1
+    recovers =
         subst (λ (o : Option State). IsStanding log.geometry log.named log.current o w1) leads
-        (all_by_area (means log.geometry) (layout_of log.geometry) log.named log.current log.used (holds log.geometry w0.now) (records_of ms) w0 w1 is_area is_half sound.stands has)
+        (all_by_area (means log.geometry) (layout_of log.geometry) log.named log.current log.used (holds log.geometry w0.now) (records_of ms) w0 w1 is_area is_half sound.recovers has)
 
-    pub log_settled : holds log.geometry w1.now ≡ Some (fold log.geometry x ms)
-    log_settled = holds_now log.geometry log.named log.current (Some (fold log.geometry x ms)) w1 are' stands
+    pub log_committed : holds log.geometry w1.now ≡ Some (fold log.geometry x ms)
+    log_committed = holds_now log.geometry log.named log.current (Some (fold log.geometry x ms)) w1 are' recovers
 
     images : (i : ℕ) → i < 2 → image_in log.geometry i w1 ≡ image_in log.geometry i w0
     images i is_image = has.has.same.others (image i) (λ same. omega (arith, same, is_half))
@@ -174,34 +174,34 @@ module _ (log : Log) (frozen : List ℕ) (named others due : List Bool) (left : 
           ap (λ (rs : List (List ℕ)). run_on log.geometry (read log.geometry frozen) rs)
           (subst (λ (h : ℕ). front (layout_of log.geometry) h w1.now ≡ front (layout_of log.geometry) h w0.now ++ records_of ms) placed.0 has.has.front)
           ∙ run-append (means log.geometry) (read log.geometry frozen) (front (layout_of log.geometry) (other log.named) w0.now) (records_of ms)
-          ∙ ap (λ (o : Option State). run_on log.geometry o (records_of ms)) cut.behind ∙ leads ∙ sym log_settled;
-      written = subst (λ (l : List ℕ). AgreeUnmarked log.geometry due l frozen) (sym (images (other log.named) (omega arith))) cut.written;
+          ∙ ap (λ (o : Option State). run_on log.geometry o (records_of ms)) cut.behind ∙ leads ∙ sym log_committed;
+      written = subst (λ (l : List ℕ). AgreeOnClean log.geometry due l frozen) (sym (images (other log.named) (omega arith))) cut.written;
       version = cut.version;
     }
 
-    pub log_sound : (named' others' : List Bool) → IsCutState log due left → MarksTouched log.geometry ms named named' → MarksTouched log.geometry ms others others'
+    pub log_sound : (named' others' : List Bool) → IsCutState log due left → DirtiesTouched log.geometry ms named named' → DirtiesTouched log.geometry ms others others'
         → IsSoundJournal (record log { used = log.used + length ms }) frozen named' others' due left w1
     log_sound named' others' placed touched touched' =
         let used : log.used + length (records_of ms) ≡ log.used + length ms = ap (λ (n : ℕ). log.used + n) (length-map ms record_of) in
         record {
-          some = ap is_some log_settled;
-          stands = subst (λ (o : Option State). IsStanding log.geometry log.named log.current o w1) (sym log_settled) stands;
+          some = ap is_some log_committed;
+          recovers = subst (λ (o : Option State). IsStanding log.geometry log.named log.current o w1) (sym log_committed) recovers;
           ready = subst (λ (n : ℕ). IsReady (layout_of log.geometry) log.current n w1) used has.ready;
           forced = log_forced has;
           count = log_count has;
-          state = λ z is'. subst (λ (s : State). IsState log.geometry s) (ap (λ (o : Option State). unwrap_or o x) (sym log_settled ∙ is')) (carried_state log.geometry x ms (sound.state x is) out);
+          state = λ z is'. subst (λ (s : State). IsState log.geometry s) (ap (λ (o : Option State). unwrap_or o x) (sym log_committed ∙ is')) (carried_state log.geometry x ms (sound.state x is) out);
           named_fresh =
-              subst (λ (o : Option State). IsFresh log.geometry o named' (image_in log.geometry log.named w1)) (sym log_settled)
+              subst (λ (o : Option State). IsFresh log.geometry o named' (image_in log.geometry log.named w1)) (sym log_committed)
               (fresh_more log.geometry x ms named named' (image_in log.geometry log.named w1) (sound.state x is) out touched
               (subst (λ (l : List ℕ). IsFresh log.geometry (Some x) named l) (sym (images log.named is_area))
               (subst (λ (o : Option State). IsFresh log.geometry o named (image_in log.geometry log.named w0)) is sound.named_fresh)));
           frozen_fresh = λ none.
-              subst (λ (o : Option State). IsFresh log.geometry o named' frozen) (sym log_settled)
+              subst (λ (o : Option State). IsFresh log.geometry o named' frozen) (sym log_committed)
               (fresh_more log.geometry x ms named named' frozen (sound.state x is) out touched
               (subst (λ (o : Option State). IsFresh log.geometry o named frozen) is (sound.frozen_fresh none)));
           others_fresh =
               subst (λ (l : List ℕ). IsFresh log.geometry (holds log.geometry w1.now) others' l) (sym (coming_used log (log.used + length ms) frozen left w1))
-              (subst (λ (o : Option State). IsFresh log.geometry o others' (coming log frozen left w1)) (sym log_settled)
+              (subst (λ (o : Option State). IsFresh log.geometry o others' (coming log frozen left w1)) (sym log_committed)
               (fresh_more log.geometry x ms others others' (coming log frozen left w1) (sound.state x is) out touched'
               (subst (λ (l : List ℕ). IsFresh log.geometry (Some x) others l) (sym (still_coming left))
               (subst (λ (o : Option State). IsFresh log.geometry o others (coming log frozen left w0)) is sound.others_fresh))));
@@ -214,13 +214,13 @@ pub placed_used : (log : Log) (used : ℕ) (due : List Bool) (left : Option ℕ)
 placed_used log used due None placed = placed
 placed_used log used due (Some k) placed = placed
 
-pub touched_along : (g g' : Geometry) (ms : List Msg) (old old' new new' : List Bool) → g ≡ g' → old ≡ old' → new' ≡ new → MarksTouched g ms old new → MarksTouched g' ms old' new'
+pub touched_along : (g g' : Geometry) (ms : List Msg) (old old' new new' : List Bool) → g ≡ g' → old ≡ old' → new' ≡ new → DirtiesTouched g ms old new → DirtiesTouched g' ms old' new'
 touched_along g g' ms old old' new new' same was is touched =
-    subst (λ (x : Geometry). MarksTouched x ms old' new') same (subst (λ (l : List Bool). MarksTouched g ms l new') was (subst (λ (l : List Bool). MarksTouched g ms old l) (sym is) touched))
+    subst (λ (x : Geometry). DirtiesTouched x ms old' new') same (subst (λ (l : List Bool). DirtiesTouched g ms l new') was (subst (λ (l : List Bool). DirtiesTouched g ms old l) (sym is) touched))
 
 pub log_kept : (log new : Log) (frozen : List ℕ) (named others due named' others' : List Bool) (left : Option ℕ) (ms : List Msg) (w0 w1 : Medium) → new ≡ record log { used = log.used + length ms } → AreBytes w0.now → AreBytes w1.now
     → IsSoundJournal log frozen named others due left w0 → ((x : State) → holds log.geometry w0.now ≡ Some x → AreCarriedOut log.geometry x ms) → HasAdded log ms w0 w1 → IsCutState log due left
-    → MarksTouched log.geometry ms named named' → MarksTouched log.geometry ms others others' → IsSoundJournal new frozen named' others' due left w1
+    → DirtiesTouched log.geometry ms named named' → DirtiesTouched log.geometry ms others others' → IsSoundJournal new frozen named' others' due left w1
 log_kept log new frozen named others due named' others' left ms w0 w1 is are are' sound out has placed touched touched' =
     let value = some_value (holds log.geometry w0.now) sound.some in
     subst (λ (l : Log). IsSoundJournal l frozen named' others' due left w1) (sym is)
@@ -230,5 +230,5 @@ pub log_told : (log : Log) (frozen : List ℕ) (named others due : List Bool) (l
     → ((x : State) → holds log.geometry w0.now ≡ Some x → AreCarriedOut log.geometry x ms) → HasAdded log ms w0 w1 → holds log.geometry w1.now ≡ option_map (λ x. fold log.geometry x ms) (holds log.geometry w0.now)
 log_told log frozen named others due left ms w0 w1 are are' sound out has =
     let value = some_value (holds log.geometry w0.now) sound.some in
-    log_settled log frozen named others due left ms w0 w1 are sound value.0 value.1 (out value.0 value.1) has are'
+    log_committed log frozen named others due left ms w0 w1 are sound value.0 value.1 (out value.0 value.1) has are'
     ∙ sym (ap (λ (o : Option State). option_map (λ x. fold log.geometry x ms) o) value.1)

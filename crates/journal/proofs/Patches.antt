@@ -1,4 +1,4 @@
--- How the marked stretches of an image are written, one run after another.
+-- How the marked extents of an image are written, one run after another.
 use Rattle.std.proofs.Common.{◌≡◌, ◌≢◌, ⊎_elim, ℕ, suc, ◌+◌, ◌-◌, ◌<◌, ◌≤◌, Bool, true, false, List, ◌++◌, length, take, drop, get_or, refl, sym, ◌∙◌, ap, subst, arith, length-drop}
 use Rattle.std.proofs.lemmas.Bool.{cases_lt}
 use Rattle.std.proofs.lemmas.List.{drop-drop, take_all, length-take-le}
@@ -8,8 +8,8 @@ use Rattle.disk.specs.Device.{Medium, SameOutside, overlaid, synced}
 use Rattle.disk.proofs.Overlays.{take-overlaid, drop-overlaid, overlaid_outside, range-overlaid}
 use Rattle.disk.proofs.Outside.{same_before, same_behind}
 use Rattle.image.specs.Pieces.{piece_count}
-use Rattle.journal.specs.Stretches.{AgreeUnmarked, Imaged, IsPatchedAt, image_in, stretch_at, stretch_size}
-use Rattle.journal.proofs.Places.{stretch_inside, stretch_next, stretch_rises}
+use Rattle.journal.specs.Extents.{AgreeOnClean, Imaged, IsPatchedAt, image_in, extent_at, extent_size}
+use Rattle.journal.proofs.Places.{extent_inside, extent_next, extent_rises}
 use Rattle.journal.proofs.Runs.{part_begun, part_then}
 use Rattle.oplog.specs.Changes.{ChangesOnly, IsSameBut}
 use Rattle.device_map.specs.Layout.{slice, layout_of, image, image_size, part_at, part_size, device_size}
@@ -96,15 +96,15 @@ module _ (g : Geometry) (area from at : ℕ) (bytes : List ℕ) (w0 w w1 : Mediu
           up_to = run_done from at bytes (image_in g area w0) (image_in g area w) (image_in g area w1) order (omega (arith, inside, size)) (omega (arith, inside, long)) so_far.up_to written;
         }
 
--- one stretch more, that is there already
-pub patch_passed : (g : Geometry) (area n at end : ℕ) (bytes : List ℕ) (marks : List Bool) (w0 w : Medium) → AgreeUnmarked g marks (image_in g area w0) bytes → n < piece_count g → get_or marks n true ≡ false → at ≡ stretch_at g n → end ≡ at + stretch_size g n
+-- one extent more, that is there already
+pub patch_passed : (g : Geometry) (area n at end : ℕ) (bytes : List ℕ) (dirty : List Bool) (w0 w : Medium) → AgreeOnClean g dirty (image_in g area w0) bytes → n < piece_count g → get_or dirty n true ≡ false → at ≡ extent_at g n → end ≡ at + extent_size g n
     → IsPatched g area at bytes w0 w → IsPatched g area end bytes w0 w
-patch_passed g area n at end bytes marks w0 w agree few unmarked is ends so_far =
+patch_passed g area n at end bytes dirty w0 w agree few unmarked is ends so_far =
     record {
       moments = so_far.moments;
       same = so_far.same;
-      up_to = there_already at (stretch_size g n) end bytes (image_in g area w0) (image_in g area w) ends so_far.up_to
-          (subst (λ (a : ℕ). slice (image_in g area w0) a (stretch_size g n) ≡ slice bytes a (stretch_size g n)) (sym is) (agree n few unmarked));
+      up_to = there_already at (extent_size g n) end bytes (image_in g area w0) (image_in g area w) ends so_far.up_to
+          (subst (λ (a : ℕ). slice (image_in g area w0) a (extent_size g n) ≡ slice bytes a (extent_size g n)) (sym is) (agree n few unmarked));
     }
 
 -- all of it, and a sync
@@ -121,31 +121,31 @@ pub along_patch : (g : Geometry) (area from from' : ℕ) (bytes : List ℕ) (w0 
 along_patch g area from from' bytes w0 w w' same still so_far =
     subst (λ (m : Medium). IsPatched g area from' bytes w0 m) (sym still) (subst (λ (n : ℕ). IsPatched g area n bytes w0 w) (sym same) so_far)
 
--- ---- one stretch
+-- ---- one extent
 
--- one stretch is written over, and each other one stays
-pub one_patched : (g : Geometry) (n at : ℕ) (bytes old new : List ℕ) → n < piece_count g → length bytes ≡ image_size g → length old ≡ image_size g → at ≡ stretch_at g n → new ≡ overlaid old at (slice bytes at (stretch_size g n)) → IsPatchedAt g n bytes old new
+-- one extent is written over, and each other one stays
+pub one_patched : (g : Geometry) (n at : ℕ) (bytes old new : List ℕ) → n < piece_count g → length bytes ≡ image_size g → length old ≡ image_size g → at ≡ extent_at g n → new ≡ overlaid old at (slice bytes at (extent_size g n)) → IsPatchedAt g n bytes old new
 one_patched g n at bytes old new few size size' place is =
-    let inside = stretch_inside g n few in
-    let items : List ℕ = slice bytes at (stretch_size g n) in
-    let long : length items ≡ stretch_size g n = length-take-le (stretch_size g n) (drop at bytes) (omega (arith, length-drop at bytes, size, place, inside)) in
-    let same : SameOutside at (stretch_size g n) old new =
-    subst (λ (l : List ℕ). SameOutside at (stretch_size g n) old l) (sym is) (subst (λ (k : ℕ). SameOutside at k old (overlaid old at items)) long (overlaid_outside old at items)) in
+    let inside = extent_inside g n few in
+    let items : List ℕ = slice bytes at (extent_size g n) in
+    let long : length items ≡ extent_size g n = length-take-le (extent_size g n) (drop at bytes) (omega (arith, length-drop at bytes, size, place, inside)) in
+    let same : SameOutside at (extent_size g n) old new =
+    subst (λ (l : List ℕ). SameOutside at (extent_size g n) old l) (sym is) (subst (λ (k : ℕ). SameOutside at k old (overlaid old at items)) long (overlaid_outside old at items)) in
     record {
       is =
-          ap (λ (a : ℕ). slice new a (stretch_size g n)) (sym place) ∙ ap (λ (l : List ℕ). slice l at (stretch_size g n)) is
+          ap (λ (a : ℕ). slice new a (extent_size g n)) (sym place) ∙ ap (λ (l : List ℕ). slice l at (extent_size g n)) is
           ∙ ap (λ (k : ℕ). slice (overlaid old at items) at k) (sym long) ∙ range-overlaid old at items (omega (arith, long, size', place, inside))
-          ∙ ap (λ (a : ℕ). slice bytes a (stretch_size g n)) place;
+          ∙ ap (λ (a : ℕ). slice bytes a (extent_size g n)) place;
       others = λ i few' differs.
           ⊎_elim
           (λ (less : i < n).
-          let before = stretch_rises g (suc i) n (omega (arith, less)) in
-          let next = stretch_next g i in
-          same_before at (stretch_size g n) old new same (stretch_at g i) (stretch_size g i) (omega (arith, before, next, place)))
+          let before = extent_rises g (suc i) n (omega (arith, less)) in
+          let next = extent_next g i in
+          same_before at (extent_size g n) old new same (extent_at g i) (extent_size g i) (omega (arith, before, next, place)))
           (λ (no_less : n ≤ i).
-          let after = stretch_rises g (suc n) i (apart i n differs no_less) in
-          let next = stretch_next g n in
-          same_behind at (stretch_size g n) old new same (stretch_at g i) (stretch_size g i) (omega (arith, after, next, place)))
+          let after = extent_rises g (suc n) i (apart i n differs no_less) in
+          let next = extent_next g n in
+          same_behind at (extent_size g n) old new same (extent_at g i) (extent_size g i) (omega (arith, after, next, place)))
           (cases_lt i n);
     }
   where

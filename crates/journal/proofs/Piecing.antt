@@ -4,16 +4,16 @@ use Rattle.std.proofs.lemmas.Bool.{cases_eq}
 use Rattle.std.proofs.lemmas.List.{get_or-set_other}
 use Rattle.affinity.specs.declared.geometry.Geometry.{Geometry}
 use Rattle.checkpoint.specs.Recovery.{holds, means}
-use Rattle.disk.specs.Device.{AreBytes, Leaves, Medium}
-use Rattle.disk.specs.Moments.{LeavesOnly}
+use Rattle.disk.specs.Device.{AreBytes, IsCrashImage, Medium}
+use Rattle.disk.specs.Moments.{CrashImagesAre}
 use Rattle.disk.proofs.Leaves.{itself}
 use Rattle.disk.proofs.Moments.{leaves_now}
 use Rattle.image.specs.Image.{read}
 use Rattle.journal.specs.Images.{PatchesAt, PatchesOne}
 use Rattle.journal.specs.Keeping.{IsFresh, IsCutState, IsSoundJournal}
-use Rattle.journal.specs.Marks.{count_marked}
+use Rattle.journal.specs.DirtyPieces.{count_dirty}
 use Rattle.journal.specs.Steps.{IsStanding, run_on}
-use Rattle.journal.specs.Stretches.{IsPatchedAt, image_in, stretch_in}
+use Rattle.journal.specs.Extents.{IsPatchedAt, image_in, extent_in}
 use Rattle.journal.specs.Journal.{records_in}
 use Rattle.journal.proofs.Cutting.{named_below}
 use Rattle.journal.proofs.Forced.{forced_kept}
@@ -21,8 +21,8 @@ use Rattle.journal.proofs.Logging.{half_below}
 use Rattle.journal.proofs.Rows.{count_cleared}
 use Rattle.journal.proofs.Standing.{half_same, holds_moments, holds_now}
 use Rattle.oplog.specs.Changes.{ChangesOnly, IsReady, IsSameBut}
-use Rattle.oplog.specs.Crash.{StandsBy}
-use Rattle.oplog.specs.Stands.{named_area}
+use Rattle.oplog.specs.Crash.{RecoversBy}
+use Rattle.oplog.specs.Recovery.{named_area}
 use Rattle.device_map.specs.Layout.{layout_of, half, image, other}
 use Rattle.oplog.specs.Log.{Log}
 use Rattle.oplog.proofs.AfterCrash.{image_by_area}
@@ -30,30 +30,30 @@ use Rattle.meaning.specs.State.{State}
 
 -- ---- how many are left
 
-pub piece_left : (log : Log) (due : List Bool) (left : Option ℕ) (n count : ℕ) → is_some left ≡ true → IsCutState log due left → n < length due → get_or due n false ≡ true → count ≡ count_marked (set due n false) → option_map (λ l. l - 1) left ≡ Some count
-piece_left log due None n count some placed few marked is = absurd (true≢false (sym some))
-piece_left log due (Some l) n count some placed few marked is =
-    let fewer = count_cleared due n few marked in
+pub piece_left : (log : Log) (due : List Bool) (left : Option ℕ) (n count : ℕ) → is_some left ≡ true → IsCutState log due left → n < length due → get_or due n false ≡ true → count ≡ count_dirty (set due n false) → option_map (λ l. l - 1) left ≡ Some count
+piece_left log due None n count some placed few dirty_at is = absurd (true≢false (sym some))
+piece_left log due (Some l) n count some placed few dirty_at is =
+    let fewer = count_cleared due n few dirty_at in
     let one : l - 1 ≡ count = omega (arith, fewer, is, placed.1) in
     ap (λ (k : ℕ). Some k) one
 
 -- one fewer, and those are the ones that are due then
-pub piece_counted : (log : Log) (due : List Bool) (left : Option ℕ) (n fewer : ℕ) → is_some left ≡ true → IsCutState log due left → n < length due → get_or due n false ≡ true → fewer ≡ unwrap_or left 0 - 1 → fewer ≡ count_marked (set due n false)
-piece_counted log due None n fewer some placed few marked is = absurd (true≢false (sym some))
-piece_counted log due (Some l) n fewer some placed few marked is = let one = count_cleared due n few marked in omega (arith, one, is, placed.1)
+pub piece_counted : (log : Log) (due : List Bool) (left : Option ℕ) (n fewer : ℕ) → is_some left ≡ true → IsCutState log due left → n < length due → get_or due n false ≡ true → fewer ≡ unwrap_or left 0 - 1 → fewer ≡ count_dirty (set due n false)
+piece_counted log due None n fewer some placed few dirty_at is = absurd (true≢false (sym some))
+piece_counted log due (Some l) n fewer some placed few dirty_at is = let one = count_cleared due n few dirty_at in omega (arith, one, is, placed.1)
 
 -- where none is due, none is left
-pub none_due : (log : Log) (due : List Bool) (left : Option ℕ) → is_some left ≡ true → IsCutState log due left → count_marked due ≡ 0 → left ≡ Some 0
+pub none_due : (log : Log) (due : List Bool) (left : Option ℕ) → is_some left ≡ true → IsCutState log due left → count_dirty due ≡ 0 → left ≡ Some 0
 none_due log due None some placed none = absurd (true≢false (sym some))
 none_due log due (Some l) some placed none = ap (λ (k : ℕ). Some k) (sym placed.1 ∙ none)
 
 pub piece_some : (log : Log) (due : List Bool) (left : Option ℕ) (n : ℕ) → IsCutState log due left → n < length due → get_or due n false ≡ true → left ≡ Some 0 → ⊥
-piece_some log due left n placed few marked none =
+piece_some log due left n placed few dirty_at none =
     let placed' = subst (λ (l : Option ℕ). IsCutState log due l) none placed in
-    let fewer = count_cleared due n few marked in
+    let fewer = count_cleared due n few dirty_at in
     omega (arith, fewer, placed'.1)
 
--- ---- the write of one stretch
+-- ---- the write of one extent
 
 pub record IsPieced (g : Geometry) (area n : ℕ) (bytes : List ℕ) (old new : Medium) : Type 0 where
   pub moments : ChangesOnly old new (IsSameBut (layout_of g) (image area))
@@ -67,28 +67,28 @@ pieced_along g g' a a' n bytes bytes' w0 w1 same same' are held =
 
 module _ (log : Log) (frozen : List ℕ) (named others due : List Bool) (left : Option ℕ) (w0 w1 : Medium) (are : AreBytes w0.now) (sound : IsSoundJournal log frozen named others due left w0) where
   is_area : log.named < 2
-  is_area = named_below log.geometry log.named log.current (holds log.geometry w0.now) w0 are sound.stands
+  is_area = named_below log.geometry log.named log.current (holds log.geometry w0.now) w0 are sound.recovers
 
-  by_piece : ChangesOnly w0 w1 (IsSameBut (layout_of log.geometry) (image (other log.named))) → LeavesOnly w0 w1 (StandsBy (means log.geometry) (layout_of log.geometry) log.named log.current (holds log.geometry w0.now))
-  by_piece moments = image_by_area (means log.geometry) (layout_of log.geometry) log.named log.current (holds log.geometry w0.now) w0 w1 is_area sound.stands moments
+  by_piece : ChangesOnly w0 w1 (IsSameBut (layout_of log.geometry) (image (other log.named))) → CrashImagesAre w0 w1 (RecoversBy (means log.geometry) (layout_of log.geometry) log.named log.current (holds log.geometry w0.now))
+  by_piece moments = image_by_area (means log.geometry) (layout_of log.geometry) log.named log.current (holds log.geometry w0.now) w0 w1 is_area sound.recovers moments
 
-  pub piece_moments : ChangesOnly w0 w1 (IsSameBut (layout_of log.geometry) (image (other log.named))) → LeavesOnly w0 w1 (λ c. holds log.geometry c ≡ holds log.geometry w0.now)
+  pub piece_moments : ChangesOnly w0 w1 (IsSameBut (layout_of log.geometry) (image (other log.named))) → CrashImagesAre w0 w1 (λ c. holds log.geometry c ≡ holds log.geometry w0.now)
   piece_moments moments = holds_moments log.geometry log.named log.current (holds log.geometry w0.now) w0 w1 (by_piece moments)
 
   module _ (are' : AreBytes w1.now) where
-    stands : ChangesOnly w0 w1 (IsSameBut (layout_of log.geometry) (image (other log.named))) → IsStanding log.geometry log.named log.current (holds log.geometry w0.now) w1
-    stands moments = leaves_now w0 w1 _ (by_piece moments)
+    recovers : ChangesOnly w0 w1 (IsSameBut (layout_of log.geometry) (image (other log.named))) → IsStanding log.geometry log.named log.current (holds log.geometry w0.now) w1
+    recovers moments = leaves_now w0 w1 _ (by_piece moments)
 
     pub piece_same : ChangesOnly w0 w1 (IsSameBut (layout_of log.geometry) (image (other log.named))) → holds log.geometry w1.now ≡ holds log.geometry w0.now
-    piece_same moments = holds_now log.geometry log.named log.current (holds log.geometry w0.now) w1 are' (stands moments)
+    piece_same moments = holds_now log.geometry log.named log.current (holds log.geometry w0.now) w1 are' (recovers moments)
 
-    each_forced : ChangesOnly w0 w1 (IsSameBut (layout_of log.geometry) (image (other log.named))) → (c : List ℕ) → Leaves w1 c → records_in log.geometry c ≡ records_in log.geometry w0.now
+    each_forced : ChangesOnly w0 w1 (IsSameBut (layout_of log.geometry) (image (other log.named))) → (c : List ℕ) → IsCrashImage w1 c → records_in log.geometry c ≡ records_in log.geometry w0.now
     each_forced moments c left =
         let after = leaves_now w0 w1 _ moments c left in
         forced_kept log.geometry (image (other log.named)) after.old c (λ is. omega (arith, is)) (λ h is_half is. omega (arith, is, is_half)) after.change ∙ sound.forced after.old after.left
 
     pub piece_records : ChangesOnly w0 w1 (IsSameBut (layout_of log.geometry) (image (other log.named))) → records_in log.geometry w1.now ≡ records_in log.geometry w0.now
-    piece_records moments = each_forced moments w1.now (itself w1.now w1.loose are')
+    piece_records moments = each_forced moments w1.now (itself w1.now w1.unsynced are')
 
     pub piece_sound : (n l count : ℕ) → left ≡ Some l → n < length due → IsPieced log.geometry (other log.named) n frozen w0 w1 → IsSoundJournal log frozen named others (set due n false) (Some count) w1
     piece_sound n l count is_left few pieced =
@@ -97,8 +97,8 @@ module _ (log : Log) (frozen : List ℕ) (named others due : List Bool) (left : 
         let other_half = half_same (layout_of log.geometry) (other log.named) w0.now w1.now (pieced.same.others (half (other log.named)) (λ is. omega (arith, is))) in
         record {
           some = ap is_some same ∙ sound.some;
-          stands = subst (λ (o : Option State). IsStanding log.geometry log.named log.current o w1) (sym same) (stands pieced.moments);
-          ready = pieced.ready log.current log.used (half_below log.geometry log.named log.current (holds log.geometry w0.now) w0 are sound.stands) sound.ready;
+          recovers = subst (λ (o : Option State). IsStanding log.geometry log.named log.current o w1) (sym same) (recovers pieced.moments);
+          ready = pieced.ready log.current log.used (half_below log.geometry log.named log.current (holds log.geometry w0.now) w0 are sound.recovers) sound.ready;
           forced = λ c left. each_forced pieced.moments c left ∙ sym (piece_records pieced.moments);
           count = λ none. absurd (true≢false (ap is_some none));
           state = λ x is. sound.state x (sym same ∙ is);
@@ -111,7 +111,7 @@ module _ (log : Log) (frozen : List ℕ) (named others due : List Bool) (left : 
             behind = ap (λ (rs : List (List ℕ)). run_on log.geometry (read log.geometry frozen) rs) other_half.0 ∙ sound'.by_cut.behind ∙ sym same;
             written = λ i few' unmarked.
                 ⊎_elim
-                (λ (here : i ≡ n). ap (λ (j : ℕ). stretch_in log.geometry (image_in log.geometry (other log.named) w1) j) here ∙ pieced.is.is ∙ sym (ap (λ (j : ℕ). stretch_in log.geometry frozen j) here))
+                (λ (here : i ≡ n). ap (λ (j : ℕ). extent_in log.geometry (image_in log.geometry (other log.named) w1) j) here ∙ pieced.is.is ∙ sym (ap (λ (j : ℕ). extent_in log.geometry frozen j) here))
                 (λ (elsewhere : i ≢ n). pieced.is.others i few' elsewhere ∙ sound'.by_cut.written i few' (sym (get_or-set_other due n i false true elsewhere) ∙ unmarked))
                 (cases_eq i n);
             version = sound'.by_cut.version;

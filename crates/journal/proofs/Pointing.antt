@@ -3,42 +3,42 @@ use Rattle.std.proofs.Common.{◌≡◌, ◌<◌, ◌≤◌, ℕ, Bool, true, fa
 use Rattle.affinity.specs.declared.geometry.Geometry.{Geometry}
 use Rattle.checkpoint.specs.Recovery.{holds, means}
 use Rattle.disk.specs.Device.{AreBytes, Medium}
-use Rattle.disk.specs.Moments.{LeavesOnly}
+use Rattle.disk.specs.Moments.{CrashImagesAre}
 use Rattle.disk.proofs.Leaves.{calm_left, itself}
 use Rattle.disk.proofs.Moments.{leaves_now, then, weaker}
 use Rattle.image.specs.Image.{read}
 use Rattle.journal.specs.Steps.{IsStanding}
-use Rattle.journal.specs.Stretches.{AgreeUnmarked, Imaged, image_in}
+use Rattle.journal.specs.Extents.{AgreeOnClean, Imaged, image_in}
 use Rattle.journal.proofs.Standing.{as_other, both_of, half_same, holds_by, holds_moments, laid_by, not_one, ready_none, run_none, shut_current, shut_force}
 use Rattle.oplog.specs.Changes.{ChangesOnly, Cleared, Flipped, IsReady, IsSameBut, IsSameButGates, IsSameButRoot}
-use Rattle.oplog.specs.Crash.{StandsBy, StandsEitherWay}
+use Rattle.oplog.specs.Crash.{RecoversBy, RecoversEitherWay}
 use Rattle.oplog.specs.Front.{chain, front}
 use Rattle.device_map.specs.Layout.{layout_of, device_size, part_bytes, half, image, root, other}
-use Rattle.oplog.specs.Stands.{in_force, named_area, stands_as}
-use Rattle.oplog.proofs.AfterCrash.{clear_by_area, flip_by_area, image_by_area, torn_root_stands}
+use Rattle.oplog.specs.Recovery.{in_force, named_area, recovers_as}
+use Rattle.oplog.proofs.AfterCrash.{clear_by_area, flip_by_area, image_by_area, torn_root_recovers}
 use Rattle.oplog.proofs.Ready.{ready_kept}
 use Rattle.meaning.specs.State.{State}
 
-module _ (g : Geometry) (n : ℕ) (x : Option State) (is_area : n < 2) (w0 w1 : Medium) (stands : IsStanding g n n x w0) (clears : ChangesOnly w0 w1 (IsSameButGates (layout_of g) (other n))) where
-  by_clear : LeavesOnly w0 w1 (StandsBy (means g) (layout_of g) n n x)
-  by_clear = clear_by_area (means g) (layout_of g) n x w0 w1 is_area stands clears
+module _ (g : Geometry) (n : ℕ) (x : Option State) (is_area : n < 2) (w0 w1 : Medium) (recovers : IsStanding g n n x w0) (clears : ChangesOnly w0 w1 (IsSameButGates (layout_of g) (other n))) where
+  by_clear : CrashImagesAre w0 w1 (RecoversBy (means g) (layout_of g) n n x)
+  by_clear = clear_by_area (means g) (layout_of g) n x w0 w1 is_area recovers clears
 
-  pub clear_moments : LeavesOnly w0 w1 (λ c. holds g c ≡ x)
+  pub clear_moments : CrashImagesAre w0 w1 (λ c. holds g c ≡ x)
   clear_moments = holds_moments g n n x w0 w1 by_clear
 
-  pub clear_stands : IsStanding g n n x w1
-  clear_stands = leaves_now w0 w1 _ by_clear
+  pub clear_recovers : IsStanding g n n x w1
+  clear_recovers = leaves_now w0 w1 _ by_clear
 
   module _ (w2 : Medium) (writes : ChangesOnly w1 w2 (IsSameBut (layout_of g) (image (other n)))) where
-    by_image : LeavesOnly w0 w2 (StandsBy (means g) (layout_of g) n n x)
-    by_image = then w0 w1 w2 _ by_clear (image_by_area (means g) (layout_of g) n n x w1 w2 is_area clear_stands writes)
+    by_image : CrashImagesAre w0 w2 (RecoversBy (means g) (layout_of g) n n x)
+    by_image = then w0 w1 w2 _ by_clear (image_by_area (means g) (layout_of g) n n x w1 w2 is_area clear_recovers writes)
 
-    pub image_moments : LeavesOnly w0 w2 (λ c. holds g c ≡ x)
+    pub image_moments : CrashImagesAre w0 w2 (λ c. holds g c ≡ x)
     image_moments = holds_moments g n n x w0 w2 by_image
 
     module _ (some : is_some x ≡ true) (bytes : List ℕ) (reads : read g bytes ≡ x) (cleared : Cleared (layout_of g) (other n) w0 w1) (imaged : Imaged g (other n) bytes w1 w2) where
-      image_stands : IsStanding g n n x w2
-      image_stands = leaves_now w0 w2 _ by_image
+      image_recovers : IsStanding g n n x w2
+      image_recovers = leaves_now w0 w2 _ by_image
 
       half_kept : (front (layout_of g) (other n) w2.now ≡ front (layout_of g) (other n) w1.now) × (chain (layout_of g) (other n) w2.now ≡ chain (layout_of g) (other n) w1.now)
       half_kept = half_same (layout_of g) (other n) w1.now w2.now (imaged.same.others (half (other n)) (λ is. omega (arith, is)))
@@ -49,29 +49,29 @@ module _ (g : Geometry) (n : ℕ) (x : Option State) (is_area : n < 2) (w0 w1 : 
       no_force : in_force (layout_of g) (other n) w2.now ≡ []
       no_force = shut_force (layout_of g) (other n) w2.now no_chain ∙ half_kept.0 ∙ ready_none (layout_of g) (other n) w1 cleared.ready
 
-      other_stands : (c : List ℕ) → c ≡ w2.now → stands_as (means g) (layout_of g) n c ≡ x → stands_as (means g) (layout_of g) (other n) c ≡ x
-      other_stands c is own =
+      other_recovers : (c : List ℕ) → c ≡ w2.now → recovers_as (means g) (layout_of g) n c ≡ x → recovers_as (means g) (layout_of g) (other n) c ≡ x
+      other_recovers c is own =
           let laid = laid_by g n x c own some in
           as_other g (other n) x bytes c [] laid (ap (λ (l : List ℕ). image_of_area l) is ∙ imaged.is) (ap (λ (l : List ℕ). in_force (layout_of g) (other n) l) is ∙ no_force) (run_none g (read g bytes) ∙ reads)
         where
           image_of_area : List ℕ → List ℕ
           image_of_area l = part_bytes (layout_of g) (image (other n)) l
 
-      either_way : StandsEitherWay (means g) (layout_of g) x w2
+      either_way : RecoversEitherWay (means g) (layout_of g) x w2
       either_way c left =
-          let own = (image_stands c left).is in
-          both_of (λ (k : ℕ). stands_as (means g) (layout_of g) k c ≡ x) n is_area own (other_stands c (calm_left w2 c imaged.calm left) own)
+          let own = (image_recovers c left).is in
+          both_of (λ (k : ℕ). recovers_as (means g) (layout_of g) k c ≡ x) n is_area own (other_recovers c (calm_left w2 c imaged.calm left) own)
 
-      pub flip_moments : (w3 : Medium) → ChangesOnly w2 w3 (IsSameButRoot (layout_of g)) → LeavesOnly w0 w3 (λ c. holds g c ≡ x)
+      pub flip_moments : (w3 : Medium) → ChangesOnly w2 w3 (IsSameButRoot (layout_of g)) → CrashImagesAre w0 w3 (λ c. holds g c ≡ x)
       flip_moments w3 flips =
           then w0 w2 w3 _ image_moments
-          (weaker w2 w3 _ _ (torn_root_stands (means g) (layout_of g) x w2 w3 either_way flips) (λ c stood. holds_by g _ _ x c stood))
+          (weaker w2 w3 _ _ (torn_root_recovers (means g) (layout_of g) x w2 w3 either_way flips) (λ c recovered_before. holds_by g _ _ x c recovered_before))
 
       module _ (w3 : Medium) (are : AreBytes w2.now) (fits : device_size (layout_of g) ≤ length w0.now) (flipped : Flipped (layout_of g) (other n) w2 w3) where
-        pub now_stands : IsStanding g (other n) (other n) x w3
-        now_stands =
+        pub now_recovers : IsStanding g (other n) (other n) x w3
+        now_recovers =
             flip_by_area (means g) (layout_of g) (other n) (other n) x w2 w3 flipped (shut_current (layout_of g) (other n) w2.now no_chain)
-            (other_stands w2.now refl (image_stands w2.now (itself w2.now w2.loose are)).is)
+            (other_recovers w2.now refl (image_recovers w2.now (itself w2.now w2.unsynced are)).is)
 
         long_1 : length w1.now ≡ length w0.now
         long_1 = cleared.same.same.size
@@ -106,6 +106,6 @@ module _ (g : Geometry) (n : ℕ) (x : Option State) (is_area : n < 2) (w0 w1 : 
             ∙ cleared.same.same.others (image n) (λ is. omega (arith, is))
 
 -- what is unmarked before the other half is cleared is so afterwards
-pub still_unmarked : (g : Geometry) (n h : ℕ) (marks : List Bool) (bytes : List ℕ) (w0 w1 : Medium) → h < 2 → Cleared (layout_of g) h w0 w1 → AgreeUnmarked g marks (image_in g n w0) bytes → AgreeUnmarked g marks (image_in g n w1) bytes
-still_unmarked g n h marks bytes w0 w1 is_half cleared agree =
-    subst (λ (l : List ℕ). AgreeUnmarked g marks l bytes) (sym (cleared.same.same.others (image n) (λ is. omega (arith, is, is_half)))) agree
+pub still_unmarked : (g : Geometry) (n h : ℕ) (dirty : List Bool) (bytes : List ℕ) (w0 w1 : Medium) → h < 2 → Cleared (layout_of g) h w0 w1 → AgreeOnClean g dirty (image_in g n w0) bytes → AgreeOnClean g dirty (image_in g n w1) bytes
+still_unmarked g n h dirty bytes w0 w1 is_half cleared agree =
+    subst (λ (l : List ℕ). AgreeOnClean g dirty l bytes) (sym (cleared.same.same.others (image n) (λ is. omega (arith, is, is_half)))) agree

@@ -13,71 +13,71 @@ use Rattle.affinity.specs.declared.geometry.Geometry.{Geometry}
 use Rattle.image.specs.Pieces.{aggregate_of, part_of, piece_count, pieces_of_volume, volume_of, volume_piece_number}
 use Rattle.meaning.specs.Serial.{key}
 use Rattle.meaning.specs.State.{one_if}
-use Rattle.journal.specs.Keeping.{AreClearBefore}
-use Rattle.journal.specs.Marks.{MarksTouched, count_marked}
-use Rattle.journal.specs.Stretches.{stretch_at, stretch_in, stretch_size}
-use Rattle.journal.proofs.Places.{stretch_end, stretch_next}
+use Rattle.journal.specs.Keeping.{AreCleanBefore}
+use Rattle.journal.specs.DirtyPieces.{DirtiesTouched, count_dirty}
+use Rattle.journal.specs.Extents.{extent_at, extent_in, extent_size}
+use Rattle.journal.proofs.Places.{extent_end, extent_next}
 use Rattle.device_map.specs.Layout.{image_size}
 
-pub count_next : (t : Bool) (xs : List Bool) (i : ℕ) → i < length xs → get_or xs i false ≡ t → count_marked (take (suc i) xs) ≡ one_if t + count_marked (take i xs)
+pub count_next : (t : Bool) (xs : List Bool) (i : ℕ) → i < length xs → get_or xs i false ≡ t → count_dirty (take (suc i) xs) ≡ one_if t + count_dirty (take i xs)
 count_next t [] i few is = absurd (omega (arith, few))
 count_next t (true ∷ xs) zero few is = ap (λ (b : Bool). one_if b + 0) is
 count_next t (false ∷ xs) zero few is = ap (λ (b : Bool). one_if b + 0) is
 count_next t (true ∷ xs) (suc i) few is = let next = count_next t xs i (omega (arith, few)) is in omega (arith, next)
 count_next t (false ∷ xs) (suc i) few is = count_next t xs i (omega (arith, few)) is
 
-pub count_after : (t : Bool) (xs : List Bool) (i : ℕ) → i < length xs → get_or xs i false ≡ t → count_marked (take (i + 1) xs) ≡ one_if t + count_marked (take i xs)
-count_after t xs i few is = let next : i + 1 ≡ suc i = omega arith in ap (λ (n : ℕ). count_marked (take n xs)) next ∙ count_next t xs i few is
+pub count_after : (t : Bool) (xs : List Bool) (i : ℕ) → i < length xs → get_or xs i false ≡ t → count_dirty (take (i + 1) xs) ≡ one_if t + count_dirty (take i xs)
+count_after t xs i few is = let next : i + 1 ≡ suc i = omega arith in ap (λ (n : ℕ). count_dirty (take n xs)) next ∙ count_next t xs i few is
 
 -- one number more before which no mark is set
-pub clear_next : (n : ℕ) (xs : List Bool) → get_or xs n false ≡ false → AreClearBefore n xs → AreClearBefore (n + 1) xs
+pub clear_next : (n : ℕ) (xs : List Bool) → get_or xs n false ≡ false → AreCleanBefore n xs → AreCleanBefore (n + 1) xs
 clear_next n xs off so_far i few =
     ⊎_elim (λ (less : i < n). so_far i less) (λ (more : n ≤ i). let here : i ≡ n = omega (arith, few, more) in ap (λ (k : ℕ). get_or xs k false) here ∙ off) (cases_lt i n)
 
 -- the one at which the looking ended is cleared too
-pub clear_set : (n : ℕ) (xs : List Bool) → n < length xs → AreClearBefore n xs → AreClearBefore (n + 1) (set xs n false)
+pub clear_set : (n : ℕ) (xs : List Bool) → n < length xs → AreCleanBefore n xs → AreCleanBefore (n + 1) (set xs n false)
 clear_set n xs few so_far =
     clear_next n (set xs n false) (get_or-set_same xs n false false few)
     (λ i less. get_or-set_other xs n i false false (λ here. omega (arith, here, less)) ∙ so_far i less)
 
-pub none_counted : (xs : List Bool) → ((i : ℕ) → i < length xs → get_or xs i false ≡ false) → count_marked xs ≡ 0
+pub none_counted : (xs : List Bool) → ((i : ℕ) → i < length xs → get_or xs i false ≡ false) → count_dirty xs ≡ 0
 none_counted [] off = refl
 none_counted (true ∷ xs) off = absurd (true≢false (off 0 (omega arith)))
 none_counted (false ∷ xs) off = none_counted xs (λ i few. off (suc i) (omega (arith, few)))
 
-pub count_most : (xs : List Bool) → count_marked xs ≤ length xs
+pub count_most : (xs : List Bool) → count_dirty xs ≤ length xs
 count_most [] = omega arith
 count_most (true ∷ xs) = let most = count_most xs in omega (arith, most)
 count_most (false ∷ xs) = let most = count_most xs in omega (arith, most)
 
 -- one mark fewer
-pub count_cleared : (xs : List Bool) (n : ℕ) → n < length xs → get_or xs n false ≡ true → suc (count_marked (set xs n false)) ≡ count_marked xs
+pub count_cleared : (xs : List Bool) (n : ℕ) → n < length xs → get_or xs n false ≡ true → suc (count_dirty (set xs n false)) ≡ count_dirty xs
 count_cleared [] n few is = absurd (omega (arith, few))
 count_cleared (true ∷ xs) zero few is = refl
 count_cleared (false ∷ xs) zero few is = absurd (true≢false (sym is))
 count_cleared (true ∷ xs) (suc n) few is = let fewer = count_cleared xs n (omega (arith, few)) is in omega (arith, fewer)
 count_cleared (false ∷ xs) (suc n) few is = count_cleared xs n (omega (arith, few)) is
 
-pub none_marked : (xs : List Bool) (n : ℕ) → count_marked xs ≡ 0 → n < length xs → get_or xs n true ≡ false
-none_marked [] n none few = absurd (omega (arith, few))
-none_marked (true ∷ xs) n none few = absurd (omega (arith, none))
-none_marked (false ∷ xs) zero none few = refl
-none_marked (false ∷ xs) (suc n) none few = none_marked xs n none (omega (arith, few))
+pub no_dirty : (xs : List Bool) (n : ℕ) → count_dirty xs ≡ 0 → n < length xs → get_or xs n true ≡ false
+no_dirty [] n none few = absurd (omega (arith, few))
+no_dirty (true ∷ xs) n none few = absurd (omega (arith, none))
+no_dirty (false ∷ xs) zero none few = refl
+no_dirty (false ∷ xs) (suc n) none few = no_dirty xs n none (omega (arith, few))
 
--- Rows that agree in every stretch are one row.
-module _ (g : Geometry) (xs ys : List ℕ) (agree : (n : ℕ) → n < piece_count g → stretch_in g xs n ≡ stretch_in g ys n) where
-  first_agree : (n : ℕ) → n ≤ piece_count g → take (stretch_at g n) xs ≡ take (stretch_at g n) ys
+-- Rows that agree in every extent are one row.
+module _ (g : Geometry) (xs ys : List ℕ) (agree : (n : ℕ) → n < piece_count g → extent_in g xs n ≡ extent_in g ys n) where
+  first_agree : (n : ℕ) → n ≤ piece_count g → take (extent_at g n) xs ≡ take (extent_at g n) ys
   first_agree zero few = refl
   first_agree (suc n) few =
-      ap (λ (k : ℕ). take k xs) (stretch_next g n) ∙ take-add (stretch_at g n) (stretch_size g n) xs
+      ap (λ (k : ℕ). take k xs) (extent_next g n) ∙ take-add (extent_at g n) (extent_size g n) xs
       ∙ (λ i. first_agree n (omega (arith, few)) i ++ agree n (omega (arith, few)) i)
-      ∙ sym (take-add (stretch_at g n) (stretch_size g n) ys) ∙ sym (ap (λ (k : ℕ). take k ys) (stretch_next g n))
+      ∙ sym (take-add (extent_at g n) (extent_size g n) ys) ∙ sym (ap (λ (k : ℕ). take k ys) (extent_next g n))
 
   pub all_agree : length xs ≡ image_size g → length ys ≡ image_size g → xs ≡ ys
   all_agree long long' =
-      let end = stretch_end g in
-      sym (take_all (stretch_at g (piece_count g)) xs (omega (arith, long, end))) ∙ first_agree (piece_count g) (omega arith)
-      ∙ take_all (stretch_at g (piece_count g)) ys (omega (arith, long', end))
+      let end = extent_end g in
+      sym (take_all (extent_at g (piece_count g)) xs (omega (arith, long, end))) ∙ first_agree (piece_count g) (omega arith)
+      ∙ take_all (extent_at g (piece_count g)) ys (omega (arith, long', end))
 
 -- what is left of a row that is written over whole
 abbrev pub whole_items : {X : Type 0} → ℕ → List X → List X → List X
@@ -92,7 +92,7 @@ whole_put len new old size size' =
 -- one piece more is looked at: marked where the message touches it, and else as it was
 pub record AreMarked (g : Geometry) (m : Msg) (k : ℕ) (old new : List Bool) : Type 0 where
   pub size : length new ≡ length old
-  pub marked : (i : ℕ) → i < k → (get_or new i true ≡ false) ↔ ((get_or old i true ≡ false) × (may_change g m i ≡ false))
+  pub dirty_at : (i : ℕ) → i < k → (get_or new i true ≡ false) ↔ ((get_or old i true ≡ false) × (may_change g m i ≡ false))
   pub rest : (i : ℕ) → k ≤ i → get_or new i true ≡ get_or old i true
 
 three_true : (p q r : Bool) → (p && q && r) ≡ true → (p ≡ true) × (q ≡ true)
@@ -128,7 +128,7 @@ untouched_after g m n after = off_unless (may_change g m n) (λ on. let inside =
 pub none_looked : (g : Geometry) (m : Msg) (k : ℕ) (old : List Bool) → k ≡ first_of g m → AreMarked g m k old old
 none_looked g m k old first = record {
   size = refl;
-  marked = λ i few. ((λ off. (off, untouched_before g m i (omega (arith, few, first)))), (λ both. both.0));
+  dirty_at = λ i few. ((λ off. (off, untouched_before g m i (omega (arith, few, first)))), (λ both. both.0));
   rest = λ i far. refl;
 }
 
@@ -138,7 +138,7 @@ apart i k elsewhere below = ⊎_elim (λ (less : i < k). less) (λ (more : k ≤
 pub one_touched : (g : Geometry) (m : Msg) (k : ℕ) (old new : List Bool) → k < length new → may_change g m k ≡ true → AreMarked g m k old new → AreMarked g m (k + 1) old (set new k true)
 one_touched g m k old new few on so_far = record {
   size = length-set new k true ∙ so_far.size;
-  marked = λ i below.
+  dirty_at = λ i below.
       ⊎_elim
       (λ (here : i ≡ k). (
         (λ unmarked. absurd (true≢false (sym (get_or-set_same new k true true few) ∙ sym (ap (λ (j : ℕ). get_or (set new k true) j true) here) ∙ unmarked))),
@@ -146,7 +146,7 @@ one_touched g m k old new few on so_far = record {
       ))
       (λ (elsewhere : i ≢ k).
       let kept = get_or-set_other new k i true true elsewhere in
-      let before = so_far.marked i (apart i k elsewhere below) in
+      let before = so_far.dirty_at i (apart i k elsewhere below) in
       ((λ unmarked. before.0 (sym kept ∙ unmarked)), (λ both. kept ∙ before.1 both)))
       (cases_eq i k);
   rest = λ i far. get_or-set_other new k i true true (λ here. omega (arith, here, far)) ∙ so_far.rest i (omega (arith, far));
@@ -155,32 +155,32 @@ one_touched g m k old new few on so_far = record {
 pub one_passed : (g : Geometry) (m : Msg) (k : ℕ) (old new : List Bool) → may_change g m k ≡ false → AreMarked g m k old new → AreMarked g m (k + 1) old new
 one_passed g m k old new off so_far = record {
   size = so_far.size;
-  marked = λ i below.
+  dirty_at = λ i below.
       ⊎_elim
       (λ (here : i ≡ k).
       let kept : get_or new i true ≡ get_or old i true = so_far.rest i (omega (arith, here)) in (
         (λ unmarked. (sym kept ∙ unmarked, ap (λ (j : ℕ). may_change g m j) here ∙ off)),
         (λ both. kept ∙ both.0),
       ))
-      (λ (elsewhere : i ≢ k). so_far.marked i (apart i k elsewhere below))
+      (λ (elsewhere : i ≢ k). so_far.dirty_at i (apart i k elsewhere below))
       (cases_eq i k);
   rest = λ i far. so_far.rest i (omega (arith, far));
 }
 
 pub all_looked : (g : Geometry) (m : Msg) (k : ℕ) (old new : List Bool) → ((n : ℕ) → n < piece_count g → k ≤ n → first_of g m + pieces_of_volume g ≤ n)
-    → AreMarked g m k old new → MarksTouched g (m ∷ []) old new
+    → AreMarked g m k old new → DirtiesTouched g (m ∷ []) old new
 all_looked g m k old new all so_far n few =
     ⊎_elim
     (λ (less : n < k).
-    let looked = so_far.marked n less in ((λ unmarked. let both = looked.0 unmarked in (both.0, (both.1, tt))), (λ both. looked.1 (both.0, both.1.0))))
+    let looked = so_far.dirty_at n less in ((λ unmarked. let both = looked.0 unmarked in (both.0, (both.1, tt))), (λ both. looked.1 (both.0, both.1.0))))
     (λ (more : k ≤ n).
     let kept = so_far.rest n more in ((λ unmarked. (sym kept ∙ unmarked, (untouched_after g m n (all n few more), tt))), (λ both. kept ∙ both.0)))
     (cases_lt n k)
 
-pub no_message : (g : Geometry) (old : List Bool) → MarksTouched g [] old old
+pub no_message : (g : Geometry) (old : List Bool) → DirtiesTouched g [] old old
 no_message g old n few = ((λ unmarked. (unmarked, tt)), (λ both. both.0))
 
-pub message_more : (g : Geometry) (ms : List Msg) (i : ℕ) (d : Msg) (old mid new : List Bool) → i < length ms → MarksTouched g (take i ms) old mid → MarksTouched g (get_or ms i d ∷ []) mid new → MarksTouched g (take (i + 1) ms) old new
+pub message_more : (g : Geometry) (ms : List Msg) (i : ℕ) (d : Msg) (old mid new : List Bool) → i < length ms → DirtiesTouched g (take i ms) old mid → DirtiesTouched g (get_or ms i d ∷ []) mid new → DirtiesTouched g (take (i + 1) ms) old new
 message_more g ms i d old mid new few so_far more n below =
     let first = so_far n below in
     let last = more n below in
@@ -205,8 +205,8 @@ by_false false true there back = sym (there refl)
 by_false false false there back = refl
 
 -- with no message the marks are as they were
-pub same_marks : (g : Geometry) (ms : List Msg) (old new : List Bool) → length ms ≡ 0 → length old ≡ piece_count g → length new ≡ length old → MarksTouched g ms old new → new ≡ old
-same_marks g [] old new none size same touched =
+pub same_dirty : (g : Geometry) (ms : List Msg) (old new : List Bool) → length ms ≡ 0 → length old ≡ piece_count g → length new ≡ length old → DirtiesTouched g ms old new → new ≡ old
+same_dirty g [] old new none size same touched =
     ext_get_or true new old same
     (λ n few. let looked = touched n (omega (arith, few, same, size)) in by_false _ _ (λ off. (looked.0 off).0) (λ off. looked.1 (off, tt)))
-same_marks g (m ∷ ms) old new none size same touched = absurd (omega (arith, none))
+same_dirty g (m ∷ ms) old new none size same touched = absurd (omega (arith, none))

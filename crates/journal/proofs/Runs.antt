@@ -4,7 +4,7 @@ use Rattle.std.proofs.lemmas.List.{length-take-le}
 use Rattle.affinity.specs.declared.geometry.Geometry.{Geometry}
 use Rattle.disk.specs.Device.{Medium, SameOutside, overlaid}
 use Rattle.disk.proofs.Moments.{leaves_now, started, then, weaker}
-use Rattle.journal.specs.Stretches.{image_in}
+use Rattle.journal.specs.Extents.{image_in}
 use Rattle.oplog.specs.Changes.{ChangesOnly, IsReady, IsSameBut}
 use Rattle.device_map.specs.Layout.{Layout, slice, layout_of, part_bytes, part_at, image, device_size, image_size}
 use Rattle.oplog.specs.Store.{Touched}

@@ -14,7 +14,7 @@ use Rattle.image.proofs.Measures.{state_is_measured}
 use Rattle.image.proofs.Reading.{read_again}
 use Rattle.journal.specs.Keeping.{IsFresh, IsCutState, IsSoundJournal}
 use Rattle.journal.specs.Steps.{IsAlone, IsBegun, IsPointed, IsStanding, cut_now, pointed, run_on}
-use Rattle.journal.specs.Stretches.{AgreeUnmarked, AreAllMarked, AreSpelled, image_in, stretch_in, stretch_of}
+use Rattle.journal.specs.Extents.{AgreeOnClean, AreAllDirty, AreSpelled, image_in, extent_in, extent_of}
 use Rattle.journal.proofs.Cutting.{named_below}
 use Rattle.journal.proofs.Forced.{forced_calm}
 use Rattle.journal.proofs.Standing.{holds_now, run_none}
@@ -24,7 +24,7 @@ use Rattle.meaning.specs.State.{State, IsState}
 
 -- ---- the image of a state
 
-pub frozen_is : (g : Geometry) (y : State) → IsState g y → (n : ℕ) → n < piece_count g → stretch_in g (image_of 2 g y) n ≡ stretch_of g y n
+pub frozen_is : (g : Geometry) (y : State) → IsState g y → (n : ℕ) → n < piece_count g → extent_in g (image_of 2 g y) n ≡ extent_of g y n
 frozen_is g y is zero few =
     take-add 64 (piece_size g 0) (image_of 2 g y)
     ∙ (λ i. take_at (image_head 2) (joined_below (piece_count g) (piece_of 2 g y)) 64 refl i ++ piece_again 2 g y (state_is_measured g y is) 0 few i)
@@ -34,26 +34,26 @@ module _ (g : Geometry) (x : Option State) (y : State) (frozen : List ℕ) (is :
   pub frozen_reads : read g frozen ≡ x
   frozen_reads = ap (read g) spelled ∙ read_again g y is_state ∙ sym is
 
-  pub frozen_fresh : (marks : List Bool) → IsFresh g x marks frozen
-  frozen_fresh marks z is' n few unmarked =
+  pub frozen_fresh : (dirty : List Bool) → IsFresh g x dirty frozen
+  frozen_fresh dirty z is' n few unmarked =
       let same : y ≡ z = ap (λ (o : Option State). unwrap_or o y) (sym is ∙ is') in
-      ap (λ (l : List ℕ). stretch_in g l n) spelled ∙ frozen_is g y is_state n few ∙ ap (λ (s : State). stretch_of g s n) same
+      ap (λ (l : List ℕ). extent_in g l n) spelled ∙ frozen_is g y is_state n few ∙ ap (λ (s : State). extent_of g s n) same
 
-  pub frozen_agrees : (marks : List Bool) (bytes : List ℕ) → IsFresh g x marks bytes → AgreeUnmarked g marks bytes frozen
-  frozen_agrees marks bytes fresh n few unmarked = fresh y is n few unmarked ∙ sym (frozen_is g y is_state n few) ∙ sym (ap (λ (l : List ℕ). stretch_in g l n) spelled)
+  pub frozen_agrees : (dirty : List Bool) (bytes : List ℕ) → IsFresh g x dirty bytes → AgreeOnClean g dirty bytes frozen
+  frozen_agrees dirty bytes fresh n few unmarked = fresh y is n few unmarked ∙ sym (frozen_is g y is_state n few) ∙ sym (ap (λ (l : List ℕ). extent_in g l n) spelled)
 
 -- where all is marked there is nothing that has to be right
-pub all_right : (g h : Geometry) (y : State) (marks : List Bool) (bytes : List ℕ) → g ≡ h → AreAllMarked h marks → AreSpelled g y marks bytes
-all_right g h y marks bytes same all =
-    subst (λ (z : Geometry). AreSpelled z y marks bytes) (sym same) (λ n few unmarked. absurd (true≢false (sym (all n few) ∙ unmarked)))
+pub all_right : (g h : Geometry) (y : State) (dirty : List Bool) (bytes : List ℕ) → g ≡ h → AreAllDirty h dirty → AreSpelled g y dirty bytes
+all_right g h y dirty bytes same all =
+    subst (λ (z : Geometry). AreSpelled z y dirty bytes) (sym same) (λ n few unmarked. absurd (true≢false (sym (all n few) ∙ unmarked)))
 
 -- ---- of a journal with no cut in progress
 
 -- what was frozen last, where it isn't marked
 pub frozen_right : (log : Log) (frozen : List ℕ) (named others due : List Bool) (left : Option ℕ) (w0 : Medium) (y : State) → left ≡ None → IsSoundJournal log frozen named others due left w0 → holds log.geometry w0.now ≡ Some y
-    → (g : Geometry) (marks : List Bool) (bytes : List ℕ) → g ≡ log.geometry → marks ≡ named → bytes ≡ frozen → AreSpelled g y marks bytes
-frozen_right log frozen named others due left w0 y alone sound is g marks bytes same same' same'' =
-    subst (λ (h : Geometry). AreSpelled h y marks bytes) (sym same) (subst (λ (row : List Bool). AreSpelled log.geometry y row bytes) (sym same')
+    → (g : Geometry) (dirty : List Bool) (bytes : List ℕ) → g ≡ log.geometry → dirty ≡ named → bytes ≡ frozen → AreSpelled g y dirty bytes
+frozen_right log frozen named others due left w0 y alone sound is g dirty bytes same same' same'' =
+    subst (λ (h : Geometry). AreSpelled h y dirty bytes) (sym same) (subst (λ (row : List Bool). AreSpelled log.geometry y row bytes) (sym same')
     (subst (λ (l : List ℕ). AreSpelled log.geometry y named l) (sym same'') (sound.frozen_fresh alone y is)))
 
 module _ (log : Log) (frozen frozen' : List ℕ) (named others due : List Bool) (left : Option ℕ) (w0 : Medium) (y : State) (alone : left ≡ None) (placed' : IsCutState log due left) (sound' : IsSoundJournal log frozen named others due left w0)
@@ -65,31 +65,31 @@ module _ (log : Log) (frozen frozen' : List ℕ) (named others due : List Bool) 
   sound = subst (λ (l : Option ℕ). IsSoundJournal log frozen named others due l w0) alone sound'
 
   is_area : log.named < 2
-  is_area = named_below log.geometry log.named log.current (holds log.geometry w0.now) w0 are sound.stands
+  is_area = named_below log.geometry log.named log.current (holds log.geometry w0.now) w0 are sound.recovers
 
   pub is_alone : IsAlone log w0
   is_alone = record {
     some = sound.some;
-    stands = subst (λ (h : ℕ). IsStanding log.geometry log.named h (holds log.geometry w0.now) w0) together sound.stands;
+    recovers = subst (λ (h : ℕ). IsStanding log.geometry log.named h (holds log.geometry w0.now) w0) together sound.recovers;
   }
 
   pub reads : read log.geometry frozen' ≡ holds log.geometry w0.now
   reads = frozen_reads log.geometry (holds log.geometry w0.now) y frozen' is is_state spelled
 
-  pub agrees : AgreeUnmarked log.geometry others (image_in log.geometry (other log.named) w0) frozen'
+  pub agrees : AgreeOnClean log.geometry others (image_in log.geometry (other log.named) w0) frozen'
   agrees = frozen_agrees log.geometry (holds log.geometry w0.now) y frozen' is is_state spelled others (image_in log.geometry (other log.named) w0) sound.others_fresh
 
   module _ (w1 : Medium) (are' : AreBytes w1.now) where
-    pub point_settled : IsPointed log frozen' w0 w1 → holds log.geometry w1.now ≡ holds log.geometry w0.now
-    point_settled made = holds_now log.geometry (other log.named) (other log.named) (holds log.geometry w0.now) w1 are' made.at.stands
+    pub point_committed : IsPointed log frozen' w0 w1 → holds log.geometry w1.now ≡ holds log.geometry w0.now
+    point_committed made = holds_now log.geometry (other log.named) (other log.named) (holds log.geometry w0.now) w1 are' made.at.recovers
 
     pub point_sound : (named' others' : List Bool) → others' ≡ named → IsPointed log frozen' w0 w1 → IsSoundJournal (pointed log) frozen' named' others' due None w1
-    point_sound named' others' same_marks made =
-        let same = point_settled made in
+    point_sound named' others' same_dirty made =
+        let same = point_committed made in
         let back : other (other log.named) ≡ log.named = omega (arith, is_area) in
         record {
           some = ap is_some same ∙ sound.some;
-          stands = subst (λ (o : Option State). IsStanding log.geometry (other log.named) (other log.named) o w1) (sym same) made.at.stands;
+          recovers = subst (λ (o : Option State). IsStanding log.geometry (other log.named) (other log.named) o w1) (sym same) made.at.recovers;
           ready = made.at.ready;
           forced = forced_calm log.geometry w1 made.at.calm;
           count = λ none. ap length made.emptied;
@@ -103,19 +103,19 @@ module _ (log : Log) (frozen frozen' : List ℕ) (named others due : List Bool) 
               subst (λ (o : Option State). IsFresh log.geometry o others' (image_in log.geometry (other (other log.named)) w1)) (sym same)
               (subst (λ (n : ℕ). IsFresh log.geometry (holds log.geometry w0.now) others' (image_in log.geometry n w1)) (sym back)
               (subst (λ (l : List ℕ). IsFresh log.geometry (holds log.geometry w0.now) others' l) (sym made.kept)
-              (subst (λ (row : List Bool). IsFresh log.geometry (holds log.geometry w0.now) row (image_in log.geometry log.named w0)) (sym same_marks) sound.named_fresh)));
+              (subst (λ (row : List Bool). IsFresh log.geometry (holds log.geometry w0.now) row (image_in log.geometry log.named w0)) (sym same_dirty) sound.named_fresh)));
           by_cut = tt;
         }
 
-    pub cut_settled : IsBegun log w0 w1 → holds log.geometry w1.now ≡ holds log.geometry w0.now
-    cut_settled begun = holds_now log.geometry log.named (other log.named) (holds log.geometry w0.now) w1 are' begun.at.stands
+    pub cut_committed : IsBegun log w0 w1 → holds log.geometry w1.now ≡ holds log.geometry w0.now
+    cut_committed begun = holds_now log.geometry log.named (other log.named) (holds log.geometry w0.now) w1 are' begun.at.recovers
 
     pub cut_sound : (others' due' : List Bool) (count : ℕ) → due' ≡ others → IsBegun log w0 w1 → IsSoundJournal (cut_now log) frozen' named others' due' (Some count) w1
-    cut_sound others' due' count same_marks begun =
-        let same = cut_settled begun in
+    cut_sound others' due' count same_dirty begun =
+        let same = cut_committed begun in
         record {
           some = ap is_some same ∙ sound.some;
-          stands = subst (λ (o : Option State). IsStanding log.geometry log.named (other log.named) o w1) (sym same) begun.at.stands;
+          recovers = subst (λ (o : Option State). IsStanding log.geometry log.named (other log.named) o w1) (sym same) begun.at.recovers;
           ready = begun.at.ready;
           forced = forced_calm log.geometry w1 begun.at.calm;
           count = λ none. absurd (true≢false (ap is_some none));
@@ -128,8 +128,8 @@ module _ (log : Log) (frozen frozen' : List ℕ) (named others due : List Bool) 
           by_cut = record {
             behind = ap (λ (rs : List (List ℕ)). run_on log.geometry (read log.geometry frozen') rs) begun.none ∙ run_none log.geometry (read log.geometry frozen') ∙ reads ∙ sym same;
             written =
-                subst (λ (row : List Bool). AgreeUnmarked log.geometry row (image_in log.geometry (other log.named) w1) frozen') (sym same_marks)
-                (subst (λ (l : List ℕ). AgreeUnmarked log.geometry others l frozen') (sym (begun.images (other log.named) (omega arith))) agrees);
+                subst (λ (row : List Bool). AgreeOnClean log.geometry row (image_in log.geometry (other log.named) w1) frozen') (sym same_dirty)
+                (subst (λ (l : List ℕ). AgreeOnClean log.geometry others l frozen') (sym (begun.images (other log.named) (omega arith))) agrees);
             version = ap version_in spelled;
           };
         }
@@ -138,7 +138,7 @@ module _ (log : Log) (frozen frozen' : List ℕ) (named others due : List Bool) 
 pub pointed_version : (log : Log) (bytes : List ℕ) (w0 w1 : Medium) (y : State) → AreBytes w1.now → bytes ≡ image_of 2 log.geometry y → IsPointed log bytes w0 w1
     → named_version log.geometry w1.now ≡ 2
 pointed_version log bytes w0 w1 y are spelled made =
-    ap (λ (n : ℕ). version_in (image_in log.geometry n w1)) (made.at.stands w1.now (itself w1.now w1.loose are)).named
+    ap (λ (n : ℕ). version_in (image_in log.geometry n w1)) (made.at.recovers w1.now (itself w1.now w1.unsynced are)).named
     ∙ ap version_in (made.is ∙ spelled)
 
 -- ---- of a device that is opened
@@ -147,10 +147,10 @@ pointed_version log bytes w0 w1 y are spelled made =
 pub opened_sound : (log : Log) (frozen : List ℕ) (named others due : List Bool) (w0 w1 : Medium) (y : State) → IsAlone log w0 → holds log.geometry w0.now ≡ Some y → IsState log.geometry y → frozen ≡ image_of 2 log.geometry y
     → ((n : ℕ) → n < piece_count log.geometry → get_or others n true ≡ true) → AreBytes w1.now → IsPointed log frozen w0 w1 → IsSoundJournal (pointed log) frozen named others due None w1
 opened_sound log frozen named others due w0 w1 y alone is is_state spelled all are made =
-    let same = holds_now log.geometry (other log.named) (other log.named) (holds log.geometry w0.now) w1 are made.at.stands in
+    let same = holds_now log.geometry (other log.named) (other log.named) (holds log.geometry w0.now) w1 are made.at.recovers in
     record {
       some = ap is_some same ∙ alone.some;
-      stands = subst (λ (o : Option State). IsStanding log.geometry (other log.named) (other log.named) o w1) (sym same) made.at.stands;
+      recovers = subst (λ (o : Option State). IsStanding log.geometry (other log.named) (other log.named) o w1) (sym same) made.at.recovers;
       ready = made.at.ready;
       forced = forced_calm log.geometry w1 made.at.calm;
       count = λ none. ap length made.emptied;

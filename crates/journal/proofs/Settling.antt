@@ -10,39 +10,39 @@ use Rattle.checkpoint.specs.Refusals.{IsRefused, fault_or_later, refused}
 use Rattle.checkpoint.proofs.OneGeometry.{one_geometry, same_geometry}
 use Rattle.checkpoint.proofs.Refusing.{records_half}
 use Rattle.checkpoint.proofs.Replays.{same_bytes}
-use Rattle.disk.specs.Device.{AreBytes, IsSynced, Leaves, MayLeave, Medium, Moment, moments}
-use Rattle.disk.specs.Moments.{LeavesOnly, left_since}
+use Rattle.disk.specs.Device.{AreBytes, IsSynced, IsCrashImage, IsTornFrom, Medium, Moment, moments}
+use Rattle.disk.specs.Moments.{CrashImagesAre, left_since}
 use Rattle.disk.proofs.Leaves.{calm_left, itself}
 use Rattle.disk.proofs.Moments.{leaves_now, same, started, then, weaker}
 use Rattle.image.specs.Image.{read}
-use Rattle.journal.specs.Opening.{area_state, IsRefusedBehind, IsRefusedUnwritten, IsUnwritten, OpeningLeaves, StandsAs}
+use Rattle.journal.specs.Opening.{area_state, IsRefusedBehind, IsRefusedUnwritten, IsUnwritten, OpeningCrashImages, RecoversAs}
 use Rattle.journal.specs.Parts.{IsBad, IsRefusedAlike}
-use Rattle.journal.specs.Steps.{IsAlone, IsFinished, IsStanding, StandsStill, finished_now}
-use Rattle.journal.specs.Stretches.{image_in}
+use Rattle.journal.specs.Steps.{IsAlone, IsFinished, IsStanding, RecoversStill, finished_now}
+use Rattle.journal.specs.Extents.{image_in}
 use Rattle.device_map.specs.Layout.{device_size, layout_of, other}
 use Rattle.oplog.specs.Log.{Log}
-use Rattle.oplog.specs.Stands.{named_area}
+use Rattle.oplog.specs.Recovery.{named_area}
 use Rattle.meaning.specs.State.{State}
 
 -- ---- moments
 
--- a device of which nothing is loose, and which is only read
-pub still_read : (g : Geometry) (w0 w1 : Medium) → IsSynced w0 → moments w1 ≡ moments w0 → StandsStill g w0 w1
+-- a device of which nothing is unsynced, and which is only read
+pub still_read : (g : Geometry) (w0 w1 : Medium) → IsSynced w0 → moments w1 ≡ moments w0 → RecoversStill g w0 w1
 still_read g w0 w1 calm only =
     same w0 w0 w1 _ (started w0 _ (λ c left. ap (holds g) (calm_left w0 c calm left))) only
 
--- one stretch of calls after another, on the bytes that stand for the same
-pub still_then : (g : Geometry) (w0 w1 w2 : Medium) → AreBytes w1.now → StandsStill g w0 w1 → StandsStill g w1 w2 → StandsStill g w0 w2
+-- one extent of calls after another, on the bytes that recover to the same
+pub still_then : (g : Geometry) (w0 w1 w2 : Medium) → AreBytes w1.now → RecoversStill g w0 w1 → RecoversStill g w1 w2 → RecoversStill g w0 w2
 still_then g w0 w1 w2 are first second =
     then w0 w1 w2 _ first
-    (weaker w1 w2 _ _ second (λ c is. is ∙ leaves_now w0 w1 _ first w1.now (itself w1.now w1.loose are)))
+    (weaker w1 w2 _ _ second (λ c is. is ∙ leaves_now w0 w1 _ first w1.now (itself w1.now w1.unsynced are)))
 
-pub still_now : (g : Geometry) (w0 w1 : Medium) → AreBytes w1.now → StandsStill g w0 w1 → holds g w1.now ≡ holds g w0.now
-still_now g w0 w1 are moments = leaves_now w0 w1 _ moments w1.now (itself w1.now w1.loose are)
+pub still_now : (g : Geometry) (w0 w1 : Medium) → AreBytes w1.now → RecoversStill g w0 w1 → holds g w1.now ≡ holds g w0.now
+still_now g w0 w1 are moments = leaves_now w0 w1 _ moments w1.now (itself w1.now w1.unsynced are)
 
--- what stands for the same by the geometry of the header, and is refused alike
-stands_as : (g : Geometry) (before c : List ℕ) → HasHeader g before → device_size (layout_of g) ≤ length before → holds g c ≡ holds g before → ((fault : OpenFault) → refused g before ≡ Some fault → HasHeader g c × (refused g c ≡ Some fault)) → StandsAs before c
-stands_as g before c head fits is alike = record {
+-- what recovers to the same by the geometry of the header, and is refused alike
+recovers_as : (g : Geometry) (before c : List ℕ) → HasHeader g before → device_size (layout_of g) ≤ length before → holds g c ≡ holds g before → ((fault : OpenFault) → refused g before ≡ Some fault → HasHeader g c × (refused g c ≡ Some fault)) → RecoversAs before c
+recovers_as g before c head fits is alike = record {
   same = λ h x held.
       let one = one_geometry g h before head x held in
       ap (λ (k : Geometry). holds k c) (sym one) ∙ is ∙ ap (λ (k : Geometry). holds k before) one ∙ held;
@@ -52,7 +52,7 @@ stands_as g before c head fits is alike = record {
   kept = λ none. absurd (none (record { geometry = g; header = head; parts = fits }));
 }
 
-both_leave : (w0 w1 : Medium) (P Q : List ℕ → Type 0) → LeavesOnly w0 w1 P → LeavesOnly w0 w1 Q → LeavesOnly w0 w1 (λ c. P c × Q c)
+both_leave : (w0 w1 : Medium) (P Q : List ℕ → Type 0) → CrashImagesAre w0 w1 P → CrashImagesAre w0 w1 Q → CrashImagesAre w0 w1 (λ c. P c × Q c)
 both_leave w0 w1 P Q first second = record {
   later = first.later;
   each = λ c left. (first.each c left, second.each c left);
@@ -61,7 +61,7 @@ both_leave w0 w1 P Q first second = record {
 }
 
 -- a device that is only read
-pub as_before : (w0 w1 : Medium) → IsSynced w0 → moments w1 ≡ moments w0 → LeavesOnly w0 w1 (StandsAs w0.now)
+pub as_before : (w0 w1 : Medium) → IsSynced w0 → moments w1 ≡ moments w0 → CrashImagesAre w0 w1 (RecoversAs w0.now)
 as_before w0 w1 calm only =
     same w0 w0 w1 _
     (started w0 _
@@ -74,7 +74,7 @@ as_before w0 w1 calm only =
     }))
     only
 
-pub alike_read : (g : Geometry) (w0 w1 : Medium) → HasHeader g w0.now → IsSynced w0 → moments w1 ≡ moments w0 → LeavesOnly w0 w1 (IsRefusedAlike g w0.now)
+pub alike_read : (g : Geometry) (w0 w1 : Medium) → HasHeader g w0.now → IsSynced w0 → moments w1 ≡ moments w0 → CrashImagesAre w0 w1 (IsRefusedAlike g w0.now)
 alike_read g w0 w1 head calm only =
     same w0 w0 w1 _
     (started w0 _
@@ -83,25 +83,25 @@ alike_read g w0 w1 head calm only =
     record { header = subst (λ (l : List ℕ). HasHeader g l) (sym is) head; refused = ap (λ (l : List ℕ). refused g l) is }))
     only
 
-pub alike_after : (g : Geometry) (w0 w1 w2 : Medium) → HasHeader g w0.now → IsSynced w0 → moments w1 ≡ moments w0 → LeavesOnly w1 w2 (IsRefusedAlike g w1.now) → LeavesOnly w0 w2 (IsRefusedAlike g w0.now)
+pub alike_after : (g : Geometry) (w0 w1 w2 : Medium) → HasHeader g w0.now → IsSynced w0 → moments w1 ≡ moments w0 → CrashImagesAre w1 w2 (IsRefusedAlike g w1.now) → CrashImagesAre w0 w2 (IsRefusedAlike g w0.now)
 alike_after g w0 w1 w2 head calm only later =
     then w0 w1 w2 _ (alike_read g w0 w1 head calm only)
     (weaker w1 w2 _ _ later (λ c is. record { header = is.header; refused = is.refused ∙ ap (λ (l : List ℕ). refused g l) (same_bytes w0 w1 only) }))
 
 -- one that is refused or not
-pub as_alike : (g : Geometry) (w0 w1 : Medium) → HasHeader g w0.now → device_size (layout_of g) ≤ length w0.now → StandsStill g w0 w1 → LeavesOnly w0 w1 (IsRefusedAlike g w0.now) → LeavesOnly w0 w1 (StandsAs w0.now)
+pub as_alike : (g : Geometry) (w0 w1 : Medium) → HasHeader g w0.now → device_size (layout_of g) ≤ length w0.now → RecoversStill g w0 w1 → CrashImagesAre w0 w1 (IsRefusedAlike g w0.now) → CrashImagesAre w0 w1 (RecoversAs w0.now)
 as_alike g w0 w1 head fits still alike =
-    weaker w0 w1 _ _ (both_leave w0 w1 _ _ still alike) (λ c is. stands_as g w0.now c head fits is.0 (λ fault was. (is.1.header, is.1.refused ∙ was)))
+    weaker w0 w1 _ _ (both_leave w0 w1 _ _ still alike) (λ c is. recovers_as g w0.now c head fits is.0 (λ fault was. (is.1.header, is.1.refused ∙ was)))
 
 -- one that isn't
-pub as_still : (g : Geometry) (w0 w1 : Medium) → HasHeader g w0.now → device_size (layout_of g) ≤ length w0.now → refused g w0.now ≡ None → StandsStill g w0 w1 → LeavesOnly w0 w1 (StandsAs w0.now)
-as_still g w0 w1 head fits fine still = weaker w0 w1 _ _ still (λ c is. stands_as g w0.now c head fits is (λ fault was. none_some (sym fine ∙ was)))
+pub as_still : (g : Geometry) (w0 w1 : Medium) → HasHeader g w0.now → device_size (layout_of g) ≤ length w0.now → refused g w0.now ≡ None → RecoversStill g w0 w1 → CrashImagesAre w0 w1 (RecoversAs w0.now)
+as_still g w0 w1 head fits fine still = weaker w0 w1 _ _ still (λ c is. recovers_as g w0.now c head fits is (λ fault was. none_some (sym fine ∙ was)))
   where
     none_some : {T : Type 0} {fault : OpenFault} → None ≡ Some fault → T
     none_some is = cc
 
 -- after the device was read
-pub still_after : (g : Geometry) (w0 w1 w2 : Medium) → IsSynced w0 → moments w1 ≡ moments w0 → StandsStill g w1 w2 → StandsStill g w0 w2
+pub still_after : (g : Geometry) (w0 w1 w2 : Medium) → IsSynced w0 → moments w1 ≡ moments w0 → RecoversStill g w1 w2 → RecoversStill g w0 w2
 still_after g w0 w1 w2 calm only still =
     then w0 w1 w2 _ (still_read g w0 w1 calm only) (weaker w1 w2 _ _ still (λ c is. is ∙ ap (holds g) (same_bytes w0 w1 only)))
 
@@ -159,7 +159,7 @@ bad_behind BadVersion n w0 w1 g is_area named head bad = absurd bad
 bad_behind (BadPiece k) n w0 w1 g is_area named head bad = absurd bad
 bad_behind BadChain n w0 w1 g is_area named head bad = absurd bad
 
--- nothing is loose then
+-- nothing is unsynced then
 pub bad_synced : (g : Geometry) (h : ℕ) (e : OpenFault) (w0 w1 : Medium) → e ≢ Device → IsBad g h w0 w1 e → IsSynced w1
 bad_synced g h Device w0 w1 other bad = absurd (other refl)
 bad_synced g h (BadRecord k i) w0 w1 other bad = bad.1.calm
@@ -186,48 +186,48 @@ unwritten_from (BadRecord h i) w0 w1 w2 now from is =
     let at_first = is g (subst (λ (c : List ℕ). HasHeader g c) (sym now) head) in
     let names = ap (λ (c : List ℕ). named_area (layout_of g) c) now in ((λ here. from (at_first.0 (here ∙ sym names))), (λ behind. behind_from g h i w0 w1 w2 now (at_first.1 (λ here. behind (here ∙ names)))))
 
-pub unwritten_then : (w0 w1 w2 : Medium) → AreBytes w0.now → IsSynced w1 → w1.now ≡ w0.now → LeavesOnly w0 w1 (Leaves w0) → IsUnwritten w1 w2 → IsUnwritten w0 w2
+pub unwritten_then : (w0 w1 w2 : Medium) → AreBytes w0.now → IsSynced w1 → w1.now ≡ w0.now → CrashImagesAre w0 w1 (IsCrashImage w0) → IsUnwritten w1 w2 → IsUnwritten w0 w2
 unwritten_then w0 w1 w2 are calm now first is = record {
   now = is.now ∙ now;
-  later = then w0 w1 w2 _ first (weaker w1 w2 _ _ is.later (λ c left. subst (λ (l : List ℕ). Leaves w0 l) (sym (calm_left w1 c calm left ∙ now)) (itself w0.now w0.loose are)));
+  later = then w0 w1 w2 _ first (weaker w1 w2 _ _ is.later (λ c left. subst (λ (l : List ℕ). IsCrashImage w0 l) (sym (calm_left w1 c calm left ∙ now)) (itself w0.now w0.unsynced are)));
 }
 
 -- ---- the first sync
 
-pub never_synced : (w0 w1 : Medium) → LeavesOnly w0 w1 (Leaves w0) → OpeningLeaves w0 w1
+pub never_synced : (w0 w1 : Medium) → CrashImagesAre w0 w1 (IsCrashImage w0) → OpeningCrashImages w0 w1
 never_synced w0 w1 first = record { synced = w1; first = first; rest = inl refl }
 
-pub synced_then : (w0 w1 w2 : Medium) → IsSynced w1 → w1.now ≡ w0.now → LeavesOnly w0 w1 (Leaves w0) → LeavesOnly w1 w2 (StandsAs w1.now) → OpeningLeaves w0 w2
+pub synced_then : (w0 w1 w2 : Medium) → IsSynced w1 → w1.now ≡ w0.now → CrashImagesAre w0 w1 (IsCrashImage w0) → CrashImagesAre w1 w2 (RecoversAs w1.now) → OpeningCrashImages w0 w2
 synced_then w0 w1 w2 calm now first later = record {
   synced = w1;
   first = first;
-  rest = inr (record { calm = calm; now = now; later = subst (λ (c : List ℕ). LeavesOnly w1 w2 (StandsAs c)) now later });
+  rest = inr (record { calm = calm; now = now; later = subst (λ (c : List ℕ). CrashImagesAre w1 w2 (RecoversAs c)) now later });
 }
 
 -- ---- what a read leaves
 
-loose_in : List Moment → List Bool
-loose_in [] = []
-loose_in (m ∷ ms) = m.loose
+unsynced_in : List Moment → List Bool
+unsynced_in [] = []
+unsynced_in (m ∷ ms) = m.unsynced
 
 pub still_synced : (w0 w1 : Medium) → moments w1 ≡ moments w0 → IsSynced w0 → IsSynced w1
-unfolding loose_in
-still_synced w0 w1 only calm = ap (λ (ms : List Moment). loose_in ms) only ∙ calm ∙ ap (λ (l : List ℕ). replicate (length l) false) (sym (same_bytes w0 w1 only))
+unfolding unsynced_in
+still_synced w0 w1 only calm = ap (λ (ms : List Moment). unsynced_in ms) only ∙ calm ∙ ap (λ (l : List ℕ). replicate (length l) false) (sym (same_bytes w0 w1 only))
 
-pub same_loose : (w0 w1 : Medium) → moments w1 ≡ moments w0 → w1.loose ≡ w0.loose
-unfolding loose_in
-same_loose w0 w1 only = ap (λ (ms : List Moment). loose_in ms) only
+pub same_unsynced : (w0 w1 : Medium) → moments w1 ≡ moments w0 → w1.unsynced ≡ w0.unsynced
+unfolding unsynced_in
+same_unsynced w0 w1 only = ap (λ (ms : List Moment). unsynced_in ms) only
 
-pub leaves_read : (w0 w1 : Medium) → moments w1 ≡ moments w0 → (c : List ℕ) → Leaves w1 c → Leaves w0 c
-leaves_read w0 w1 only c left = subst (λ (l : List Bool). MayLeave w0.now l c) (same_loose w0 w1 only) (subst (λ (l : List ℕ). MayLeave l w1.loose c) (same_bytes w0 w1 only) left)
+pub leaves_read : (w0 w1 : Medium) → moments w1 ≡ moments w0 → (c : List ℕ) → IsCrashImage w1 c → IsCrashImage w0 c
+leaves_read w0 w1 only c left = subst (λ (l : List Bool). IsTornFrom w0.now l c) (same_unsynced w0 w1 only) (subst (λ (l : List ℕ). IsTornFrom l w1.unsynced c) (same_bytes w0 w1 only) left)
 
 -- once a cut was finished and the records behind it were run
-pub alone_finished : (log : Log) (w0 w1 w2 : Medium) (y : State) → AreBytes w2.now → StandsStill log.geometry w0 w2 → holds log.geometry w0.now ≡ Some y → IsFinished log w0 w1 → moments w2 ≡ moments w1 → IsAlone (finished_now log) w2
+pub alone_finished : (log : Log) (w0 w1 w2 : Medium) (y : State) → AreBytes w2.now → RecoversStill log.geometry w0 w2 → holds log.geometry w0.now ≡ Some y → IsFinished log w0 w1 → moments w2 ≡ moments w1 → IsAlone (finished_now log) w2
 alone_finished log w0 w1 w2 y are still held finished only =
     let now = still_now log.geometry w0 w2 are still in
     record {
       some = ap is_some (now ∙ held);
-      stands = subst (λ (o : Option State). IsStanding log.geometry (other log.named) (other log.named) o w2) (sym now) (λ c left. finished.stands c (leaves_read w1 w2 only c left));
+      recovers = subst (λ (o : Option State). IsStanding log.geometry (other log.named) (other log.named) o w2) (sym now) (λ c left. finished.recovers c (leaves_read w1 w2 only c left));
     }
 
 -- ---- the answer of a call that is handed on

@@ -1,31 +1,31 @@
--- What a device stands for, by the area that it names, and what it would stand for by the other one.
+-- What a device recovers to, by the area that it names, and what it would recover to by the other one.
 use Rattle.std.proofs.Common.{◌≡◌, ◌<◌, ℕ, zero, suc, Bool, true, false, not, ◌&&◌, cond, eqb, nat_le, ◌+◌, List, [], ◌++◌, length, drop, get_or, Option, Some, None, is_some, refl, sym, ◌∙◌, ap, arith, true≢false}
 use Rattle.affinity.specs.declared.geometry.Geometry.{Geometry}
 use Rattle.checkpoint.specs.Header.{is_header}
 use Rattle.checkpoint.specs.Recovery.{holds, means}
 use Rattle.disk.specs.Device.{AreBytes, Medium}
-use Rattle.disk.specs.Moments.{LeavesOnly}
+use Rattle.disk.specs.Moments.{CrashImagesAre}
 use Rattle.disk.proofs.Leaves.{itself}
 use Rattle.disk.proofs.Moments.{weaker}
 use Rattle.image.specs.Image.{read}
 use Rattle.journal.specs.Steps.{IsStanding, run_on}
 use Rattle.oplog.specs.Changes.{IsReady}
-use Rattle.oplog.specs.Crash.{StandsBy}
+use Rattle.oplog.specs.Crash.{RecoversBy}
 use Rattle.oplog.specs.Front.{chain, front, front_in, rows}
 use Rattle.device_map.specs.Layout.{Layout, layout_of, part_bytes, device_size, header, half, image, other}
-use Rattle.oplog.specs.Stands.{current_of, in_force, is_laid_out, run, stands_as}
+use Rattle.oplog.specs.Recovery.{current_of, in_force, is_laid_out, run, recovers_as}
 use Rattle.meaning.specs.State.{State}
 
 -- ---- by the area that it names
 
-pub holds_by : (g : Geometry) (n h : ℕ) (x : Option State) (c : List ℕ) → StandsBy (means g) (layout_of g) n h x c → holds g c ≡ x
-holds_by g n h x c stood = ap (λ (k : ℕ). stands_as (means g) (layout_of g) k c) stood.named ∙ stood.is
+pub holds_by : (g : Geometry) (n h : ℕ) (x : Option State) (c : List ℕ) → RecoversBy (means g) (layout_of g) n h x c → holds g c ≡ x
+holds_by g n h x c recovered_before = ap (λ (k : ℕ). recovers_as (means g) (layout_of g) k c) recovered_before.named ∙ recovered_before.is
 
-pub holds_moments : (g : Geometry) (n h : ℕ) (x : Option State) (w0 w1 : Medium) → LeavesOnly w0 w1 (StandsBy (means g) (layout_of g) n h x) → LeavesOnly w0 w1 (λ c. holds g c ≡ x)
+pub holds_moments : (g : Geometry) (n h : ℕ) (x : Option State) (w0 w1 : Medium) → CrashImagesAre w0 w1 (RecoversBy (means g) (layout_of g) n h x) → CrashImagesAre w0 w1 (λ c. holds g c ≡ x)
 holds_moments g n h x w0 w1 moments = weaker w0 w1 _ _ moments (holds_by g n h x)
 
 pub holds_now : (g : Geometry) (n h : ℕ) (x : Option State) (m : Medium) → AreBytes m.now → IsStanding g n h x m → holds g m.now ≡ x
-holds_now g n h x m are stands = holds_by g n h x m.now (stands m.now (itself m.now m.loose are))
+holds_now g n h x m are recovers = holds_by g n h x m.now (recovers m.now (itself m.now m.unsynced are))
 
 -- ---- by the other one
 
@@ -33,10 +33,10 @@ laid_if : (t : Bool) (y x : Option State) → cond t y None ≡ x → is_some x 
 laid_if true y x is some = refl
 laid_if false y x is some = absurd (true≢false (sym some ∙ ap is_some (sym is)))
 
-pub laid_by : (g : Geometry) (n : ℕ) (x : Option State) (c : List ℕ) → stands_as (means g) (layout_of g) n c ≡ x → is_some x ≡ true → is_laid_out (means g) (layout_of g) c ≡ true
+pub laid_by : (g : Geometry) (n : ℕ) (x : Option State) (c : List ℕ) → recovers_as (means g) (layout_of g) n c ≡ x → is_some x ≡ true → is_laid_out (means g) (layout_of g) c ≡ true
 laid_by g n x c is some = laid_if (is_laid_out (means g) (layout_of g) c) _ x is some
 
-pub as_other : (g : Geometry) (q : ℕ) (x : Option State) (bytes c : List ℕ) (rs : List (List ℕ)) → is_laid_out (means g) (layout_of g) c ≡ true → part_bytes (layout_of g) (image q) c ≡ bytes → in_force (layout_of g) q c ≡ rs → run_on g (read g bytes) rs ≡ x → stands_as (means g) (layout_of g) q c ≡ x
+pub as_other : (g : Geometry) (q : ℕ) (x : Option State) (bytes c : List ℕ) (rs : List (List ℕ)) → is_laid_out (means g) (layout_of g) c ≡ true → part_bytes (layout_of g) (image q) c ≡ bytes → in_force (layout_of g) q c ≡ rs → run_on g (read g bytes) rs ≡ x → recovers_as (means g) (layout_of g) q c ≡ x
 as_other g q x bytes c rs laid is force leads = (λ i. cond (laid i) (run (means g) (read g (is i)) (force i)) None) ∙ leads
 
 -- ---- chains

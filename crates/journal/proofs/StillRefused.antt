@@ -7,16 +7,16 @@ use Rattle.checkpoint.specs.Recovery.{means}
 use Rattle.checkpoint.specs.Refusals.{refused}
 use Rattle.checkpoint.proofs.Behind.{image_fine, refused_alone, refused_behind}
 use Rattle.disk.specs.Device.{AreBytes, IsSynced, Medium}
-use Rattle.disk.specs.Moments.{LeavesOnly}
+use Rattle.disk.specs.Moments.{CrashImagesAre}
 use Rattle.disk.proofs.Leaves.{calm_left}
 use Rattle.disk.proofs.Moments.{then, weaker}
 use Rattle.image.specs.Image.{read}
 use Rattle.journal.specs.Parts.{IsRefusedAlike}
-use Rattle.journal.specs.Stretches.{Imaged}
+use Rattle.journal.specs.Extents.{Imaged}
 use Rattle.oplog.specs.Changes.{ChangesOnly, IsSameBut, IsSameButRoot}
 use Rattle.oplog.specs.Front.{chain, chain_in, front, front_in}
 use Rattle.device_map.specs.Layout.{device_size, half, header, image, layout_of, other, part_bytes, root}
-use Rattle.oplog.specs.Stands.{named_area, run}
+use Rattle.oplog.specs.Recovery.{named_area, run}
 use Rattle.oplog.proofs.Kept.{named_area-below}
 use Rattle.meaning.specs.State.{State}
 
@@ -43,7 +43,7 @@ module _ (g : Geometry) (n : ℕ) (is_area : n < 2) (a c : List ℕ) (same : Are
     one = chains_same ∙ is.one;
     sound = ap (λ (l : List ℕ). image_fault g l) same.image ∙ is.sound;
     first = is.first;
-    said = ap (λ (l : List ℕ). read g l) same.image ∙ is.said;
+    decoded = ap (λ (l : List ℕ). read g l) same.image ∙ is.decoded;
     ran = ap (λ rs. run (means g) (Some is.first) rs) (front_same n is_area) ∙ is.ran;
   }
 
@@ -93,7 +93,7 @@ module _ (g : Geometry) (n : ℕ) (is_area : n < 2) (x : State) (w0 w1 : Medium)
       let held = held_same g n is_area w0.now c (beside w0.now c change) x names is in
       record { header = held.header; refused = still_behind g n is_area w0.now c (beside w0.now c change) x names is ∙ sym was }
 
-  pub image_alike : ChangesOnly w0 w1 (IsSameBut (layout_of g) (image (other n))) → LeavesOnly w0 w1 (IsRefusedAlike g w0.now)
+  pub image_alike : ChangesOnly w0 w1 (IsSameBut (layout_of g) (image (other n))) → CrashImagesAre w0 w1 (IsRefusedAlike g w0.now)
   image_alike writes =
       weaker w0 w1 _ _ writes
       (λ c after. torn_image c (subst (λ (l : List ℕ). IsSameBut (layout_of g) (image (other n)) l c) (calm_left w0 after.old calm after.left) after.change))
@@ -124,11 +124,11 @@ module _ (g : Geometry) (n : ℕ) (is_area : n < 2) (x : State) (w0 w1 : Medium)
     by_other : (c : List ℕ) → IsSameButRoot (layout_of g) w1.now c → named_area (layout_of g) c ≡ other n → refused g c ≡ refused g w0.now
     by_other c change names =
         let same = kept (other n) c (omega arith) change in
-        let said : read g (part_bytes (layout_of g) (image (other n)) w1.now) ≡ Some x = ap (λ (l : List ℕ). read g l) imaged.is ∙ reads in
-        let fine = image_fine g (other n) w1.now (omega arith) now_held.whole are (ap is_some said) in
+        let decoded : read g (part_bytes (layout_of g) (image (other n)) w1.now) ≡ Some x = ap (λ (l : List ℕ). read g l) imaged.is ∙ reads in
+        let fine = image_fine g (other n) w1.now (omega arith) now_held.whole are (ap is_some decoded) in
         let shut = other_shut g n w1.now is_area now_held.one (sym now_held.chain) in
         refused_alone g c (other n) x (same.header ∙ now_held.header) (subst (λ (k : ℕ). device_size (layout_of g) ≤ k) (sym same.size) now_held.whole) (sym names)
-        (chains_same g (other n) (omega arith) w1.now c same ∙ now_held.one) (ap (λ (l : List ℕ). image_fault g l) same.image ∙ fine) (ap (λ (l : List ℕ). read g l) same.image ∙ said)
+        (chains_same g (other n) (omega arith) w1.now c same ∙ now_held.one) (ap (λ (l : List ℕ). image_fault g l) same.image ∙ fine) (ap (λ (l : List ℕ). read g l) same.image ∙ decoded)
         (ap (λ (l : List ℕ). chain_in l == 1) (same.halves (other n) (omega arith)) ∙ shut)
         ∙ ap (λ rs. records_fault g x (other n) rs) (front_same g (other n) (omega arith) w1.now c same (other n) (omega arith) ∙ behind_same) ∙ sym was
 
@@ -138,7 +138,7 @@ module _ (g : Geometry) (n : ℕ) (is_area : n < 2) (x : State) (w0 w1 : Medium)
       refused = ⊎_elim (by_named c change) (by_other c change) (this_or_other n (named_area (layout_of g) c) is_area (named_area-below (layout_of g) c));
     }
 
-    pub finish_alike : (w2 : Medium) → ChangesOnly w0 w1 (IsSameBut (layout_of g) (image (other n))) → ChangesOnly w1 w2 (IsSameButRoot (layout_of g)) → LeavesOnly w0 w2 (IsRefusedAlike g w0.now)
+    pub finish_alike : (w2 : Medium) → ChangesOnly w0 w1 (IsSameBut (layout_of g) (image (other n))) → ChangesOnly w1 w2 (IsSameButRoot (layout_of g)) → CrashImagesAre w0 w2 (IsRefusedAlike g w0.now)
     finish_alike w2 writes flips =
         (then) w0 w1 w2 _ (image_alike writes)
         (weaker w1 w2 _ _ flips

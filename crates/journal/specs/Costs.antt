@@ -4,22 +4,22 @@ use Rattle.affinity.specs.declared.geometry.Geometry.{Geometry}
 use Rattle.image.specs.Pieces.{piece_count}
 use Rattle.oplog.specs.Front.{chain}
 use Rattle.device_map.specs.Layout.{layout_of}
-use Rattle.oplog.specs.Stands.{named_area}
+use Rattle.oplog.specs.Recovery.{named_area}
 
 -- how many runs of marked pieces begin among these, where the piece before them is marked or not
 abbrev pub runs_after : Bool → List Bool → ℕ
 runs_after before [] = 0
-runs_after before (false ∷ marks) = runs_after false marks
-runs_after false (true ∷ marks) = suc (runs_after true marks)
-runs_after true (true ∷ marks) = runs_after true marks
+runs_after before (false ∷ dirty) = runs_after false dirty
+runs_after false (true ∷ dirty) = suc (runs_after true dirty)
+runs_after true (true ∷ dirty) = runs_after true dirty
 
 -- how many writes the marked pieces of an image take: those side by side go with one
 abbrev pub count_runs : List Bool → ℕ
-count_runs marks = runs_after false marks
+count_runs dirty = runs_after false dirty
 
 -- A point writes these and syncs once; a write and a sync clear the other half before, and two more name the image.
 abbrev pub point_takes : List Bool → ℕ
-point_takes marks = count_runs marks + 5
+point_takes dirty = count_runs dirty + 5
 
 -- the most that it takes: where every other piece is marked, from the first one on
 abbrev pub longest_point : Geometry → ℕ

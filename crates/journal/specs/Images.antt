@@ -2,10 +2,10 @@
 use Rattle.std.specs.Prelude.{◌≡◌, ◌≢◌, ◌<◌, ℕ, List}
 use Rattle.affinity.specs.declared.geometry.Geometry.{Geometry}
 use Rattle.image.specs.Pieces.{piece_count}
-use Rattle.journal.specs.Stretches.{stretch_in}
+use Rattle.journal.specs.Extents.{extent_in}
 use Rattle.oplog.specs.Changes.{IsSameBut}
 use Rattle.device_map.specs.Layout.{image, layout_of, other, part_bytes}
-use Rattle.oplog.specs.Stands.{named_area}
+use Rattle.oplog.specs.Recovery.{named_area}
 
 -- Both images are as they were.
 abbrev pub KeepsImages : Geometry → List ℕ → List ℕ → Type 0
@@ -16,7 +16,7 @@ pub record PatchesAt (g : Geometry) (area : ℕ) (old new : List ℕ) : Type 0 w
   pub piece : ℕ
   pub same : IsSameBut (layout_of g) (image area) old new
   pub others : (n : ℕ) → n < piece_count g → n ≢ piece
-      → stretch_in g (part_bytes (layout_of g) (image area) new) n ≡ stretch_in g (part_bytes (layout_of g) (image area) old) n
+      → extent_in g (part_bytes (layout_of g) (image area) new) n ≡ extent_in g (part_bytes (layout_of g) (image area) old) n
 
 -- of the image that isn't named
 abbrev pub PatchesOne : Geometry → List ℕ → List ℕ → Type 0

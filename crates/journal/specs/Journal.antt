@@ -2,13 +2,13 @@
 use Rattle.std.specs.Prelude.{◌≡◌, ◌≤◌, ℕ, ◌+◌, Bool, true, List, [], ◌∷◌, length, take, Option, Some, None, is_some, Result, Ok, Err}
 use Rattle.affinity.specs.declared.geometry.Geometry.{Geometry}
 use Rattle.checkpoint.specs.Recovery.{holds}
-use Rattle.disk.specs.Device.{Medium, Leaves}
-use Rattle.journal.specs.Marks.{Marks}
+use Rattle.disk.specs.Device.{Medium, IsCrashImage}
+use Rattle.journal.specs.DirtyPieces.{DirtyPieces}
 use Rattle.messages.specs.declared.Msg.{Msg}
 use Rattle.messages.specs.Messages.{IsMessage}
 use Rattle.device_map.specs.Layout.{layout_of}
 use Rattle.oplog.specs.Logged.{IsLogged}
-use Rattle.oplog.specs.Stands.{in_force, named_area}
+use Rattle.oplog.specs.Recovery.{in_force, named_area}
 use Rattle.meaning.specs.Serial.{fold, is_loggable, next_state, reply_to}
 use Rattle.meaning.specs.State.{State}
 
@@ -18,15 +18,15 @@ pub record JournalView : Type 0 where
   pub room : ℕ
   -- how many pieces of a cut are still to be written, while one is in progress
   pub left : Option ℕ
-  -- which pieces of each image may be others than those of what is settled
-  pub marks : Marks
+  -- which pieces of each image may be others than those of what is committed
+  pub dirty : DirtyPieces
   -- whether the device has failed in a call
   pub failed : Bool
   pub medium : Medium
 
--- what the device stands for
-abbrev pub settled : JournalView → Option State
-settled j = holds j.geometry j.medium.now
+-- what the device recovers to
+abbrev pub committed : JournalView → Option State
+committed j = holds j.geometry j.medium.now
 
 -- the records in force on a device with these bytes
 abbrev pub records_in : Geometry → List ℕ → List (List ℕ)
@@ -35,12 +35,12 @@ records_in g c = in_force (layout_of g) (named_area (layout_of g) c) c
 abbrev pub records : JournalView → List (List ℕ)
 records j = records_in j.geometry j.medium.now
 
--- It stands for a state, and so does whatever a crash leaves now, with the same records in force. While no cut is in
+-- It recovers to a state, and so does whatever a crash leaves now, with the same records in force. While no cut is in
 -- progress, a half has room for these and for as many more as can still be logged.
-pub record IsSettled (j : JournalView) : Type 0 where
-  pub some : is_some (settled j) ≡ true
-  pub each : (c : List ℕ) → Leaves j.medium c → holds j.geometry c ≡ settled j
-  pub forced : (c : List ℕ) → Leaves j.medium c → records_in j.geometry c ≡ records j
+pub record IsCommitted (j : JournalView) : Type 0 where
+  pub some : is_some (committed j) ≡ true
+  pub each : (c : List ℕ) → IsCrashImage j.medium c → holds j.geometry c ≡ committed j
+  pub forced : (c : List ℕ) → IsCrashImage j.medium c → records_in j.geometry c ≡ records j
   pub room : j.left ≡ None → length (records j) + j.room ≡ j.geometry.half
 
 -- Each of the messages is logged where they run from x on, one after the other: it is changing, in range, and done.
@@ -48,7 +48,7 @@ abbrev pub AreCarriedOut : Geometry → State → List Msg → Type 0
 AreCarriedOut g x [] = Unit {0}
 AreCarriedOut g x (m ∷ ms) = IsMessage m × IsLogged g m × (is_loggable m (reply_to g x m) ≡ true) × AreCarriedOut g (next_state g x m) ms
 
--- These bytes stand for x with the first so many of these messages run on it.
+-- These bytes recover to x with the first so many of these messages run on it.
 pub record HoldsSome (g : Geometry) (x : State) (ms : List Msg) (c : List ℕ) : Type 0 where
   pub added : ℕ
   pub at_most : added ≤ length ms

@@ -2,12 +2,12 @@
 use Rattle.std.specs.Prelude.{◌≡◌, ◌<◌, ◌-◌, ℕ, Bool, true, false, List, length, get_or, Option, Some, None, is_some}
 use Rattle.affinity.specs.declared.geometry.Geometry.{Geometry}
 use Rattle.checkpoint.specs.Recovery.{holds}
-use Rattle.disk.specs.Device.{Leaves, Medium}
+use Rattle.disk.specs.Device.{IsCrashImage, Medium}
 use Rattle.image.specs.Image.{read, version_in}
 use Rattle.journal.specs.Journal.{JournalView, records_in}
-use Rattle.journal.specs.Marks.{count_marked}
+use Rattle.journal.specs.DirtyPieces.{count_dirty}
 use Rattle.journal.specs.Steps.{IsStanding, run_on}
-use Rattle.journal.specs.Stretches.{AgreeUnmarked, AreSpelled, image_in}
+use Rattle.journal.specs.Extents.{AgreeOnClean, AreSpelled, image_in}
 use Rattle.oplog.specs.Calls.{IsReadyFor}
 use Rattle.oplog.specs.Front.{front}
 use Rattle.device_map.specs.Layout.{layout_of, other}
@@ -16,32 +16,32 @@ use Rattle.meaning.specs.State.{State, IsState}
 
 -- ---- marks
 
--- Each stretch that isn't marked is the one of a state, where there is one.
+-- Each extent that isn't marked is the one of a state, where there is one.
 abbrev pub IsFresh : Geometry → Option State → List Bool → List ℕ → Type 0
-IsFresh g x marks bytes = (y : State) → x ≡ Some y → AreSpelled g y marks bytes
+IsFresh g x dirty bytes = (y : State) → x ≡ Some y → AreSpelled g y dirty bytes
 
 -- ---- a cut
 
 -- No mark before this number is set.
-abbrev pub AreClearBefore : ℕ → List Bool → Type 0
-AreClearBefore n marks = (i : ℕ) → i < n → get_or marks i false ≡ false
+abbrev pub AreCleanBefore : ℕ → List Bool → Type 0
+AreCleanBefore n dirty = (i : ℕ) → i < n → get_or dirty i false ≡ false
 
--- A cut is in progress: its image, with the records of the other half behind it, leads to what the device stands for, and
--- each of its stretches that isn't due is on the device. Its image is one of version 2.
+-- A cut is in progress: its image, with the records of the other half behind it, leads to what the device recovers to, and
+-- each of its extents that isn't due is on the device. Its image is one of version 2.
 pub record IsCut (log : Log) (frozen : List ℕ) (due : List Bool) (m : Medium) : Type 0 where
   pub behind : run_on log.geometry (read log.geometry frozen) (front (layout_of log.geometry) (other log.named) m.now)
       ≡ holds log.geometry m.now
-  pub written : AgreeUnmarked log.geometry due (image_in log.geometry (other log.named) m) frozen
+  pub written : AgreeOnClean log.geometry due (image_in log.geometry (other log.named) m) frozen
   pub version : version_in frozen ≡ 2
 
 abbrev pub IsCutOr : Log → List ℕ → List Bool → Option ℕ → Medium → Type 0
 IsCutOr log frozen due None m = Unit {0}
 IsCutOr log frozen due (Some left) m = IsCut log frozen due m
 
--- which half is current, and how many stretches are due
+-- which half is current, and how many extents are due
 abbrev pub IsCutState : Log → List Bool → Option ℕ → Type 0
 IsCutState log due None = log.current ≡ log.named
-IsCutState log due (Some left) = (log.current ≡ other log.named) × (count_marked due ≡ left)
+IsCutState log due (Some left) = (log.current ≡ other log.named) × (count_dirty due ≡ left)
 
 -- the image that the area that isn't named has, or will have once the cut is written
 abbrev pub coming : Log → List ℕ → Option ℕ → Medium → List ℕ
@@ -54,9 +54,9 @@ coming log frozen (Some left) m = frozen
 -- one, and those of what is due.
 pub record IsSoundJournal (log : Log) (frozen : List ℕ) (named others due : List Bool) (left : Option ℕ) (m : Medium) : Type 0 where
   pub some : is_some (holds log.geometry m.now) ≡ true
-  pub stands : IsStanding log.geometry log.named log.current (holds log.geometry m.now) m
+  pub recovers : IsStanding log.geometry log.named log.current (holds log.geometry m.now) m
   pub ready : IsReadyFor log m
-  pub forced : (c : List ℕ) → Leaves m c → records_in log.geometry c ≡ records_in log.geometry m.now
+  pub forced : (c : List ℕ) → IsCrashImage m c → records_in log.geometry c ≡ records_in log.geometry m.now
   pub count : left ≡ None → length (records_in log.geometry m.now) ≡ log.used
   pub state : (x : State) → holds log.geometry m.now ≡ Some x → IsState log.geometry x
   pub named_fresh : IsFresh log.geometry (holds log.geometry m.now) named (image_in log.geometry log.named m)
@@ -70,7 +70,7 @@ held_of log named others left failed m = record {
   geometry = log.geometry;
   room = log.geometry.half - log.used;
   left = left;
-  marks = record { named = named; others = others };
+  dirty = record { named = named; others = others };
   failed = failed;
   medium = m;
 }

@@ -1,7 +1,7 @@
 -- The words of a journal: its calls, marks, images and costs, and what it keeps, from its opening on.
-pub mod Marks
+pub mod DirtyPieces
 pub mod Journal
-pub mod Stretches
+pub mod Extents
 pub mod Steps
 pub mod Keeping
 pub mod Opening

@@ -7,14 +7,14 @@ use Rattle.checkpoint.specs.Header.{HasHeader}
 use Rattle.checkpoint.specs.Recovery.{holds, means}
 use Rattle.checkpoint.specs.Refusals.{IsDevice, refused}
 use Rattle.checkpoint.specs.Version.{named_version}
-use Rattle.disk.specs.Device.{Medium, Leaves, IsSynced}
-use Rattle.disk.specs.Moments.{LeavesOnly}
-use Rattle.journal.specs.Journal.{JournalView, IsSettled, records, settled}
-use Rattle.journal.specs.Marks.{opened_marks}
+use Rattle.disk.specs.Device.{Medium, IsCrashImage, IsSynced}
+use Rattle.disk.specs.Moments.{CrashImagesAre}
+use Rattle.journal.specs.Journal.{JournalView, IsCommitted, records, committed}
+use Rattle.journal.specs.DirtyPieces.{opened_dirty}
 use Rattle.image.specs.Image.{read}
 use Rattle.oplog.specs.Front.{front}
 use Rattle.device_map.specs.Layout.{image, layout_of, part_bytes}
-use Rattle.oplog.specs.Stands.{named_area, run}
+use Rattle.oplog.specs.Recovery.{named_area, run}
 use Rattle.meaning.specs.State.{State, IsState}
 
 -- A device was opened: it isn't refused, and the journal holds the state for which it stood, with no record in force, now
@@ -23,35 +23,35 @@ pub record IsOpened (old : Medium) (j : JournalView) (x : State) : Type 0 where
   pub header : HasHeader j.geometry old.now
   pub fine : refused j.geometry old.now ≡ None
   pub was : holds j.geometry old.now ≡ Some x
-  pub is : settled j ≡ Some x
+  pub is : committed j ≡ Some x
   pub version : named_version j.geometry j.medium.now ≡ 2
-  pub sound : IsSettled j
+  pub sound : IsCommitted j
   pub emptied : records j ≡ []
-  pub marks : j.marks ≡ opened_marks j.geometry
+  pub dirty : j.dirty ≡ opened_dirty j.geometry
   pub state : IsState j.geometry x
 
 -- ---- what a crash leaves
 
--- These bytes stand for what those before stood for, or are refused for the same fault as they were. Bytes that were no
+-- These bytes recover to what those before recovered to, or are refused for the same fault as they were. Bytes that were no
 -- device with a header and all its parts are as they were.
-pub record StandsAs (before c : List ℕ) : Type 0 where
+pub record RecoversAs (before c : List ℕ) : Type 0 where
   pub same : (g : Geometry) (x : State) → holds g before ≡ Some x → holds g c ≡ Some x
   pub alike : (g : Geometry) (fault : OpenFault) → HasHeader g before → refused g before ≡ Some fault
       → HasHeader g c × (refused g c ≡ Some fault)
   pub kept : (IsDevice before → ⊥) → c ≡ before
 
--- The first sync is over: nothing was loose then, and from then on a crash leaves what stands for the same, or is refused
+-- The first sync is over: nothing was unsynced then, and from then on a crash leaves what recovers to the same, or is refused
 -- for the same fault.
 pub record IsPastSync (old synced new : Medium) : Type 0 where
   pub calm : IsSynced synced
   pub now : synced.now ≡ old.now
-  pub later : LeavesOnly synced new (StandsAs old.now)
+  pub later : CrashImagesAre synced new (RecoversAs old.now)
 
 -- A crash at any moment from `old` to `new` leaves what a crash before might have left, until the first sync is over; and
--- from then on what stands for the same as the device did, or is refused for the same fault.
-pub record OpeningLeaves (old new : Medium) : Type 0 where
+-- from then on what recovers to the same as the device did, or is refused for the same fault.
+pub record OpeningCrashImages (old new : Medium) : Type 0 where
   pub synced : Medium
-  pub first : LeavesOnly old synced (Leaves old)
+  pub first : CrashImagesAre old synced (IsCrashImage old)
   pub rest : (new ≡ synced) ⊎ IsPastSync old synced new
 
 -- ---- what a refusal leaves
@@ -59,14 +59,14 @@ pub record OpeningLeaves (old new : Medium) : Type 0 where
 -- Nothing was written: the bytes are as they were, and a crash leaves only what a crash before might have left.
 pub record IsUnwritten (old new : Medium) : Type 0 where
   pub now : new.now ≡ old.now
-  pub later : LeavesOnly old new (Leaves old)
+  pub later : CrashImagesAre old new (IsCrashImage old)
 
 -- the state of area n of a device with these bytes by itself: its image, with the records of its half run on it
 abbrev pub area_state : Geometry → ℕ → List ℕ → Option State
 area_state g n c = run (means g) (read g (part_bytes (layout_of g) (image n) c)) (front (layout_of g) n c)
 
 -- A cut in progress was finished, and record i of the half that was behind the named one is bad: the area of that half is
--- named now, its image is that of the state which the area named before had by itself, nothing is loose, and the device is refused
+-- named now, its image is that of the state which the area named before had by itself, nothing is unsynced, and the device is refused
 -- for this record still.
 pub record IsRefusedBehind (g : Geometry) (h i : ℕ) (old new : Medium) : Type 0 where
   pub named : named_area (layout_of g) new.now ≡ h

@@ -11,13 +11,13 @@ use Rattle.disk.specs.Device.{Medium}
 use Rattle.image.specs.Pieces.{piece_count}
 use Rattle.journal.specs.declared.opening.Parts.{Parts}
 use Rattle.journal.specs.Keeping.{IsSoundJournal}
-use Rattle.journal.specs.Marks.{Marks, opened_marks}
+use Rattle.journal.specs.DirtyPieces.{DirtyPieces, opened_dirty}
 use Rattle.journal.specs.Opening.{IsRefusedBehind}
-use Rattle.journal.specs.Stretches.{AreAllMarked}
+use Rattle.journal.specs.Extents.{AreAllDirty}
 use Rattle.oplog.specs.Calls.{HasParts}
 use Rattle.device_map.specs.Layout.{image_size, layout_of}
 use Rattle.oplog.specs.Log.{new_log}
-use Rattle.oplog.specs.Stands.{in_force, named_area}
+use Rattle.oplog.specs.Recovery.{in_force, named_area}
 use Rattle.parcel.specs.Tree.{IsWholeTree, state_in}
 use Rattle.meaning.specs.State.{empty}
 
@@ -33,8 +33,8 @@ pub record IsRefusedAlike (g : Geometry) (before c : List ℕ) : Type 0 where
   pub refused : refused g c ≡ refused g before
 
 -- the marks that a journal is made of
-abbrev pub marks_of : Parts → Marks
-marks_of p = record { named = p.named_marks.items; others = p.other_marks.items }
+abbrev pub marks_of : Parts → DirtyPieces
+marks_of p = record { named = p.named_dirty.items; others = p.other_dirty.items }
 
 -- The parts as they are taken: an empty tree, a log of which nothing is known, room for an image, and for each piece its
 -- marks. Each has the size that the tree's geometry asks for.
@@ -43,11 +43,11 @@ pub record AreUnloaded (p : Parts) : Type 0 where
   pub empty : state_in p.tree ≡ empty
   pub log : p.halves ≡ new_log p.tree.geometry
   pub frozen : length p.frozen.items ≡ image_size p.tree.geometry
-  pub named_marks : length p.named_marks.items ≡ piece_count p.tree.geometry
-  pub other_marks : length p.other_marks.items ≡ piece_count p.tree.geometry
+  pub named_dirty : length p.named_dirty.items ≡ piece_count p.tree.geometry
+  pub other_dirty : length p.other_dirty.items ≡ piece_count p.tree.geometry
   pub due : length p.due.items ≡ piece_count p.tree.geometry
-  pub marks : marks_of p ≡ opened_marks p.tree.geometry
-  pub all : AreAllMarked p.tree.geometry p.other_marks.items
+  pub dirty : marks_of p ≡ opened_dirty p.tree.geometry
+  pub all : AreAllDirty p.tree.geometry p.other_dirty.items
 
 -- The parts once a device is loaded: the log works, with the half of the named area current; the tree is whole; and the other
 -- image is marked in all its pieces, so that it is written whole.
@@ -58,15 +58,15 @@ pub record AreLoaded (p : Parts) (m : Medium) : Type 0 where
   pub together : p.halves.current ≡ p.halves.named
   pub whole : HasParts p.halves m
   pub frozen : length p.frozen.items ≡ image_size p.halves.geometry
-  pub named_marks : length p.named_marks.items ≡ piece_count p.halves.geometry
-  pub other_marks : length p.other_marks.items ≡ piece_count p.halves.geometry
-  pub all : AreAllMarked p.halves.geometry p.other_marks.items
+  pub named_dirty : length p.named_dirty.items ≡ piece_count p.halves.geometry
+  pub other_dirty : length p.other_dirty.items ≡ piece_count p.halves.geometry
+  pub all : AreAllDirty p.halves.geometry p.other_dirty.items
 
 -- No mark has changed, nor the size of what is frozen.
 pub record KeepsRoom (old new : Parts) : Type 0 where
   pub frozen : length new.frozen.items ≡ length old.frozen.items
-  pub named_marks : new.named_marks ≡ old.named_marks
-  pub other_marks : new.other_marks ≡ old.other_marks
+  pub named_dirty : new.named_dirty ≡ old.named_dirty
+  pub other_dirty : new.other_dirty ≡ old.other_dirty
   pub due : new.due ≡ old.due
 
 -- What a journal is made of: a log with no record and all its room, and for each piece its marks.
@@ -77,9 +77,9 @@ pub record IsMade (p : Parts) (m : Medium) : Type 0 where
   pub used : p.halves.used ≡ 0
   pub whole : HasParts p.halves m
   pub frozen : length p.frozen.items ≡ image_size p.halves.geometry
-  pub named_marks : length p.named_marks.items ≡ piece_count p.halves.geometry
-  pub other_marks : length p.other_marks.items ≡ piece_count p.halves.geometry
-  pub marks : marks_of p ≡ opened_marks p.halves.geometry
+  pub named_dirty : length p.named_dirty.items ≡ piece_count p.halves.geometry
+  pub other_dirty : length p.other_dirty.items ≡ piece_count p.halves.geometry
+  pub dirty : marks_of p ≡ opened_dirty p.halves.geometry
   pub due : length p.due.items ≡ piece_count p.halves.geometry
 
 -- It was opened from a device with these bytes, and the tree holds the state for which they stand.
@@ -90,4 +90,4 @@ pub record IsMadeOf (c : List ℕ) (p : Parts) (m : Medium) : Type 0 where
   pub is : holds p.halves.geometry m.now ≡ Some (state_in p.tree)
   pub version : named_version p.halves.geometry m.now ≡ 2
   pub emptied : in_force (layout_of p.halves.geometry) (named_area (layout_of p.halves.geometry) m.now) m.now ≡ []
-  pub sound : IsSoundJournal p.halves p.frozen.items p.named_marks.items p.other_marks.items p.due.items None m
+  pub sound : IsSoundJournal p.halves p.frozen.items p.named_dirty.items p.other_dirty.items p.due.items None m

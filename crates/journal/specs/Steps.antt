@@ -4,43 +4,43 @@ use Rattle.std.specs.Prelude.{◌≡◌, ◌<◌, ◌==◌, if◌then◌else◌,
 use Rattle.affinity.specs.declared.geometry.Geometry.{Geometry}
 use Rattle.checkpoint.specs.Recovery.{holds, means}
 use Rattle.disk.specs.Device.{Medium, IsSynced}
-use Rattle.disk.specs.Moments.{LeavesOnly}
+use Rattle.disk.specs.Moments.{CrashImagesAre}
 use Rattle.image.specs.Image.{read}
 use Rattle.journal.specs.Journal.{records_in}
-use Rattle.journal.specs.Stretches.{image_in}
+use Rattle.journal.specs.Extents.{image_in}
 use Rattle.oplog.specs.Changes.{IsReady}
-use Rattle.oplog.specs.Crash.{StandsByNow}
+use Rattle.oplog.specs.Crash.{RecoversByNow}
 use Rattle.oplog.specs.Front.{chain, front}
 use Rattle.device_map.specs.Layout.{layout_of, other}
 use Rattle.oplog.specs.Log.{Log}
-use Rattle.oplog.specs.Stands.{is_laid_out, named_area, run}
+use Rattle.oplog.specs.Recovery.{is_laid_out, named_area, run}
 use Rattle.meaning.specs.State.{State}
 
--- A crash at any moment from `old` to `new` leaves a device that stands for what it stood for.
-abbrev pub StandsStill : Geometry → Medium → Medium → Type 0
-StandsStill g old new = LeavesOnly old new (λ c. holds g c ≡ holds g old.now)
+-- A crash at any moment from `old` to `new` leaves a device that recovers to what it recovered to.
+abbrev pub RecoversStill : Geometry → Medium → Medium → Type 0
+RecoversStill g old new = CrashImagesAre old new (λ c. holds g c ≡ holds g old.now)
 
--- Whatever a crash leaves now names area n, has half h as its current one, and stands for x.
+-- Whatever a crash leaves now names area n, has half h as its current one, and recovers to x.
 abbrev pub IsStanding : Geometry → ℕ → ℕ → Option State → Medium → Type 0
-IsStanding g n h x m = StandsByNow (means g) (layout_of g) n h x m
+IsStanding g n h x m = RecoversByNow (means g) (layout_of g) n h x m
 
 -- these records run on a state
 abbrev pub run_on : Geometry → Option State → List (List ℕ) → Option State
 run_on g x records = run (means g) x records
 
--- It stands for some state by the named area, with this half as the current one, whatever room that has.
-pub record StandsWith (log : Log) (half : ℕ) (m : Medium) : Type 0 where
+-- It recovers to some state by the named area, with this half as the current one, whatever room that has.
+pub record RecoversWith (log : Log) (half : ℕ) (m : Medium) : Type 0 where
   pub some : is_some (holds log.geometry m.now) ≡ true
-  pub stands : IsStanding log.geometry log.named half (holds log.geometry m.now) m
+  pub recovers : IsStanding log.geometry log.named half (holds log.geometry m.now) m
 
--- It stands for a state by the named area and its half alone.
+-- It recovers to a state by the named area and its half alone.
 abbrev pub IsAlone : Log → Medium → Type 0
-IsAlone log m = StandsWith log log.named m
+IsAlone log m = RecoversWith log log.named m
 
--- A step is over and lasts: nothing is loose, and it stands for x by this area, with this half as the current one, which has
+-- A step is over and lasts: nothing is unsynced, and it recovers to x by this area, with this half as the current one, which has
 -- this many records and is ready for more.
 pub record LastsAt (g : Geometry) (area half used : ℕ) (x : Option State) (m : Medium) : Type 0 where
-  pub stands : IsStanding g area half x m
+  pub recovers : IsStanding g area half x m
   pub ready : IsReady (layout_of g) half used m
   pub calm : IsSynced m
 
@@ -59,10 +59,10 @@ pub record IsBegun (log : Log) (old new : Medium) : Type 0 where
   pub forced : records_in log.geometry new.now ≡ records_in log.geometry old.now
   pub images : (i : ℕ) → i < 2 → image_in log.geometry i new ≡ image_in log.geometry i old
 
--- It stands for a state by both halves, and would by the other area alone: these bytes are its image, and the records of
--- the other half lead from there to what the device stands for.
+-- It recovers to a state by both halves, and would by the other area alone: these bytes are its image, and the records of
+-- the other half lead from there to what the device recovers to.
 pub record IsWritten (log : Log) (bytes : List ℕ) (m : Medium) : Type 0 where
-  pub by : StandsWith log (other log.named) m
+  pub by : RecoversWith log (other log.named) m
   pub ready : IsReady (layout_of log.geometry) (other log.named) log.used m
   pub is : image_in log.geometry (other log.named) m ≡ bytes
   pub behind : run_on log.geometry (read log.geometry bytes) (front (layout_of log.geometry) (other log.named) m.now)
@@ -75,7 +75,7 @@ pub record IsFlipped (log : Log) (old new : Medium) : Type 0 where
   pub alone : records_in log.geometry new.now ≡ front (layout_of log.geometry) (other log.named) new.now
   pub images : (i : ℕ) → i < 2 → image_in log.geometry i new ≡ image_in log.geometry i old
 
--- Both halves are in force, nothing is loose, and these bytes are the image of what the named area holds by itself.
+-- Both halves are in force, nothing is unsynced, and these bytes are the image of what the named area holds by itself.
 pub record IsUnfinished (log : Log) (bytes : List ℕ) (m : Medium) : Type 0 where
   pub calm : IsSynced m
   pub laid : is_laid_out (means log.geometry) (layout_of log.geometry) m.now ≡ true
@@ -84,10 +84,10 @@ pub record IsUnfinished (log : Log) (bytes : List ℕ) (m : Medium) : Type 0 whe
   pub reads : read log.geometry bytes
       ≡ run_on log.geometry (read log.geometry (image_in log.geometry log.named m)) (front (layout_of log.geometry) log.named m.now)
 
--- The other area is named and stands for the same by itself, and nothing is loose. Its half has the records that it had, and its image is
+-- The other area is named and recovers to the same by itself, and nothing is unsynced. Its half has the records that it had, and its image is
 -- that of what the area named before held by itself.
 pub record IsFinished (log : Log) (old new : Medium) : Type 0 where
-  pub stands : IsStanding log.geometry (other log.named) (other log.named) (holds log.geometry old.now) new
+  pub recovers : IsStanding log.geometry (other log.named) (other log.named) (holds log.geometry old.now) new
   pub reads : read log.geometry (image_in log.geometry (other log.named) new)
       ≡ run_on log.geometry (read log.geometry (image_in log.geometry log.named old)) (front (layout_of log.geometry) log.named old.now)
   pub front : front (layout_of log.geometry) (other log.named) new.now ≡ front (layout_of log.geometry) (other log.named) old.now

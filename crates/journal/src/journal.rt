@@ -2,12 +2,12 @@
 ghost use Rattle.std.specs.Prelude.{◌≡◌, ◌≢◌, ◌-◌, ◌*◌, ◌≤◌, ◌++◌, ℕ, List, true, false, Some, None, [], length, is_some, option_map, OnOk, OnErr, IfOk};
 ghost use Rattle.checkpoint.specs.Recovery.{holds};
 ghost use Rattle.checkpoint.specs.Version.{named_version};
-ghost use Rattle.disk.specs.Moments.{LeavesOnly};
+ghost use Rattle.disk.specs.Moments.{CrashImagesAre};
 ghost use Rattle.image.specs.Pieces.{piece_count};
 ghost use Rattle.journal.specs.Costs.{longest_point, point_takes};
 ghost use Rattle.journal.specs.Images.{KeepsImages, PatchesOne};
-ghost use Rattle.journal.specs.Journal.{JournalView, AreCarriedOut, HoldsSome, IsSettled, after_call, records, settled};
-ghost use Rattle.journal.specs.Marks.{AreBothTouched, count_marked, cut_marks, flipped_marks, pointed_marks};
+ghost use Rattle.journal.specs.Journal.{JournalView, AreCarriedOut, HoldsSome, IsCommitted, after_call, records, committed};
+ghost use Rattle.journal.specs.DirtyPieces.{AreBothTouched, count_dirty, cut_dirty, flipped_dirty, pointed_dirty};
 ghost use Rattle.oplog.specs.Beyond.{KeepsBeyond};
 ghost use Rattle.oplog.specs.Costs.{Takes, batches};
 ghost use Rattle.device_map.specs.Layout.{layout_of};
@@ -17,10 +17,10 @@ ghost use Rattle.parcel.specs.Tree.{IsWholeTree, state_in};
 ghost use Rattle.meaning.specs.Serial.{fold};
 ghost use Rattle.meaning.specs.State.{State};
 
-use crate::freezing::freeze;
-use crate::marks::{clear_marks, count_marked, exchange_marks, first_marked, mark_touched};
+use crate::snapshot::freeze;
+use crate::dirty::{clear_dirty, count_dirty, swap_dirty, first_dirty, dirty_touched};
 use crate::steps::{cut_on, flip_on, point_on};
-use crate::stretches::write_stretch;
+use crate::extents::write_extent;
 use disk::Disk;
 use messages::Msg;
 use oplog::{Halves, LogFault};
@@ -28,7 +28,7 @@ use parcel::Tree;
 use std::marker::Model;
 use std::mem;
 
-mod telling;
+mod accessors;
 
 /// The log of a server and the images that keep it short, on a device that it owns.
 ///
@@ -41,11 +41,11 @@ pub struct Journal<D: Disk> {
     /// The image of the state that the last point or cut was made of.
     frozen: Vec<u8>,
 
-    /// Which pieces of the named image may be others than those of what is settled.
-    named_marks: Vec<bool>,
+    /// Which pieces of the named image may be others than those of what is committed.
+    named_dirty: Vec<bool>,
 
     /// The same of the other image, as it is or will be once a cut is written.
-    other_marks: Vec<bool>,
+    other_dirty: Vec<bool>,
 
     /// Which pieces of a cut are still to be written.
     due: Vec<bool>,
@@ -62,24 +62,24 @@ impl<D: Disk> Model for Journal<D> {
     ghost use Rattle.std.specs.Prelude.{◌≡◌, ◌≤◌, false, length};
     ghost use Rattle.image.specs.Pieces.{piece_count};
     ghost use Rattle.journal.specs.Journal.{JournalView};
-    ghost use Rattle.journal.specs.Keeping.{AreClearBefore, IsCutState, IsSoundJournal, held_of};
+    ghost use Rattle.journal.specs.Keeping.{AreCleanBefore, IsCutState, IsSoundJournal, held_of};
     ghost use Rattle.oplog.specs.Calls.{HasParts};
     ghost use Rattle.device_map.specs.Layout.{image_size};
 
     ghost Value = { JournalView };
 
-    ghost view = { λ j. held_of j.halves j.named_marks.items j.other_marks.items j.left j.failed (D.medium j.disk) };
+    ghost view = { λ j. held_of j.halves j.named_dirty.items j.other_dirty.items j.left j.failed (D.medium j.disk) };
 
     ghost invariant = { λ j. HasParts j.halves (D.medium j.disk)
         × (j.halves.used ≤ j.halves.geometry.half)
         × (length j.frozen.items ≡ image_size j.halves.geometry)
-        × (length j.named_marks.items ≡ piece_count j.halves.geometry)
-        × (length j.other_marks.items ≡ piece_count j.halves.geometry)
+        × (length j.named_dirty.items ≡ piece_count j.halves.geometry)
+        × (length j.other_dirty.items ≡ piece_count j.halves.geometry)
         × (length j.due.items ≡ piece_count j.halves.geometry)
         × (j.failed ≡ false → (j.halves.failed ≡ false) × IsCutState j.halves j.due.items j.left)
         × (j.failed ≡ false → D.keeps →
-        IsSoundJournal j.halves j.frozen.items j.named_marks.items j.other_marks.items j.due.items j.left (D.medium j.disk))
-        × (j.looked ≤ length j.due.items) × AreClearBefore j.looked j.due.items };
+        IsSoundJournal j.halves j.frozen.items j.named_dirty.items j.other_dirty.items j.due.items j.left (D.medium j.disk))
+        × (j.looked ≤ length j.due.items) × AreCleanBefore j.looked j.due.items };
 }
 
 impl<D: Disk> Journal<D> {
@@ -92,8 +92,8 @@ impl<D: Disk> Journal<D> {
         disk: D,
         halves: Halves,
         frozen: Vec<u8>,
-        named_marks: Vec<bool>,
-        other_marks: Vec<bool>,
+        named_dirty: Vec<bool>,
+        other_dirty: Vec<bool>,
         due: Vec<bool>,
     ) -> Journal<D>
         requires fine { halves.failed ≡ false }
@@ -101,18 +101,18 @@ impl<D: Disk> Journal<D> {
         requires used { halves.used ≤ halves.geometry.half }
         requires whole { HasParts halves (D.medium disk) }
         requires frozen { length frozen.items ≡ image_size halves.geometry }
-        requires named_marks { length named_marks.items ≡ piece_count halves.geometry }
-        requires other_marks { length other_marks.items ≡ piece_count halves.geometry }
+        requires named_dirty { length named_dirty.items ≡ piece_count halves.geometry }
+        requires other_dirty { length other_dirty.items ≡ piece_count halves.geometry }
         requires due { length due.items ≡ piece_count halves.geometry }
-        requires sound { D.keeps → IsSoundJournal halves frozen.items named_marks.items other_marks.items due.items None (D.medium disk) }
-        ensures { result ≡ held_of halves named_marks.items other_marks.items None false (D.medium disk) }
+        requires sound { D.keeps → IsSoundJournal halves frozen.items named_dirty.items other_dirty.items due.items None (D.medium disk) }
+        ensures { result ≡ held_of halves named_dirty.items other_dirty.items None false (D.medium disk) }
     {
         Journal {
             disk,
             halves,
             frozen,
-            named_marks,
-            other_marks,
+            named_dirty,
+            other_dirty,
             due,
             looked: 0,
             left: None,
@@ -120,27 +120,27 @@ impl<D: Disk> Journal<D> {
         }
     }
 
-    /// Logs these messages, in order, each of which was carried out in its turn from what is settled.
+    /// Logs these messages, in order, each of which was carried out in its turn from what is committed.
     pub fn log(&mut self, messages: &[Msg]) -> Result<(), LogFault>
         requires sound { self.old.failed ≡ false }
         requires room { length messages.now ≤ self.old.room }
         requires logged { AreLogged self.old.geometry messages.now }
-        requires carried_out { D.keeps → (x : State) → settled self.old ≡ Some x → AreCarriedOut self.old.geometry x messages.now }
+        requires carried_out { D.keeps → (x : State) → committed self.old ≡ Some x → AreCarriedOut self.old.geometry x messages.now }
 
-        // A crash at any moment of the call leaves a device that stands for what was settled, with the first m of
+        // A crash at any moment of the call leaves a device that recovers to what was committed, with the first m of
         // the messages run on it.
-        ensures any_moment { D.keeps → (x : State) → settled self.old ≡ Some x →
-            LeavesOnly self.old.medium self.new.medium (HoldsSome self.old.geometry x messages.now) }
+        ensures any_moment { D.keeps → (x : State) → committed self.old ≡ Some x →
+            CrashImagesAre self.old.medium self.new.medium (HoldsSome self.old.geometry x messages.now) }
         ensures beyond { D.keeps → KeepsBeyond (layout_of self.old.geometry) self.old.medium self.new.medium }
-        ensures settled { OnOk result (D.keeps →
-            settled self.new ≡ option_map (λ x. fold self.old.geometry x messages.now) (settled self.old)) }
+        ensures committed { OnOk result (D.keeps →
+            committed self.new ≡ option_map (λ x. fold self.old.geometry x messages.now) (committed self.old)) }
         ensures records { OnOk result (D.keeps → records self.new ≡ records self.old ++ records_of messages.now) }
-        ensures sound { OnOk result (D.keeps → IsSettled self.new) }
-        ensures marked { OnOk result (AreBothTouched self.old.geometry messages.now self.old.marks self.new.marks) }
+        ensures sound { OnOk result (D.keeps → IsCommitted self.new) }
+        ensures dirty_at { OnOk result (AreBothTouched self.old.geometry messages.now self.old.dirty self.new.dirty) }
         ensures none { length messages.now ≡ 0 → self.new ≡ self.old }
         ensures takes { D.keeps → Takes result (4 * batches (length messages.now)) self.old.medium self.new.medium }
         ensures after { self.new ≡ after_call result
-            (record self.old { room = self.old.room - length messages.now; marks = self.new.marks; medium = self.new.medium })
+            (record self.old { room = self.old.room - length messages.now; dirty = self.new.dirty; medium = self.new.medium })
             self.old }
         ensures not_bad { IsNotBad result }
         ensures counts { CountsLogFault result self.old.medium.faults self.new.medium.faults }
@@ -150,87 +150,87 @@ impl<D: Disk> Journal<D> {
             return Err(fault);
         }
         let g = self.halves.geometry();
-        mark_touched(&g, messages, &mut self.named_marks);
-        mark_touched(&g, messages, &mut self.other_marks);
+        dirty_touched(&g, messages, &mut self.named_dirty);
+        dirty_touched(&g, messages, &mut self.other_dirty);
         Ok(())
     }
 
-    /// Writes an image of what is settled, which a whole tree holds, and begins a new log.
+    /// Writes an image of what is committed, which a whole tree holds, and begins a new log.
     pub fn point(&mut self, tree: &Tree) -> Result<(), LogFault>
         requires sound { self.old.failed ≡ false }
         requires alone { self.old.left ≡ None }
         requires geometry { tree.now.geometry ≡ self.old.geometry }
         requires whole { IsWholeTree tree.now }
-        requires state { D.keeps → settled self.old ≡ Some (state_in tree.now) }
+        requires state { D.keeps → committed self.old ≡ Some (state_in tree.now) }
 
-        // A crash at any moment of the call leaves a device that stands for what was settled.
-        ensures any_moment { D.keeps → LeavesOnly self.old.medium self.new.medium
-            (λ c. holds self.old.geometry c ≡ settled self.old) }
+        // A crash at any moment of the call leaves a device that recovers to what was committed.
+        ensures any_moment { D.keeps → CrashImagesAre self.old.medium self.new.medium
+            (λ c. holds self.old.geometry c ≡ committed self.old) }
         ensures beyond { D.keeps → KeepsBeyond (layout_of self.old.geometry) self.old.medium self.new.medium }
-        ensures settled { OnOk result (D.keeps → settled self.new ≡ settled self.old) }
-        ensures sound { OnOk result (D.keeps → IsSettled self.new) }
+        ensures committed { OnOk result (D.keeps → committed self.new ≡ committed self.old) }
+        ensures sound { OnOk result (D.keeps → IsCommitted self.new) }
         ensures emptied { OnOk result (D.keeps → records self.new ≡ []) }
         ensures version { OnOk result (D.keeps → named_version self.new.geometry self.new.medium.now ≡ 2) }
 
         // Marked pieces that lie side by side go with one write.
-        ensures takes { D.keeps → Takes result (point_takes self.old.marks.others) self.old.medium self.new.medium }
-        ensures few { point_takes self.old.marks.others ≤ longest_point self.old.geometry }
+        ensures takes { D.keeps → Takes result (point_takes self.old.dirty.others) self.old.medium self.new.medium }
+        ensures few { point_takes self.old.dirty.others ≤ longest_point self.old.geometry }
         ensures after { self.new ≡ after_call result
-            (record self.old { room = self.old.geometry.half; marks = pointed_marks self.old.marks; medium = self.new.medium })
+            (record self.old { room = self.old.geometry.half; dirty = pointed_dirty self.old.dirty; medium = self.new.medium })
             self.old }
         ensures not_bad { IsNotBad result }
         ensures counts { CountsLogFault result self.old.medium.faults self.new.medium.faults }
     {
-        freeze(tree, &self.named_marks, &mut self.frozen);
+        freeze(tree, &self.named_dirty, &mut self.frozen);
         if let Err(fault) = point_on(
             &mut self.halves,
             &mut self.disk,
             &self.frozen,
-            &self.other_marks,
+            &self.other_dirty,
         ) {
             self.failed = true;
             return Err(fault);
         }
-        exchange_marks(&mut self.named_marks, &mut self.other_marks);
+        swap_dirty(&mut self.named_dirty, &mut self.other_dirty);
         Ok(())
     }
 
-    /// Begins a point: what is settled, which a whole tree holds, is kept as the state of the cut, and records go to the
+    /// Begins a point: what is committed, which a whole tree holds, is kept as the state of the cut, and records go to the
     /// other half from now on, after those in force. As many pieces are left to write as are marked in the other image.
     pub fn cut(&mut self, tree: &Tree) -> Result<(), LogFault>
         requires sound { self.old.failed ≡ false }
         requires alone { self.old.left ≡ None }
         requires geometry { tree.now.geometry ≡ self.old.geometry }
         requires whole { IsWholeTree tree.now }
-        requires state { D.keeps → settled self.old ≡ Some (state_in tree.now) }
-        ensures any_moment { D.keeps → LeavesOnly self.old.medium self.new.medium
-            (λ c. holds self.old.geometry c ≡ settled self.old) }
+        requires state { D.keeps → committed self.old ≡ Some (state_in tree.now) }
+        ensures any_moment { D.keeps → CrashImagesAre self.old.medium self.new.medium
+            (λ c. holds self.old.geometry c ≡ committed self.old) }
         ensures beyond { D.keeps → KeepsBeyond (layout_of self.old.geometry) self.old.medium self.new.medium }
-        ensures settled { OnOk result (D.keeps → settled self.new ≡ settled self.old) }
-        ensures sound { OnOk result (D.keeps → IsSettled self.new) }
+        ensures committed { OnOk result (D.keeps → committed self.new ≡ committed self.old) }
+        ensures sound { OnOk result (D.keeps → IsCommitted self.new) }
         ensures records { OnOk result (D.keeps → records self.new ≡ records self.old) }
         ensures begun { OnOk result (self.new ≡ record self.old {
           room = self.old.geometry.half;
-          left = Some (count_marked self.old.marks.others);
-          marks = cut_marks self.old.marks;
+          left = Some (count_dirty self.old.dirty.others);
+          dirty = cut_dirty self.old.dirty;
           medium = self.new.medium;
         }) }
-        ensures few { OnOk result (count_marked self.old.marks.others ≤ piece_count self.old.geometry) }
+        ensures few { OnOk result (count_dirty self.old.dirty.others ≤ piece_count self.old.geometry) }
         ensures images { OnOk result (D.keeps → KeepsImages self.old.geometry self.old.medium.now self.new.medium.now) }
         ensures takes { D.keeps → Takes result 4 self.old.medium self.new.medium }
         ensures broken { OnErr result (self.new ≡ record self.old { failed = true; medium = self.new.medium }) }
         ensures not_bad { IsNotBad result }
         ensures counts { CountsLogFault result self.old.medium.faults self.new.medium.faults }
     {
-        freeze(tree, &self.named_marks, &mut self.frozen); // messages go on behind it
+        freeze(tree, &self.named_dirty, &mut self.frozen); // messages go on behind it
         if let Err(fault) = cut_on(&mut self.halves, &mut self.disk) {
             self.failed = true;
             return Err(fault);
         }
-        mem::swap(&mut self.due, &mut self.other_marks);
-        clear_marks(&mut self.other_marks);
+        mem::swap(&mut self.due, &mut self.other_dirty);
+        clear_dirty(&mut self.other_dirty);
         self.looked = 0;
-        self.left = Some(count_marked(&self.due));
+        self.left = Some(count_dirty(&self.due));
         Ok(())
     }
 
@@ -238,11 +238,11 @@ impl<D: Disk> Journal<D> {
     pub fn piece(&mut self) -> Result<usize, LogFault>
         requires sound { self.old.failed ≡ false }
         requires running { is_some self.old.left ≡ true }
-        ensures any_moment { D.keeps → LeavesOnly self.old.medium self.new.medium
-            (λ c. holds self.old.geometry c ≡ settled self.old) }
+        ensures any_moment { D.keeps → CrashImagesAre self.old.medium self.new.medium
+            (λ c. holds self.old.geometry c ≡ committed self.old) }
         ensures beyond { D.keeps → KeepsBeyond (layout_of self.old.geometry) self.old.medium self.new.medium }
-        ensures settled { OnOk result (D.keeps → settled self.new ≡ settled self.old) }
-        ensures sound { OnOk result (D.keeps → IsSettled self.new) }
+        ensures committed { OnOk result (D.keeps → committed self.new ≡ committed self.old) }
+        ensures sound { OnOk result (D.keeps → IsCommitted self.new) }
         ensures records { OnOk result (D.keeps → records self.new ≡ records self.old) }
         ensures left { IfOk result (λ n. option_map (λ l. l - 1) self.old.left ≡ Some n) }
 
@@ -256,12 +256,12 @@ impl<D: Disk> Journal<D> {
         ensures not_bad { IsNotBad result }
         ensures counts { CountsLogFault result self.old.medium.faults self.new.medium.faults }
     {
-        let Some(n) = first_marked(&self.due, self.looked) else {
+        let Some(n) = first_dirty(&self.due, self.looked) else {
             return Ok(0);
         };
         let g = self.halves.geometry();
         let area = 1 - self.halves.named();
-        if write_stretch(&mut self.disk, &g, area, &self.frozen, n).is_err() {
+        if write_extent(&mut self.disk, &g, area, &self.frozen, n).is_err() {
             self.failed = true;
             return Err(LogFault::Device);
         }
@@ -277,11 +277,11 @@ impl<D: Disk> Journal<D> {
     pub fn flip(&mut self) -> Result<(), LogFault>
         requires sound { self.old.failed ≡ false }
         requires written { self.old.left ≡ Some 0 }
-        ensures any_moment { D.keeps → LeavesOnly self.old.medium self.new.medium
-            (λ c. holds self.old.geometry c ≡ settled self.old) }
+        ensures any_moment { D.keeps → CrashImagesAre self.old.medium self.new.medium
+            (λ c. holds self.old.geometry c ≡ committed self.old) }
         ensures beyond { D.keeps → KeepsBeyond (layout_of self.old.geometry) self.old.medium self.new.medium }
-        ensures settled { OnOk result (D.keeps → settled self.new ≡ settled self.old) }
-        ensures sound { OnOk result (D.keeps → IsSettled self.new) }
+        ensures committed { OnOk result (D.keeps → committed self.new ≡ committed self.old) }
+        ensures sound { OnOk result (D.keeps → IsCommitted self.new) }
         ensures records { OnOk result (D.keeps →
             (first : List (List ℕ)) × (records self.old ≡ first ++ records self.new)) }
         ensures version { OnOk result (D.keeps → named_version self.new.geometry self.new.medium.now ≡ 2) }
@@ -290,7 +290,7 @@ impl<D: Disk> Journal<D> {
         ensures images { OnOk result (D.keeps → KeepsImages self.old.geometry self.old.medium.now self.new.medium.now) }
         ensures takes { D.keeps → Takes result 3 self.old.medium self.new.medium }
         ensures after { self.new ≡ after_call result
-            (record self.old { left = None; marks = flipped_marks self.old.marks; medium = self.new.medium }) self.old }
+            (record self.old { left = None; dirty = flipped_dirty self.old.dirty; medium = self.new.medium }) self.old }
         ensures not_bad { IsNotBad result }
         ensures counts { CountsLogFault result self.old.medium.faults self.new.medium.faults }
     {
@@ -298,7 +298,7 @@ impl<D: Disk> Journal<D> {
             self.failed = true;
             return Err(fault);
         }
-        mem::swap(&mut self.named_marks, &mut self.other_marks);
+        mem::swap(&mut self.named_dirty, &mut self.other_dirty);
         self.left = None;
         Ok(())
     }

@@ -1,13 +1,13 @@
 //! The durable half of a server: what was carried out is logged on a device, and points keep the log short. A crash at
-//! any moment leaves a device that stands for what was logged.
+//! any moment leaves a device that recovers to what was logged.
 #![tactic(auto)]
 
-mod freezing;
+mod snapshot;
 mod journal;
-mod marks;
+mod dirty;
 mod opening;
 mod steps;
-mod stretches;
+mod extents;
 
 pub use journal::Journal;
 pub use opening::open;

@@ -6,13 +6,13 @@ ghost use Rattle.checkpoint.specs.Header.{HasHeader};
 ghost use Rattle.checkpoint.specs.Loading.{IsOpeningCall, NamedHolds};
 ghost use Rattle.checkpoint.specs.Recovery.{holds};
 ghost use Rattle.checkpoint.specs.Refusals.{IsDevice, IsRefused, refused};
-ghost use Rattle.disk.specs.Device.{IsSynced, Leaves};
-ghost use Rattle.disk.specs.Moments.{LeavesOnly, moment};
+ghost use Rattle.disk.specs.Device.{IsSynced, IsCrashImage};
+ghost use Rattle.disk.specs.Moments.{CrashImagesAre, moment};
 ghost use Rattle.image.specs.Image.{image_of};
 ghost use Rattle.journal.specs.Costs.{finish_takes, opening_takes};
-ghost use Rattle.journal.specs.Opening.{IsOpened, IsRefusedUnwritten, OpeningLeaves, StandsAs};
+ghost use Rattle.journal.specs.Opening.{IsOpened, IsRefusedUnwritten, OpeningCrashImages, RecoversAs};
 ghost use Rattle.journal.specs.Parts.{AreLoaded, AreUnloaded, IsBad, IsMade, IsMadeOf, IsRefusedAlike, KeepsRoom};
-ghost use Rattle.journal.specs.Steps.{IsAlone, IsFinished, IsPointed, StandsStill, finished_now, pointed};
+ghost use Rattle.journal.specs.Steps.{IsAlone, IsFinished, IsPointed, RecoversStill, finished_now, pointed};
 ghost use Rattle.oplog.specs.Beyond.{KeepsBeyond};
 ghost use Rattle.oplog.specs.Costs.{Takes};
 ghost use Rattle.device_map.specs.Layout.{Layout, device_size, layout_of, other};
@@ -20,7 +20,7 @@ ghost use Rattle.oplog.specs.Log.{IsLogCall, IsNotBad};
 ghost use Rattle.parcel.specs.Tree.{IsWholeTree, state_in};
 
 use crate::Journal;
-use crate::freezing::freeze;
+use crate::snapshot::freeze;
 use crate::steps::{finish_on, point_on};
 use affinity::Geometry;
 use checkpoint::loading::{load_named, read_header, replay, take_room};
@@ -42,10 +42,10 @@ struct Parts {
     frozen: Vec<u8>,
 
     /// Which pieces of the named image are out of date: none.
-    named_marks: Vec<bool>,
+    named_dirty: Vec<bool>,
 
     /// The same of the other image: all, since nothing is known of it.
-    other_marks: Vec<bool>,
+    other_dirty: Vec<bool>,
 
     /// Which pieces of a cut are still to be written.
     due: Vec<bool>,
@@ -61,15 +61,15 @@ fn take_memory(alloc: Global, g: &Geometry) -> Result<(Parts, Vec<u8>), OpenFaul
     let (tree, halves, buffer) = take_room(alloc, g)?;
     let frozen = vec![in alloc; 0u8; image_size(g)]?;
     let pieces = piece_count(g);
-    let named_marks = vec![in alloc; false; pieces]?;
-    let other_marks = vec![in alloc; true; pieces]?;
+    let named_dirty = vec![in alloc; false; pieces]?;
+    let other_dirty = vec![in alloc; true; pieces]?;
     let due = vec![in alloc; false; pieces]?;
     let parts = Parts {
         tree,
         halves,
         frozen,
-        named_marks,
-        other_marks,
+        named_dirty,
+        other_dirty,
         due,
     };
     Ok((parts, buffer))
@@ -78,7 +78,7 @@ fn take_memory(alloc: Global, g: &Geometry) -> Result<(Parts, Vec<u8>), OpenFaul
 /// Makes what was written before the opening last, so that a crash leaves it.
 fn settle<D: Disk>(disk: &mut D) -> Result<(), OpenFault>
     ensures any_moment { D.keeps →
-        LeavesOnly (D.medium disk.old) (D.medium disk.new) (Leaves (D.medium disk.old)) }
+        CrashImagesAre (D.medium disk.old) (D.medium disk.new) (IsCrashImage (D.medium disk.old)) }
     ensures now { D.keeps → (D.medium disk.new).now ≡ (D.medium disk.old).now }
     ensures beyond { D.keeps → (l : Layout) → KeepsBeyond l (D.medium disk.old) (D.medium disk.new) }
     ensures calm { OnOk result (D.keeps → IsSynced (D.medium disk.new)) }
@@ -100,10 +100,10 @@ fn finish_cut<D: Disk>(parts: &mut Parts, disk: &mut D) -> Result<(), LogFault>
     requires holds { D.keeps →
         NamedHolds parts.old.halves.geometry (D.medium disk.old).now parts.old.halves.named true (state_in parts.old.tree) }
     ensures any_moment { D.keeps →
-        StandsStill parts.old.halves.geometry (D.medium disk.old) (D.medium disk.new) }
+        RecoversStill parts.old.halves.geometry (D.medium disk.old) (D.medium disk.new) }
     ensures beyond { D.keeps → KeepsBeyond (layout_of parts.old.halves.geometry) (D.medium disk.old) (D.medium disk.new) }
     ensures alike { D.keeps →
-        LeavesOnly (D.medium disk.old) (D.medium disk.new) (IsRefusedAlike parts.old.halves.geometry (D.medium disk.old).now) }
+        CrashImagesAre (D.medium disk.old) (D.medium disk.new) (IsRefusedAlike parts.old.halves.geometry (D.medium disk.old).now) }
     ensures finished { OnOk result (D.keeps →
         IsFinished parts.old.halves (D.medium disk.old) (D.medium disk.new)) }
     ensures takes { D.keeps → Takes result 4 (D.medium disk.old) (D.medium disk.new) }
@@ -113,8 +113,8 @@ fn finish_cut<D: Disk>(parts: &mut Parts, disk: &mut D) -> Result<(), LogFault>
     ensures not_bad { IsNotBad result }
     ensures call { IsLogCall result (D.medium disk.old) (D.medium disk.new) }
 {
-    freeze(&parts.tree, &parts.other_marks, &mut parts.frozen); // no record behind it
-    finish_on(&mut parts.halves, disk, &parts.frozen, &parts.other_marks)
+    freeze(&parts.tree, &parts.other_dirty, &mut parts.frozen); // no record behind it
+    finish_on(&mut parts.halves, disk, &parts.frozen, &parts.other_dirty)
 }
 
 /// Finishes a cut that was in progress, and then runs the records after it on the tree, which holds the state of the
@@ -125,10 +125,10 @@ fn replay_behind<D: Disk>(parts: &mut Parts, disk: &mut D) -> Result<(), OpenFau
     requires holds { D.keeps →
         NamedHolds parts.old.halves.geometry (D.medium disk.old).now parts.old.halves.named true (state_in parts.old.tree) }
     ensures any_moment { D.keeps →
-        StandsStill parts.old.halves.geometry (D.medium disk.old) (D.medium disk.new) }
+        RecoversStill parts.old.halves.geometry (D.medium disk.old) (D.medium disk.new) }
     ensures beyond { D.keeps → KeepsBeyond (layout_of parts.old.halves.geometry) (D.medium disk.old) (D.medium disk.new) }
     ensures alike { D.keeps →
-        LeavesOnly (D.medium disk.old) (D.medium disk.new) (IsRefusedAlike parts.old.halves.geometry (D.medium disk.old).now) }
+        CrashImagesAre (D.medium disk.old) (D.medium disk.new) (IsRefusedAlike parts.old.halves.geometry (D.medium disk.old).now) }
     ensures takes { D.keeps → Takes result 4 (D.medium disk.old) (D.medium disk.new) }
     ensures alone { OnOk result (D.keeps → IsAlone parts.new.halves (D.medium disk.new)) }
     ensures was { OnOk result (D.keeps →
@@ -149,9 +149,9 @@ fn replay_behind<D: Disk>(parts: &mut Parts, disk: &mut D) -> Result<(), OpenFau
     Ok(())
 }
 
-/// Loads what the device stands for into an empty tree. Where a cut was in progress, it is finished between the records
+/// Loads what the device recovers to into an empty tree. Where a cut was in progress, it is finished between the records
 /// of the two halves.
-fn load_in_turn<D: Disk>(
+fn load_in_order<D: Disk>(
     parts: &mut Parts,
     disk: &mut D,
     buffer: &mut [u8],
@@ -162,10 +162,10 @@ fn load_in_turn<D: Disk>(
     requires buffer { parts.old.tree.geometry.quota * 520 ≤ length buffer.old }
     requires calm { D.keeps → IsSynced (D.medium disk.old) }
     ensures any_moment { D.keeps →
-        StandsStill parts.old.tree.geometry (D.medium disk.old) (D.medium disk.new) }
+        RecoversStill parts.old.tree.geometry (D.medium disk.old) (D.medium disk.new) }
     ensures beyond { D.keeps → KeepsBeyond (layout_of parts.old.tree.geometry) (D.medium disk.old) (D.medium disk.new) }
     ensures alike { D.keeps →
-        LeavesOnly (D.medium disk.old) (D.medium disk.new) (IsRefusedAlike parts.old.tree.geometry (D.medium disk.old).now) }
+        CrashImagesAre (D.medium disk.old) (D.medium disk.new) (IsRefusedAlike parts.old.tree.geometry (D.medium disk.old).now) }
     ensures takes { D.keeps → Takes result
         (finish_takes parts.old.tree.geometry (D.medium disk.old).now) (D.medium disk.old) (D.medium disk.new) }
     ensures alone { OnOk result (D.keeps → IsAlone parts.new.halves (D.medium disk.new)) }
@@ -197,7 +197,7 @@ fn last_point<D: Disk>(parts: &mut Parts, disk: &mut D) -> Result<(), OpenFault>
     requires holds { D.keeps →
         holds parts.old.halves.geometry (D.medium disk.old).now ≡ Some (state_in parts.old.tree) }
     ensures any_moment { D.keeps →
-        StandsStill parts.old.halves.geometry (D.medium disk.old) (D.medium disk.new) }
+        RecoversStill parts.old.halves.geometry (D.medium disk.old) (D.medium disk.new) }
     ensures beyond { D.keeps → KeepsBeyond (layout_of parts.old.halves.geometry) (D.medium disk.old) (D.medium disk.new) }
     ensures takes { D.keeps → Takes result 6 (D.medium disk.old) (D.medium disk.new) }
     ensures pointed { OnOk result (D.keeps →
@@ -209,16 +209,16 @@ fn last_point<D: Disk>(parts: &mut Parts, disk: &mut D) -> Result<(), OpenFault>
     ensures device { IfErr result (λ e. e ≡ Device) }
     ensures call { IsOpeningCall result (D.medium disk.old) (D.medium disk.new) }
 {
-    freeze(&parts.tree, &parts.other_marks, &mut parts.frozen);
-    point_on(&mut parts.halves, disk, &parts.frozen, &parts.other_marks)?;
+    freeze(&parts.tree, &parts.other_dirty, &mut parts.frozen);
+    point_on(&mut parts.halves, disk, &parts.frozen, &parts.other_dirty)?;
     Ok(())
 }
 
-/// Opens a device of which nothing is loose.
-fn open_settled<D: Disk>(alloc: Global, disk: &mut D) -> Result<Parts, OpenFault>
+/// Opens a device of which nothing is unsynced.
+fn open_committed<D: Disk>(alloc: Global, disk: &mut D) -> Result<Parts, OpenFault>
     requires calm { D.keeps → IsSynced (D.medium disk.old) }
     ensures any_moment { D.keeps →
-        LeavesOnly (D.medium disk.old) (D.medium disk.new) (StandsAs (D.medium disk.old).now) }
+        CrashImagesAre (D.medium disk.old) (D.medium disk.new) (RecoversAs (D.medium disk.old).now) }
     ensures beyond { D.keeps → (g : Geometry) → HasHeader g (D.medium disk.old).now
         → KeepsBeyond (layout_of g) (D.medium disk.old) (D.medium disk.new) }
     ensures takes { D.keeps → MatchResult result
@@ -237,14 +237,14 @@ fn open_settled<D: Disk>(alloc: Global, disk: &mut D) -> Result<Parts, OpenFault
 {
     let g = read_header(disk)?;
     let (mut parts, mut buffer) = take_memory(alloc, &g)?;
-    load_in_turn(&mut parts, disk, &mut buffer)?;
+    load_in_order(&mut parts, disk, &mut buffer)?;
     last_point(&mut parts, disk)?;
     Ok(parts)
 }
 
-/// Opens any device: the first sync makes last what is loose.
+/// Opens any device: the first sync makes last what is unsynced.
 fn open_on<D: Disk>(alloc: Global, disk: &mut D) -> Result<Parts, OpenFault>
-    ensures any_moment { D.keeps → OpeningLeaves (D.medium disk.old) (D.medium disk.new) }
+    ensures any_moment { D.keeps → OpeningCrashImages (D.medium disk.old) (D.medium disk.new) }
     ensures beyond { D.keeps → (g : Geometry) → HasHeader g (D.medium disk.old).now
         → KeepsBeyond (layout_of g) (D.medium disk.old) (D.medium disk.new) }
     ensures takes { D.keeps → MatchResult result
@@ -262,15 +262,15 @@ fn open_on<D: Disk>(alloc: Global, disk: &mut D) -> Result<Parts, OpenFault>
     ensures call { IsOpeningCall result (D.medium disk.old) (D.medium disk.new) }
 {
     settle(disk)?;
-    open_settled(alloc, disk)
+    open_committed(alloc, disk)
 }
 
-/// Opens a device: reads what it stands for into a tree, finishes a cut that was in progress, and makes a point.
+/// Opens a device: reads what it recovers to into a tree, finishes a cut that was in progress, and makes a point.
 ///
 /// It is refused exactly where its bytes are, with the first fault in the order of the tests: length, marks, geometry,
 /// length for that geometry, memory, the head of the named image, its pieces, the chain bytes, the records of the named
 /// half, those of the other one. A refusal comes before anything is written; but where a record of the half after the
-/// named one is bad, the cut was finished before: the area of that half is named then, with nothing loose, and the next
+/// named one is bad, the cut was finished before: the area of that half is named then, with nothing unsynced, and the next
 /// call gives the same fault. A device without a header, or too short for its parts, is left as it is also where it fails
 /// meanwhile. `Device` exactly where the device failed.
 pub fn open<D: Disk>(alloc: Global, d: D) -> Result<(Journal<D>, Tree), OpenError<D>>
@@ -280,10 +280,10 @@ pub fn open<D: Disk>(alloc: Global, d: D) -> Result<(Journal<D>, Tree), OpenErro
         (r.0.room ≡ r.0.geometry.half) × (r.0.left ≡ None) × (r.0.failed ≡ false)) }
 
     // A crash at any moment of the call leaves what a crash before might have left, until the first sync is over, and then
-    // what stands for the same, or is refused for the same fault.
+    // what recovers to the same, or is refused for the same fault.
     ensures any_moment { D.keeps → MatchResult result
-        (λ r. OpeningLeaves (D.medium d) r.0.medium)
-        (λ e. OpeningLeaves (D.medium d) (D.medium e.disk)) }
+        (λ r. OpeningCrashImages (D.medium d) r.0.medium)
+        (λ e. OpeningCrashImages (D.medium d) (D.medium e.disk)) }
 
     // What a longer device has behind its parts stays, also in what a crash leaves.
     ensures beyond { D.keeps → (g : Geometry) → HasHeader g (D.medium d).now → MatchResult result
@@ -298,7 +298,7 @@ pub fn open<D: Disk>(alloc: Global, d: D) -> Result<(Journal<D>, Tree), OpenErro
     ensures unwritten { IfErr result (λ e. D.keeps →
         IsRefusedUnwritten (D.medium d) e.fault (D.medium e.disk)) }
 
-    // The first sync comes before all else: only a fault of the device leaves something loose.
+    // The first sync comes before all else: only a fault of the device leaves something unsynced.
     ensures synced { IfErr result (λ e. e.fault ≢ OpenFault.Device → D.keeps → IsSynced (D.medium e.disk)) }
     ensures memory { IfErr result (λ e. e.fault ≡ OpenFault.OutOfMemory →
         D.keeps → IsDevice (D.medium d).now) }
@@ -316,11 +316,11 @@ pub fn open<D: Disk>(alloc: Global, d: D) -> Result<(Journal<D>, Tree), OpenErro
                 tree,
                 halves,
                 frozen,
-                named_marks,
-                other_marks,
+                named_dirty,
+                other_dirty,
                 due,
             } = parts;
-            let journal = Journal::new(disk, halves, frozen, named_marks, other_marks, due);
+            let journal = Journal::new(disk, halves, frozen, named_dirty, other_dirty, due);
             Ok((journal, tree))
         }
         Err(fault) => Err(OpenError { disk, fault }),

@@ -1,14 +1,14 @@
-//! The steps of a point on a device. A crash at any moment of one leaves a device that stands for what it stood for.
+//! The steps of a point on a device. A crash at any moment of one leaves a device that recovers to what it recovered to.
 ghost use Rattle.std.specs.Prelude.{◌≡◌, true, false, Some, length, OnOk, OnErr};
 ghost use Rattle.checkpoint.specs.Loading.{NamedHolds};
 ghost use Rattle.checkpoint.specs.Recovery.{holds};
-ghost use Rattle.disk.specs.Moments.{LeavesOnly};
+ghost use Rattle.disk.specs.Moments.{CrashImagesAre};
 ghost use Rattle.image.specs.Image.{read};
 ghost use Rattle.image.specs.Pieces.{piece_count};
 ghost use Rattle.journal.specs.Costs.{point_takes};
 ghost use Rattle.journal.specs.Parts.{IsRefusedAlike};
-ghost use Rattle.journal.specs.Steps.{IsAlone, IsBegun, IsFinished, IsFlipped, IsPointed, IsUnfinished, IsWritten, StandsStill, cut_now, finished_now, named_now, pointed};
-ghost use Rattle.journal.specs.Stretches.{AgreeUnmarked, AreAllMarked, image_in};
+ghost use Rattle.journal.specs.Steps.{IsAlone, IsBegun, IsFinished, IsFlipped, IsPointed, IsUnfinished, IsWritten, RecoversStill, cut_now, finished_now, named_now, pointed};
+ghost use Rattle.journal.specs.Extents.{AgreeOnClean, AreAllDirty, image_in};
 ghost use Rattle.oplog.specs.Beyond.{KeepsBeyond};
 ghost use Rattle.oplog.specs.Calls.{HasParts};
 ghost use Rattle.oplog.specs.Costs.{Takes};
@@ -16,34 +16,34 @@ ghost use Rattle.device_map.specs.Layout.{image_size, layout_of, other};
 ghost use Rattle.oplog.specs.Log.{IsLogCall, IsNotBad};
 ghost use Rattle.meaning.specs.State.{State};
 
-use crate::stretches::{make_last, write_image};
+use crate::extents::{make_last, write_image};
 use disk::Disk;
 use oplog::{Halves, LogFault};
 
-/// Makes a point into the area that isn't named, with this image of what the device stands for. Of the image only the
-/// marked stretches are written: all others are on the device already.
+/// Makes a point into the area that isn't named, with this image of what the device recovers to. Of the image only the
+/// marked extents are written: all others are on the device already.
 pub(crate) fn point_on<D: Disk>(
     halves: &mut Halves,
     disk: &mut D,
     bytes: &[u8],
-    marks: &[bool],
+    dirty: &[bool],
 ) -> Result<(), LogFault>
     requires sound { halves.old.failed ≡ false }
     requires size { length bytes.now ≡ image_size halves.old.geometry }
-    requires marks { length marks.now ≡ piece_count halves.old.geometry }
+    requires dirty { length dirty.now ≡ piece_count halves.old.geometry }
     requires whole { HasParts halves.old (D.medium disk.old) }
     requires together { halves.old.current ≡ halves.old.named }
     requires alone { D.keeps → IsAlone halves.old (D.medium disk.old) }
     requires image { D.keeps →
         read halves.old.geometry bytes.now ≡ holds halves.old.geometry (D.medium disk.old).now }
-    requires unmarked { D.keeps → AgreeUnmarked halves.old.geometry marks.now
+    requires unmarked { D.keeps → AgreeOnClean halves.old.geometry dirty.now
         (image_in halves.old.geometry (other halves.old.named) (D.medium disk.old)) bytes.now }
     ensures any_moment { D.keeps →
-        StandsStill halves.old.geometry (D.medium disk.old) (D.medium disk.new) }
+        RecoversStill halves.old.geometry (D.medium disk.old) (D.medium disk.new) }
     ensures beyond { D.keeps → KeepsBeyond (layout_of halves.old.geometry) (D.medium disk.old) (D.medium disk.new) }
     ensures pointed { OnOk result (D.keeps →
         IsPointed halves.old bytes.now (D.medium disk.old) (D.medium disk.new)) }
-    ensures takes { D.keeps → Takes result (point_takes marks.now) (D.medium disk.old) (D.medium disk.new) }
+    ensures takes { D.keeps → Takes result (point_takes dirty.now) (D.medium disk.old) (D.medium disk.new) }
     ensures log { OnOk result (halves.new ≡ pointed halves.old) }
     ensures geometry { halves.new.geometry ≡ halves.old.geometry }
     ensures used { OnErr result (halves.new.used ≡ halves.old.used) }
@@ -53,7 +53,7 @@ pub(crate) fn point_on<D: Disk>(
     let g = halves.geometry();
     let area = 1 - halves.named();
     halves.clear_other(disk)?;
-    if write_image(disk, &g, area, bytes, marks).is_err() {
+    if write_image(disk, &g, area, bytes, dirty).is_err() {
         return Err(LogFault::Device);
     }
     halves.flip_root(disk)?;
@@ -67,7 +67,7 @@ pub(crate) fn cut_on<D: Disk>(halves: &mut Halves, disk: &mut D) -> Result<(), L
     requires together { halves.old.current ≡ halves.old.named }
     requires alone { D.keeps → IsAlone halves.old (D.medium disk.old) }
     ensures any_moment { D.keeps →
-        StandsStill halves.old.geometry (D.medium disk.old) (D.medium disk.new) }
+        RecoversStill halves.old.geometry (D.medium disk.old) (D.medium disk.new) }
     ensures beyond { D.keeps → KeepsBeyond (layout_of halves.old.geometry) (D.medium disk.old) (D.medium disk.new) }
     ensures begun { OnOk result (D.keeps →
         IsBegun halves.old (D.medium disk.old) (D.medium disk.new)) }
@@ -94,7 +94,7 @@ pub(crate) fn flip_on<D: Disk>(
     requires apart { halves.old.current ≡ other halves.old.named }
     requires written { D.keeps → IsWritten halves.old bytes.now (D.medium disk.old) }
     ensures any_moment { D.keeps →
-        StandsStill halves.old.geometry (D.medium disk.old) (D.medium disk.new) }
+        RecoversStill halves.old.geometry (D.medium disk.old) (D.medium disk.new) }
     ensures beyond { D.keeps → KeepsBeyond (layout_of halves.old.geometry) (D.medium disk.old) (D.medium disk.new) }
     ensures flipped { OnOk result (D.keeps →
         IsFlipped halves.old (D.medium disk.old) (D.medium disk.new)) }
@@ -119,21 +119,21 @@ pub(crate) fn finish_on<D: Disk>(
     halves: &mut Halves,
     disk: &mut D,
     bytes: &[u8],
-    marks: &[bool],
+    dirty: &[bool],
 ) -> Result<(), LogFault>
     requires sound { halves.old.failed ≡ false }
     requires size { length bytes.now ≡ image_size halves.old.geometry }
-    requires marks { length marks.now ≡ piece_count halves.old.geometry }
-    requires all { AreAllMarked halves.old.geometry marks.now }
+    requires dirty { length dirty.now ≡ piece_count halves.old.geometry }
+    requires all { AreAllDirty halves.old.geometry dirty.now }
     requires whole { HasParts halves.old (D.medium disk.old) }
     requires together { halves.old.current ≡ halves.old.named }
     requires unfinished { D.keeps → IsUnfinished halves.old bytes.now (D.medium disk.old) }
     ensures any_moment { D.keeps →
-        StandsStill halves.old.geometry (D.medium disk.old) (D.medium disk.new) }
+        RecoversStill halves.old.geometry (D.medium disk.old) (D.medium disk.new) }
     ensures beyond { D.keeps → KeepsBeyond (layout_of halves.old.geometry) (D.medium disk.old) (D.medium disk.new) }
     ensures alike { D.keeps → (x : State) → read halves.old.geometry bytes.now ≡ Some x
         → NamedHolds halves.old.geometry (D.medium disk.old).now halves.old.named true x
-        → LeavesOnly (D.medium disk.old) (D.medium disk.new) (IsRefusedAlike halves.old.geometry (D.medium disk.old).now) }
+        → CrashImagesAre (D.medium disk.old) (D.medium disk.new) (IsRefusedAlike halves.old.geometry (D.medium disk.old).now) }
     ensures finished { OnOk result (D.keeps →
         IsFinished halves.old (D.medium disk.old) (D.medium disk.new)) }
     ensures takes { D.keeps → Takes result 4 (D.medium disk.old) (D.medium disk.new) }
@@ -143,7 +143,7 @@ pub(crate) fn finish_on<D: Disk>(
 {
     let g = halves.geometry();
     let second = 1 - halves.named();
-    if write_image(disk, &g, second, bytes, marks).is_err() {
+    if write_image(disk, &g, second, bytes, dirty).is_err() {
         return Err(LogFault::Device);
     }
     halves.flip_root(disk)?;

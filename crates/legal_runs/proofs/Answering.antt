@@ -9,13 +9,13 @@ use Rattle.messages.specs.declared.Reply.{Reply}
 use Rattle.meaning.specs.Serial.{is_loggable}
 use Rattle.legal_runs.specs.declared.outcomes.Outcome.{Outcome}
 use Rattle.legal_runs.specs.declared.outcomes.Outcome.TheVariants as outcomes
-use Rattle.legal_runs.specs.World.{Replied, World}
+use Rattle.legal_runs.specs.CoreState.{Replied, CoreState}
 use Rattle.legal_runs.specs.Events.{Hands, Event, loggable}
 use Rattle.legal_runs.specs.Runs.{IsLegal, last, goes, went, journal, answers, answered, answered_at, answered_messages, answered_changes}
 use Rattle.legal_runs.specs.Crash.{IsLogAfter, in_doubt}
 use Rattle.legal_runs.specs.Laws.{ticket_replies}
 use Rattle.legal_runs.proofs.Moves.{Passed, Move, Stays, Arrives, Grants, Backs, Logs, Answers, moves}
-use Rattle.legal_runs.proofs.Told.{said-append}
+use Rattle.legal_runs.proofs.SerialReplies.{said-append}
 use Rattle.legal_runs.proofs.Runs.{journal_is_loggable}
 use Rattle.legal_runs.proofs.Crashes.{legal_first, journal_first}
 
@@ -26,7 +26,7 @@ loggable-append as' bs = ap (map (λ (a : Replied). a.1)) (filter-append (λ (a 
 
 -- ---- one event
 
-module _ (w : World) where
+module _ (w : CoreState) where
   none_answered : (o : Outcome) → answers o ≡ [] → answered_at w o ≡ []
   none_answered (outcomes.Answered ticket reply) e = cc
   none_answered _ e = refl
@@ -36,19 +36,19 @@ module _ (w : World) where
   one_answered _ x e = cc
 
 -- Where nothing is answered, none of the outcome's messages is.
-record Silent (old : World) (o : Outcome) : Type 0 where
+record Silent (old : CoreState) (o : Outcome) : Type 0 where
   pub none : answered_at old o ≡ []
   pub same : ticket_replies (answered_at old o) ≡ answers o
 
-silent : (old : World) (o : Outcome) → answers o ≡ [] → Silent old o
+silent : (old : CoreState) (o : Outcome) → answers o ≡ [] → Silent old o
 silent old o e = record { none = none_answered old o e; same = ap ticket_replies (none_answered old o e) ∙ sym e }
 
 -- What an event answers stands before what is logged then.
-pub record Ordered (old new : World) (p : Passed) (o : Outcome) : Type 0 where
+pub record Ordered (old new : CoreState) (p : Passed) (o : Outcome) : Type 0 where
   pub order : old.logged ++ p.gone ≡ answered_at old o ++ new.logged
   pub same : ticket_replies (answered_at old o) ≡ answers o
 
-quiet : (old new : World) (p : Passed) (o : Outcome) → answers o ≡ p.told → p.gone ≡ [] → p.told ≡ [] → new.logged ≡ old.logged
+quiet : (old new : CoreState) (p : Passed) (o : Outcome) → answers o ≡ p.told → p.gone ≡ [] → p.told ≡ [] → new.logged ≡ old.logged
     → Ordered old new p o
 quiet old new p o told none quietly still =
     let k = silent old o (told ∙ quietly) in
@@ -57,7 +57,7 @@ quiet old new p o told none quietly still =
       same = k.same;
     }
 
-pub move_ordered : (g : Geometry) (old new : World) (p : Passed) (o : Outcome) → answers o ≡ p.told → Move g old new p
+pub move_ordered : (g : Geometry) (old new : CoreState) (p : Passed) (o : Outcome) → answers o ≡ p.told → Move g old new p
     → Ordered old new p o
 move_ordered g old new p o told (Stays s e) = quiet old new p o told (ap (λ p. p.gone) e) (ap (λ p. p.told) e) s.logged
 move_ordered g old new p o told (Arrives m fits is e) = quiet old new p o told (ap (λ p. p.gone) e) (ap (λ p. p.told) e)
@@ -87,21 +87,21 @@ pub run_in_order : (g : Geometry) (old : Hands) (events : List Event) → IsLega
 run_in_order g old [] legal = append-nil old.core.logged
 run_in_order g old (event ∷ events) legal =
     let gone = goes old.core event.step event.rose in
-    let later = went event.world events in
+    let later = went event.state_after events in
     let now = answered_at old.core event.outcome in
     sym (append_assoc old.core.logged gone later)
-    ∙ ap (λ l. l ++ later) (move_ordered g old.core event.world.core _ event.outcome refl (moves g old event legal.0)).order
-    ∙ append_assoc now event.world.core.logged later
-    ∙ ap (λ l. now ++ l) (run_in_order g event.world events legal.1)
-    ∙ sym (append_assoc now (answered_messages event.world events) (last event.world events).core.logged)
+    ∙ ap (λ l. l ++ later) (move_ordered g old.core event.state_after.core _ event.outcome refl (moves g old event legal.0)).order
+    ∙ append_assoc now event.state_after.core.logged later
+    ∙ ap (λ l. now ++ l) (run_in_order g event.state_after events legal.1)
+    ∙ sym (append_assoc now (answered_messages event.state_after events) (last event.state_after events).core.logged)
 
 pub run_told : (g : Geometry) (old : Hands) (events : List Event) → IsLegal g old events
     → ticket_replies (answered_messages old events) ≡ answered events
 run_told g old [] legal = refl
 run_told g old (event ∷ events) legal =
-    let k = move_ordered g old.core event.world.core _ event.outcome refl (moves g old event legal.0) in
-    said-append (answered_at old.core event.outcome) (answered_messages event.world events)
-    ∙ (λ i. k.same i ++ run_told g event.world events legal.1 i)
+    let k = move_ordered g old.core event.state_after.core _ event.outcome refl (moves g old event legal.0) in
+    said-append (answered_at old.core event.outcome) (answered_messages event.state_after events)
+    ∙ (λ i. k.same i ++ run_told g event.state_after events legal.1 i)
 
 -- Whatever is left later begins with the changes that were answered.
 pub answered_left : (g : Geometry) (old : Hands) (events : List Event) (k after : ℕ) (ms : List Msg) → IsLegal g old events

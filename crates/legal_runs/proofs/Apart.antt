@@ -8,8 +8,8 @@ use Rattle.affinity.specs.declared.geometry.Geometry.{Geometry}
 use Rattle.affinity.proofs.Paths.{unrelated_turned}
 use Rattle.messages.specs.Messages.{place}
 use Rattle.meaning.specs.Serial.{reply_to}
-use Rattle.legal_runs.specs.World.{Entry, Replied, World, entry, entries, held, are_related_entries}
-use Rattle.legal_runs.specs.Eligible.{is_clear, has_room, is_eligible, next_eligible}
+use Rattle.legal_runs.specs.CoreState.{Entry, Replied, CoreState, entry, entries, held, are_related_entries}
+use Rattle.legal_runs.specs.Eligible.{is_conflict_free, has_room, is_eligible, next_eligible}
 use Rattle.legal_runs.specs.Events.{grant, give_back, out_with, log}
 use Rattle.legal_runs.specs.Laws.{AreApart}
 use Rattle.legal_runs.proofs.Lists.{all_none, all_weaker, before_push, before_moved, picked}
@@ -21,26 +21,26 @@ pub entries-append : (as' bs : List Replied) → entries (as' ++ bs) ≡ entries
 entries-append [] bs = refl
 entries-append (a ∷ as') bs = ap (λ l. entry a ∷ l) (entries-append as' bs)
 
-pub length_held : (w : World) → length (held w) ≡ length w.logged + (length w.ran + length w.out)
+pub length_held : (w : CoreState) → length (held w) ≡ length w.logged + (length w.ran + length w.out)
 length_held w = length-append (entries w.logged) (entries w.ran ++ w.out)
     ∙ (λ i. length-map w.logged entry i + (length-append (entries w.ran) w.out ∙ ap (λ n. n + length w.out) (length-map w.ran entry)) i)
 
 -- what goes out is at a place unrelated to those of all that are held
-pub granted_is_free : (g : Geometry) (w : World) (found : Entry × List Entry) → next_eligible g w ≡ Some found
+pub granted_is_free : (g : Geometry) (w : CoreState) (found : Entry × List Entry) → next_eligible g w ≡ Some found
     → AllByRecursion (λ d. are_related_entries g found.0 d ≡ false) (held w)
 granted_is_free g w found h =
     let k = picked (is_eligible g w) w.waiting found h in
     let e = found.0 in
-    let clear = (and_parts (is_clear g w e) (has_room w e) k.passes).0 in
+    let clear = (and_parts (is_conflict_free g w e) (has_room w e) k.passes).0 in
     let free = (and_parts (not (list_any (are_related_entries g e) (held w))) (not (list_any
     (λ d. nat_lt d.0 e.0 && are_related_entries g e d) w.waiting)) clear).0 in
     all_none (are_related_entries g e) (held w) (not-true _ free)
 
-pub held_grant : (w : World) (found : Entry × List Entry) → held (grant w found) ≡ held w ++ found.0 ∷ []
+pub held_grant : (w : CoreState) (found : Entry × List Entry) → held (grant w found) ≡ held w ++ found.0 ∷ []
 held_grant w found = ap (λ l. entries w.logged ++ l) (sym (append_assoc (entries w.ran) w.out (found.0 ∷ [])))
     ∙ sym (append_assoc (entries w.logged) (entries w.ran ++ w.out) (found.0 ∷ []))
 
-pub grant_apart : (g : Geometry) (w : World) (found : Entry × List Entry) → next_eligible g w ≡ Some found → AreApart g (held w)
+pub grant_apart : (g : Geometry) (w : CoreState) (found : Entry × List Entry) → next_eligible g w ≡ Some found → AreApart g (held w)
     → AreApart g (held (grant w found))
 grant_apart g w found h apart =
     let e = found.0 in
@@ -48,7 +48,7 @@ grant_apart g w found h apart =
     (before_push (λ e d. are_related_entries g e d ≡ false) (held w) e apart (all_weaker (λ d. are_related_entries g e d ≡ false) (λ d. are_related_entries g d e ≡ false)
     (λ d. apart_turned g e d) (held w) (granted_is_free g w found h)))
 
-pub back_apart : (g : Geometry) (w : World) (ticket : ℕ) (found : Entry × List Entry) → out_with w ticket ≡ Some found
+pub back_apart : (g : Geometry) (w : CoreState) (ticket : ℕ) (found : Entry × List Entry) → out_with w ticket ≡ Some found
     → AreApart g (held w) → AreApart g (held (give_back g w found))
 back_apart g w ticket found h apart =
     let k = picked (λ d. d.0 == ticket) w.out found h in
@@ -60,11 +60,11 @@ back_apart g w ticket found h apart =
     (subst (AreApart g) split apart) in
     subst (AreApart g)
     (append_assoc L R _ ∙ ap (λ l. L ++ l) (sym (append_assoc R (e ∷ []) (k.before ++ k.behind)) ∙
-    (λ i. sym (entries-append w.ran ((e.0, e.1, reply_to g w.settled e.1) ∷ [])) i ++ sym k.rest i)))
+    (λ i. sym (entries-append w.ran ((e.0, e.1, reply_to g w.committed e.1) ∷ [])) i ++ sym k.rest i)))
     moved
 
 -- A log moves nothing in the row of the held messages.
-pub log_held : (g : Geometry) (w : World) (n : ℕ) → held (log g w n) ≡ held w
+pub log_held : (g : Geometry) (w : CoreState) (n : ℕ) → held (log g w n) ≡ held w
 log_held g w n =
     ap (λ l. l ++ (entries (drop n w.ran) ++ w.out)) (entries-append w.logged (take n w.ran))
     ∙ append_assoc (entries w.logged) (entries (take n w.ran)) _

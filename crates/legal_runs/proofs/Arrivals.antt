@@ -9,17 +9,17 @@ use Rattle.affinity.specs.declared.geometry.Geometry.{Geometry}
 use Rattle.messages.specs.declared.Reply.{Reply}
 use Rattle.meaning.specs.State.{State}
 use Rattle.meaning.specs.Serial.{reply_to, fold}
-use Rattle.meaning.specs.Order.{told, messages, by_ticket, IsBefore}
+use Rattle.meaning.specs.Order.{serial_replies, messages, by_ticket, IsBefore}
 use Rattle.meaning.proofs.ByTicket.{by_ticket-ascending, AreAscending as AreEachLess}
-use Rattle.legal_runs.specs.World.{Entry, Replied, World, entries, held, are_related_entries}
-use Rattle.legal_runs.specs.Eligible.{is_clear, has_room, is_eligible}
+use Rattle.legal_runs.specs.CoreState.{Entry, Replied, CoreState, entries, held, are_related_entries}
+use Rattle.legal_runs.specs.Eligible.{is_conflict_free, has_room, is_eligible}
 use Rattle.legal_runs.specs.Events.{Hands, Event, grant, give_back, log}
 use Rattle.legal_runs.specs.Runs.{IsLegal, last, goes, arrives, went, arrived, answered}
-use Rattle.legal_runs.specs.Laws.{AreApart, AreAscending, EachBefore, IsSoundWorld, IsIdle, ticket_replies}
+use Rattle.legal_runs.specs.Laws.{AreApart, AreAscending, EachBefore, IsSoundCoreState, IsIdle, ticket_replies}
 use Rattle.legal_runs.proofs.Lists.{picked, all_join, all_front, all_none, all_permuted, all_weaker, before_back, before_front, before_moved, before_one, before_past, before_push, before_join}
 use Rattle.legal_runs.proofs.Apart.{apart_turned, entries-append}
 use Rattle.legal_runs.proofs.Moves.{Passed, Move, Stays, Arrives, Grants, Backs, Logs, Answers, moves, passed}
-use Rattle.legal_runs.proofs.Told.{told-append, IsIn, in_left, IsAsGood, good_itself, good_on, good_push, good_moved}
+use Rattle.legal_runs.proofs.SerialReplies.{serial_replies-append, IsIn, in_left, IsAsGood, good_itself, good_on, good_push, good_moved}
 use Rattle.legal_runs.proofs.Sound.{move_sound}
 use Rattle.legal_runs.proofs.Idle.{idle_sound, none_out, none_ran, none_logged}
 use Rattle.legal_runs.proofs.Runs.{run_follows, run_answers}
@@ -27,7 +27,7 @@ use Rattle.legal_runs.proofs.Runs.{run_follows, run_answers}
 -- ---- a run leaves its messages in a row that is as good as that of their arrivals
 
 -- all that arrived: what was logged so far, then what ran, is out and waits
-abbrev pub row : World → List Replied → List Entry
+abbrev pub row : CoreState → List Replied → List Entry
 row w past = entries past ++ (entries w.ran ++ (w.out ++ w.waiting))
 
 or_false : (a b : Bool) → a ≡ false → b ≡ false → (a || b) ≡ false
@@ -49,7 +49,7 @@ pub record KeepsInStep (g : Geometry) (AreInStep : List Entry → List Entry →
 
 module _ (g : Geometry) (AreInStep : List Entry → List Entry → Type 0) (keeps : KeepsInStep g AreInStep) where
   -- where nothing is logged and nothing comes
-  quiet : (new : World) (past : List Replied) (all : List Entry) (gone : List Replied) (come : List Entry) → gone ≡ [] → come ≡ []
+  quiet : (new : CoreState) (past : List Replied) (all : List Entry) (gone : List Replied) (come : List Entry) → gone ≡ [] → come ≡ []
       → AreInStep all (row new past) → AreInStep (all ++ come) (row new (past ++ gone))
   quiet new past all gone come e f good =
       subst (λ c. AreInStep (all ++ c) (row new (past ++ gone))) (sym f)
@@ -57,7 +57,7 @@ module _ (g : Geometry) (AreInStep : List Entry → List Entry → Type 0) (keep
       (subst (λ l. AreInStep l (row new (past ++ []))) (sym (append-nil all))
       (subst (λ l. AreInStep all (row new l)) (sym (append-nil past)) good)))
 
-  one_more : (w : World) (past : List Replied) (e : Entry)
+  one_more : (w : CoreState) (past : List Replied) (e : Entry)
       → row w past ++ e ∷ [] ≡ entries past ++ (entries w.ran ++ (w.out ++ (w.waiting ++ e ∷ [])))
   one_more w past e =
       append_assoc (entries past) _ (e ∷ [])
@@ -65,7 +65,7 @@ module _ (g : Geometry) (AreInStep : List Entry → List Entry → Type 0) (keep
       (λ l. entries w.ran ++ l) (append_assoc w.out w.waiting (e ∷ [])))
 
   -- a related one with a smaller ticket doesn't wait
-  clear_of : (w : World) (e : Entry) (us : List Entry) → list_any (λ d. nat_lt d.0 e.0 && are_related_entries g e d) us ≡ false
+  clear_of : (w : CoreState) (e : Entry) (us : List Entry) → list_any (λ d. nat_lt d.0 e.0 && are_related_entries g e d) us ≡ false
       → AllByRecursion (λ d. d.0 < e.0) us → AllByRecursion (λ d. are_related_entries g e d ≡ false) us
   clear_of w e [] h j = tt
   clear_of w e (u ∷ us) h j =
@@ -75,8 +75,8 @@ module _ (g : Geometry) (AreInStep : List Entry → List Entry → Type 0) (keep
         clear_of w e us (not_any (λ d. nat_lt d.0 e.0 && are_related_entries g e d) us k.1) j.1,
       )
 
-  move_in_step : (old new : World) (p : Passed) (past : List Replied) (all : List Entry)
-      → Move g old new p → IsSoundWorld g old → AreInStep all (row old past) → AreInStep (all ++ p.come) (row new (past ++ p.gone))
+  move_in_step : (old new : CoreState) (p : Passed) (past : List Replied) (all : List Entry)
+      → Move g old new p → IsSoundCoreState g old → AreInStep all (row old past) → AreInStep (all ++ p.come) (row new (past ++ p.gone))
   move_in_step old new p past all (Stays s e) h good =
       quiet new past all p.gone p.come (ap (λ p. p.gone) e) (ap (λ p. p.come) e)
       (subst (AreInStep all) (λ i. entries past ++ (entries (sym s.ran i) ++ (sym s.out i ++ sym s.waiting i))) good)
@@ -92,7 +92,7 @@ module _ (g : Geometry) (AreInStep : List Entry → List Entry → Type 0) (keep
       let P = entries past in
       let R = entries old.ran in
       let waits_before = λ (d : Entry). nat_lt d.0 one.0 && are_related_entries g one d in
-      let clear = (and_parts (is_clear g old one) (has_room old one) k.passes).0 in
+      let clear = (and_parts (is_conflict_free g old one) (has_room old one) k.passes).0 in
       let early = (and_parts (not (list_any (are_related_entries g one) (held old))) (not (list_any
       (λ d. nat_lt d.0 one.0 && are_related_entries g one d) old.waiting)) clear).1 in
       let none = any_front waits_before k.before (one ∷ k.behind) (ap (list_any waits_before) (sym k.whole) ∙ not-true _ early) in
@@ -121,12 +121,12 @@ module _ (g : Geometry) (AreInStep : List Entry → List Entry → Type 0) (keep
       let from : row old past ≡ (P ++ R) ++ (k.before ++ one ∷ (k.behind ++ old.waiting)) =
       ap (λ o. P ++ (R ++ (o ++ old.waiting))) k.whole ∙ ap (λ l. P ++ (R ++ l)) (append_assoc k.before (one ∷ k.behind) old.waiting)
       ∙ sym (append_assoc P R _) in
-      let back : R ++ one ∷ [] ≡ entries (old.ran ++ (one.0, one.1, reply_to g old.settled one.1)
-      ∷ []) = sym (entries-append old.ran ((one.0, one.1, reply_to g old.settled one.1) ∷ [])) in
+      let back : R ++ one ∷ [] ≡ entries (old.ran ++ (one.0, one.1, reply_to g old.committed one.1)
+      ∷ []) = sym (entries-append old.ran ((one.0, one.1, reply_to g old.committed one.1) ∷ [])) in
       let to : (P ++ R) ++ one ∷ (k.before ++ (k.behind ++ old.waiting)) ≡ row (give_back g old found) past =
       append_assoc P R _ ∙ ap (λ l. P ++ l) (sym (append_assoc R (one ∷ []) _) ∙
       (λ i. back i ++ (sym (append_assoc k.before k.behind old.waiting) i)) ∙ ap
-      (λ o. entries (old.ran ++ (one.0, one.1, reply_to g old.settled one.1) ∷ []) ++ (o ++ old.waiting)) (sym k.rest)) in
+      (λ o. entries (old.ran ++ (one.0, one.1, reply_to g old.committed one.1) ∷ []) ++ (o ++ old.waiting)) (sym k.rest)) in
       quiet new past all p.gone p.come (ap (λ p. p.gone) e) (ap (λ p. p.come) e) (subst (λ w. AreInStep all (row w past)) (sym is)
       (subst (AreInStep all) to (keeps.moved all (P ++ R) k.before one (k.behind ++ old.waiting) free
       (subst (AreInStep all) from good))))
@@ -145,7 +145,7 @@ module _ (g : Geometry) (AreInStep : List Entry → List Entry → Type 0) (keep
       quiet new past all p.gone p.come (ap (λ p. p.gone) e) (ap (λ p. p.come) e) (subst (λ w. AreInStep all (row w past)) (sym is) good)
 
   run_in_step : (old : Hands) (events : List Event) (past : List Replied) (all : List Entry) → IsLegal g old events
-      → IsSoundWorld g old.core → AreInStep all (row old.core past)
+      → IsSoundCoreState g old.core → AreInStep all (row old.core past)
       → AreInStep (all ++ arrived events) (row (last old events).core (past ++ went old events))
   run_in_step old [] past all legal h good = quiet old.core past all [] [] refl refl good
   run_in_step old (event ∷ events) past all legal h good =
@@ -153,12 +153,12 @@ module _ (g : Geometry) (AreInStep : List Entry → List Entry → Type 0) (keep
       let p = passed old.core event.step event.outcome event.rose in
       let gone = goes old.core event.step event.rose in
       let come = arrives event.step event.outcome in
-      let k = run_in_step event.world events (past ++ gone) (all
-      ++ come) legal.1 (move_sound g old.core event.world.core p m h) (move_in_step old.core event.world.core p past all m h good) in
-      subst (λ l. AreInStep l (row (last event.world events).core (past
-      ++ (gone ++ went event.world events)))) (append_assoc all come (arrived events))
+      let k = run_in_step event.state_after events (past ++ gone) (all
+      ++ come) legal.1 (move_sound g old.core event.state_after.core p m h) (move_in_step old.core event.state_after.core p past all m h good) in
+      subst (λ l. AreInStep l (row (last event.state_after events).core (past
+      ++ (gone ++ went event.state_after events)))) (append_assoc all come (arrived events))
       (subst (λ l. AreInStep ((all ++ come)
-      ++ arrived events) (row (last event.world events).core l)) (append_assoc past gone (went event.world events)) k)
+      ++ arrived events) (row (last event.state_after events).core l)) (append_assoc past gone (went event.state_after events)) k)
 
   -- From none on, all that arrived and the row are in step.
   pub arrivals_in_step : (old : Hands) (events : List Event) → IsLegal g old events → IsIdle old.core → AreInStep [] []
@@ -209,17 +209,17 @@ arrivals_reordered g old events legal idle =
 abbrev IsFrom : ℕ → Entry → Type 0
 IsFrom n e = n ≤ e.0
 
-record GivenFrom (old new : World) (come : List Entry) : Type 0 where
+record GivenFrom (old new : CoreState) (come : List Entry) : Type 0 where
   grows : old.next ≤ new.next
   ascending : AreAscending come
   from : AllByRecursion (IsFrom old.next) come
   below : AllByRecursion (λ e. e.0 < new.next) come
 
-none_come : (old new : World) (come : List Entry) → come ≡ [] → new.next ≡ old.next → GivenFrom old new come
+none_come : (old new : CoreState) (come : List Entry) → come ≡ [] → new.next ≡ old.next → GivenFrom old new come
 none_come old new come none next = subst (GivenFrom old new) (sym none)
     (record { grows = omega (arith, next); ascending = tt; from = tt; below = tt })
 
-move_given : (g : Geometry) (old new : World) (p : Passed) → Move g old new p → GivenFrom old new p.come
+move_given : (g : Geometry) (old new : CoreState) (p : Passed) → Move g old new p → GivenFrom old new p.come
 move_given g old new p (Stays s e) = none_come old new p.come (ap (λ p. p.come) e) s.next
 move_given g old new p (Arrives m fits is e) =
     let next = ap (λ w. w.next) is in
@@ -238,16 +238,16 @@ run_given : (g : Geometry) (old : Hands) (events : List Event) → IsLegal g old
 run_given g old [] legal = record { ascending = tt; from = tt }
 run_given g old (event ∷ events) legal =
     let come = arrives event.step event.outcome in
-    let k = move_given g old.core event.world.core _ (moves g old event legal.0) in
-    let j = run_given g event.world events legal.1 in
+    let k = move_given g old.core event.state_after.core _ (moves g old event legal.0) in
+    let j = run_given g event.state_after events legal.1 in
     let grows = k.grows in
     record {
       ascending = before_join (λ e d. e.0 < d.0) come (arrived events) k.ascending j.ascending
-          (all_weaker (λ e. e.0 < event.world.core.next) (λ e. AllByRecursion (λ d. e.0 < d.0) (arrived events))
-          (λ e lt. all_weaker (IsFrom event.world.core.next) (λ d. e.0 < d.0)
+          (all_weaker (λ e. e.0 < event.state_after.core.next) (λ e. AllByRecursion (λ d. e.0 < d.0) (arrived events))
+          (λ e lt. all_weaker (IsFrom event.state_after.core.next) (λ d. e.0 < d.0)
           (λ d from. omega (arith, lt, from)) (arrived events) j.from) come k.below);
       from = all_join (IsFrom old.core.next) come (arrived events) k.from
-          (all_weaker (IsFrom event.world.core.next) (IsFrom old.core.next) (λ d from. omega (arith, grows, from)) (arrived events) j.from);
+          (all_weaker (IsFrom event.state_after.core.next) (IsFrom old.core.next) (λ d from. omega (arith, grows, from)) (arrived events) j.from);
     }
 
 -- The tickets of the messages that arrive in a run ascend.
@@ -263,36 +263,36 @@ pub arrived_by_ticket : (g : Geometry) (old : Hands) (events : List Event) → I
     → by_ticket (arrived events) ≡ arrived events
 arrived_by_ticket g old events legal = by_ticket-ascending (arrived events) (each_less (arrived events) (run_ascending g old events legal))
 
--- ---- from a world in which nothing waits and nothing is held
+-- ---- from a core state in which nothing waits and nothing is held
 
-module _ (g : Geometry) (old : Hands) (events : List Event) (legal : IsLegal g old events) (h : IsSoundWorld g old.core)
+module _ (g : Geometry) (old : Hands) (events : List Event) (legal : IsLegal g old events) (h : IsSoundCoreState g old.core)
     (idle : IsIdle old.core) where
-  good : IsAsGood g old.core.settled (by_ticket (arrived events)) (row (last old events).core (went old events))
+  good : IsAsGood g old.core.committed (by_ticket (arrived events)) (row (last old events).core (went old events))
   good =
-      let x = old.core.settled in
+      let x = old.core.committed in
       subst (λ l. IsAsGood g x l (row (last old events).core (went old events))) (sym (arrived_by_ticket g old events legal))
       (arrivals_in_step g (IsAsGood g x) (good_in_step g x) old events legal idle (good_itself g x []))
 
   -- Each reply to a message that the run logs is that of the serial server to the messages by ticket.
-  pub logged_by_ticket : (p : ℕ × Reply) → IsIn p (ticket_replies (went old events)) → IsIn p (told g old.core.settled (by_ticket (arrived events)))
+  pub logged_by_ticket : (p : ℕ × Reply) → IsIn p (ticket_replies (went old events)) → IsIn p (serial_replies g old.core.committed (by_ticket (arrived events)))
   logged_by_ticket p is =
-      let x = old.core.settled in
-      good.tells p (subst (IsIn p) (sym (told-append g x (entries (went old events)) _)) (in_left p _ _
+      let x = old.core.committed in
+      good.tells p (subst (IsIn p) (sym (serial_replies-append g x (entries (went old events)) _)) (in_left p _ _
       (subst (IsIn p) (sym (run_follows g old events legal h).told) is)))
 
   -- So is each reply that it gives.
-  pub answered_by_ticket : (p : ℕ × Reply) → IsIn p (answered events) → IsIn p (told g old.core.settled (by_ticket (arrived events)))
+  pub answered_by_ticket : (p : ℕ × Reply) → IsIn p (answered events) → IsIn p (serial_replies g old.core.committed (by_ticket (arrived events)))
   answered_by_ticket p is =
       let all : ticket_replies (went old events) ≡ answered events ++ ticket_replies (last old events).core.logged =
       ap (λ l. ticket_replies l ++ ticket_replies (went old events)) (sym (none_logged old.core idle)) ∙ run_answers g old events legal in
       logged_by_ticket p (subst (IsIn p) (sym all) (in_left p (answered events) _ is))
 
-  -- Where all was answered in the end, the settled state is the serial one too.
-  pub settled_by_ticket : IsIdle (last old events).core
-      → (last old events).core.settled ≡ fold g old.core.settled (messages (by_ticket (arrived events)))
-  settled_by_ticket ends =
+  -- Where all was answered in the end, the committed state is the serial one too.
+  pub committed_by_ticket : IsIdle (last old events).core
+      → (last old events).core.committed ≡ fold g old.core.committed (messages (by_ticket (arrived events)))
+  committed_by_ticket ends =
       let new = (last old events).core in
       let none : row new (went old events) ≡ entries (went old events) =
       (λ i. entries (went old events) ++ (entries (none_ran new ends i) ++ (none_out new ends i ++ ends.none_waits i)))
       ∙ append-nil (entries (went old events)) in
-      (run_follows g old events legal h).settled ∙ ap (λ l. fold g old.core.settled (messages l)) (sym none) ∙ sym good.state
+      (run_follows g old events legal h).committed ∙ ap (λ l. fold g old.core.committed (messages l)) (sym none) ∙ sym good.state

@@ -6,14 +6,14 @@ use Rattle.std.proofs.lemmas.Bool.{and_parts, ltb-true, lt-ltb, not-true, true�
 use Rattle.std.proofs.lemmas.List.Folds.{list_any-append}
 use Rattle.affinity.specs.declared.geometry.Geometry.{Geometry}
 use Rattle.meaning.specs.Serial.{reply_to}
-use Rattle.legal_runs.specs.World.{Entry, Replied, World, entry, entries, held, are_related_entries}
-use Rattle.legal_runs.specs.Eligible.{is_clear, has_room, is_eligible, next_eligible}
+use Rattle.legal_runs.specs.CoreState.{Entry, Replied, CoreState, entry, entries, held, are_related_entries}
+use Rattle.legal_runs.specs.Eligible.{is_conflict_free, has_room, is_eligible, next_eligible}
 use Rattle.legal_runs.specs.Events.{Hands, Event, IsAllowed, grant, give_back, out_with}
-use Rattle.legal_runs.specs.Laws.{AreAscending, IsSoundWorld, IsAnswered}
+use Rattle.legal_runs.specs.Laws.{AreAscending, IsSoundCoreState, IsAnswered}
 use Rattle.legal_runs.proofs.Lists.{all_back, all_none, before_back, before_one, picked}
 use Rattle.legal_runs.proofs.Apart.{apart_turned, entries-append, held_grant, log_held}
 use Rattle.legal_runs.proofs.Moves.{Passed, Move, Stays, Arrives, Grants, Backs, Logs, Answers, moves}
-use Rattle.legal_runs.proofs.Told.{IsIn, in_left, in_either}
+use Rattle.legal_runs.proofs.SerialReplies.{IsIn, in_left, in_either}
 
 module _ {A : Type 0} where
   pub all_at : (P : A → Type 0) (xs : List A) (x : A) → AllByRecursion P xs → IsIn x xs → P x
@@ -46,7 +46,7 @@ module _ (g : Geometry) (e : Entry) where
   later d lt = ap (λ b. b && are_related_entries g e d) (false_from_ne_true (nat_lt d.0 e.0)
       (λ h. let less = ltb-true d.0 e.0 h in absurd (omega (arith, lt, less))))
 
-  arrive_clears : (w : World) (d : Entry) → IsSoundWorld g w → IsIn e w.waiting → d.0 ≡ w.next
+  arrive_clears : (w : CoreState) (d : Entry) → IsSoundCoreState g w → IsIn e w.waiting → d.0 ≡ w.next
       → free (held w) (w.waiting ++ d ∷ []) ≡ free (held w) w.waiting
   arrive_clears w d h is next =
       let given = all_at (λ e. e.0 < w.next) w.waiting e (all_back (λ e. e.0 < w.next) w.out w.waiting h.given) is in
@@ -56,14 +56,14 @@ module _ (g : Geometry) (e : Entry) where
       ∙ or_nothing (list_any comes_before w.waiting))
 
   -- Where it is related to the one that goes, that one's ticket is the smaller one.
-  goes_first : (w : World) (found : Entry × List Entry) → IsSoundWorld g w → next_eligible g w ≡ Some found → IsIn e found.1
+  goes_first : (w : CoreState) (found : Entry × List Entry) → IsSoundCoreState g w → next_eligible g w ≡ Some found → IsIn e found.1
       → are_related_entries g e found.0 ≡ true → nat_lt found.0.0 e.0 ≡ true
   goes_first w found h first is touching =
       let k = picked (is_eligible g w) w.waiting found first in
       let one = found.0 in
       ⊎_elim
       (λ before.
-      let clear = (and_parts (is_clear g w one) (has_room w one) k.passes).0 in
+      let clear = (and_parts (is_conflict_free g w one) (has_room w one) k.passes).0 in
       let early = (and_parts (not (list_any (are_related_entries g one) (held w))) (not (list_any
       (λ d. nat_lt d.0 one.0 && are_related_entries g one d) w.waiting)) clear).1 in
       let waits : IsIn e w.waiting = subst (IsIn e) (sym k.whole) (in_left e k.before (one ∷ k.behind) before) in
@@ -89,8 +89,8 @@ module _ (g : Geometry) (e : Entry) where
   moved_over false false true b v first = refl
   moved_over false false false b v first = refl
 
-  grant_clears : (w : World) (found : Entry × List Entry) → IsSoundWorld g w → next_eligible g w ≡ Some found → IsIn e found.1
-      → is_clear g (grant w found) e ≡ is_clear g w e
+  grant_clears : (w : CoreState) (found : Entry × List Entry) → IsSoundCoreState g w → next_eligible g w ≡ Some found → IsIn e found.1
+      → is_conflict_free g (grant w found) e ≡ is_conflict_free g w e
   grant_clears w found h first is =
       let k = picked (is_eligible g w) w.waiting found first in
       let one = found.0 in
@@ -102,7 +102,7 @@ module _ (g : Geometry) (e : Entry) where
       ∙ ap (λ b. not (list_any (are_related_entries g e) (held w)) && not b) (sym (ap (list_any comes_before) k.whole
       ∙ list_any-append comes_before k.before (one ∷ k.behind)))
 
-  back_clears : (w : World) (ticket : ℕ) (found : Entry × List Entry) → out_with w ticket ≡ Some found
+  back_clears : (w : CoreState) (ticket : ℕ) (found : Entry × List Entry) → out_with w ticket ≡ Some found
       → list_any (are_related_entries g e) (held (give_back g w found)) ≡ list_any (are_related_entries g e) (held w)
   back_clears w ticket found one_out =
       let k = picked (λ d. d.0 == ticket) w.out found one_out in
@@ -110,8 +110,8 @@ module _ (g : Geometry) (e : Entry) where
       let p = are_related_entries g e in
       let L = entries w.logged in
       let R = entries w.ran in
-      let back : entries (w.ran ++ (one.0, one.1, reply_to g w.settled one.1) ∷ []) ≡ R ++ one
-      ∷ [] = entries-append w.ran ((one.0, one.1, reply_to g w.settled one.1) ∷ []) in
+      let back : entries (w.ran ++ (one.0, one.1, reply_to g w.committed one.1) ∷ []) ≡ R ++ one
+      ∷ [] = entries-append w.ran ((one.0, one.1, reply_to g w.committed one.1) ∷ []) in
       let now : held (give_back g w found) ≡ L ++ (R ++ one ∷ (k.before ++ k.behind)) = (λ i. L ++ (back i ++ k.rest i)) ∙ ap
       (λ l. L ++ l) (append_assoc R (one ∷ []) (k.before ++ k.behind)) in
       let was : held w ≡ L ++ (R ++ (k.before ++ one ∷ k.behind)) = ap (λ o. L ++ (R ++ o)) k.whole in
@@ -122,25 +122,25 @@ module _ (g : Geometry) (e : Entry) where
       (λ b. list_any p L || (list_any p R || b)) (sym (any_moved p k.before one k.behind))
       ∙ sym (parts (k.before ++ one ∷ k.behind)) ∙ ap (list_any p) (sym was)
 
-  move_clears : (old new : World) (p : Passed) → Move g old new p → IsSoundWorld g old → IsIn e old.waiting → IsIn e new.waiting
-      → ((a : Replied) → IsAnswered old new a → are_related_entries g e (entry a) ≡ false) → is_clear g new e ≡ is_clear g old e
+  move_clears : (old new : CoreState) (p : Passed) → Move g old new p → IsSoundCoreState g old → IsIn e old.waiting → IsIn e new.waiting
+      → ((a : Replied) → IsAnswered old new a → are_related_entries g e (entry a) ≡ false) → is_conflict_free g new e ≡ is_conflict_free g old e
   move_clears old new p (Stays s passes) h was is off = λ i. free (entries (s.logged i) ++ (entries (s.ran i) ++ s.out i)) (s.waiting i)
-  move_clears old new p (Arrives m fits same passes) h was is off = ap (λ w. is_clear g w e) same
+  move_clears old new p (Arrives m fits same passes) h was is off = ap (λ w. is_conflict_free g w e) same
       ∙ arrive_clears old (old.next, m) h was refl
   move_clears old new p (Grants found first same passes) h was is off =
-      ap (λ w. is_clear g w e) same ∙ grant_clears old found h first (subst (λ w. IsIn e w.waiting) same is)
+      ap (λ w. is_conflict_free g w e) same ∙ grant_clears old found h first (subst (λ w. IsIn e w.waiting) same is)
   move_clears old new p (Backs ticket found one_out same passes) h was is off =
-      ap (λ w. is_clear g w e) same ∙ ap (λ b. not b && not (list_any comes_before old.waiting)) (back_clears old ticket found one_out)
-  move_clears old new p (Logs n same passes) h was is off = ap (λ w. is_clear g w e) same ∙ ap (λ l. free l old.waiting) (log_held g old n)
+      ap (λ w. is_conflict_free g w e) same ∙ ap (λ b. not b && not (list_any comes_before old.waiting)) (back_clears old ticket found one_out)
+  move_clears old new p (Logs n same passes) h was is off = ap (λ w. is_conflict_free g w e) same ∙ ap (λ l. free l old.waiting) (log_held g old n)
   move_clears old new p (Answers a rest front same passes) h was is off =
       let gone = off a (front ∙ ap (λ w. a ∷ w.logged) (sym same)) in
-      ap (λ w. is_clear g w e) same
+      ap (λ w. is_conflict_free g w e) same
       ∙ ap (λ b. not (b || list_any (are_related_entries g e) (entries rest
       ++ (entries old.ran ++ old.out))) && not (list_any comes_before old.waiting)) (sym gone)
       ∙ ap (λ l. free (entries l ++ (entries old.ran ++ old.out)) old.waiting) (sym front)
 
-pub event_clears : (g : Geometry) (old : Hands) (event : Event) (e : Entry) → IsAllowed g old event → IsSoundWorld g old.core
-    → IsIn e old.core.waiting → IsIn e event.world.core.waiting
-    → ((a : Replied) → IsAnswered old.core event.world.core a → are_related_entries g e (entry a) ≡ false)
-    → is_clear g event.world.core e ≡ is_clear g old.core e
-event_clears g old event e allowed h was is off = move_clears g e old.core event.world.core _ (moves g old event allowed) h was is off
+pub event_clears : (g : Geometry) (old : Hands) (event : Event) (e : Entry) → IsAllowed g old event → IsSoundCoreState g old.core
+    → IsIn e old.core.waiting → IsIn e event.state_after.core.waiting
+    → ((a : Replied) → IsAnswered old.core event.state_after.core a → are_related_entries g e (entry a) ≡ false)
+    → is_conflict_free g event.state_after.core e ≡ is_conflict_free g old.core e
+event_clears g old event e allowed h was is off = move_clears g e old.core event.state_after.core _ (moves g old event allowed) h was is off

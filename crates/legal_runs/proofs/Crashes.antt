@@ -4,18 +4,18 @@ use Rattle.affinity.specs.declared.geometry.Geometry.{Geometry}
 use Rattle.messages.specs.declared.Msg.{Msg}
 use Rattle.meaning.specs.State.{State}
 use Rattle.meaning.specs.Serial.{fold}
-use Rattle.legal_runs.specs.World.{Replied}
+use Rattle.legal_runs.specs.CoreState.{Replied}
 use Rattle.legal_runs.specs.Events.{Hands, Event}
 use Rattle.legal_runs.specs.Runs.{IsLegal, last, appended, goes, journal, went}
 use Rattle.legal_runs.specs.Crash.{in_doubt, IsLogAfter, IsLeftSince}
-use Rattle.legal_runs.specs.Laws.{IsSoundWorld}
-use Rattle.legal_runs.proofs.Told.{fold-joined}
+use Rattle.legal_runs.specs.Laws.{IsSoundCoreState}
+use Rattle.legal_runs.proofs.SerialReplies.{fold-joined}
 use Rattle.legal_runs.proofs.Runs.{run_journal}
 
 pub legal_first : (g : Geometry) (old : Hands) (events : List Event) (k : ℕ) → IsLegal g old events → IsLegal g old (take k events)
 legal_first g old events zero legal = tt
 legal_first g old [] (suc k) legal = tt
-legal_first g old (event ∷ events) (suc k) legal = (legal.0, legal_first g event.world events k legal.1)
+legal_first g old (event ∷ events) (suc k) legal = (legal.0, legal_first g event.state_after events k legal.1)
 
 -- the first events append a beginning of what more of them append
 pub journal_first : (old : Hands) (events : List Event) (k after : ℕ) → k ≤ after
@@ -24,9 +24,9 @@ journal_first old events zero after le = (journal old (take after events), refl)
 journal_first old events (suc k) zero le = absurd (omega (arith, le))
 journal_first old [] (suc k) (suc after) le = ([], refl)
 journal_first old (event ∷ events) (suc k) (suc after) le =
-    let j = journal_first event.world events k after (omega (arith, le)) in
+    let j = journal_first event.state_after events k after (omega (arith, le)) in
     let now = appended old.core event.step event.rose in
-    (j.0, ap (λ l. now ++ l) j.1 ∙ sym (append_assoc now (journal event.world (take k events)) j.0))
+    (j.0, ap (λ l. now ++ l) j.1 ∙ sym (append_assoc now (journal event.state_after (take k events)) j.0))
 
 -- and log a beginning of what more of them log
 pub went_first : (old : Hands) (events : List Event) (k after : ℕ) → k ≤ after
@@ -35,27 +35,27 @@ went_first old events zero after le = (went old (take after events), refl)
 went_first old events (suc k) zero le = absurd (omega (arith, le))
 went_first old [] (suc k) (suc after) le = ([], refl)
 went_first old (event ∷ events) (suc k) (suc after) le =
-    let j = went_first event.world events k after (omega (arith, le)) in
+    let j = went_first event.state_after events k after (omega (arith, le)) in
     let now = goes old.core event.step event.rose in
-    (j.0, ap (λ l. now ++ l) j.1 ∙ sym (append_assoc now (went event.world (take k events)) j.0))
+    (j.0, ap (λ l. now ++ l) j.1 ∙ sym (append_assoc now (went event.state_after (take k events)) j.0))
 
 -- Whatever is left, the log begins with all that was appended before.
 pub left_begins : (g : Geometry) (old : Hands) (events : List Event) (k : ℕ) (x : State) → IsLeftSince g old events k x
-    → (rest : List Msg) × (x ≡ fold g old.core.settled (journal old (take k events) ++ rest))
+    → (rest : List Msg) × (x ≡ fold g old.core.committed (journal old (take k events) ++ rest))
 left_begins g old events k x left =
     let j = journal_first old events k left.after left.since in
     let rest = take left.is_log.some (in_doubt (last old (take left.after events)).core (drop left.after events)) in (
       j.0 ++ rest,
-      left.state ∙ ap (fold g old.core.settled) (left.is_log.is ∙ ap (λ l. l ++ rest) j.1
+      left.state ∙ ap (fold g old.core.committed) (left.is_log.is ∙ ap (λ l. l ++ rest) j.1
           ∙ append_assoc (journal old (take k events)) j.0 rest),
     )
 
--- It is the settled state with the first so many of the messages in doubt.
-pub left_is_settled : (g : Geometry) (old : Hands) (events : List Event) (k : ℕ) (ms : List Msg) → IsLegal g old events
-    → IsSoundWorld g old.core → (log : IsLogAfter old events k ms)
-    → fold g old.core.settled ms
-    ≡ fold g (last old (take k events)).core.settled (take log.some (in_doubt (last old (take k events)).core (drop k events)))
-left_is_settled g old events k ms legal h log =
+-- It is the committed state with the first so many of the messages in doubt.
+pub left_is_committed : (g : Geometry) (old : Hands) (events : List Event) (k : ℕ) (ms : List Msg) → IsLegal g old events
+    → IsSoundCoreState g old.core → (log : IsLogAfter old events k ms)
+    → fold g old.core.committed ms
+    ≡ fold g (last old (take k events)).core.committed (take log.some (in_doubt (last old (take k events)).core (drop k events)))
+left_is_committed g old events k ms legal h log =
     let rest = take log.some (in_doubt (last old (take k events)).core (drop k events)) in
-    ap (fold g old.core.settled) log.is ∙ fold-joined g old.core.settled (journal old (take k events)) rest
+    ap (fold g old.core.committed) log.is ∙ fold-joined g old.core.committed (journal old (take k events)) rest
     ∙ ap (λ y. fold g y rest) (sym (run_journal g old (take k events) (legal_first g old events k legal) h))

@@ -7,7 +7,7 @@ use Rattle.messages.specs.declared.Msg.{Msg}
 use Rattle.meaning.specs.Serial.{is_loggable}
 use Rattle.legal_runs.specs.declared.outcomes.Step.{Step}
 use Rattle.legal_runs.specs.declared.outcomes.Step.TheVariants as steps
-use Rattle.legal_runs.specs.World.{Replied, World}
+use Rattle.legal_runs.specs.CoreState.{Replied, CoreState}
 use Rattle.legal_runs.specs.Events.{Hands, Event, IsAllowed, loggable}
 use Rattle.legal_runs.specs.Runs.{IsLegal, last}
 use Rattle.legal_runs.specs.Crash.{in_doubt, next_batch, to_append}
@@ -57,13 +57,13 @@ first_changes (a ∷ ran) (suc k) =
     picked : Bool → List Replied → List Msg
     picked b l = map (λ (a : Replied). a.1) (cond b (a ∷ filter (λ a. is_loggable a.1 a.2) l) (filter (λ a. is_loggable a.1 a.2) l))
 
--- ---- each world, and each moment of a run
+-- ---- each core state, and each moment of a run
 
-pub no_doubts : (w : World) → w.doubt ≡ [] → DoubtsWhatRan w
+pub no_doubts : (w : CoreState) → w.doubt ≡ [] → DoubtsWhatRan w
 no_doubts w e = record { some = 0; at_most = omega arith; is = e }
 
 -- the first so many of those in doubt
-pub first_doubts : (w : World) → DoubtsWhatRan w → (k : ℕ) → AreOfFirst w.ran (take k w.doubt)
+pub first_doubts : (w : CoreState) → DoubtsWhatRan w → (k : ℕ) → AreOfFirst w.ran (take k w.doubt)
 first_doubts w h k =
     let first = first_changes (take h.some w.ran) k in
     let long = length-take-le h.some w.ran h.at_most in
@@ -73,7 +73,7 @@ first_doubts w h k =
       are = ap loggable (sym (take-take first.some h.some w.ran (omega (arith, first.at_most, long)))) ∙ first.are ∙ ap (take k) (sym h.is);
     }
 
-move_doubts_ran : (g : Geometry) (old new : World) (p : Passed) → Move g old new p → old.doubt ≡ [] → DoubtsWhatRan new
+move_doubts_ran : (g : Geometry) (old new : CoreState) (p : Passed) → Move g old new p → old.doubt ≡ [] → DoubtsWhatRan new
 move_doubts_ran g old new p (Stays s e) none = s.doubts (no_doubts old none)
 move_doubts_ran g old new p (Arrives m fits is e) none = no_doubts new (ap (λ w. w.doubt) is ∙ none)
 move_doubts_ran g old new p (Grants found first is e) none = no_doubts new (ap (λ w. w.doubt) is ∙ none)
@@ -83,10 +83,10 @@ move_doubts_ran g old new p (Answers a rest front is e) none = no_doubts new (ap
 
 -- Where the device has failed, what ran stays where it is; else nothing was in doubt.
 pub event_doubts_ran : (g : Geometry) (old : Hands) (event : Event) → IsAllowed g old event → DoubtsOnlyFailed old.core
-    → DoubtsWhatRan old.core → DoubtsWhatRan event.world.core
+    → DoubtsWhatRan old.core → DoubtsWhatRan event.state_after.core
 event_doubts_ran g old event allowed only h = by old.core.failed refl
   where
-    by : (b : Bool) → old.core.failed ≡ b → DoubtsWhatRan event.world.core
+    by : (b : Bool) → old.core.failed ≡ b → DoubtsWhatRan event.state_after.core
     by true failed =
         let s = failure_lasts g old event allowed failed in
         let long = ap length s.ran ∙ length-append old.core.ran s.back in
@@ -95,15 +95,15 @@ event_doubts_ran g old event allowed only h = by old.core.failed refl
           at_most = omega (arith, h.at_most, long);
           is = s.doubt ∙ h.is ∙ ap loggable (sym (ap (take h.some) s.ran ∙ take-append-le h.some old.core.ran s.back h.at_most));
         }
-    by false sound = move_doubts_ran g old.core event.world.core _ (moves g old event allowed) (only sound)
+    by false sound = move_doubts_ran g old.core event.state_after.core _ (moves g old event allowed) (only sound)
 
 pub run_doubts_ran : (g : Geometry) (old : Hands) (events : List Event) → IsLegal g old events → DoubtsOnlyFailed old.core
     → DoubtsWhatRan old.core → DoubtsWhatRan (last old events).core
 run_doubts_ran g old [] legal only h = h
 run_doubts_ran g old (event ∷ events) legal only h =
-    run_doubts_ran g event.world events legal.1 (event_doubts g old event legal.0 only) (event_doubts_ran g old event legal.0 only h)
+    run_doubts_ran g event.state_after events legal.1 (event_doubts g old event legal.0 only) (event_doubts_ran g old event legal.0 only h)
 
-to_append_ran : (w : World) (s : Step) (k : ℕ) → AreOfFirst w.ran (take k (to_append w s))
+to_append_ran : (w : CoreState) (s : Step) (k : ℕ) → AreOfFirst w.ran (take k (to_append w s))
 to_append_ran w (steps.Log n) k =
     let few = first_few n w.ran in
     let h = first_doubts (record w { doubt = loggable (take few.0 w.ran) }) (record { some = few.0; at_most = few.1; is = refl }) k in
@@ -118,12 +118,12 @@ to_append_ran w steps.Cut k = none_first w.ran k
 to_append_ran w steps.Piece k = none_first w.ran k
 to_append_ran w steps.Flip k = none_first w.ran k
 
-next_ran : (w : World) (events : List Event) (k : ℕ) → AreOfFirst w.ran (take k (next_batch w events))
+next_ran : (w : CoreState) (events : List Event) (k : ℕ) → AreOfFirst w.ran (take k (next_batch w events))
 next_ran w [] k = none_first w.ran k
 next_ran w (event ∷ events) k = to_append_ran w event.step k
 
 -- the first so many of those that a crash may leave
-pub crash_doubts_ran : (w : World) → DoubtsWhatRan w → (events : List Event) (k : ℕ) → AreOfFirst w.ran (take k (in_doubt w events))
+pub crash_doubts_ran : (w : CoreState) → DoubtsWhatRan w → (events : List Event) (k : ℕ) → AreOfFirst w.ran (take k (in_doubt w events))
 crash_doubts_ran w h events k =
     elim w.failed as (λ b. AreOfFirst w.ran (take k (if b then w.doubt else next_batch w events))) [
       | true ↦ first_doubts w h k

@@ -1,7 +1,7 @@
 -- What is in a list by recursion is an element of it, and the other way round; and what holds of all holds of it.
 use Rattle.std.proofs.Common.{◌≡◌, ℕ, ◌<◌, zero, suc, length, get_or, List, [], ◌∷◌, sym, subst, inl, inr, ⊎_elim, arith}
 use Rattle.std.specs.List.{AllByRecursion, Contains}
-use Rattle.legal_runs.proofs.Told.{IsIn}
+use Rattle.legal_runs.proofs.SerialReplies.{IsIn}
 
 in_at : {A : Type 0} (xs : List A) (x : A) (k : ℕ) → k < length xs → get_or xs k x ≡ x → IsIn x xs
 in_at [] x k lt e = absurd (omega arith)

@@ -20,22 +20,22 @@ use Rattle.legal_runs.specs.declared.outcomes.Outcome.TheVariants as outcomes
 use Rattle.legal_runs.specs.declared.outcomes.ArriveRefusal.TheVariants as arrivals
 use Rattle.legal_runs.specs.declared.outcomes.CoreFault.TheVariants as faults
 use Rattle.legal_runs.specs.declared.outcomes.PointRefusal.TheVariants as points
-use Rattle.legal_runs.specs.World.{Entry, World}
+use Rattle.legal_runs.specs.CoreState.{Entry, CoreState}
 use Rattle.legal_runs.specs.Events.{Hands, Empty, Event, IsAllowed, happens, fault, loggable, touches_device}
 use Rattle.legal_runs.specs.Runs.{IsLegal, IsRun, outcomes_of, journal, last, answered_changes}
 use Rattle.legal_runs.specs.Crash.{IsLeftSince, IsLogAfter, in_doubt}
 use Rattle.legal_runs.specs.Laws.{full, DoubtsWhatRan, IsSerialLog}
-use Rattle.legal_runs.specs.Lives.{Unopened, Ran, IsLeftByLives}
+use Rattle.legal_runs.specs.Incarnations.{Unopened, Ran, IsLeftByIncarnations}
 use Rattle.legal_runs.proofs.Elements.{contains_in, holds_of, in_contained}
 
 -- a core just opened
-abbrev opened : ℕ → State → World
+abbrev opened : ℕ → State → CoreState
 opened slots x = record {
   waiting = [];
   out = [];
   ran = [];
   logged = [];
-  settled = x;
+  committed = x;
   room = 4;
   next = 0;
   slots = slots;
@@ -61,10 +61,10 @@ with_file = fold small empty (MakeVol 0 0 ∷ Create 0 0 0 ∷ [])
 abbrev answers_of : Hands → List Step → List Outcome
 answers_of w ss = outcomes_of small 3 w ss
 
--- the events of steps during which the device doesn't fail, and the world after them
+-- the events of steps during which the device doesn't fail, and the core state after them
 abbrev events_of : Hands → List Step → List Event
 events_of w [] = []
-events_of w (s ∷ ss) = record { step = s; outcome = (happens small 3 w s).0; rose = false; world = (happens small 3 w s).1 }
+events_of w (s ∷ ss) = record { step = s; outcome = (happens small 3 w s).0; rose = false; state_after = (happens small 3 w s).1 }
     ∷ events_of (happens small 3 w s).1 ss
 
 abbrev after : Hands → List Step → Hands
@@ -241,14 +241,14 @@ a_point_with_nothing_to_write_touches_no_device = refl
 
 -- the event in which the device failed
 abbrev failed_log : Event
-failed_log = record { step = steps.Log 1; outcome = outcomes.LogFault faults.Device; rose = true; world = failed_one }
+failed_log = record { step = steps.Log 1; outcome = outcomes.LogFault faults.Device; rose = true; state_after = failed_one }
 
 failing_is_legal : IsLegal small ran_one (failed_log ∷ [])
 failing_is_legal = (record { touched = refl; core = refl; hands = refl }, tt)
 
 -- the same told of the log of a question
 abbrev false_alarm : Event
-false_alarm = record { step = steps.Log 1; outcome = outcomes.LogFault faults.Device; rose = true; world = failed_one }
+false_alarm = record { step = steps.Log 1; outcome = outcomes.LogFault faults.Device; rose = true; state_after = failed_one }
 
 a_log_that_touches_no_device_doesnt_fail : IsAllowed small (after (one_hand 1 empty) (steps.Arrive AskSummary ∷ steps.Grant
     ∷ steps.Run 0 ∷ steps.Back 0 ∷ [])) false_alarm
@@ -257,7 +257,7 @@ a_log_that_touches_no_device_doesnt_fail h = true≢false (sym h.touched)
 
 -- an outcome that tells of a failure where none was
 abbrev invented : Event
-invented = record { step = steps.Log 1; outcome = outcomes.LogFault faults.Device; rose = false; world = failed_one }
+invented = record { step = steps.Log 1; outcome = outcomes.LogFault faults.Device; rose = false; state_after = failed_one }
 
 logged_or_failed : outcomes.Logged 1 ≡ outcomes.LogFault faults.Device → ⊥
 logged_or_failed e = cc
@@ -394,19 +394,19 @@ what_is_logged_is_not_answered_yet = refl
 abbrev with_volume : State
 with_volume = next_state small empty (MakeVol 0 0)
 
--- A volume was made in the first life. The next two ended before anything was logged, one of them before the server was open. In
+-- A volume was made in the first incarnation. The next two ended before anything was logged, one of them before the server was open. In
 -- the last one the crash came when a message had run, while it was logged.
-file_made_in_the_last_life : IsLeftByLives small
+file_made_in_the_last_incarnation : IsLeftByIncarnations small
     (Ran (one_hand 1 empty) (events_of (one_hand 1 empty) (whole (MakeVol 0 0))) 6 ∷ Unopened
     ∷ Ran (one_hand 1 with_volume) [] 0
     ∷ Ran (one_hand 1 with_volume) (events_of (one_hand 1 with_volume) (whole (Create 0 0 0))) 4 ∷ [])
     with_file
-file_made_in_the_last_life = record {
+file_made_in_the_last_incarnation = record {
   logs = (MakeVol 0 0 ∷ []) ∷ [] ∷ [] ∷ (Create 0 0 0 ∷ []) ∷ [];
   are_logs = (
     record {
       idle = record { none_waits = refl; none_held = refl };
-      settled = refl;
+      committed = refl;
       legal = legal_where_no_device_fails (one_hand 1 empty) (whole (MakeVol 0 0));
       after = 6;
       since = lit≤ tt;
@@ -418,7 +418,7 @@ file_made_in_the_last_life = record {
       (
         record {
           idle = record { none_waits = refl; none_held = refl };
-          settled = refl;
+          committed = refl;
           legal = tt;
           after = 0;
           since = lit≤ tt;
@@ -428,7 +428,7 @@ file_made_in_the_last_life = record {
         (
           record {
             idle = record { none_waits = refl; none_held = refl };
-            settled = refl;
+            committed = refl;
             legal = legal_where_no_device_fails (one_hand 1 with_volume) (whole (Create 0 0 0));
             after = 4;
             since = lit≤ tt;

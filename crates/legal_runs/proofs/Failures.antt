@@ -13,7 +13,7 @@ use Rattle.legal_runs.specs.declared.outcomes.Step.TheVariants as steps
 use Rattle.legal_runs.specs.declared.outcomes.Outcome.{Outcome}
 use Rattle.legal_runs.specs.declared.outcomes.Outcome.TheVariants as outcomes
 use Rattle.legal_runs.specs.declared.outcomes.PointRefusal.{PointRefusal}
-use Rattle.legal_runs.specs.World.{Entry, Replied, World, held}
+use Rattle.legal_runs.specs.CoreState.{Entry, Replied, CoreState, held}
 use Rattle.legal_runs.specs.Eligible.{lacks_room_alone, next_eligible}
 use Rattle.legal_runs.specs.Events.{Hand, Hands, Empty, Job, Result, Event, IsAllowed, IsFault, IsCarriedOut, arrive, answer, not_ended, unless_refused, piece_refusal, point_refusal, flip_refusal, grant_to, run_hand, result_in, back_from, is_empty, happens, fault, touches_device}
 use Rattle.legal_runs.specs.Laws.{IsStopped, tells_of_failure}
@@ -27,18 +27,18 @@ either P false x y h j = j
 abbrev Quiet : {W : Type 0} → Outcome × W → Type 0
 Quiet o = tells_of_failure o.0 ≡ false
 
-arrive_quiet : (g : Geometry) (w : World) (m : Msg) → Quiet (arrive g w m)
+arrive_quiet : (g : Geometry) (w : CoreState) (m : Msg) → Quiet (arrive g w m)
 arrive_quiet g w m =
     either Quiet w.failed _ _ refl
     (either Quiet (not (is_in_range g m)) _ _ refl
     (either Quiet (w.next == 2 ^ 64 - 1) _ _ refl
     (either Quiet (nat_le w.slots (length w.waiting + length (held w))) _ _ refl refl)))
 
-answer_quiet : (w : World) (as' : List Replied) → Quiet (answer w as')
+answer_quiet : (w : CoreState) (as' : List Replied) → Quiet (answer w as')
 answer_quiet w [] = refl
 answer_quiet w (a ∷ as') = refl
 
-module _ (w : World) (done : Outcome × World) (quiet : Quiet done) where
+module _ (w : CoreState) (done : Outcome × CoreState) (quiet : Quiet done) where
   abbrev Refusing : Option PointRefusal → Type 0
   Refusing r = Quiet (unless_refused w r done)
 
@@ -92,7 +92,7 @@ module _ (g : Geometry) (w : Hands) where
   happens_quiet n steps.Piece = piece_quiet w.core _ refl
   happens_quiet n steps.Flip = flip_quiet w.core _ refl
 
-fault_told : (w : World) (s : Step) → tells_of_failure (fault w s).0 ≡ true
+fault_told : (w : CoreState) (s : Step) → tells_of_failure (fault w s).0 ≡ true
 fault_told w (steps.Arrive m) = refl
 fault_told w steps.Grant = refl
 fault_told w (steps.Run i) = refl
@@ -114,7 +114,7 @@ failure_told g old event h = by event.rose h
 
 -- ---- then it has failed
 
-fault_fails : (w : World) (s : Step) → (fault w s).1.failed ≡ true
+fault_fails : (w : CoreState) (s : Step) → (fault w s).1.failed ≡ true
 fault_fails w (steps.Arrive m) = refl
 fault_fails w steps.Grant = refl
 fault_fails w (steps.Run i) = refl
@@ -127,18 +127,18 @@ fault_fails w steps.Piece = refl
 fault_fails w steps.Flip = refl
 
 pub failure_fails : (g : Geometry) (old : Hands) (event : Event) → IsAllowed g old event → event.rose ≡ true
-    → event.world.core.failed ≡ true
+    → event.state_after.core.failed ≡ true
 failure_fails g old event h rose = by event.rose h rose
   where
-    by : (b : Bool) → MatchBool b (IsFault old event) (IsCarriedOut g old event) → b ≡ true → event.world.core.failed ≡ true
+    by : (b : Bool) → MatchBool b (IsFault old event) (IsCarriedOut g old event) → b ≡ true → event.state_after.core.failed ≡ true
     by true f rose = ap (λ o. o.1.failed) (sym f.core) ∙ fault_fails old.core event.step
     by false d rose = absurd (true≢false (sym rose))
 
 -- ---- and for good
 
-module _ (g : Geometry) (n : ℕ) (world : World) (row : List Hand) where
-  abbrev stopped : World
-  stopped = record world { failed = true }
+module _ (g : Geometry) (n : ℕ) (state_after : CoreState) (row : List Hand) where
+  abbrev stopped : CoreState
+  stopped = record state_after { failed = true }
 
   abbrev machine : Hands
   machine = record { core = stopped; hands = row }
@@ -148,8 +148,8 @@ module _ (g : Geometry) (n : ℕ) (world : World) (row : List Hand) where
     failed = refl;
     waiting = refl;
     back = [];
-    ran = sym (append-nil world.ran);
-    settled = refl;
+    ran = sym (append-nil state_after.ran);
+    committed = refl;
     doubt = refl;
     room = refl;
     next = refl;
@@ -175,9 +175,9 @@ module _ (g : Geometry) (n : ℕ) (world : World) (row : List Hand) where
   back_still i (Some found) = record {
     failed = refl;
     waiting = refl;
-    back = (found.0.0, found.0.1, reply_to g world.settled found.0.1) ∷ [];
+    back = (found.0.0, found.0.1, reply_to g state_after.committed found.0.1) ∷ [];
     ran = refl;
-    settled = refl;
+    committed = refl;
     doubt = refl;
     room = refl;
     next = refl;
@@ -190,8 +190,8 @@ module _ (g : Geometry) (n : ℕ) (world : World) (row : List Hand) where
     failed = refl;
     waiting = refl;
     back = [];
-    ran = sym (append-nil world.ran);
-    settled = refl;
+    ran = sym (append-nil state_after.ran);
+    committed = refl;
     doubt = refl;
     room = refl;
     next = refl;
@@ -204,35 +204,35 @@ module _ (g : Geometry) (n : ℕ) (world : World) (row : List Hand) where
   happens_still (steps.Run i) = run_still i (slice_get row i)
   happens_still (steps.Back i) = back_still i (result_in stopped (slice_get row i))
   happens_still (steps.Log k) = still
-  happens_still steps.Answer = answer_still world.logged
+  happens_still steps.Answer = answer_still state_after.logged
   happens_still steps.Point = still
   happens_still steps.Cut = still
   happens_still steps.Piece = still
   happens_still steps.Flip = still
 
-untouched : (world : World) (s : Step) → touches_device (record world { failed = true }) s ≡ false
-untouched world (steps.Arrive m) = refl
-untouched world steps.Grant = refl
-untouched world (steps.Run i) = refl
-untouched world (steps.Back i) = refl
-untouched world (steps.Log k) = refl
-untouched world steps.Answer = refl
-untouched world steps.Point = refl
-untouched world steps.Cut = refl
-untouched world steps.Piece = refl
-untouched world steps.Flip = refl
+untouched : (state_after : CoreState) (s : Step) → touches_device (record state_after { failed = true }) s ≡ false
+untouched state_after (steps.Arrive m) = refl
+untouched state_after steps.Grant = refl
+untouched state_after (steps.Run i) = refl
+untouched state_after (steps.Back i) = refl
+untouched state_after (steps.Log k) = refl
+untouched state_after steps.Answer = refl
+untouched state_after steps.Point = refl
+untouched state_after steps.Cut = refl
+untouched state_after steps.Piece = refl
+untouched state_after steps.Flip = refl
 
 pub failure_lasts : (g : Geometry) (old : Hands) (event : Event) → IsAllowed g old event → old.core.failed ≡ true
-    → IsStopped old.core event.world.core
+    → IsStopped old.core event.state_after.core
 failure_lasts g old event h failed = by event.rose h
   where
     is_stopped : old.core ≡ record old.core { failed = true }
     is_stopped = λ i. record old.core { failed = failed i }
 
-    by : (b : Bool) → MatchBool b (IsFault old event) (IsCarriedOut g old event) → IsStopped old.core event.world.core
+    by : (b : Bool) → MatchBool b (IsFault old event) (IsCarriedOut g old event) → IsStopped old.core event.state_after.core
     by true f = absurd (true≢false (sym f.touched ∙ ap (λ w. touches_device w event.step) is_stopped ∙ untouched old.core event.step))
     by false d =
         let does = ap (λ w. happens g d.to_write (record { core = w; hands = old.hands }) event.step) (sym is_stopped) ∙ d.does in
-        subst (λ w. IsStopped w event.world.core) (sym is_stopped)
+        subst (λ w. IsStopped w event.state_after.core) (sym is_stopped)
         (subst (λ o. IsStopped (record old.core { failed = true }) o.1.core) does
         (happens_still g d.to_write old.core old.hands event.step))

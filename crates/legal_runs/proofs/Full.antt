@@ -9,7 +9,7 @@ use Rattle.affinity.specs.declared.geometry.Geometry.{Geometry}
 use Rattle.legal_runs.specs.declared.outcomes.Outcome.{Outcome}
 use Rattle.legal_runs.specs.declared.outcomes.Step.{Step}
 use Rattle.legal_runs.specs.declared.outcomes.Step.TheVariants as steps
-use Rattle.legal_runs.specs.World.{Entry, World}
+use Rattle.legal_runs.specs.CoreState.{Entry, CoreState}
 use Rattle.legal_runs.specs.Eligible.{next_eligible, pick}
 use Rattle.legal_runs.specs.Events.{Hand, Hands, Empty, Job, Result, Event, IsAllowed, IsCarriedOut, IsFault, back_from, grant_to, happens, is_empty, out_with, result_in, run_hand}
 use Rattle.legal_runs.specs.Laws.{full}
@@ -89,18 +89,18 @@ module _ (g : Geometry) (w : Hands) where
   happens_tallies n (steps.Back i) = back_tallies i (slice_get w.hands i) refl
   happens_tallies n s = kept (happens g n w s).1 (happens_keeps_out g n w s refl) refl
 
-pub event_tallies : (g : Geometry) (old : Hands) (event : Event) → IsAllowed g old event → Tallies old event.world
+pub event_tallies : (g : Geometry) (old : Hands) (event : Event) → IsAllowed g old event → Tallies old event.state_after
 event_tallies g old event allowed = by event.rose allowed
   where
-    by : (b : Bool) → MatchBool b (IsFault old event) (IsCarriedOut g old event) → Tallies old event.world
-    by true f = kept g old event.world (ap (λ (x : Outcome × World). x.1.out) (sym f.core) ∙ fault_keeps_out old.core event.step) f.hands
+    by : (b : Bool) → MatchBool b (IsFault old event) (IsCarriedOut g old event) → Tallies old event.state_after
+    by true f = kept g old event.state_after (ap (λ (x : Outcome × CoreState). x.1.out) (sym f.core) ∙ fault_keeps_out old.core event.step) f.hands
     by false d = subst (λ (x : Outcome × Hands). Tallies old x.1) d.does (happens_tallies g old d.to_write event.step)
 
 pub last_tallies : (g : Geometry) (old : Hands) (events : List Event) → IsLegal g old events → Tallies old (last old events)
 last_tallies g old [] legal = refl
 last_tallies g old (event ∷ events) legal =
     let first = event_tallies g old event legal.0 in
-    let rest = last_tallies g event.world events legal.1 in
+    let rest = last_tallies g event.state_after events legal.1 in
     omega (arith, first, rest)
 
 -- Where no hand is full, nothing is out, if nothing was.

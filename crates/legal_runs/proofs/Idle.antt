@@ -1,10 +1,10 @@
--- A world in which nothing waits and nothing is held is sound.
+-- A core state in which nothing waits and nothing is held is sound.
 use Rattle.std.proofs.Common.{◌≡◌, ◌<◌, List, [], ◌∷◌, ◌++◌, refl, ap, sym, subst, length, arith}
 use Rattle.std.specs.List.{AllByRecursion}
 use Rattle.affinity.specs.declared.geometry.Geometry.{Geometry}
-use Rattle.legal_runs.specs.World.{Replied, World, entries}
+use Rattle.legal_runs.specs.CoreState.{Replied, CoreState, entries}
 use Rattle.legal_runs.specs.Eligible.{in_flight}
-use Rattle.legal_runs.specs.Laws.{AreApart, AreReplied, AreAscending, AreOnce, IsSoundWorld, IsIdle}
+use Rattle.legal_runs.specs.Laws.{AreApart, AreReplied, AreAscending, AreOnce, IsSoundCoreState, IsIdle}
 
 -- the parts of a list of which nothing is there
 pub none_behind : {A : Type 0} (xs ys : List A) → xs ++ ys ≡ [] → ys ≡ []
@@ -19,7 +19,7 @@ none_replied : (as' : List Replied) → entries as' ≡ [] → as' ≡ []
 none_replied [] e = refl
 none_replied (a ∷ as') e = cc
 
-module _ (w : World) (h : IsIdle w) where
+module _ (w : CoreState) (h : IsIdle w) where
   pub none_out : w.out ≡ []
   none_out = none_behind (entries w.ran) w.out (none_behind (entries w.logged) _ h.none_held)
 
@@ -35,14 +35,14 @@ module _ (w : World) (h : IsIdle w) where
   few : in_flight w ≡ 0
   few = λ i. in_flight (record w { out = none_out i; ran = none_ran i })
 
-  pub idle_sound : (g : Geometry) → IsSoundWorld g w
+  pub idle_sound : (g : Geometry) → IsSoundCoreState g w
   idle_sound g =
       let none = few in
       let waits = ap length h.none_waits in
       let holds = ap length h.none_held in
       record {
         apart = subst (AreApart g) (sym h.none_held) tt;
-        replied = subst (AreReplied g w.settled) (sym none_ran) tt;
+        replied = subst (AreReplied g w.committed) (sym none_ran) tt;
         ascending = subst AreAscending (sym h.none_waits) tt;
         once = subst AreOnce (sym none_to_come) tt;
         given = subst (AllByRecursion (λ e. e.0 < w.next)) (sym none_to_come) tt;

@@ -6,13 +6,13 @@ use Rattle.affinity.specs.declared.geometry.Geometry.{Geometry}
 use Rattle.messages.specs.declared.Msg.{Msg}
 use Rattle.meaning.specs.State.{State}
 use Rattle.meaning.specs.Serial.{fold}
-use Rattle.legal_runs.specs.World.{World}
+use Rattle.legal_runs.specs.CoreState.{CoreState}
 use Rattle.legal_runs.specs.Events.{Hands, Event}
 use Rattle.legal_runs.specs.Runs.{IsLegal, last, goes, appended, arrives, answers, journal}
 use Rattle.legal_runs.specs.Crash.{in_doubt, next_batch, IsLogAfter, IsLeftSince}
-use Rattle.legal_runs.specs.Laws.{IsJoined, IsSoundWorld}
+use Rattle.legal_runs.specs.Laws.{IsJoined, IsSoundCoreState}
 use Rattle.legal_runs.proofs.Runs.{run_journal}
-use Rattle.legal_runs.proofs.Told.{fold-joined}
+use Rattle.legal_runs.proofs.SerialReplies.{fold-joined}
 
 pub runs_join : (g : Geometry) (old : Hands) (events more : List Event) → IsLegal g old events → IsLegal g (last old events) more
     → IsJoined g old events more
@@ -25,7 +25,7 @@ runs_join g old [] more legal on = record {
   answered_is = refl;
 }
 runs_join g old (event ∷ events) more legal on =
-    let k = runs_join g event.world events more legal.1 on in
+    let k = runs_join g event.state_after events more legal.1 on in
     record {
       legal = (legal.0, k.legal);
       last_is = k.last_is;
@@ -40,7 +40,7 @@ runs_join g old (event ∷ events) more legal on =
 
 -- The first so many of those in doubt stay the first where more events come behind the rest. If there is no rest, nothing is in doubt
 -- unless the device has failed, and then what is in doubt isn't that of an event.
-still_in_doubt : (w : World) (rest more : List Event) (n : ℕ) → n ≤ length (in_doubt w rest)
+still_in_doubt : (w : CoreState) (rest more : List Event) (n : ℕ) → n ≤ length (in_doubt w rest)
     → (n ≤ length (in_doubt w (rest ++ more))) × (take n (in_doubt w rest) ≡ take n (in_doubt w (rest ++ more)))
 still_in_doubt w rest more zero le = (omega arith, refl)
 still_in_doubt w [] more (suc n) le =
@@ -70,9 +70,9 @@ pub log_of_second : (old : Hands) (events more : List Event) (k : ℕ) (ms : Lis
 log_of_second old [] more k ms log = let none : k ≡ 0 + k = omega arith in subst (λ n. IsLogAfter old more n ms) none log
 log_of_second old (event ∷ events) more k ms log =
     let now = appended old.core event.step event.rose in
-    let later = log_of_second event.world events more k ms log in
+    let later = log_of_second event.state_after events more k ms log in
     let one_more : suc (length events + k) ≡ suc (length events) + k = omega arith in
-    subst (λ n. IsLogAfter old (event ∷ (events ++ more)) n ((now ++ journal event.world events) ++ ms)) one_more (record {
+    subst (λ n. IsLogAfter old (event ∷ (events ++ more)) n ((now ++ journal event.state_after events) ++ ms)) one_more (record {
       some = later.some;
       at_most = later.at_most;
       is = append_assoc now _ _ ∙ ap (λ l. now ++ l) later.is ∙ sym (append_assoc now _ _);
@@ -92,7 +92,7 @@ left_of_first g old events more k x left =
     }
 
 pub left_of_second : (g : Geometry) (old : Hands) (events more : List Event) (k : ℕ) (x : State) → IsLegal g old events
-    → IsSoundWorld g old.core → IsLeftSince g (last old events) more k x → IsLeftSince g old (events ++ more) (length events + k) x
+    → IsSoundCoreState g old.core → IsLeftSince g (last old events) more k x → IsLeftSince g old (events ++ more) (length events + k) x
 left_of_second g old events more k x legal sound left =
     let long = length-append events more in
     record {
@@ -102,5 +102,5 @@ left_of_second g old events more k x legal sound left =
       log = journal old events ++ left.log;
       is_log = log_of_second old events more left.after left.log left.is_log;
       state = left.state ∙ ap (λ y. fold g y left.log) (run_journal g old events legal sound)
-          ∙ sym (fold-joined g old.core.settled (journal old events) left.log);
+          ∙ sym (fold-joined g old.core.committed (journal old events) left.log);
     }

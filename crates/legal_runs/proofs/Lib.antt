@@ -1,8 +1,8 @@
--- ---- for the crates above: what each event does to the core, and what every world keeps
+-- ---- for the crates above: what each event does to the core, and what every core state keeps
 pub mod Lists
 pub mod Apart
 pub mod Moves
-pub mod Told
+pub mod SerialReplies
 pub mod Room
 pub mod Sound
 pub mod Idle

@@ -9,47 +9,47 @@ use Rattle.legal_runs.specs.Events.{Hands, Event, loggable}
 use Rattle.legal_runs.specs.Runs.{IsLegal}
 use Rattle.legal_runs.specs.Crash.{IsLeftSince}
 use Rattle.legal_runs.specs.Laws.{IsIdle}
-use Rattle.legal_runs.specs.Lives.{Life, Unopened, Ran, IsLogOf, IsLogOfRun, AreLogsOf, in_order, IsLeftByLives, HoldsAnswered, HoldAnswered}
+use Rattle.legal_runs.specs.Incarnations.{Incarnation, Unopened, Ran, IsLogOf, IsLogOfRun, AreLogsOf, in_order, IsLeftByIncarnations, HoldsAnswered, HoldAnswered}
 use Rattle.legal_runs.proofs.Answering.{answered_left}
 use Rattle.legal_runs.proofs.Idle.{none_logged}
-use Rattle.legal_runs.proofs.Told.{fold-joined}
+use Rattle.legal_runs.proofs.SerialReplies.{fold-joined}
 
 in_order-push : (logs : List (List Msg)) (log : List Msg) → in_order (logs ++ log ∷ []) ≡ in_order logs ++ log
 in_order-push [] log = append-nil log
 in_order-push (l ∷ logs) log = ap (λ ms. l ++ ms) (in_order-push logs log) ∙ sym (append_assoc l (in_order logs) log)
 
 module _ (g : Geometry) where
-  logs-push : (x : State) (lives : List Life) (logs : List (List Msg)) (life : Life) (log : List Msg) → AreLogsOf g x lives logs
-      → IsLogOf g (fold g x (in_order logs)) life log → AreLogsOf g x (lives ++ life ∷ []) (logs ++ log ∷ [])
-  logs-push x [] [] life log h is = (is, tt)
-  logs-push x [] (l ∷ logs) life log h is = absurd h
-  logs-push x (one ∷ lives) [] life log h is = absurd h
-  logs-push x (one ∷ lives) (l ∷ logs) life log h is = (
+  logs-push : (x : State) (incarnations : List Incarnation) (logs : List (List Msg)) (incarnation : Incarnation) (log : List Msg) → AreLogsOf g x incarnations logs
+      → IsLogOf g (fold g x (in_order logs)) incarnation log → AreLogsOf g x (incarnations ++ incarnation ∷ []) (logs ++ log ∷ [])
+  logs-push x [] [] incarnation log h is = (is, tt)
+  logs-push x [] (l ∷ logs) incarnation log h is = absurd h
+  logs-push x (one ∷ incarnations) [] incarnation log h is = absurd h
+  logs-push x (one ∷ incarnations) (l ∷ logs) incarnation log h is = (
     h.0,
-    logs-push (fold g x l) lives logs life log h.1
-        (subst (λ y. IsLogOf g y life log) (fold-joined g x l (in_order logs)) is),
+    logs-push (fold g x l) incarnations logs incarnation log h.1
+        (subst (λ y. IsLogOf g y incarnation log) (fold-joined g x l (in_order logs)) is),
   )
 
-  pub no_life : IsLeftByLives g [] empty
-  no_life = record { logs = []; are_logs = tt; state = refl }
+  pub no_incarnation : IsLeftByIncarnations g [] empty
+  no_incarnation = record { logs = []; are_logs = tt; state = refl }
 
-  pub next_life : (lives : List Life) (life : Life) (x : State) (log : List Msg) → IsLeftByLives g lives x → IsLogOf g x life log
-      → IsLeftByLives g (lives ++ life ∷ []) (fold g x log)
-  next_life lives life x log left is = record {
+  pub next_incarnation : (incarnations : List Incarnation) (incarnation : Incarnation) (x : State) (log : List Msg) → IsLeftByIncarnations g incarnations x → IsLogOf g x incarnation log
+      → IsLeftByIncarnations g (incarnations ++ incarnation ∷ []) (fold g x log)
+  next_incarnation incarnations incarnation x log left is = record {
     logs = left.logs ++ log ∷ [];
-    are_logs = logs-push empty lives left.logs life log left.are_logs (subst (λ y. IsLogOf g y life log) left.state is);
+    are_logs = logs-push empty incarnations left.logs incarnation log left.are_logs (subst (λ y. IsLogOf g y incarnation log) left.state is);
     state = ap (λ y. fold g y log) left.state ∙ sym (fold-joined g empty (in_order left.logs) log)
         ∙ ap (fold g empty) (sym (in_order-push left.logs log));
   }
 
-  pub life_of_run : (start : Hands) (events : List Event) (ended : ℕ) (x : State) → IsIdle start.core → IsLegal g start events
+  pub incarnation_of_run : (start : Hands) (events : List Event) (ended : ℕ) (x : State) → IsIdle start.core → IsLegal g start events
       → IsLeftSince g start events ended x
-      → (log : List Msg) × IsLogOf g start.core.settled (Ran start events ended) log × (x ≡ fold g start.core.settled log)
-  life_of_run start events ended x idle legal left = (
+      → (log : List Msg) × IsLogOf g start.core.committed (Ran start events ended) log × (x ≡ fold g start.core.committed log)
+  incarnation_of_run start events ended x idle legal left = (
     left.log,
     record {
       idle = idle;
-      settled = refl;
+      committed = refl;
       legal = legal;
       after = left.after;
       since = left.since;
@@ -65,11 +65,11 @@ module _ (g : Geometry) where
       let k = answered_left g start events ended h.after log h.legal h.since h.is_log in
       (k.0, ap (λ l. loggable l ++ log) (sym (none_logged start.core h.idle)) ∙ k.1)
 
-  one_answered : (x : State) (life : Life) (log : List Msg) → IsLogOf g x life log → HoldsAnswered life log
+  one_answered : (x : State) (incarnation : Incarnation) (log : List Msg) → IsLogOf g x incarnation log → HoldsAnswered incarnation log
   one_answered x Unopened log h = tt
   one_answered x (Ran start events ended) log h = run_answered x start events ended log h
 
-  pub all_answered : (x : State) (lives : List Life) (logs : List (List Msg)) → AreLogsOf g x lives logs → HoldAnswered lives logs
+  pub all_answered : (x : State) (incarnations : List Incarnation) (logs : List (List Msg)) → AreLogsOf g x incarnations logs → HoldAnswered incarnations logs
   all_answered x [] logs h = tt
-  all_answered x (life ∷ lives) [] h = absurd h
-  all_answered x (life ∷ lives) (log ∷ logs) h = (one_answered x life log h.0, all_answered (fold g x log) lives logs h.1)
+  all_answered x (incarnation ∷ incarnations) [] h = absurd h
+  all_answered x (incarnation ∷ incarnations) (log ∷ logs) h = (one_answered x incarnation log h.0, all_answered (fold g x log) incarnations logs h.1)

@@ -14,7 +14,7 @@ use Rattle.legal_runs.specs.declared.outcomes.Outcome.TheVariants as outcomes
 use Rattle.legal_runs.specs.declared.outcomes.CoreFault.TheVariants as faults
 use Rattle.legal_runs.specs.declared.outcomes.PointRefusal.{PointRefusal}
 use Rattle.legal_runs.specs.declared.outcomes.PointRefusal.TheVariants as points
-use Rattle.legal_runs.specs.World.{Entry, Replied, World, held}
+use Rattle.legal_runs.specs.CoreState.{Entry, Replied, CoreState, held}
 use Rattle.legal_runs.specs.Eligible.{changes, in_flight, next_eligible}
 use Rattle.legal_runs.specs.Events.{Hand, Hands, Empty, Job, Result, Event, IsAllowed, IsFault, IsCarriedOut, arrive, grant, give_back, out_with, batch, fails, loggable, log, log_some, answer, point_refusal, piece_refusal, flip_refusal, unless_refused, fewer, grant_to, run_hand, result_in, back_from, is_empty, happens, fault}
 use Rattle.legal_runs.specs.Runs.{goes, arrives, answers}
@@ -23,12 +23,12 @@ use Rattle.legal_runs.proofs.Apart.{length_held}
 use Rattle.legal_runs.proofs.Lists.{first_few}
 
 -- nothing of this has changed
-pub record Same (old new : World) : Type 0 where
+pub record Same (old new : CoreState) : Type 0 where
   pub waiting : new.waiting ≡ old.waiting
   pub out : new.out ≡ old.out
   pub ran : new.ran ≡ old.ran
   pub logged : new.logged ≡ old.logged
-  pub settled : new.settled ≡ old.settled
+  pub committed : new.committed ≡ old.committed
   pub next : new.next ≡ old.next
   pub slots : new.slots ≡ old.slots
   -- and what is in flight has room still
@@ -47,11 +47,11 @@ pub record Passed : Type 0 where
 abbrev pub nothing : Passed
 nothing = record { gone = []; come = []; told = [] }
 
-abbrev pub passed : World → Step → Outcome → Bool → Passed
+abbrev pub passed : CoreState → Step → Outcome → Bool → Passed
 passed w s o rose = record { gone = goes w s rose; come = arrives s o; told = answers o }
 
 -- what an event does to the core
-pub data Move (g : Geometry) (old new : World) (p : Passed) : Type 0 where
+pub data Move (g : Geometry) (old new : CoreState) (p : Passed) : Type 0 where
   Stays : (same : Same old new) → (passes : p ≡ nothing) → Move g old new p
   Arrives : (m : Msg) → (fits : length old.waiting + length (held old) < old.slots)
       → (is : new ≡ record old { waiting = old.waiting ++ (old.next, m) ∷ []; next = old.next + 1 })
@@ -64,7 +64,7 @@ pub data Move (g : Geometry) (old new : World) (p : Passed) : Type 0 where
   Answers : (a : Replied) → (rest : List Replied) → (front : old.logged ≡ a ∷ rest) → (is : new ≡ record old { logged = rest })
       → (passes : p ≡ record { gone = []; come = []; told = (a.0, a.2) ∷ [] }) → Move g old new p
 
-module _ (g : Geometry) (w : World) where
+module _ (g : Geometry) (w : CoreState) where
   -- the room and the pieces that are left alone
   repoints : (room : ℕ) (left : Option ℕ) → (in_flight w ≤ w.room → in_flight w ≤ room) → Move g w
       (record w { room = room; left = left }) nothing
@@ -76,7 +76,7 @@ module _ (g : Geometry) (w : World) where
         out = refl;
         ran = refl;
         logged = refl;
-        settled = refl;
+        committed = refl;
         next = refl;
         slots = refl;
         room = fits;
@@ -92,7 +92,7 @@ module _ (g : Geometry) (w : World) where
   either P true x y h j = h refl
   either P false x y h j = j refl
 
-  abbrev At : Step → Outcome × World → Type 0
+  abbrev At : Step → Outcome × CoreState → Type 0
   At s o = Move g w o.1 (passed w s o.0 false)
 
   arrive_moves : (m : Msg) → At (steps.Arrive m) (arrive g w m)
@@ -103,7 +103,7 @@ module _ (g : Geometry) (w : World) where
       either (At (steps.Arrive m)) (nat_le w.slots (length w.waiting + length (held w))) _ _ (λ e. stays) (λ e.
       Arrives m (leb-false w.slots (length w.waiting + length (held w)) e) refl refl))))
 
-  abbrev logs : ℕ → Bool → Outcome × World
+  abbrev logs : ℕ → Bool → Outcome × CoreState
   logs k b = if b then (outcomes.LogFault faults.Failed, w) else (outcomes.Logged (length (take k w.ran)), log g w k)
 
   log_moves : (k : ℕ) → At (steps.Log k) (log_some g w k)
@@ -168,7 +168,7 @@ module _ (g : Geometry) (w : World) where
         out = refl;
         ran = refl;
         logged = refl;
-        settled = refl;
+        committed = refl;
         next = refl;
         slots = refl;
         room = λ h. h;
@@ -245,10 +245,10 @@ module _ (g : Geometry) (w : Hands) where
 
 -- Each allowed event is a move of the core.
 pub moves : (g : Geometry) (old : Hands) (event : Event) → IsAllowed g old event
-    → Move g old.core event.world.core (passed old.core event.step event.outcome event.rose)
+    → Move g old.core event.state_after.core (passed old.core event.step event.outcome event.rose)
 moves g old event h = by event.rose h
   where
     by : (b : Bool) → MatchBool b (IsFault old event) (IsCarriedOut g old event)
-        → Move g old.core event.world.core (passed old.core event.step event.outcome b)
+        → Move g old.core event.state_after.core (passed old.core event.step event.outcome b)
     by true f = subst (λ x. Move g old.core x.1 (passed old.core event.step x.0 true)) f.core (fault_moves g old.core event.step)
     by false d = subst (In g old event.step) d.does (happens_moves g old d.to_write event.step)

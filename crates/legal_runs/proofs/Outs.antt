@@ -1,4 +1,4 @@
--- What is out sees the same in the settled state, whatever comes; and which steps leave what is out as it is.
+-- What is out sees the same in the committed state, whatever comes; and which steps leave what is out as it is.
 use Rattle.std.proofs.Common.{◌≡◌, ℕ, ◌+◌, ◌-◌, ◌^◌, Bool, true, false, List, [], ◌∷◌, ◌++◌, Option, Some, None, refl, ap, sym, ◌∙◌, subst, take, drop, length}
 use Rattle.std.specs.Prelude.{map, filter, cond, not, ◌==◌, nat_le, if◌then◌else◌, slice_get, MatchBool}
 use Rattle.std.proofs.lemmas.Bool.{true≢false}
@@ -18,14 +18,14 @@ use Rattle.legal_runs.specs.declared.outcomes.Outcome.{Outcome}
 use Rattle.legal_runs.specs.declared.outcomes.PointRefusal.{PointRefusal}
 use Rattle.legal_runs.specs.declared.outcomes.Step.{Step}
 use Rattle.legal_runs.specs.declared.outcomes.Step.TheVariants as steps
-use Rattle.legal_runs.specs.World.{Entry, Replied, World, entry, entries, held, are_related_entries}
+use Rattle.legal_runs.specs.CoreState.{Entry, Replied, CoreState, entry, entries, held, are_related_entries}
 use Rattle.legal_runs.specs.Events.{Hand, Hands, Empty, Job, Result, Event, IsAllowed, IsCarriedOut, IsFault, answer, arrive, batch, fault, flip_refusal, happens, loggable, piece_refusal, point_refusal, run_hand, unless_refused}
-use Rattle.legal_runs.specs.Laws.{EachBefore, IsSoundWorld, moves_what_is_out}
+use Rattle.legal_runs.specs.Laws.{EachBefore, IsSoundCoreState, moves_what_is_out}
 use Rattle.legal_runs.proofs.Apart.{apart_turned, entries-append}
 use Rattle.legal_runs.proofs.Clearing.{all_at}
 use Rattle.legal_runs.proofs.Lists.{all_back, all_front, before_back}
 use Rattle.legal_runs.proofs.Moves.{Passed, Move, Stays, Arrives, Grants, Backs, Logs, Answers, moves}
-use Rattle.legal_runs.proofs.Told.{IsIn}
+use Rattle.legal_runs.proofs.SerialReplies.{IsIn}
 
 -- those before one of a row stand to it
 pub before_in : {A : Type 0} (R : A → A → Type 0) (xs ys : List A) (y : A) → EachBefore R (xs ++ ys) → IsIn y ys
@@ -65,7 +65,7 @@ module _ (g : Geometry) where
           | false ↦ k
         ]
 
-    batch_elsewhere : (w : World) (n : ℕ) → IsSoundWorld g w → IsIn e w.out → AllByRecursion Elsewhere (batch w n)
+    batch_elsewhere : (w : CoreState) (n : ℕ) → IsSoundCoreState g w → IsIn e w.out → AllByRecursion Elsewhere (batch w n)
     batch_elsewhere w n sound is =
         let R : Entry → Entry → Type 0 = λ c d. are_related_entries g c d ≡ false in
         let ran = before_in R (entries w.ran) w.out e (before_back R (entries w.logged) _ sound.apart) is in
@@ -74,24 +74,24 @@ module _ (g : Geometry) where
         (all_front (λ d. are_related_entries g d e ≡ false) (entries (take n w.ran)) (entries (drop n w.ran))
         (subst (AllByRecursion (λ d. are_related_entries g d e ≡ false)) split ran))
 
-    abbrev SeesSame : World → World → Type 0
-    SeesSame old new = AgreeOn g (are_related (place g e.1)) new.settled old.settled
+    abbrev SeesSame : CoreState → CoreState → Type 0
+    SeesSame old new = AgreeOn g (are_related (place g e.1)) new.committed old.committed
 
-    same_settled : (old new : World) → new.settled ≡ old.settled → SeesSame old new
-    same_settled old new same = subst (λ x. AgreeOn g (are_related (place g e.1)) x old.settled) (sym same) (agree-refl old.settled)
+    same_committed : (old new : CoreState) → new.committed ≡ old.committed → SeesSame old new
+    same_committed old new same = subst (λ x. AgreeOn g (are_related (place g e.1)) x old.committed) (sym same) (agree-refl old.committed)
 
-    move_sees : (old new : World) (p : Passed) → Move g old new p → IsSoundWorld g old → IsIn e old.out → SeesSame old new
-    move_sees old new p (Stays s k) sound is = same_settled old new s.settled
-    move_sees old new p (Arrives m fits moved k) sound is = same_settled old new (ap (λ w. w.settled) moved)
-    move_sees old new p (Grants found first moved k) sound is = same_settled old new (ap (λ w. w.settled) moved)
-    move_sees old new p (Backs ticket found one_out moved k) sound is = same_settled old new (ap (λ w. w.settled) moved)
+    move_sees : (old new : CoreState) (p : Passed) → Move g old new p → IsSoundCoreState g old → IsIn e old.out → SeesSame old new
+    move_sees old new p (Stays s k) sound is = same_committed old new s.committed
+    move_sees old new p (Arrives m fits moved k) sound is = same_committed old new (ap (λ w. w.committed) moved)
+    move_sees old new p (Grants found first moved k) sound is = same_committed old new (ap (λ w. w.committed) moved)
+    move_sees old new p (Backs ticket found one_out moved k) sound is = same_committed old new (ap (λ w. w.committed) moved)
     move_sees old new p (Logs n moved k) sound is =
-        subst (λ (w : World). SeesSame old w) (sym moved) (fold_leaves old.settled e.1 (batch old n) (batch_elsewhere old n sound is))
-    move_sees old new p (Answers a rest front moved k) sound is = same_settled old new (ap (λ w. w.settled) moved)
+        subst (λ (w : CoreState). SeesSame old w) (sym moved) (fold_leaves old.committed e.1 (batch old n) (batch_elsewhere old n sound is))
+    move_sees old new p (Answers a rest front moved k) sound is = same_committed old new (ap (λ w. w.committed) moved)
 
-  pub event_sees : (old : Hands) (event : Event) (e : Entry) → IsAllowed g old event → IsSoundWorld g old.core → IsIn e old.core.out
-      → AgreeOn g (are_related (place g e.1)) event.world.core.settled old.core.settled
-  event_sees old event e allowed sound is = move_sees e old.core event.world.core _ (moves g old event allowed) sound is
+  pub event_sees : (old : Hands) (event : Event) (e : Entry) → IsAllowed g old event → IsSoundCoreState g old.core → IsIn e old.core.out
+      → AgreeOn g (are_related (place g e.1)) event.state_after.core.committed old.core.committed
+  event_sees old event e allowed sound is = move_sees e old.core event.state_after.core _ (moves g old event allowed) sound is
 
 -- ---- steps that neither let a message out nor take one back
 
@@ -99,11 +99,11 @@ either : {A : Type 0} (P : A → Type 0) (b : Bool) (x y : A) → P x → P y �
 either P true x y h j = h
 either P false x y h j = j
 
-module _ (w : World) where
-  abbrev KeepsOut : Outcome × World → Type 0
+module _ (w : CoreState) where
+  abbrev KeepsOut : Outcome × CoreState → Type 0
   KeepsOut x = x.1.out ≡ w.out
 
-  refused_keeps_out : (why : Option PointRefusal) (made : Outcome × World) → KeepsOut made → KeepsOut (unless_refused w why made)
+  refused_keeps_out : (why : Option PointRefusal) (made : Outcome × CoreState) → KeepsOut made → KeepsOut (unless_refused w why made)
   refused_keeps_out None made h = h
   refused_keeps_out (Some why) made h = refl
 
@@ -140,14 +140,14 @@ module _ (g : Geometry) (n : ℕ) (w : Hands) where
   happens_keeps_out steps.Piece e = refused_keeps_out w.core (piece_refusal w.core) _ refl
   happens_keeps_out steps.Flip e = refused_keeps_out w.core (flip_refusal w.core) _ refl
 
-pub fault_keeps_out : (w : World) (s : Step) → (fault w s).1.out ≡ w.out
+pub fault_keeps_out : (w : CoreState) (s : Step) → (fault w s).1.out ≡ w.out
 fault_keeps_out w (steps.Log k) = refl
 fault_keeps_out w _ = refl
 
 pub event_keeps_out : (g : Geometry) (old : Hands) (event : Event) → IsAllowed g old event → moves_what_is_out event.step ≡ false
-    → event.world.core.out ≡ old.core.out
+    → event.state_after.core.out ≡ old.core.out
 event_keeps_out g old event allowed still = by event.rose allowed
   where
-    by : (b : Bool) → MatchBool b (IsFault old event) (IsCarriedOut g old event) → event.world.core.out ≡ old.core.out
-    by true f = ap (λ (x : Outcome × World). x.1.out) (sym f.core) ∙ fault_keeps_out old.core event.step
+    by : (b : Bool) → MatchBool b (IsFault old event) (IsCarriedOut g old event) → event.state_after.core.out ≡ old.core.out
+    by true f = ap (λ (x : Outcome × CoreState). x.1.out) (sym f.core) ∙ fault_keeps_out old.core event.step
     by false d = ap (λ (x : Outcome × Hands). x.1.core.out) (sym d.does) ∙ happens_keeps_out g d.to_write old event.step still

@@ -5,62 +5,62 @@ use Rattle.std.proofs.lemmas.List.{append-nil, map-append}
 use Rattle.std.proofs.lemmas.List.Elements.{filter-append}
 use Rattle.affinity.specs.declared.geometry.Geometry.{Geometry}
 use Rattle.meaning.specs.Serial.{fold, is_loggable}
-use Rattle.meaning.specs.Order.{told, messages}
+use Rattle.meaning.specs.Order.{serial_replies, messages}
 use Rattle.legal_runs.specs.declared.outcomes.Step.{Step}
 use Rattle.legal_runs.specs.declared.outcomes.Step.TheVariants as steps
-use Rattle.legal_runs.specs.World.{Replied, World, entries}
+use Rattle.legal_runs.specs.CoreState.{Replied, CoreState, entries}
 use Rattle.legal_runs.specs.Events.{Hands, Event, IsAllowed, batch, loggable}
 use Rattle.legal_runs.specs.Runs.{IsLegal, last, goes, appended, answers, went, journal, answered}
-use Rattle.legal_runs.specs.Laws.{IsSoundWorld, ticket_replies}
+use Rattle.legal_runs.specs.Laws.{IsSoundCoreState, ticket_replies}
 use Rattle.legal_runs.proofs.Apart.{entries-append}
 use Rattle.legal_runs.proofs.Moves.{Passed, Move, Stays, Arrives, Grants, Backs, Logs, Answers, moves}
-use Rattle.legal_runs.proofs.Told.{fold-append, fold-joined, told-append, said-append}
+use Rattle.legal_runs.proofs.SerialReplies.{fold-append, fold-joined, serial_replies-append, said-append}
 use Rattle.legal_runs.proofs.Sound.{row_of, event_sound}
 
 -- ---- what goes to logged
 
--- What goes to logged is told as it was replied, and the settled state follows.
-pub record Follows (g : Geometry) (old new : World) (gone : List Replied) : Type 0 where
-  pub told : told g old.settled (entries gone) ≡ ticket_replies gone
-  pub settled : new.settled ≡ fold g old.settled (messages (entries gone))
+-- What goes to logged is told as it was replied, and the committed state follows.
+pub record Follows (g : Geometry) (old new : CoreState) (gone : List Replied) : Type 0 where
+  pub told : serial_replies g old.committed (entries gone) ≡ ticket_replies gone
+  pub committed : new.committed ≡ fold g old.committed (messages (entries gone))
 
-quiet : (g : Geometry) (old new : World) (gone : List Replied) → gone ≡ [] → new.settled ≡ old.settled → Follows g old new gone
-quiet g old new gone none settled = subst (Follows g old new) (sym none) (record { told = refl; settled = settled })
+quiet : (g : Geometry) (old new : CoreState) (gone : List Replied) → gone ≡ [] → new.committed ≡ old.committed → Follows g old new gone
+quiet g old new gone none committed = subst (Follows g old new) (sym none) (record { told = refl; committed = committed })
 
-move_follows : (g : Geometry) (old new : World) (p : Passed) → Move g old new p → IsSoundWorld g old → Follows g old new p.gone
-move_follows g old new p (Stays s e) h = quiet g old new p.gone (ap (λ p. p.gone) e) s.settled
-move_follows g old new p (Arrives m fits is e) h = quiet g old new p.gone (ap (λ p. p.gone) e) (ap (λ w. w.settled) is)
-move_follows g old new p (Grants found first is e) h = quiet g old new p.gone (ap (λ p. p.gone) e) (ap (λ w. w.settled) is)
-move_follows g old new p (Backs ticket found one_out is e) h = quiet g old new p.gone (ap (λ p. p.gone) e) (ap (λ w. w.settled) is)
+move_follows : (g : Geometry) (old new : CoreState) (p : Passed) → Move g old new p → IsSoundCoreState g old → Follows g old new p.gone
+move_follows g old new p (Stays s e) h = quiet g old new p.gone (ap (λ p. p.gone) e) s.committed
+move_follows g old new p (Arrives m fits is e) h = quiet g old new p.gone (ap (λ p. p.gone) e) (ap (λ w. w.committed) is)
+move_follows g old new p (Grants found first is e) h = quiet g old new p.gone (ap (λ p. p.gone) e) (ap (λ w. w.committed) is)
+move_follows g old new p (Backs ticket found one_out is e) h = quiet g old new p.gone (ap (λ p. p.gone) e) (ap (λ w. w.committed) is)
 move_follows g old new p (Logs n is e) h =
     let k = row_of g old n h in
-    subst (λ p. Follows g old new p.gone) (sym e) (record { told = k.told; settled = ap (λ w. w.settled) is ∙ k.logs })
-move_follows g old new p (Answers a rest front is e) h = quiet g old new p.gone (ap (λ p. p.gone) e) (ap (λ w. w.settled) is)
+    subst (λ p. Follows g old new p.gone) (sym e) (record { told = k.told; committed = ap (λ w. w.committed) is ∙ k.logs })
+move_follows g old new p (Answers a rest front is e) h = quiet g old new p.gone (ap (λ p. p.gone) e) (ap (λ w. w.committed) is)
 
-event_follows : (g : Geometry) (old : Hands) (event : Event) → IsAllowed g old event → IsSoundWorld g old.core
-    → Follows g old.core event.world.core (goes old.core event.step event.rose)
-event_follows g old event allowed h = move_follows g old.core event.world.core _ (moves g old event allowed) h
+event_follows : (g : Geometry) (old : Hands) (event : Event) → IsAllowed g old event → IsSoundCoreState g old.core
+    → Follows g old.core event.state_after.core (goes old.core event.step event.rose)
+event_follows g old event allowed h = move_follows g old.core event.state_after.core _ (moves g old event allowed) h
 
 -- The messages that a run logs are told, one after the other in log order, what they were replied.
-pub run_follows : (g : Geometry) (old : Hands) (events : List Event) → IsLegal g old events → IsSoundWorld g old.core
+pub run_follows : (g : Geometry) (old : Hands) (events : List Event) → IsLegal g old events → IsSoundCoreState g old.core
     → Follows g old.core (last old events).core (went old events)
-run_follows g old [] legal h = record { told = refl; settled = refl }
+run_follows g old [] legal h = record { told = refl; committed = refl }
 run_follows g old (event ∷ events) legal h =
-    let x = old.core.settled in
+    let x = old.core.committed in
     let gone = goes old.core event.step event.rose in
-    let later = went event.world events in
+    let later = went event.state_after events in
     let k = event_follows g old event legal.0 h in
-    let j = run_follows g event.world events legal.1 (event_sound g old event legal.0 h) in
+    let j = run_follows g event.state_after events legal.1 (event_sound g old event legal.0 h) in
     record {
-      told = ap (told g x) (entries-append gone later) ∙ told-append g x (entries gone) (entries later)
-          ∙ (λ i. k.told i ++ told g (sym k.settled i) (entries later)) ∙ ap (λ l. ticket_replies gone ++ l) j.told ∙ sym (said-append gone later);
-      settled = j.settled ∙ ap (λ y. fold g y (messages (entries later))) k.settled ∙ sym (fold-append g x (entries gone) (entries later))
+      told = ap (serial_replies g x) (entries-append gone later) ∙ serial_replies-append g x (entries gone) (entries later)
+          ∙ (λ i. k.told i ++ serial_replies g (sym k.committed i) (entries later)) ∙ ap (λ l. ticket_replies gone ++ l) j.told ∙ sym (said-append gone later);
+      committed = j.committed ∙ ap (λ y. fold g y (messages (entries later))) k.committed ∙ sym (fold-append g x (entries gone) (entries later))
           ∙ ap (λ l. fold g x (messages l)) (sym (entries-append gone later));
     }
 
 -- ---- what is answered
 
-move_answers : (g : Geometry) (old new : World) (p : Passed) → Move g old new p → ticket_replies old.logged ++ ticket_replies p.gone ≡ p.told ++ ticket_replies new.logged
+move_answers : (g : Geometry) (old new : CoreState) (p : Passed) → Move g old new p → ticket_replies old.logged ++ ticket_replies p.gone ≡ p.told ++ ticket_replies new.logged
 move_answers g old new p (Stays s e) = ap (λ p. ticket_replies old.logged ++ ticket_replies p.gone) e ∙ append-nil (ticket_replies old.logged)
     ∙ ap ticket_replies (sym s.logged) ∙ ap (λ p. p.told ++ ticket_replies new.logged) (sym e)
 move_answers g old new p (Arrives m fits is e) = ap (λ p. ticket_replies old.logged ++ ticket_replies p.gone) e ∙ append-nil (ticket_replies old.logged) ∙ ap
@@ -81,25 +81,25 @@ pub run_answers : (g : Geometry) (old : Hands) (events : List Event) → IsLegal
 run_answers g old [] legal = append-nil (ticket_replies old.core.logged)
 run_answers g old (event ∷ events) legal =
     let gone = goes old.core event.step event.rose in
-    let later = went event.world events in
+    let later = went event.state_after events in
     ap (λ l. ticket_replies old.core.logged ++ l) (said-append gone later)
     ∙ sym (append_assoc (ticket_replies old.core.logged) (ticket_replies gone) (ticket_replies later))
-    ∙ ap (λ l. l ++ ticket_replies later) (move_answers g old.core event.world.core _ (moves g old event legal.0))
-    ∙ append_assoc (answers event.outcome) (ticket_replies event.world.core.logged) (ticket_replies later)
-    ∙ ap (λ l. answers event.outcome ++ l) (run_answers g event.world events legal.1)
-    ∙ sym (append_assoc (answers event.outcome) (answered events) (ticket_replies (last event.world events).core.logged))
+    ∙ ap (λ l. l ++ ticket_replies later) (move_answers g old.core event.state_after.core _ (moves g old event legal.0))
+    ∙ append_assoc (answers event.outcome) (ticket_replies event.state_after.core.logged) (ticket_replies later)
+    ∙ ap (λ l. answers event.outcome ++ l) (run_answers g event.state_after events legal.1)
+    ∙ sym (append_assoc (answers event.outcome) (answered events) (ticket_replies (last event.state_after events).core.logged))
 
 -- ---- the journal
 
 -- What a step appends leads where the messages that it logs lead.
-appends : (g : Geometry) (w : World) (s : Step) (rose : Bool) → IsSoundWorld g w
-    → fold g w.settled (appended w s rose) ≡ fold g w.settled (messages (entries (goes w s rose)))
+appends : (g : Geometry) (w : CoreState) (s : Step) (rose : Bool) → IsSoundCoreState g w
+    → fold g w.committed (appended w s rose) ≡ fold g w.committed (messages (entries (goes w s rose)))
 appends g w (steps.Arrive m) rose h = refl
 appends g w steps.Grant rose h = refl
 appends g w (steps.Run i) rose h = refl
 appends g w (steps.Back i) rose h = refl
 appends g w (steps.Log k) rose h = elim (rose || w.failed) as
-    (λ b. fold g w.settled (if b then [] else batch w k) ≡ fold g w.settled (messages (entries (if b then [] else take k w.ran)))) [
+    (λ b. fold g w.committed (if b then [] else batch w k) ≡ fold g w.committed (messages (entries (if b then [] else take k w.ran)))) [
       | true ↦ refl
       | false ↦ (row_of g w k h).logs
     ]
@@ -109,17 +109,17 @@ appends g w steps.Cut rose h = refl
 appends g w steps.Piece rose h = refl
 appends g w steps.Flip rose h = refl
 
--- The settled state after a run is what its journal leaves.
-pub run_journal : (g : Geometry) (old : Hands) (events : List Event) → IsLegal g old events → IsSoundWorld g old.core
-    → (last old events).core.settled ≡ fold g old.core.settled (journal old events)
+-- The committed state after a run is what its journal leaves.
+pub run_journal : (g : Geometry) (old : Hands) (events : List Event) → IsLegal g old events → IsSoundCoreState g old.core
+    → (last old events).core.committed ≡ fold g old.core.committed (journal old events)
 run_journal g old [] legal h = refl
 run_journal g old (event ∷ events) legal h =
-    run_journal g event.world events legal.1 (event_sound g old event legal.0 h)
-    ∙ ap (λ x. fold g x (journal event.world events)) ((event_follows g old event legal.0 h).settled
+    run_journal g event.state_after events legal.1 (event_sound g old event legal.0 h)
+    ∙ ap (λ x. fold g x (journal event.state_after events)) ((event_follows g old event legal.0 h).committed
     ∙ sym (appends g old.core event.step event.rose h))
-    ∙ sym (fold-joined g old.core.settled (appended old.core event.step event.rose) (journal event.world events))
+    ∙ sym (fold-joined g old.core.committed (appended old.core event.step event.rose) (journal event.state_after events))
 
-appends_loggable : (w : World) (s : Step) (rose : Bool) → appended w s rose ≡ loggable (goes w s rose)
+appends_loggable : (w : CoreState) (s : Step) (rose : Bool) → appended w s rose ≡ loggable (goes w s rose)
 appends_loggable w (steps.Arrive m) rose = refl
 appends_loggable w steps.Grant rose = refl
 appends_loggable w (steps.Run i) rose = refl
@@ -137,8 +137,8 @@ pub journal_is_loggable : (old : Hands) (events : List Event) → journal old ev
 journal_is_loggable old [] = refl
 journal_is_loggable old (event ∷ events) =
     let gone = goes old.core event.step event.rose in
-    let later = went event.world events in
-    (λ i. appends_loggable old.core event.step event.rose i ++ journal_is_loggable event.world events i)
+    let later = went event.state_after events in
+    (λ i. appends_loggable old.core event.step event.rose i ++ journal_is_loggable event.state_after events i)
     ∙ sym (map-append (λ (a : Replied). a.1) (filter (λ (a : Replied). is_loggable a.1 a.2) gone) (filter
     (λ (a : Replied). is_loggable a.1 a.2) later))
     ∙ ap (map (λ (a : Replied). a.1)) (sym (filter-append (λ (a : Replied). is_loggable a.1 a.2) gone later))

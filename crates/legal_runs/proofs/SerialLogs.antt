@@ -11,8 +11,8 @@ use Rattle.std.proofs.lemmas.Map.Keys.{IsDistinct-IsPermutation}
 use Rattle.affinity.specs.declared.geometry.Geometry.{Geometry}
 use Rattle.messages.specs.declared.Msg.{Msg}
 use Rattle.meaning.specs.State.{State}
-use Rattle.meaning.specs.Order.{IsBefore, KeepsOrder, told}
-use Rattle.legal_runs.specs.World.{Entry, Replied, World, entries, entry}
+use Rattle.meaning.specs.Order.{IsBefore, KeepsOrder, serial_replies}
+use Rattle.legal_runs.specs.CoreState.{Entry, Replied, CoreState, entries, entry}
 use Rattle.legal_runs.specs.Events.{Hands, Event, loggable}
 use Rattle.legal_runs.specs.Runs.{IsLegal, answered_messages, arrived, journal, last, went}
 use Rattle.legal_runs.specs.Crash.{IsLogAfter, in_doubt}
@@ -27,7 +27,7 @@ use Rattle.legal_runs.proofs.Idle.{idle_sound, none_logged}
 use Rattle.legal_runs.proofs.Lists.{all_front, all_permuted, all_weaker, before_across, before_back, before_front, before_join}
 use Rattle.legal_runs.proofs.Runs.{journal_is_loggable, run_follows}
 use Rattle.legal_runs.proofs.Sound.{last_sound, row_of}
-use Rattle.legal_runs.proofs.Told.{IsIn, said-append, told-append}
+use Rattle.legal_runs.proofs.SerialReplies.{IsIn, said-append, serial_replies-append}
 
 -- ---- tickets
 
@@ -125,7 +125,7 @@ module _ (g : Geometry) where
 -- ---- what a run logs, and what ran behind it
 
 module _ (g : Geometry) (old : Hands) (events : List Event) (legal : IsLegal g old events) (idle : IsIdle old.core) where
-  abbrev now : World
+  abbrev now : CoreState
   now = (last old events).core
 
   abbrev log : ℕ → List Replied
@@ -147,18 +147,18 @@ module _ (g : Geometry) (old : Hands) (events : List Event) (legal : IsLegal g o
       ap (λ l. W ++ l) split ∙ sym (append_assoc W first rest)
       ∙ ap (λ l. l ++ rest) (sym (entries-append (went old events) (take j now.ran)))
 
-  in_order : (j : ℕ) → ticket_replies (log j) ≡ told g old.core.settled (entries (log j))
+  in_order : (j : ℕ) → ticket_replies (log j) ≡ serial_replies g old.core.committed (entries (log j))
   in_order j =
-      let x = old.core.settled in
+      let x = old.core.committed in
       let W = went old events in
       let first = take j now.ran in
       let sound = idle_sound old.core idle g in
       let k = run_follows g old events legal sound in
       let r = row_of g now j (last_sound g old events legal sound) in
-      said-append W first ∙ (λ i. sym k.told i ++ sym r.told i) ∙ ap (λ y. told g x (entries W) ++ told g y (entries first)) k.settled
-      ∙ sym (told-append g x (entries W) (entries first)) ∙ ap (told g x) (sym (entries-append W first))
+      said-append W first ∙ (λ i. sym k.told i ++ sym r.told i) ∙ ap (λ y. serial_replies g x (entries W) ++ serial_replies g y (entries first)) k.committed
+      ∙ sym (serial_replies-append g x (entries W) (entries first)) ∙ ap (serial_replies g x) (sym (entries-append W first))
 
-  pub serial_log : (j : ℕ) → IsSerialLog g old.core.settled (arrived events) (log j)
+  pub serial_log : (j : ℕ) → IsSerialLog g old.core.committed (arrived events) (log j)
   serial_log j = record {
     rest = entries (drop j now.ran) ++ (now.out ++ now.waiting);
     each_once = subst (IsPermutation (arrived events)) (first_in_row j) none_lost;
@@ -174,7 +174,7 @@ module _ (g : Geometry) (old : Hands) (events : List Event) (legal : IsLegal g o
   -- What is answered arrived.
   pub answered_came : AllByRecursion (λ a. Contains (arrived events) (entry a)) (answered_messages old events)
   answered_came =
-      let came = all_came g old.core.settled (arrived events) (log 0) (serial_log 0) in
+      let came = all_came g old.core.committed (arrived events) (log 0) (serial_log 0) in
       all_front (λ a. Contains (arrived events) (entry a)) (answered_messages old events) now.logged
       (subst (AllByRecursion (λ a. Contains (arrived events) (entry a))) logged_begins
       (all_front (λ a. Contains (arrived events) (entry a)) (went old events) (take 0 now.ran) came))
@@ -184,13 +184,13 @@ module _ (g : Geometry) (old : Hands) (events : List Event) (legal : IsLegal g o
   module _ (none : old.core.doubt ≡ []) where
     -- the first so many of those in doubt in the end
     pub doubts_in_order : (k : ℕ)
-        → (j : ℕ) × IsSerialLog g old.core.settled (arrived events) (log j) × (loggable (take j now.ran) ≡ take k now.doubt)
+        → (j : ℕ) × IsSerialLog g old.core.committed (arrived events) (log j) × (loggable (take j now.ran) ≡ take k now.doubt)
     doubts_in_order k =
         let first = first_doubts now (run_doubts_ran g old events legal (λ sound. none) (no_doubts old.core none)) k in
         (first.some, serial_log first.some, first.are)
 
     crash_in_order : (rest : List Event) (k : ℕ) (ms : List Msg) → ms ≡ journal old events ++ take k (in_doubt now rest)
-        → (j : ℕ) × IsSerialLog g old.core.settled (arrived events) (log j) × (ms ≡ loggable (log j))
+        → (j : ℕ) × IsSerialLog g old.core.committed (arrived events) (log j) × (ms ≡ loggable (log j))
     crash_in_order rest k ms is =
         let first = crash_doubts_ran now (run_doubts_ran g old events legal (λ sound. none) (no_doubts old.core none)) rest k in (
           first.some,
@@ -202,7 +202,7 @@ module _ (g : Geometry) (old : Hands) (events : List Event) (legal : IsLegal g o
 -- Whatever a crash leaves in the log when so many events have ended, it is the changes of a serial log.
 pub left_in_order : (g : Geometry) (old : Hands) (events : List Event) (k : ℕ) (ms : List Msg) → IsLegal g old events → IsIdle old.core
     → old.core.doubt ≡ [] → IsLogAfter old events k ms
-    → (j : ℕ) × IsSerialLog g old.core.settled (arrived (take k events))
+    → (j : ℕ) × IsSerialLog g old.core.committed (arrived (take k events))
     (went old (take k events) ++ take j (last old (take k events)).core.ran)
     × (ms ≡ loggable (went old (take k events) ++ take j (last old (take k events)).core.ran))
 left_in_order g old events k ms legal idle none log =

@@ -1,19 +1,19 @@
--- Each event leads from a sound world to a sound one.
+-- Each event leads from a sound core state to a sound one.
 use Rattle.std.proofs.Common.{◌≡◌, ℕ, ◌+◌, ◌<◌, ◌≤◌, List, [], ◌∷◌, ◌++◌, refl, ap, sym, ◌∙◌, subst, append_assoc, take, drop, length, arith}
 use Rattle.std.specs.Prelude.{◌==◌}
 use Rattle.std.specs.List.{AllByRecursion}
 use Rattle.std.proofs.lemmas.List.{take-append-drop, length-append}
 use Rattle.affinity.specs.declared.geometry.Geometry.{Geometry}
 use Rattle.meaning.specs.Serial.{reply_to}
-use Rattle.legal_runs.specs.World.{Entry, Replied, World, entries, held}
+use Rattle.legal_runs.specs.CoreState.{Entry, Replied, CoreState, entries, held}
 use Rattle.legal_runs.specs.Eligible.{is_eligible}
 use Rattle.legal_runs.specs.Events.{Hands, Event, IsAllowed, grant, give_back, log}
 use Rattle.legal_runs.specs.Runs.{IsLegal, last}
-use Rattle.legal_runs.specs.Laws.{AreApart, AreReplied, AreAscending, AreOnce, DoubtsOnlyFailed, HasRoom, IsSoundWorld}
+use Rattle.legal_runs.specs.Laws.{AreApart, AreReplied, AreAscending, AreOnce, DoubtsOnlyFailed, HasRoom, IsSoundCoreState}
 use Rattle.legal_runs.proofs.Lists.{all_join, all_front, all_back, all_weaker, all_moved, all_without, before_push, before_back, before_front, before_without, before_moved, picked}
 use Rattle.legal_runs.proofs.Apart.{grant_apart, back_apart, log_held, held_grant, length_held}
 use Rattle.legal_runs.proofs.Moves.{Passed, Move, Stays, Arrives, Grants, Backs, Logs, Answers, moves}
-use Rattle.legal_runs.proofs.Told.{InARow, in_a_row}
+use Rattle.legal_runs.proofs.SerialReplies.{InARow, in_a_row}
 use Rattle.legal_runs.proofs.Room.{move_room}
 
 once_turned : (e d : Entry) → (e.0 ≡ d.0 → ⊥) → d.0 ≡ e.0 → ⊥
@@ -25,22 +25,22 @@ IsGiven n e = e.0 < n
 
 module _ (g : Geometry) where
   -- what is logged next is told in a row
-  pub row_of : (w : World) (n : ℕ) → IsSoundWorld g w → InARow g w.settled (take n w.ran) (drop n w.ran)
+  pub row_of : (w : CoreState) (n : ℕ) → IsSoundCoreState g w → InARow g w.committed (take n w.ran) (drop n w.ran)
   row_of w n h =
       let whole : take n w.ran ++ drop n w.ran ≡ w.ran = take-append-drop n w.ran in
-      in_a_row g w.settled (take n w.ran) (drop n w.ran)
+      in_a_row g w.committed (take n w.ran) (drop n w.ran)
       (subst (λ r. AreApart g (entries r)) (sym whole) (before_front _ (entries w.ran) w.out (before_back _ (entries w.logged) _ h.apart)))
-      (subst (AreReplied g w.settled) (sym whole) h.replied)
+      (subst (AreReplied g w.committed) (sym whole) h.replied)
 
-  stays_sound : (old new : World) (p : Passed) → Move g old new p → new.waiting ≡ old.waiting → new.out ≡ old.out
-      → new.ran ≡ old.ran → new.logged ≡ old.logged → new.settled ≡ old.settled → new.next ≡ old.next → new.slots ≡ old.slots
-      → IsSoundWorld g old → IsSoundWorld g new
-  stays_sound old new p move waiting out ran logged settled next slots h =
+  stays_sound : (old new : CoreState) (p : Passed) → Move g old new p → new.waiting ≡ old.waiting → new.out ≡ old.out
+      → new.ran ≡ old.ran → new.logged ≡ old.logged → new.committed ≡ old.committed → new.next ≡ old.next → new.slots ≡ old.slots
+      → IsSoundCoreState g old → IsSoundCoreState g new
+  stays_sound old new p move waiting out ran logged committed next slots h =
       let all : new.out ++ new.waiting ≡ old.out ++ old.waiting = λ i. out i ++ waiting i in
       let holds : held new ≡ held old = λ i. entries (logged i) ++ (entries (ran i) ++ out i) in
       record {
         apart = subst (AreApart g) (sym holds) h.apart;
-        replied = subst (AreReplied g new.settled) (sym ran) (subst (λ x. AreReplied g x old.ran) (sym settled) h.replied);
+        replied = subst (AreReplied g new.committed) (sym ran) (subst (λ x. AreReplied g x old.ran) (sym committed) h.replied);
         ascending = subst AreAscending (sym waiting) h.ascending;
         once = subst AreOnce (sym all) h.once;
         given = subst (λ n. AllByRecursion (IsGiven n) (new.out ++ new.waiting)) (sym next)
@@ -51,14 +51,14 @@ module _ (g : Geometry) where
             (subst (λ l. length l + length (held old) ≤ old.slots) (sym waiting) h.fits));
       }
 
-  pub move_sound : (old new : World) (p : Passed) → Move g old new p → IsSoundWorld g old → IsSoundWorld g new
-  move_sound old new p (Stays s e) h = stays_sound old new p (Stays s e) s.waiting s.out s.ran s.logged s.settled s.next s.slots h
+  pub move_sound : (old new : CoreState) (p : Passed) → Move g old new p → IsSoundCoreState g old → IsSoundCoreState g new
+  move_sound old new p (Stays s e) h = stays_sound old new p (Stays s e) s.waiting s.out s.ran s.logged s.committed s.next s.slots h
   move_sound old new p (Arrives m fits is e) h =
       let one : Entry = (old.next, m) in
       let same = sym (append_assoc old.out old.waiting (one ∷ [])) in
       let l = length-append old.waiting (one ∷ []) in
       let room = move_room g old new p (Arrives m fits is e) h.room in
-      subst (IsSoundWorld g) (sym is) (record {
+      subst (IsSoundCoreState g) (sym is) (record {
         apart = h.apart;
         replied = h.replied;
         ascending = before_push (λ e d. e.0 < d.0) old.waiting one h.ascending (waits_given old h);
@@ -72,7 +72,7 @@ module _ (g : Geometry) where
         fits = omega (arith, l, fits);
       })
     where
-      waits_given : (w : World) → IsSoundWorld g w → AllByRecursion (IsGiven w.next) w.waiting
+      waits_given : (w : CoreState) → IsSoundCoreState g w → AllByRecursion (IsGiven w.next) w.waiting
       waits_given w h = all_back (IsGiven w.next) w.out w.waiting h.given
   move_sound old new p (Grants found first is e) h =
       let k = picked (is_eligible g old) old.waiting found first in
@@ -85,7 +85,7 @@ module _ (g : Geometry) where
       let now = ap length k.rest ∙ length-append k.before k.behind in
       let holds = ap length (held_grant old found) ∙ length-append (held old) (one ∷ []) in
       let fits = h.fits in
-      subst (IsSoundWorld g) (sym is) (record {
+      subst (IsSoundCoreState g) (sym is) (record {
         apart = grant_apart g old found first h.apart;
         replied = h.replied;
         ascending = subst AreAscending (sym k.rest) (before_without _ k.before one k.behind (subst AreAscending k.whole h.ascending));
@@ -103,7 +103,7 @@ module _ (g : Geometry) where
   move_sound old new p (Backs ticket found one_out is e) h =
       let k = picked (λ d. d.0 == ticket) old.out found one_out in
       let one = found.0 in
-      let a : Replied = (one.0, one.1, reply_to g old.settled one.1) in
+      let a : Replied = (one.0, one.1, reply_to g old.committed one.1) in
       let from : old.out ++ old.waiting ≡ k.before ++ one ∷ (k.behind ++ old.waiting) = ap (λ l. l ++ old.waiting) k.whole
       ∙ append_assoc k.before (one ∷ k.behind) old.waiting in
       let to : k.before ++ (k.behind ++ old.waiting) ≡ found.1 ++ old.waiting = sym (append_assoc k.before k.behind old.waiting) ∙ ap
@@ -115,9 +115,9 @@ module _ (g : Geometry) where
       let held_was = length_held old in
       let held_now = length_held (give_back g old found) in
       let fits = h.fits in
-      subst (IsSoundWorld g) (sym is) (record {
+      subst (IsSoundCoreState g) (sym is) (record {
         apart = back_apart g old ticket found one_out h.apart;
-        replied = all_join (λ a. a.2 ≡ reply_to g old.settled a.1) old.ran _ h.replied (refl, tt);
+        replied = all_join (λ a. a.2 ≡ reply_to g old.committed a.1) old.ran _ h.replied (refl, tt);
         ascending = h.ascending;
         once = subst AreOnce to (before_without _ k.before one (k.behind ++ old.waiting) (subst AreOnce from h.once));
         given = subst (AllByRecursion (IsGiven old.next)) to (all_without (IsGiven old.next) k.before one (k.behind ++ old.waiting)
@@ -127,7 +127,7 @@ module _ (g : Geometry) where
       })
   move_sound old new p (Logs n is e) h =
       let room = move_room g old (log g old n) p (Logs n refl e) h.room in
-      subst (IsSoundWorld g) (sym is) (record {
+      subst (IsSoundCoreState g) (sym is) (record {
         apart = subst (AreApart g) (sym (log_held g old n)) h.apart;
         replied = subst (λ x. AreReplied g x (drop n old.ran)) (sym (row_of old n h).logs) (row_of old n h).still;
         ascending = h.ascending;
@@ -138,7 +138,7 @@ module _ (g : Geometry) where
       })
   move_sound old new p (Answers a rest front is e) h =
       let fits = subst (λ l. length old.waiting + length (entries l ++ (entries old.ran ++ old.out)) ≤ old.slots) front h.fits in
-      subst (IsSoundWorld g) (sym is) (record {
+      subst (IsSoundCoreState g) (sym is) (record {
         apart = (subst (λ l. AreApart g (entries l ++ (entries old.ran ++ old.out))) front h.apart).1;
         replied = h.replied;
         ascending = h.ascending;
@@ -148,23 +148,23 @@ module _ (g : Geometry) where
         fits = omega (arith, fits);
       })
 
-  pub event_sound : (old : Hands) (event : Event) → IsAllowed g old event → IsSoundWorld g old.core → IsSoundWorld g event.world.core
-  event_sound old event allowed h = move_sound old.core event.world.core _ (moves g old event allowed) h
+  pub event_sound : (old : Hands) (event : Event) → IsAllowed g old event → IsSoundCoreState g old.core → IsSoundCoreState g event.state_after.core
+  event_sound old event allowed h = move_sound old.core event.state_after.core _ (moves g old event allowed) h
 
-  pub run_sound : (old : Hands) (events : List Event) → IsLegal g old events → IsSoundWorld g old.core
-      → AllByRecursion (λ event. IsSoundWorld g event.world.core) events
+  pub run_sound : (old : Hands) (events : List Event) → IsLegal g old events → IsSoundCoreState g old.core
+      → AllByRecursion (λ event. IsSoundCoreState g event.state_after.core) events
   run_sound old [] legal h = tt
   run_sound old (event ∷ events) legal h =
       let k = event_sound old event legal.0 h in
-      (k, run_sound event.world events legal.1 k)
+      (k, run_sound event.state_after events legal.1 k)
 
-  pub last_sound : (old : Hands) (events : List Event) → IsLegal g old events → IsSoundWorld g old.core → IsSoundWorld g (last old events).core
+  pub last_sound : (old : Hands) (events : List Event) → IsLegal g old events → IsSoundCoreState g old.core → IsSoundCoreState g (last old events).core
   last_sound old [] legal h = h
-  last_sound old (event ∷ events) legal h = last_sound event.world events legal.1 (event_sound old event legal.0 h)
+  last_sound old (event ∷ events) legal h = last_sound event.state_after events legal.1 (event_sound old event legal.0 h)
 
 -- ---- the number of slots
 
-move_slots : (g : Geometry) (old new : World) (p : Passed) → Move g old new p → new.slots ≡ old.slots
+move_slots : (g : Geometry) (old new : CoreState) (p : Passed) → Move g old new p → new.slots ≡ old.slots
 move_slots g old new p (Stays s e) = s.slots
 move_slots g old new p (Arrives m fits is e) = ap (λ w. w.slots) is
 move_slots g old new p (Grants found first is e) = ap (λ w. w.slots) is
@@ -172,23 +172,23 @@ move_slots g old new p (Backs ticket found one_out is e) = ap (λ w. w.slots) is
 move_slots g old new p (Logs n is e) = ap (λ w. w.slots) is
 move_slots g old new p (Answers a rest front is e) = ap (λ w. w.slots) is
 
-pub event_slots : (g : Geometry) (old : Hands) (event : Event) → IsAllowed g old event → event.world.core.slots ≡ old.core.slots
-event_slots g old event allowed = move_slots g old.core event.world.core _ (moves g old event allowed)
+pub event_slots : (g : Geometry) (old : Hands) (event : Event) → IsAllowed g old event → event.state_after.core.slots ≡ old.core.slots
+event_slots g old event allowed = move_slots g old.core event.state_after.core _ (moves g old event allowed)
 
 -- Whatever a run of events does, what is out and what ran has room, and each message has a slot of those that there were.
-pub run_fits : (g : Geometry) (old : Hands) (events : List Event) → IsLegal g old events → IsSoundWorld g old.core
-    → AllByRecursion (λ event. HasRoom old.core.slots event.world.core) events
+pub run_fits : (g : Geometry) (old : Hands) (events : List Event) → IsLegal g old events → IsSoundCoreState g old.core
+    → AllByRecursion (λ event. HasRoom old.core.slots event.state_after.core) events
 run_fits g old [] legal h = tt
 run_fits g old (event ∷ events) legal h =
     let k = event_sound g old event legal.0 h in
     let same = event_slots g old event legal.0 in (
-      (k.room, subst (λ n. length event.world.core.waiting + length (held event.world.core) ≤ n) same k.fits),
-      subst (λ n. AllByRecursion (λ event. HasRoom n event.world.core) events) same (run_fits g event.world events legal.1 k),
+      (k.room, subst (λ n. length event.state_after.core.waiting + length (held event.state_after.core) ≤ n) same k.fits),
+      subst (λ n. AllByRecursion (λ event. HasRoom n event.state_after.core) events) same (run_fits g event.state_after events legal.1 k),
     )
 
 -- ---- what is in doubt
 
-move_doubts : (g : Geometry) (old new : World) (p : Passed) → Move g old new p → DoubtsOnlyFailed old → DoubtsOnlyFailed new
+move_doubts : (g : Geometry) (old new : CoreState) (p : Passed) → Move g old new p → DoubtsOnlyFailed old → DoubtsOnlyFailed new
 move_doubts g old new p (Stays s e) h = s.doubt h
 move_doubts g old new p (Arrives m fits is e) h = subst DoubtsOnlyFailed (sym is) h
 move_doubts g old new p (Grants found first is e) h = subst DoubtsOnlyFailed (sym is) h
@@ -197,5 +197,5 @@ move_doubts g old new p (Logs n is e) h = subst DoubtsOnlyFailed (sym is) h
 move_doubts g old new p (Answers a rest front is e) h = subst DoubtsOnlyFailed (sym is) h
 
 pub event_doubts : (g : Geometry) (old : Hands) (event : Event) → IsAllowed g old event → DoubtsOnlyFailed old.core
-    → DoubtsOnlyFailed event.world.core
-event_doubts g old event allowed h = move_doubts g old.core event.world.core _ (moves g old event allowed) h
+    → DoubtsOnlyFailed event.state_after.core
+event_doubts g old event allowed h = move_doubts g old.core event.state_after.core _ (moves g old event allowed) h

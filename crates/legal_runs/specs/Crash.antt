@@ -6,22 +6,22 @@ use Rattle.meaning.specs.State.{State}
 use Rattle.meaning.specs.Serial.{fold}
 use Rattle.legal_runs.specs.declared.outcomes.Step.{Step}
 use Rattle.legal_runs.specs.declared.outcomes.Step.TheVariants as steps
-use Rattle.legal_runs.specs.World.{World}
+use Rattle.legal_runs.specs.CoreState.{CoreState}
 use Rattle.legal_runs.specs.Events.{Hands, Event, batch}
 use Rattle.legal_runs.specs.Runs.{last, journal}
 
 -- what a step is to append to the log
-abbrev pub to_append : World → Step → List Msg
+abbrev pub to_append : CoreState → Step → List Msg
 to_append w (steps.Log n) = batch w n
 to_append w _ = []
 
-abbrev pub next_batch : World → List Event → List Msg
+abbrev pub next_batch : CoreState → List Event → List Msg
 next_batch w [] = []
 next_batch w (event ∷ events) = to_append w event.step
 
--- The messages in doubt, in a world from which these events come: in a failed world those that were to be
+-- The messages in doubt, in a core state from which these events come: in a failed core state those that were to be
 -- appended when the device failed, and else those that the next event is to append.
-abbrev pub in_doubt : World → List Event → List Msg
+abbrev pub in_doubt : CoreState → List Event → List Msg
 in_doubt w events = if w.failed then w.doubt else next_batch w events
 
 -- These messages are in the log, if the crash comes after k events of a run and before the next has ended:
@@ -38,4 +38,4 @@ pub record IsLeftSince (g : Geometry) (old : Hands) (events : List Event) (k : �
   pub within : after ≤ length events
   pub log : List Msg
   pub is_log : IsLogAfter old events after log
-  pub state : x ≡ fold g old.core.settled log
+  pub state : x ≡ fold g old.core.committed log

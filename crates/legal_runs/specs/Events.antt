@@ -1,4 +1,4 @@
--- Events: what each step does to the world and to the hands of a machine, and what it answers.
+-- Events: what each step does to the core state and to the hands of a machine, and what it answers.
 use Rattle.std.specs.Prelude.{◌≡◌, ℕ, zero, suc, ◌+◌, ◌-◌, ◌^◌, ◌≤◌, Bool, true, false, not, ◌&&◌, ◌==◌, nat_lt, nat_le, List, [], ◌∷◌, ◌++◌, map, filter, length, take, drop, if◌then◌else◌, Option, Some, None, is_some, is_none, position, slice_get, set, MatchBool}
 use Rattle.std.specs.List.{list_any}
 use Rattle.affinity.specs.declared.geometry.Geometry.{Geometry}
@@ -14,13 +14,13 @@ use Rattle.legal_runs.specs.declared.outcomes.ArriveRefusal.TheVariants as arriv
 use Rattle.legal_runs.specs.declared.outcomes.CoreFault.TheVariants as faults
 use Rattle.legal_runs.specs.declared.outcomes.PointRefusal.{PointRefusal}
 use Rattle.legal_runs.specs.declared.outcomes.PointRefusal.TheVariants as points
-use Rattle.legal_runs.specs.World.{Entry, Replied, World, held}
+use Rattle.legal_runs.specs.CoreState.{Entry, Replied, CoreState, held}
 use Rattle.legal_runs.specs.Eligible.{pick, next_eligible, lacks_room_alone}
 
 -- ---- what each step does to the core, where the device doesn't fail
 
 -- The message waits behind all others.
-abbrev pub arrive : Geometry → World → Msg → Outcome × World
+abbrev pub arrive : Geometry → CoreState → Msg → Outcome × CoreState
 arrive g w m =
     if w.failed then (outcomes.ArriveRefused arrivals.Failed, w)
     else if not (is_in_range g m) then (outcomes.ArriveRefused arrivals.Range, w)
@@ -29,53 +29,53 @@ arrive g w m =
     else (outcomes.Ticket w.next, record w { waiting = w.waiting ++ (w.next, m) ∷ []; next = w.next + 1 })
 
 -- The message goes out, and the others wait on.
-abbrev pub grant : World → Entry × List Entry → World
+abbrev pub grant : CoreState → Entry × List Entry → CoreState
 grant w found = record w { waiting = found.1; out = w.out ++ found.0 ∷ [] }
 
 -- why none goes
-abbrev pub no_grant : Geometry → World → Outcome
+abbrev pub no_grant : Geometry → CoreState → Outcome
 no_grant g w = if list_any (lacks_room_alone g w) w.waiting then outcomes.NoRoom else outcomes.NoneEligible
 
 -- the message that is out with this ticket, and the others that are out
-abbrev pub out_with : World → ℕ → Option (Entry × List Entry)
+abbrev pub out_with : CoreState → ℕ → Option (Entry × List Entry)
 out_with w ticket = pick (λ e. e.0 == ticket) w.out
 
--- The message comes back, with the reply at the settled state.
-abbrev pub give_back : Geometry → World → Entry × List Entry → World
-give_back g w found = record w { out = found.1; ran = w.ran ++ (found.0.0, found.0.1, reply_to g w.settled found.0.1) ∷ [] }
+-- The message comes back, with the reply at the committed state.
+abbrev pub give_back : Geometry → CoreState → Entry × List Entry → CoreState
+give_back g w found = record w { out = found.1; ran = w.ran ++ (found.0.0, found.0.1, reply_to g w.committed found.0.1) ∷ [] }
 
 -- those of the messages that the log keeps: the changes that were carried out
 abbrev pub loggable : List Replied → List Msg
 loggable as' = map (λ a. a.1) (filter (λ a. is_loggable a.1 a.2) as')
 
 -- what a log of n appends to the journal
-abbrev pub batch : World → ℕ → List Msg
+abbrev pub batch : CoreState → ℕ → List Msg
 batch w n = loggable (take n w.ran)
 
 -- The first n that ran are logged.
-abbrev pub log : Geometry → World → ℕ → World
+abbrev pub log : Geometry → CoreState → ℕ → CoreState
 log g w n = record w {
   ran = drop n w.ran;
   logged = w.logged ++ take n w.ran;
-  settled = fold g w.settled (batch w n);
+  committed = fold g w.committed (batch w n);
   room = w.room - length (batch w n);
 }
 
 -- The first that is logged is answered.
-abbrev pub answer : World → List Replied → Outcome × World
+abbrev pub answer : CoreState → List Replied → Outcome × CoreState
 answer w [] = (outcomes.Idle, w)
 answer w (a ∷ as') = (outcomes.Answered a.0 a.2, record w { logged = as' })
 
 -- ---- consistency points: why each of their steps is refused, and what it does
 
-abbrev pub point_refusal : World → Option PointRefusal
+abbrev pub point_refusal : CoreState → Option PointRefusal
 point_refusal w =
     if w.failed then Some points.Failed
     else if is_some w.left then Some points.Running
     else if nat_lt 0 (length (held w)) then Some points.Held
     else None
 
-abbrev pub piece_refusal : World → Option PointRefusal
+abbrev pub piece_refusal : CoreState → Option PointRefusal
 piece_refusal w =
     if w.failed then Some points.Failed
     else if is_none w.left then Some points.NotRunning
@@ -87,18 +87,18 @@ not_ended None = Some points.NotRunning
 not_ended (Some zero) = None
 not_ended (Some (suc n)) = Some points.Unfinished
 
-abbrev pub flip_refusal : World → Option PointRefusal
+abbrev pub flip_refusal : CoreState → Option PointRefusal
 flip_refusal w = if w.failed then Some points.Failed else not_ended w.left
 
-abbrev pub unless_refused : World → Option PointRefusal → Outcome × World → Outcome × World
+abbrev pub unless_refused : CoreState → Option PointRefusal → Outcome × CoreState → Outcome × CoreState
 unless_refused w None done = done
 unless_refused w (Some why) done = (outcomes.PointRefused why, w)
 
-abbrev pub point : Geometry → World → Outcome × World
+abbrev pub point : Geometry → CoreState → Outcome × CoreState
 point g w = unless_refused w (point_refusal w) (outcomes.Pointed, record w { room = g.half })
 
 -- n pieces are to be written
-abbrev pub cut : Geometry → ℕ → World → Outcome × World
+abbrev pub cut : Geometry → ℕ → CoreState → Outcome × CoreState
 cut g n w = unless_refused w (point_refusal w) (outcomes.Cut, record w { room = g.half; left = Some n })
 
 -- how many pieces are left when one more is written
@@ -106,10 +106,10 @@ abbrev pub fewer : Option ℕ → ℕ
 fewer None = 0
 fewer (Some n) = n - 1
 
-abbrev pub piece : World → Outcome × World
+abbrev pub piece : CoreState → Outcome × CoreState
 piece w = unless_refused w (piece_refusal w) (outcomes.Left (fewer w.left), record w { left = Some (fewer w.left) })
 
-abbrev pub flip : World → Outcome × World
+abbrev pub flip : CoreState → Outcome × CoreState
 flip w = unless_refused w (flip_refusal w) (outcomes.Flipped, record w { left = None })
 
 -- ---- a machine: a core with a row of hands, each of them empty, with a job or with its result
@@ -120,7 +120,7 @@ pub data Hand : Type 0 where
   Result : (ticket : ℕ) → Hand
 
 pub record Hands : Type 0 where
-  pub core : World
+  pub core : CoreState
   pub hands : List Hand
 
 abbrev pub is_empty : Hand → Bool
@@ -128,7 +128,7 @@ is_empty Empty = true
 is_empty _ = false
 
 -- The core alone changes.
-abbrev pub in_core : Hands → Outcome × World → Outcome × Hands
+abbrev pub in_core : Hands → Outcome × CoreState → Outcome × Hands
 in_core w x = (x.0, record w { core = x.1 })
 
 -- The eligible message with the least ticket goes to the least empty hand.
@@ -148,7 +148,7 @@ run_hand w i (Some (Job ticket)) = (outcomes.Ran, record w { hands = set w.hands
 run_hand w i _ = (outcomes.Idle, w)
 
 -- the message that is out and has its result in the hand, and the others that are out
-abbrev pub result_in : World → Option Hand → Option (Entry × List Entry)
+abbrev pub result_in : CoreState → Option Hand → Option (Entry × List Entry)
 result_in w (Some (Result ticket)) = out_with w ticket
 result_in w _ = None
 
@@ -158,7 +158,7 @@ back_from g w i None = (outcomes.Idle, w)
 back_from g w i (Some found) = (outcomes.Back found.0.0, record { core = give_back g w.core found; hands = set w.hands i Empty })
 
 -- A failed core logs nothing.
-abbrev pub log_some : Geometry → World → ℕ → Outcome × World
+abbrev pub log_some : Geometry → CoreState → ℕ → Outcome × CoreState
 log_some g w n = if w.failed then (outcomes.LogFault faults.Failed, w) else (outcomes.Logged (length (take n w.ran)), log g w n)
 
 -- ---- events
@@ -182,7 +182,7 @@ is_ended None = false
 is_ended (Some n) = n == 0
 
 -- whether a step touches the device
-abbrev pub touches_device : World → Step → Bool
+abbrev pub touches_device : CoreState → Step → Bool
 touches_device w (steps.Log k) = not w.failed && nat_lt 0 (length (batch w k))
 touches_device w steps.Point = is_none (point_refusal w)
 touches_device w steps.Cut = is_none (point_refusal w)
@@ -190,33 +190,33 @@ touches_device w steps.Piece = is_none (piece_refusal w) && not (is_ended w.left
 touches_device w steps.Flip = is_none (flip_refusal w)
 touches_device w _ = false
 
-abbrev pub fails : World → World
+abbrev pub fails : CoreState → CoreState
 fails w = record w { failed = true }
 
 -- What a step that touches the device does where the device fails.
-abbrev pub fault : World → Step → Outcome × World
+abbrev pub fault : CoreState → Step → Outcome × CoreState
 fault w (steps.Log k) = (outcomes.LogFault faults.Device, record w { failed = true; doubt = batch w k })
 fault w _ = (outcomes.PointRefused points.Device, fails w)
 
--- a step with its outcome, whether the device failed during it, and the world after it
+-- a step with its outcome, whether the device failed during it, and the core state after it
 pub record Event : Type 0 where
   pub step : Step
   pub outcome : Outcome
   pub rose : Bool
-  pub world : Hands
+  pub state_after : Hands
 
 -- The device failed during the step, which touched it.
 pub record IsFault (old : Hands) (event : Event) : Type 0 where
   pub touched : touches_device old.core event.step ≡ true
-  pub core : fault old.core event.step ≡ (event.outcome, event.world.core)
-  pub hands : event.world.hands ≡ old.hands
+  pub core : fault old.core event.step ≡ (event.outcome, event.state_after.core)
+  pub hands : event.state_after.hands ≡ old.hands
 
 -- The step did what it does; where it began a consistency point, with at most all pieces to write.
 pub record IsCarriedOut (g : Geometry) (old : Hands) (event : Event) : Type 0 where
   pub to_write : ℕ
   pub at_most : to_write ≤ piece_count g
-  pub does : happens g to_write old event.step ≡ (event.outcome, event.world)
+  pub does : happens g to_write old event.step ≡ (event.outcome, event.state_after)
 
--- The event may come in this world.
+-- The event may come in this core state.
 abbrev pub IsAllowed : Geometry → Hands → Event → Type 0
 IsAllowed g old event = MatchBool event.rose (IsFault old event) (IsCarriedOut g old event)

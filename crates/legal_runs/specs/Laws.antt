@@ -5,14 +5,14 @@ use Rattle.affinity.specs.declared.geometry.Geometry.{Geometry}
 use Rattle.messages.specs.declared.Reply.{Reply}
 use Rattle.meaning.specs.State.{State}
 use Rattle.meaning.specs.Serial.{reply_to}
-use Rattle.meaning.specs.Order.{told, KeepsOrder}
+use Rattle.meaning.specs.Order.{serial_replies, KeepsOrder}
 use Rattle.legal_runs.specs.declared.outcomes.Step.{Step}
 use Rattle.legal_runs.specs.declared.outcomes.Step.TheVariants as steps
 use Rattle.legal_runs.specs.declared.outcomes.Outcome.{Outcome}
 use Rattle.legal_runs.specs.declared.outcomes.Outcome.TheVariants as outcomes
 use Rattle.legal_runs.specs.declared.outcomes.CoreFault.TheVariants as faults
 use Rattle.legal_runs.specs.declared.outcomes.PointRefusal.TheVariants as points
-use Rattle.legal_runs.specs.World.{Entry, Replied, World, entries, held, are_related_entries}
+use Rattle.legal_runs.specs.CoreState.{Entry, Replied, CoreState, entries, held, are_related_entries}
 use Rattle.legal_runs.specs.Eligible.{in_flight}
 use Rattle.legal_runs.specs.Events.{Hand, Hands, Event, is_empty, loggable}
 use Rattle.legal_runs.specs.Runs.{IsLegal, last, went, journal, arrived, answered}
@@ -50,14 +50,14 @@ pub record IsSerialLog (g : Geometry) (x : State) (arrivals : List Entry) (log :
   pub rest : List Entry
   pub each_once : IsPermutation arrivals (entries log ++ rest)
   pub by_ticket : KeepsOrder g (entries log ++ rest)
-  pub in_order : ticket_replies log ≡ told g x (entries log)
+  pub in_order : ticket_replies log ≡ serial_replies g x (entries log)
 
--- What every world keeps.
-pub record IsSoundWorld (g : Geometry) (w : World) : Type 0 where
+-- What every core state keeps.
+pub record IsSoundCoreState (g : Geometry) (w : CoreState) : Type 0 where
   -- no two messages held at once are at related places
   pub apart : AreApart g (held w)
-  -- the replies of those that ran are those at the settled state
-  pub replied : AreReplied g w.settled w.ran
+  -- the replies of those that ran are those at the committed state
+  pub replied : AreReplied g w.committed w.ran
   -- they wait by ticket
   pub ascending : AreAscending w.waiting
   -- no ticket was given twice, and none that is to come
@@ -79,11 +79,11 @@ abbrev pub full : List Hand → ℕ
 full hands = count_by (λ hand. not (is_empty hand)) hands
 
 -- Nothing is in doubt, unless the device has failed.
-abbrev pub DoubtsOnlyFailed : World → Type 0
+abbrev pub DoubtsOnlyFailed : CoreState → Type 0
 DoubtsOnlyFailed w = w.failed ≡ false → w.doubt ≡ []
 
 -- What is in doubt are the changes among the first so many of those that ran.
-pub record DoubtsWhatRan (w : World) : Type 0 where
+pub record DoubtsWhatRan (w : CoreState) : Type 0 where
   pub some : ℕ
   pub at_most : some ≤ length w.ran
   pub is : w.doubt ≡ loggable (take some w.ran)
@@ -95,29 +95,29 @@ tells_of_failure (outcomes.PointRefused points.Device) = true
 tells_of_failure _ = false
 
 -- The device has failed: nothing arrives, goes out, is logged or comes to be in doubt, and no consistency point goes on.
-pub record IsStopped (old new : World) : Type 0 where
+pub record IsStopped (old new : CoreState) : Type 0 where
   pub failed : new.failed ≡ true
   pub waiting : new.waiting ≡ old.waiting
   -- what comes back is behind all that ran before
   pub back : List Replied
   pub ran : new.ran ≡ old.ran ++ back
-  pub settled : new.settled ≡ old.settled
+  pub committed : new.committed ≡ old.committed
   pub doubt : new.doubt ≡ old.doubt
   pub room : new.room ≡ old.room
   pub next : new.next ≡ old.next
   pub left : new.left ≡ old.left
 
 -- What is out and what ran has room in the log, and each message has one of so many slots.
-abbrev pub HasRoom : ℕ → World → Type 0
+abbrev pub HasRoom : ℕ → CoreState → Type 0
 HasRoom slots w = (in_flight w ≤ w.room) × (length w.waiting + length (held w) ≤ slots)
 
 -- Nothing waits, and nothing is held.
-pub record IsIdle (w : World) : Type 0 where
+pub record IsIdle (w : CoreState) : Type 0 where
   pub none_waits : w.waiting ≡ []
   pub none_held : held w ≡ []
 
 -- The message was logged first, and has gone.
-abbrev pub IsAnswered : World → World → Replied → Type 0
+abbrev pub IsAnswered : CoreState → CoreState → Replied → Type 0
 IsAnswered old new a = old.logged ≡ a ∷ new.logged
 
 -- A run, and a run that goes on from where it ended, in one.

@@ -1,4 +1,4 @@
--- Legal runs: lists of events, each of them allowed in the world that the ones before it left.
+-- Legal runs: lists of events, each of them allowed in the core state that the ones before it left.
 use Rattle.std.specs.Prelude.{◌≡◌, ℕ, Bool, ◌||◌, List, [], ◌∷◌, ◌++◌, map, take, if◌then◌else◌}
 use Rattle.affinity.specs.declared.geometry.Geometry.{Geometry}
 use Rattle.messages.specs.declared.Msg.{Msg}
@@ -7,24 +7,24 @@ use Rattle.legal_runs.specs.declared.outcomes.Step.{Step}
 use Rattle.legal_runs.specs.declared.outcomes.Step.TheVariants as steps
 use Rattle.legal_runs.specs.declared.outcomes.Outcome.{Outcome}
 use Rattle.legal_runs.specs.declared.outcomes.Outcome.TheVariants as outcomes
-use Rattle.legal_runs.specs.World.{Entry, Replied, World}
+use Rattle.legal_runs.specs.CoreState.{Entry, Replied, CoreState}
 use Rattle.legal_runs.specs.Events.{Hands, Event, IsAllowed, batch, happens, loggable}
 
 abbrev pub IsLegal : Geometry → Hands → List Event → Type 0
 IsLegal g old [] = Unit {0}
-IsLegal g old (event ∷ events) = IsAllowed g old event × IsLegal g event.world events
+IsLegal g old (event ∷ events) = IsAllowed g old event × IsLegal g event.state_after events
 
--- the world after a run
+-- the core state after a run
 abbrev pub last : Hands → List Event → Hands
 last old [] = old
-last old (event ∷ events) = last event.world events
+last old (event ∷ events) = last event.state_after events
 
 -- the messages that a step logs, and those of them that it appends to the journal
-abbrev pub goes : World → Step → Bool → List Replied
+abbrev pub goes : CoreState → Step → Bool → List Replied
 goes w (steps.Log n) rose = if rose || w.failed then [] else take n w.ran
 goes w _ rose = []
 
-abbrev pub appended : World → Step → Bool → List Msg
+abbrev pub appended : CoreState → Step → Bool → List Msg
 appended w (steps.Log n) rose = if rose || w.failed then [] else batch w n
 appended w _ rose = []
 
@@ -40,12 +40,12 @@ answers _ = []
 -- the messages that a run logs
 abbrev pub went : Hands → List Event → List Replied
 went w [] = []
-went w (event ∷ events) = goes w.core event.step event.rose ++ went event.world events
+went w (event ∷ events) = goes w.core event.step event.rose ++ went event.state_after events
 
 -- those that it appends to the journal
 abbrev pub journal : Hands → List Event → List Msg
 journal w [] = []
-journal w (event ∷ events) = appended w.core event.step event.rose ++ journal event.world events
+journal w (event ∷ events) = appended w.core event.step event.rose ++ journal event.state_after events
 
 -- those that arrive in it
 abbrev pub arrived : List Event → List Entry
@@ -58,18 +58,18 @@ answered [] = []
 answered (event ∷ events) = answers event.outcome ++ answered events
 
 -- the message that an outcome answers, which was logged first; those that a run answers, and the changes among them
-abbrev pub answered_at : World → Outcome → List Replied
+abbrev pub answered_at : CoreState → Outcome → List Replied
 answered_at w (outcomes.Answered ticket reply) = take 1 w.logged
 answered_at w _ = []
 
 abbrev pub answered_messages : Hands → List Event → List Replied
 answered_messages w [] = []
-answered_messages w (event ∷ events) = answered_at w.core event.outcome ++ answered_messages event.world events
+answered_messages w (event ∷ events) = answered_at w.core event.outcome ++ answered_messages event.state_after events
 
 abbrev pub answered_changes : Hands → List Event → List Msg
 answered_changes w events = loggable (answered_messages w events)
 
--- A run of steps: each had its outcome in an event of its own, and the last one left this world.
+-- A run of steps: each had its outcome in an event of its own, and the last one left this core state.
 pub record IsRun (g : Geometry) (old new : Hands) (asked : List Step) (came : List Outcome) (events : List Event) : Type 0 where
   pub legal : IsLegal g old events
   pub of_steps : map (λ e. e.step) events ≡ asked

@@ -10,48 +10,48 @@ ghost use Rattle.messages.specs.declared.Reply.{Reply};
 ghost use Rattle.messages.specs.Messages.{place};
 ghost use Rattle.meaning.specs.State.{State, empty};
 ghost use Rattle.meaning.specs.Serial.{fold};
-ghost use Rattle.meaning.specs.Order.{by_ticket, messages, told};
+ghost use Rattle.meaning.specs.Order.{by_ticket, messages, serial_replies};
 ghost use Rattle.meaning.specs.Shares.{AgreeOn};
-ghost use Rattle.legal_runs.specs.World.{Entry, Replied, World, entries, entry, held, are_related_entries};
-ghost use Rattle.legal_runs.specs.Eligible.{is_clear};
+ghost use Rattle.legal_runs.specs.CoreState.{Entry, Replied, CoreState, entries, entry, held, are_related_entries};
+ghost use Rattle.legal_runs.specs.Eligible.{is_conflict_free};
 ghost use Rattle.legal_runs.specs.Events.{Event, Hands, IsAllowed, batch, loggable};
 ghost use Rattle.legal_runs.specs.Runs.{IsLegal, answered, answered_changes, answered_messages, arrived, journal, last, went};
 ghost use Rattle.legal_runs.specs.Crash.{IsLeftSince, IsLogAfter, in_doubt};
-ghost use Rattle.legal_runs.specs.Lives.{AreLogsOf, HoldAnswered, IsLeftByLives, IsLogOf, Life, Ran};
+ghost use Rattle.legal_runs.specs.Incarnations.{AreLogsOf, HoldAnswered, IsLeftByIncarnations, IsLogOf, Incarnation, Ran};
 ghost use Rattle.legal_runs.specs.Laws.{AreApart, AreAscending, AreOnce, DoubtsOnlyFailed, DoubtsWhatRan, HasRoom, IsAnswered, IsIdle};
-ghost use Rattle.legal_runs.specs.Laws.{IsJoined, IsSerialLog, IsSoundWorld, IsStopped, full, moves_what_is_out, ticket_replies, tells_of_failure};
+ghost use Rattle.legal_runs.specs.Laws.{IsJoined, IsSerialLog, IsSoundCoreState, IsStopped, full, moves_what_is_out, ticket_replies, tells_of_failure};
 
-/// A world in which nothing waits and nothing is held is sound, and each event leads from a sound
-/// world to a sound one.
+/// A core state in which nothing waits and nothing is held is sound, and each event leads from a sound
+/// core state to a sound one.
 pub fn events_keep_worlds_sound()
-    ensures idle { (g : Geometry) (w : World) → IsIdle w → IsSoundWorld g w }
-    ensures event { (g : Geometry) (old : Hands) (event : Event) → IsAllowed g old event → IsSoundWorld g old.core
-        → IsSoundWorld g event.world.core }
+    ensures idle { (g : Geometry) (w : CoreState) → IsIdle w → IsSoundCoreState g w }
+    ensures event { (g : Geometry) (old : Hands) (event : Event) → IsAllowed g old event → IsSoundCoreState g old.core
+        → IsSoundCoreState g event.state_after.core }
 {}
 
-/// In each world of a legal run no two of the messages that are held are at related places.
+/// In each core state of a legal run no two of the messages that are held are at related places.
 pub fn held_messages_are_unrelated()
-    ensures { (g : Geometry) (old : Hands) (events : List Event) → IsLegal g old events → IsSoundWorld g old.core
-        → AllByRecursion (λ event. AreApart g (held event.world.core)) events }
+    ensures { (g : Geometry) (old : Hands) (events : List Event) → IsLegal g old events → IsSoundCoreState g old.core
+        → AllByRecursion (λ event. AreApart g (held event.state_after.core)) events }
 {}
 
 /// The messages that a run logs are replied what the serial server replies to them, one after the
 /// other in log order; and they are answered so, in that order, after the ones logged before.
 pub fn replies_are_in_log_order()
-    ensures replied { (g : Geometry) (old : Hands) (events : List Event) → IsLegal g old events → IsSoundWorld g old.core
-        → ticket_replies (went old events) ≡ told g old.core.settled (entries (went old events)) }
+    ensures replied { (g : Geometry) (old : Hands) (events : List Event) → IsLegal g old events → IsSoundCoreState g old.core
+        → ticket_replies (went old events) ≡ serial_replies g old.core.committed (entries (went old events)) }
     ensures answered { (g : Geometry) (old : Hands) (events : List Event) → IsLegal g old events
         → ticket_replies old.core.logged ++ ticket_replies (went old events)
         ≡ answered events ++ ticket_replies (last old events).core.logged }
 {}
 
-/// The settled state is where the messages that a run logs lead, and where those of them lead that it
+/// The committed state is where the messages that a run logs lead, and where those of them lead that it
 /// appends to the journal.
-pub fn settled_is_what_was_logged()
-    ensures logged { (g : Geometry) (old : Hands) (events : List Event) → IsLegal g old events → IsSoundWorld g old.core
-        → (last old events).core.settled ≡ fold g old.core.settled (messages (entries (went old events))) }
-    ensures appended { (g : Geometry) (old : Hands) (events : List Event) → IsLegal g old events → IsSoundWorld g old.core
-        → (last old events).core.settled ≡ fold g old.core.settled (journal old events) }
+pub fn committed_is_what_was_logged()
+    ensures logged { (g : Geometry) (old : Hands) (events : List Event) → IsLegal g old events → IsSoundCoreState g old.core
+        → (last old events).core.committed ≡ fold g old.core.committed (messages (entries (went old events))) }
+    ensures appended { (g : Geometry) (old : Hands) (events : List Event) → IsLegal g old events → IsSoundCoreState g old.core
+        → (last old events).core.committed ≡ fold g old.core.committed (journal old events) }
     ensures journal { (old : Hands) (events : List Event) → journal old events ≡ loggable (went old events) }
 {}
 
@@ -62,30 +62,30 @@ pub fn legal_runs_join()
         → IsJoined g old events more }
 {}
 
-/// In each world of a legal run there is room in the log for all that is out and all that ran, and a
+/// In each core state of a legal run there is room in the log for all that is out and all that ran, and a
 /// slot for each message, of as many as there were in the beginning. So a log always has room for what
 /// it appends.
 pub fn room_and_slots_are_enough()
-    ensures run { (g : Geometry) (old : Hands) (events : List Event) → IsLegal g old events → IsSoundWorld g old.core
-        → AllByRecursion (λ event. HasRoom old.core.slots event.world.core) events }
-    ensures log { (g : Geometry) (w : World) (n : ℕ) → IsSoundWorld g w → length (batch w n) ≤ w.room }
+    ensures run { (g : Geometry) (old : Hands) (events : List Event) → IsLegal g old events → IsSoundCoreState g old.core
+        → AllByRecursion (λ event. HasRoom old.core.slots event.state_after.core) events }
+    ensures log { (g : Geometry) (w : CoreState) (n : ℕ) → IsSoundCoreState g w → length (batch w n) ≤ w.room }
 {}
 
 /// Where nothing waited and nothing was held in the beginning, each reply to a message that was logged or
 /// answered is the one that the serial server gives where all that arrived come by ticket. Tickets ascend,
-/// so no two have one. Where nothing waits and nothing is held in the end, the settled state is the serial
+/// so no two have one. Where nothing waits and nothing is held in the end, the committed state is the serial
 /// server's too.
 pub fn replies_are_by_ticket()
     ensures tickets { (g : Geometry) (old : Hands) (events : List Event) → IsLegal g old events → AreAscending (arrived events) }
     ensures logged { (g : Geometry) (old : Hands) (events : List Event) → IsLegal g old events → IsIdle old.core
         → (reply : ℕ × Reply) → Contains (ticket_replies (went old events)) reply
-        → Contains (told g old.core.settled (by_ticket (arrived events))) reply }
+        → Contains (serial_replies g old.core.committed (by_ticket (arrived events))) reply }
     ensures answered { (g : Geometry) (old : Hands) (events : List Event) → IsLegal g old events → IsIdle old.core
         → (reply : ℕ × Reply) → Contains (answered events) reply
-        → Contains (told g old.core.settled (by_ticket (arrived events))) reply }
-    ensures settled { (g : Geometry) (old : Hands) (events : List Event) → IsLegal g old events → IsIdle old.core
+        → Contains (serial_replies g old.core.committed (by_ticket (arrived events))) reply }
+    ensures committed { (g : Geometry) (old : Hands) (events : List Event) → IsLegal g old events → IsIdle old.core
         → IsIdle (last old events).core
-        → (last old events).core.settled ≡ fold g old.core.settled (messages (by_ticket (arrived events))) }
+        → (last old events).core.committed ≡ fold g old.core.committed (messages (by_ticket (arrived events))) }
 {}
 
 /// Where nothing waited and nothing was held in the beginning, no message is lost, and none is there twice: those
@@ -106,7 +106,7 @@ pub fn messages_are_neither_lost_nor_doubled()
 /// as messages arrive, no two of them have one, and it stays a serial log where more arrive.
 pub fn what_ran_is_a_serial_log()
     ensures run { (g : Geometry) (old : Hands) (events : List Event) (j : ℕ) → IsLegal g old events → IsIdle old.core
-        → IsSerialLog g old.core.settled (arrived events) (went old events ++ take j (last old events).core.ran) }
+        → IsSerialLog g old.core.committed (arrived events) (went old events ++ take j (last old events).core.ran) }
     ensures came { (g : Geometry) (x : State) (arrivals : List Entry) (log : List Replied) → IsSerialLog g x arrivals log
         → AllByRecursion (λ a. Contains arrivals (entry a)) log }
     ensures once { (g : Geometry) (x : State) (arrivals : List Entry) (log : List Replied) → IsSerialLog g x arrivals log
@@ -118,10 +118,10 @@ pub fn what_ran_is_a_serial_log()
 /// Only an answer makes a waiting message clear, and only one to a message at a place related to its own:
 /// whatever else comes, a message that waits on stays clear, or stays not clear.
 pub fn only_answers_clear()
-    ensures { (g : Geometry) (old : Hands) (event : Event) (e : Entry) → IsAllowed g old event → IsSoundWorld g old.core
-        → Contains old.core.waiting e → Contains event.world.core.waiting e
-        → ((a : Replied) → IsAnswered old.core event.world.core a → are_related_entries g e (entry a) ≡ false)
-        → is_clear g event.world.core e ≡ is_clear g old.core e }
+    ensures { (g : Geometry) (old : Hands) (event : Event) (e : Entry) → IsAllowed g old event → IsSoundCoreState g old.core
+        → Contains old.core.waiting e → Contains event.state_after.core.waiting e
+        → ((a : Replied) → IsAnswered old.core event.state_after.core a → are_related_entries g e (entry a) ≡ false)
+        → is_conflict_free g event.state_after.core e ≡ is_conflict_free g old.core e }
 {}
 
 /// A step tells that the device failed exactly where it failed during the step, and then it has failed for
@@ -129,41 +129,41 @@ pub fn only_answers_clear()
 pub fn failures_are_told_and_last()
     ensures told { (g : Geometry) (old : Hands) (event : Event) → IsAllowed g old event → event.rose ≡ tells_of_failure event.outcome }
     ensures failed { (g : Geometry) (old : Hands) (event : Event) → IsAllowed g old event → event.rose ≡ true
-        → event.world.core.failed ≡ true }
+        → event.state_after.core.failed ≡ true }
     ensures lasts { (g : Geometry) (old : Hands) (event : Event) → IsAllowed g old event → old.core.failed ≡ true
-        → IsStopped old.core event.world.core }
+        → IsStopped old.core event.state_after.core }
 {}
 
 /// Messages come to be in doubt only where the device fails.
 pub fn only_a_failure_leaves_doubt()
     ensures { (g : Geometry) (old : Hands) (event : Event) → IsAllowed g old event → DoubtsOnlyFailed old.core
-        → DoubtsOnlyFailed event.world.core }
+        → DoubtsOnlyFailed event.state_after.core }
 {}
 
 /// What is in doubt are the changes among the first m of those that ran, and so are the first of them.
 pub fn what_is_in_doubt_ran()
     ensures event { (g : Geometry) (old : Hands) (event : Event) → IsAllowed g old event → DoubtsOnlyFailed old.core
-        → DoubtsWhatRan old.core → DoubtsWhatRan event.world.core }
+        → DoubtsWhatRan old.core → DoubtsWhatRan event.state_after.core }
     ensures run { (g : Geometry) (old : Hands) (events : List Event) → IsLegal g old events → old.core.doubt ≡ []
         → DoubtsWhatRan (last old events).core }
-    ensures first { (w : World) (k : ℕ) → DoubtsWhatRan w
+    ensures first { (w : CoreState) (k : ℕ) → DoubtsWhatRan w
         → (j : ℕ) × (j ≤ length w.ran) × (loggable (take j w.ran) ≡ take k w.doubt) }
 {}
 
 /// What a crash may leave, if it comes when k events or more have ended, is where all that these appended
-/// leads, with more after it. If it comes before the next one has ended, it is the state that was settled
+/// leads, with more after it. If it comes before the next one has ended, it is the state that was committed
 /// then, with the first m of the messages in doubt.
 pub fn a_crash_leaves_what_was_appended()
     ensures begins { (g : Geometry) (old : Hands) (events : List Event) (k : ℕ) (x : State) → IsLeftSince g old events k x
-        → (rest : List Msg) × (x ≡ fold g old.core.settled (journal old (take k events) ++ rest)) }
-    ensures settled { (g : Geometry) (old : Hands) (events : List Event) (k : ℕ) (ms : List Msg) → IsLegal g old events
-        → IsSoundWorld g old.core → (log : IsLogAfter old events k ms) → fold g old.core.settled ms
-        ≡ fold g (last old (take k events)).core.settled (take log.some (in_doubt (last old (take k events)).core (drop k events))) }
+        → (rest : List Msg) × (x ≡ fold g old.core.committed (journal old (take k events) ++ rest)) }
+    ensures committed { (g : Geometry) (old : Hands) (events : List Event) (k : ℕ) (ms : List Msg) → IsLegal g old events
+        → IsSoundCoreState g old.core → (log : IsLogAfter old events k ms) → fold g old.core.committed ms
+        ≡ fold g (last old (take k events)).core.committed (take log.some (in_doubt (last old (take k events)).core (drop k events))) }
 {}
 
 /// A crash of two runs, one after the other, may come in either. What it may leave in the log of the first, it may leave of both; and
 /// what it may leave in the log of the second, it may leave of both, after all that the first appended. So it is with the state that
-/// it may leave: with that of the second if the first is legal and began in a sound world.
+/// it may leave: with that of the second if the first is legal and began in a sound core state.
 pub fn a_crash_may_come_in_either_run()
     ensures log_first { (old : Hands) (events more : List Event) (k : ℕ) (ms : List Msg) → k ≤ length events
         → IsLogAfter old events k ms → IsLogAfter old (events ++ more) k ms }
@@ -172,7 +172,7 @@ pub fn a_crash_may_come_in_either_run()
     ensures left_first { (g : Geometry) (old : Hands) (events more : List Event) (k : ℕ) (x : State) → IsLeftSince g old events k x
         → IsLeftSince g old (events ++ more) k x }
     ensures left_second { (g : Geometry) (old : Hands) (events more : List Event) (k : ℕ) (x : State) → IsLegal g old events
-        → IsSoundWorld g old.core → IsLeftSince g (last old events) more k x
+        → IsSoundCoreState g old.core → IsLeftSince g (last old events) more k x
         → IsLeftSince g old (events ++ more) (length events + k) x }
 {}
 
@@ -195,28 +195,28 @@ pub fn answered_changes_are_in_the_log()
 pub fn a_crash_leaves_a_serial_log()
     ensures left { (g : Geometry) (old : Hands) (events : List Event) (k : ℕ) (ms : List Msg) → IsLegal g old events → IsIdle old.core
         → old.core.doubt ≡ [] → IsLogAfter old events k ms
-        → (j : ℕ) × IsSerialLog g old.core.settled (arrived (take k events))
+        → (j : ℕ) × IsSerialLog g old.core.committed (arrived (take k events))
         (went old (take k events) ++ take j (last old (take k events)).core.ran)
         × (ms ≡ loggable (went old (take k events) ++ take j (last old (take k events)).core.ran)) }
     ensures begins { (g : Geometry) (old : Hands) (events : List Event) (k after : ℕ) → IsLegal g old events → IsIdle old.core
         → k ≤ after → (rest : List Replied) × (went old (take after events) ≡ answered_messages old (take k events) ++ rest) }
     ensures doubt { (g : Geometry) (old : Hands) (events : List Event) (k : ℕ) → IsLegal g old events → IsIdle old.core
         → old.core.doubt ≡ []
-        → (j : ℕ) × IsSerialLog g old.core.settled (arrived events) (went old events ++ take j (last old events).core.ran)
+        → (j : ℕ) × IsSerialLog g old.core.committed (arrived events) (went old events ++ take j (last old events).core.ran)
         × (loggable (take j (last old events).core.ran) ≡ take k (last old events).core.doubt) }
 {}
 
-/// Whatever comes, what a message that is out can read of the settled state stays as it is: what is at its place, below it and
+/// Whatever comes, what a message that is out can read of the committed state stays as it is: what is at its place, below it and
 /// above it.
 pub fn what_is_out_sees_no_change()
-    ensures { (g : Geometry) (old : Hands) (event : Event) (e : Entry) → IsAllowed g old event → IsSoundWorld g old.core
-        → Contains old.core.out e → AgreeOn g (are_related (place g e.1)) event.world.core.settled old.core.settled }
+    ensures { (g : Geometry) (old : Hands) (event : Event) (e : Entry) → IsAllowed g old event → IsSoundCoreState g old.core
+        → Contains old.core.out e → AgreeOn g (are_related (place g e.1)) event.state_after.core.committed old.core.committed }
 {}
 
 /// Only a grant lets a message out, and only a return takes one back.
 pub fn only_grants_and_returns_change_what_is_out()
     ensures { (g : Geometry) (old : Hands) (event : Event) → IsAllowed g old event → moves_what_is_out event.step ≡ false
-        → event.world.core.out ≡ old.core.out }
+        → event.state_after.core.out ≡ old.core.out }
 {}
 
 /// How many messages are out grows and falls with how many hands are full. So nothing is out in the end where nothing was in the
@@ -228,15 +228,15 @@ pub fn what_is_out_is_in_hands()
         → full (last old events).hands ≡ 0 → (last old events).core.out ≡ [] }
 {}
 
-/// A further life goes on from each state that the lives before it may have left. In whatever they leave, the log of each life
+/// A further incarnation goes on from each state that the lives before it may have left. In whatever they leave, the log of each incarnation
 /// begins with every change that was answered in it.
-pub fn lives_follow_one_another()
-    ensures first { (g : Geometry) → IsLeftByLives g [] empty }
-    ensures next { (g : Geometry) (lives : List Life) (life : Life) (x : State) (log : List Msg) → IsLeftByLives g lives x
-        → IsLogOf g x life log → IsLeftByLives g (lives ++ life ∷ []) (fold g x log) }
+pub fn incarnations_follow_one_another()
+    ensures first { (g : Geometry) → IsLeftByIncarnations g [] empty }
+    ensures next { (g : Geometry) (incarnations : List Incarnation) (incarnation : Incarnation) (x : State) (log : List Msg) → IsLeftByIncarnations g incarnations x
+        → IsLogOf g x incarnation log → IsLeftByIncarnations g (incarnations ++ incarnation ∷ []) (fold g x log) }
     ensures run { (g : Geometry) (start : Hands) (events : List Event) (ended : ℕ) (x : State) → IsIdle start.core
         → IsLegal g start events → IsLeftSince g start events ended x
-        → (log : List Msg) × IsLogOf g start.core.settled (Ran start events ended) log × (x ≡ fold g start.core.settled log) }
-    ensures answered { (g : Geometry) (x : State) (lives : List Life) (logs : List (List Msg)) → AreLogsOf g x lives logs
-        → HoldAnswered lives logs }
+        → (log : List Msg) × IsLogOf g start.core.committed (Ran start events ended) log × (x ≡ fold g start.core.committed log) }
+    ensures answered { (g : Geometry) (x : State) (incarnations : List Incarnation) (logs : List (List Msg)) → AreLogsOf g x incarnations logs
+        → HoldAnswered incarnations logs }
 {}

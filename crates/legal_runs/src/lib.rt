@@ -1,4 +1,4 @@
-//! Which message may go and when: the worlds of a server's core, the events that lead from one to the
+//! Which message may go and when: the core states of a server's core, the events that lead from one to the
 //! next, legal runs of them, and what a crash may leave of one.
 //!
 //! The definitions stand in `specs/`, and the laws that they obey are the contracts of the functions of

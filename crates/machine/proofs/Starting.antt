@@ -3,8 +3,8 @@ use Rattle.std.proofs.Common.{◌≡◌, ℕ, zero, suc, List, ◌∷◌, map, r
 use Rattle.std.proofs.lemmas.Option.{none-some}
 use Rattle.affinity.specs.declared.geometry.Geometry.{Geometry}
 use Rattle.legal_runs.specs.Events.{Empty, Hand}
-use Rattle.legal_runs.specs.Laws.{IsSoundWorld}
-use Rattle.legal_runs.specs.World.{World}
+use Rattle.legal_runs.specs.Laws.{IsSoundCoreState}
+use Rattle.legal_runs.specs.CoreState.{CoreState}
 use Rattle.runs.specs.Machine.{HoldsJobs, IsHandOf, hand_at, hand_of, ticket_in}
 use Rattle.runs.specs.declared.hands.Holding.{Holding}
 use Rattle.runs.specs.declared.hands.Holding.TheVariants as has
@@ -19,7 +19,7 @@ pub all_empty : (n : ℕ) → map hand_of (replicate n has.Empty) ≡ replicate 
 all_empty zero = refl
 all_empty (suc n) = ap (λ (hs : List Hand). Empty ∷ hs) (all_empty n)
 
-pub empty_hold : (g : Geometry) (w : World) (n : ℕ) → IsSoundWorld g w → HoldsJobs g w (replicate n has.Empty)
+pub empty_hold : (g : Geometry) (w : CoreState) (n : ℕ) → IsSoundCoreState g w → HoldsJobs g w (replicate n has.Empty)
 empty_hold g w n sound = record {
   sound = sound;
   each = λ i. subst (λ (h : Holding). IsHandOf g w h) (sym (empty_at n i)) tt;

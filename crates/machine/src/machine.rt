@@ -3,7 +3,7 @@ ghost use Rattle.std.specs.Prelude.{◌≡◌, IfErr, IfOk, length, replicate};
 ghost use Rattle.legal_runs.specs.Events.{Empty};
 ghost use Rattle.runs.specs.Machine.{HasRun, machine_of};
 ghost use Rattle.runs.specs.declared.hands.Holding.TheVariants as has;
-ghost use Rattle.scheduler.specs.Kept.{world_of};
+ghost use Rattle.scheduler.specs.CoreView.{core_state_of};
 
 use crate::stepping::make_step;
 use disk::Disk;
@@ -28,23 +28,23 @@ pub struct MachineError<D: Disk> {
 
 impl<D: Disk> Model for Machine<D> {
     ghost use Rattle.runs.specs.Machine.{MachineView, HoldsJobs};
-    ghost use Rattle.scheduler.specs.Kept.{world_of};
+    ghost use Rattle.scheduler.specs.CoreView.{core_state_of};
 
     ghost Value = { MachineView };
 
     ghost view = { λ m. record { core = m.core; hands = m.hands.items } };
 
-    ghost invariant = { λ m. HoldsJobs m.core.geometry (world_of m.core) m.hands.items };
+    ghost invariant = { λ m. HoldsJobs m.core.geometry (core_state_of m.core) m.hands.items };
 }
 
 impl<D: Disk> Machine<D> {
     /// A machine with `hands` empty hands.
     pub fn new(alloc: Global, core: Core<D>, hands: usize) -> Result<Machine<D>, MachineError<D>>
-        ensures made { IfOk result (λ m. machine_of m ≡ record { core = world_of core; hands = replicate hands Empty }) }
+        ensures made { IfOk result (λ m. machine_of m ≡ record { core = core_state_of core; hands = replicate hands Empty }) }
         ensures kept { IfOk result (λ m. m.core ≡ core) }
         ensures refused { IfErr result (λ e. e.core ≡ core) }
     {
-        // Its contract says what the machine keeps from here on: the world is sound.
+        // Its contract says what the machine keeps from here on: the core state is sound.
         core.slots();
         match empty_hands(alloc, hands) {
             Ok(hands) => Ok(Machine { core, hands }),
@@ -61,7 +61,7 @@ impl<D: Disk> Machine<D> {
         for (i, step) in steps.iter().enumerate() {
             outcomes[i] = make_step(&mut self.core, &mut self.hands, step);
         }
-        self.core.stands();
+        self.core.know_recovery();
     }
 
     /// The core. What the hands have is dropped, so that the messages which are out stay so.

@@ -4,7 +4,7 @@ ghost use Rattle.legal_runs.specs.Events.{touches_device};
 ghost use Rattle.legal_runs.specs.declared.outcomes.Step.TheVariants as steps;
 ghost use Rattle.runs.specs.Machine.{HoldsJobs};
 ghost use Rattle.runs.specs.Steps.{IsCoreStep, IsMachineStep};
-ghost use Rattle.scheduler.specs.Kept.{world_of};
+ghost use Rattle.scheduler.specs.CoreView.{core_state_of};
 
 use crate::hands::{first_empty, run_in, take_result};
 use disk::Disk;
@@ -15,11 +15,11 @@ use scheduler::{Core, Granted};
 
 /// Makes one step, and tells what came of it.
 pub(crate) fn make_step<D: Disk>(core: &mut Core<D>, hands: &mut [Holding], step: &Step) -> Outcome
-    requires { HoldsJobs core.old.geometry (world_of core.old) hands.old }
+    requires { HoldsJobs core.old.geometry (core_state_of core.old) hands.old }
     ensures step { IsMachineStep D.keeps (record { core = core.old; hands = hands.old })
         (record { core = core.new; hands = hands.new }) step.now result }
-    ensures holds { HoldsJobs core.new.geometry (world_of core.new) hands.new }
-    ensures untouched { touches_device (world_of core.old) step.now ≡ false → core.new.medium ≡ core.old.medium }
+    ensures holds { HoldsJobs core.new.geometry (core_state_of core.new) hands.new }
+    ensures untouched { touches_device (core_state_of core.old) step.now ≡ false → core.new.medium ≡ core.old.medium }
 {
     match *step {
         Step::Arrive(message) => take_in(core, &message),
@@ -39,13 +39,13 @@ pub(crate) fn make_step<D: Disk>(core: &mut Core<D>, hands: &mut [Holding], step
 
 // Lets the eligible message with the least ticket go to the least empty hand.
 fn grant<D: Disk>(core: &mut Core<D>, hands: &mut [Holding]) -> Outcome
-    requires { HoldsJobs core.old.geometry (world_of core.old) hands.old }
+    requires { HoldsJobs core.old.geometry (core_state_of core.old) hands.old }
     ensures step { IsMachineStep D.keeps (record { core = core.old; hands = hands.old })
         (record { core = core.new; hands = hands.new }) steps.Grant result }
-    ensures holds { HoldsJobs core.new.geometry (world_of core.new) hands.new }
+    ensures holds { HoldsJobs core.new.geometry (core_state_of core.new) hands.new }
     ensures untouched { core.new.medium ≡ core.old.medium }
 {
-    core.stands();
+    core.know_recovery();
     let Some(hand) = first_empty(hands) else {
         return Outcome::Idle;
     };
@@ -63,12 +63,12 @@ fn grant<D: Disk>(core: &mut Core<D>, hands: &mut [Holding]) -> Outcome
 
 // Runs the job in a hand. The core is left alone.
 fn run_job<D: Disk>(core: &Core<D>, hands: &mut [Holding], hand: usize) -> Outcome
-    requires { HoldsJobs core.now.geometry (world_of core.now) hands.old }
+    requires { HoldsJobs core.now.geometry (core_state_of core.now) hands.old }
     ensures step { IsMachineStep D.keeps (record { core = core.now; hands = hands.old })
         (record { core = core.now; hands = hands.new }) (steps.Run hand) result }
-    ensures holds { HoldsJobs core.now.geometry (world_of core.now) hands.new }
+    ensures holds { HoldsJobs core.now.geometry (core_state_of core.now) hands.new }
 {
-    core.stands();
+    core.know_recovery();
     if hand >= hands.len() {
         return Outcome::Idle;
     }
@@ -81,13 +81,13 @@ fn run_job<D: Disk>(core: &Core<D>, hands: &mut [Holding], hand: usize) -> Outco
 
 // Gives back the result in a hand.
 fn give_back<D: Disk>(core: &mut Core<D>, hands: &mut [Holding], hand: usize) -> Outcome
-    requires { HoldsJobs core.old.geometry (world_of core.old) hands.old }
+    requires { HoldsJobs core.old.geometry (core_state_of core.old) hands.old }
     ensures step { IsMachineStep D.keeps (record { core = core.old; hands = hands.old })
         (record { core = core.new; hands = hands.new }) (steps.Back hand) result }
-    ensures holds { HoldsJobs core.new.geometry (world_of core.new) hands.new }
+    ensures holds { HoldsJobs core.new.geometry (core_state_of core.new) hands.new }
     ensures untouched { core.new.medium ≡ core.old.medium }
 {
-    core.stands();
+    core.know_recovery();
     if hand >= hands.len() {
         return Outcome::Idle;
     }
@@ -105,7 +105,7 @@ fn take_in<D: Disk>(core: &mut Core<D>, message: &Msg) -> Outcome
     ensures step { IsCoreStep D.keeps core.old core.new (steps.Arrive message.now) result }
     ensures untouched { core.new.medium ≡ core.old.medium }
 {
-    core.stands();
+    core.know_recovery();
     match core.arrive(message) {
         Ok(ticket) => Outcome::Ticket(ticket),
         Err(refusal) => Outcome::ArriveRefused(refusal),
@@ -114,7 +114,7 @@ fn take_in<D: Disk>(core: &mut Core<D>, message: &Msg) -> Outcome
 
 fn log<D: Disk>(core: &mut Core<D>, count: usize) -> Outcome
     ensures step { IsCoreStep D.keeps core.old core.new (steps.Log count) result }
-    ensures untouched { touches_device (world_of core.old) (steps.Log count) ≡ false → core.new.medium ≡ core.old.medium }
+    ensures untouched { touches_device (core_state_of core.old) (steps.Log count) ≡ false → core.new.medium ≡ core.old.medium }
 {
     match core.log(count) {
         Ok(logged) => Outcome::Logged(logged),
@@ -126,7 +126,7 @@ fn answer<D: Disk>(core: &mut Core<D>) -> Outcome
     ensures step { IsCoreStep D.keeps core.old core.new steps.Answer result }
     ensures untouched { core.new.medium ≡ core.old.medium }
 {
-    core.stands();
+    core.know_recovery();
     match core.answer() {
         Some((ticket, reply)) => Outcome::Answered(ticket, reply),
         None => Outcome::Idle,
@@ -135,7 +135,7 @@ fn answer<D: Disk>(core: &mut Core<D>) -> Outcome
 
 fn point<D: Disk>(core: &mut Core<D>) -> Outcome
     ensures step { IsCoreStep D.keeps core.old core.new steps.Point result }
-    ensures untouched { touches_device (world_of core.old) steps.Point ≡ false → core.new.medium ≡ core.old.medium }
+    ensures untouched { touches_device (core_state_of core.old) steps.Point ≡ false → core.new.medium ≡ core.old.medium }
 {
     match core.point() {
         Ok(()) => Outcome::Pointed,
@@ -145,7 +145,7 @@ fn point<D: Disk>(core: &mut Core<D>) -> Outcome
 
 fn cut<D: Disk>(core: &mut Core<D>) -> Outcome
     ensures step { IsCoreStep D.keeps core.old core.new steps.Cut result }
-    ensures untouched { touches_device (world_of core.old) steps.Cut ≡ false → core.new.medium ≡ core.old.medium }
+    ensures untouched { touches_device (core_state_of core.old) steps.Cut ≡ false → core.new.medium ≡ core.old.medium }
 {
     match core.cut() {
         Ok(()) => Outcome::Cut,
@@ -155,7 +155,7 @@ fn cut<D: Disk>(core: &mut Core<D>) -> Outcome
 
 fn piece<D: Disk>(core: &mut Core<D>) -> Outcome
     ensures step { IsCoreStep D.keeps core.old core.new steps.Piece result }
-    ensures untouched { touches_device (world_of core.old) steps.Piece ≡ false → core.new.medium ≡ core.old.medium }
+    ensures untouched { touches_device (core_state_of core.old) steps.Piece ≡ false → core.new.medium ≡ core.old.medium }
 {
     match core.piece() {
         Ok(left) => Outcome::Left(left),
@@ -165,7 +165,7 @@ fn piece<D: Disk>(core: &mut Core<D>) -> Outcome
 
 fn flip<D: Disk>(core: &mut Core<D>) -> Outcome
     ensures step { IsCoreStep D.keeps core.old core.new steps.Flip result }
-    ensures untouched { touches_device (world_of core.old) steps.Flip ≡ false → core.new.medium ≡ core.old.medium }
+    ensures untouched { touches_device (core_state_of core.old) steps.Flip ≡ false → core.new.medium ≡ core.old.medium }
 {
     match core.flip() {
         Ok(()) => Outcome::Flipped,

@@ -1,7 +1,7 @@
 //! Long lists of random steps, beside plain rows.
 use crate::drawing::Drawing;
 use crate::making::{FLAT, SMALL, holds, machine_on, one};
-use crate::world::World;
+use crate::world::CoreState;
 use affinity::Geometry;
 use harness::{Wrong, device_with};
 use std::alloc::Global;
@@ -51,7 +51,7 @@ fn random_steps(
         return Err(Wrong::Unfit);
     };
     let mut machine = machine_on(alloc, device_with(alloc, numbers, &[])?, slots, hands)?;
-    let mut world = World::new(alloc, g, slots, hands)?;
+    let mut world = CoreState::new(alloc, g, slots, hands)?;
     let mut drawing = Drawing::new(seed);
     for _ in 0..steps {
         let step = drawing.step(&g, hands);

@@ -12,7 +12,7 @@ use std::test::Fail;
 
 /// A machine that was just opened, and all that it does.
 #[derive(Clone, Copy, Drop)]
-struct Life {
+struct Incarnation {
     slots: usize,
     hands: usize,
     rows: &'static [Row],
@@ -20,14 +20,14 @@ struct Life {
 
 /// A device that was just formatted, and on which machines then live one after the other.
 #[derive(Clone, Copy, Drop)]
-struct Lives {
+struct Incarnations {
     numbers: [u16; 8],
-    lives: &'static [Life],
+    incarnations: &'static [Incarnation],
 }
 
 /// The call of the device that fails, counted from where this is set.
 #[derive(Clone, Copy, Drop)]
-enum Fuse {
+enum InjectedFault {
     /// This call alone.
     FailAt(u64),
     /// This call and all after it.
@@ -35,17 +35,17 @@ enum Fuse {
 }
 
 /// A machine does these things on a device, which it gives back.
-fn lived(rt: &impl Abort, alloc: Global, device: MemDisk, life: &Life) -> Result<MemDisk, Wrong> {
-    let mut machine = machine_on(alloc, device, life.slots, life.hands)?;
-    goes_so(rt, &mut machine, life.rows);
+fn lived(rt: &impl Abort, alloc: Global, device: MemDisk, incarnation: &Incarnation) -> Result<MemDisk, Wrong> {
+    let mut machine = machine_on(alloc, device, incarnation.slots, incarnation.hands)?;
+    goes_so(rt, &mut machine, incarnation.rows);
     Ok(machine.into_core().into_disk())
 }
 
 /// The device after all lives.
-fn left_by(rt: &impl Abort, alloc: Global, lives: &Lives) -> Result<MemDisk, Wrong> {
-    let mut device = device_with(alloc, lives.numbers, &[])?;
-    for life in lives.lives {
-        device = lived(rt, alloc, device, life)?;
+fn left_by(rt: &impl Abort, alloc: Global, incarnations: &Incarnations) -> Result<MemDisk, Wrong> {
+    let mut device = device_with(alloc, incarnations.numbers, &[])?;
+    for incarnation in incarnations.incarnations {
+        device = lived(rt, alloc, device, incarnation)?;
     }
     Ok(device)
 }
@@ -55,14 +55,14 @@ fn calls_of(
     rt: &impl Abort,
     alloc: Global,
     numbers: [u16; 8],
-    life: &Life,
+    incarnation: &Incarnation,
     first: usize,
 ) -> Result<u64, Wrong> {
-    let rows = life.rows.get(..first).unwrap_or(&[]);
+    let rows = incarnation.rows.get(..first).unwrap_or(&[]);
     let device = device_with(alloc, numbers, &[])?;
-    let beginning = Life {
-        slots: life.slots,
-        hands: life.hands,
+    let beginning = Incarnation {
+        slots: incarnation.slots,
+        hands: incarnation.hands,
         rows,
     };
     Ok(lived(rt, alloc, device, &beginning)?.calls())
@@ -73,17 +73,17 @@ fn left_with(
     rt: &impl Abort,
     alloc: Global,
     numbers: [u16; 8],
-    life: &Life,
+    incarnation: &Incarnation,
     first: usize,
-    fuse: Fuse,
+    injected_fault: InjectedFault,
 ) -> Result<MemDisk, Wrong> {
-    let calls = calls_of(rt, alloc, numbers, life, first)?;
+    let calls = calls_of(rt, alloc, numbers, incarnation, first)?;
     let mut device = device_with(alloc, numbers, &[])?;
-    match fuse {
-        Fuse::FailAt(n) => device.fail_at(calls.saturating_add(n.max(1))),
-        Fuse::StopAt(n) => device.stop_at(calls.saturating_add(n.max(1))),
+    match injected_fault {
+        InjectedFault::FailAt(n) => device.fail_at(calls.saturating_add(n.max(1))),
+        InjectedFault::StopAt(n) => device.stop_at(calls.saturating_add(n.max(1))),
     }
-    lived(rt, alloc, device, life)
+    lived(rt, alloc, device, incarnation)
 }
 
 /// What is reported of a device: the named area, how many records are in force, and how many volumes, files and
@@ -113,7 +113,7 @@ fn is_shown(
 // ---- what comes of steps
 
 /// A volume with a file.
-const A_FILE: Life = Life {
+const A_FILE: Incarnation = Incarnation {
     slots: 1,
     hands: 1,
     rows: &[
@@ -123,9 +123,9 @@ const A_FILE: Life = Life {
 };
 
 /// What a refusal changes isn't logged.
-const REFUSED: Lives = Lives {
+const REFUSED: Incarnations = Incarnations {
     numbers: SMALL,
-    lives: &[Life {
+    incarnations: &[Incarnation {
         slots: 1,
         hands: 1,
         rows: &[
@@ -136,9 +136,9 @@ const REFUSED: Lives = Lives {
 };
 
 /// A half of four records is full, and a point makes room.
-const FULL_LOG: Lives = Lives {
+const FULL_LOG: Incarnations = Incarnations {
     numbers: SMALL,
-    lives: &[Life {
+    incarnations: &[Incarnation {
         slots: 1,
         hands: 1,
         rows: &[
@@ -155,7 +155,7 @@ const FULL_LOG: Lives = Lives {
 };
 
 /// One hand, with and without something to do.
-const ONE_HAND: Life = Life {
+const ONE_HAND: Incarnation = Incarnation {
     slots: 1,
     hands: 1,
     rows: &[
@@ -183,11 +183,11 @@ const ONE_HAND: Life = Life {
 };
 
 /// A write is related to no other stripe, but to the making of a file, which waits before it.
-const THREE_SLOTS: Lives = Lives {
+const THREE_SLOTS: Incarnations = Incarnations {
     numbers: SMALL,
-    lives: &[
+    incarnations: &[
         A_FILE,
-        Life {
+        Incarnation {
             slots: 3,
             hands: 3,
             rows: &[
@@ -212,11 +212,11 @@ const THREE_SLOTS: Lives = Lives {
 };
 
 /// A label and a block go side by side, and the seal after them waits for both.
-const LABEL: Lives = Lives {
+const LABEL: Incarnations = Incarnations {
     numbers: SMALL,
-    lives: &[
+    incarnations: &[
         A_FILE,
-        Life {
+        Incarnation {
             slots: 3,
             hands: 3,
             rows: &[
@@ -243,11 +243,11 @@ const LABEL: Lives = Lives {
 };
 
 /// Two writes of one file, in two stripes, go side by side.
-const SIDE_BY_SIDE: Lives = Lives {
+const SIDE_BY_SIDE: Incarnations = Incarnations {
     numbers: SMALL,
-    lives: &[
+    incarnations: &[
         A_FILE,
-        Life {
+        Incarnation {
             slots: 2,
             hands: 2,
             rows: &[
@@ -271,9 +271,9 @@ const SIDE_BY_SIDE: Lives = Lives {
 };
 
 /// The steps of a point in pieces, in and out of place.
-const IN_PIECES: Lives = Lives {
+const IN_PIECES: Incarnations = Incarnations {
     numbers: SMALL,
-    lives: &[Life {
+    incarnations: &[Incarnation {
         slots: 1,
         hands: 1,
         rows: &[
@@ -292,8 +292,8 @@ const IN_PIECES: Lives = Lives {
 
 #[test]
 fn steps_come_out_so(rt: HostRuntime) -> Result<(), Fail> {
-    for lives in [FULL_LOG, THREE_SLOTS, LABEL, SIDE_BY_SIDE, IN_PIECES] {
-        left_by(&rt, rt.alloc(), &lives)?;
+    for incarnations in [FULL_LOG, THREE_SLOTS, LABEL, SIDE_BY_SIDE, IN_PIECES] {
+        left_by(&rt, rt.alloc(), &incarnations)?;
     }
     Ok(())
 }
@@ -303,14 +303,14 @@ fn steps_come_out_so(rt: HostRuntime) -> Result<(), Fail> {
 fn takes_memory_before_its_steps_alone(
     rt: &(impl Abort + Print),
     alloc: Global,
-    lives: &Lives,
+    incarnations: &Incarnations,
 ) -> Result<(), Wrong> {
-    let mut device = device_with(alloc, lives.numbers, &[])?;
-    let Some((last, earlier)) = lives.lives.split_last() else {
+    let mut device = device_with(alloc, incarnations.numbers, &[])?;
+    let Some((last, earlier)) = incarnations.incarnations.split_last() else {
         return Err(Wrong::Unfit);
     };
-    for life in earlier {
-        device = lived(rt, alloc, device, life)?;
+    for incarnation in earlier {
+        device = lived(rt, alloc, device, incarnation)?;
     }
     let mut machine = machine_on(alloc, device, last.slots, last.hands)?;
     holds(rt, rt.println("no memory from here").is_ok());
@@ -356,7 +356,7 @@ fn a_query_leaves_the_device_alone(rt: HostRuntime) -> Result<(), Fail> {
 
 /// A change that runs, and the device fails where it is logged. From then on nothing goes out, nothing is taken in and
 /// nothing is answered.
-const LOG_FAILS: Life = Life {
+const LOG_FAILS: Incarnation = Incarnation {
     slots: 2,
     hands: 1,
     rows: &[
@@ -381,11 +381,11 @@ const BEFORE_THE_LOG: usize = 4;
 fn leaves_volumes(
     rt: &impl Abort,
     alloc: Global,
-    fuse: Fuse,
+    injected_fault: InjectedFault,
     crash: Option<usize>,
     volumes: u32,
 ) -> Result<(), Wrong> {
-    let mut device = left_with(rt, alloc, SMALL, &LOG_FAILS, BEFORE_THE_LOG, fuse)?;
+    let mut device = left_with(rt, alloc, SMALL, &LOG_FAILS, BEFORE_THE_LOG, injected_fault)?;
     if let Some(kind) = crash {
         device = device.crash(torn(alloc, kind)?);
     }
@@ -401,8 +401,8 @@ fn leaves_volumes(
 fn a_log_that_stops_at_its_gate_leaves_the_change_only_if_that_was_written(
     rt: HostRuntime,
 ) -> Result<(), Fail> {
-    leaves_volumes(&rt, rt.alloc(), Fuse::StopAt(3), Some(OLD), 0)?;
-    leaves_volumes(&rt, rt.alloc(), Fuse::StopAt(3), Some(NEW), 1)?;
+    leaves_volumes(&rt, rt.alloc(), InjectedFault::StopAt(3), Some(OLD), 0)?;
+    leaves_volumes(&rt, rt.alloc(), InjectedFault::StopAt(3), Some(NEW), 1)?;
     Ok(())
 }
 
@@ -410,14 +410,14 @@ fn a_log_that_stops_at_its_gate_leaves_the_change_only_if_that_was_written(
 fn a_log_in_which_one_call_fails_leaves_the_change_only_if_its_gate_was_written(
     rt: HostRuntime,
 ) -> Result<(), Fail> {
-    leaves_volumes(&rt, rt.alloc(), Fuse::FailAt(2), None, 0)?;
-    leaves_volumes(&rt, rt.alloc(), Fuse::FailAt(3), None, 0)?;
-    leaves_volumes(&rt, rt.alloc(), Fuse::FailAt(4), None, 1)?;
+    leaves_volumes(&rt, rt.alloc(), InjectedFault::FailAt(2), None, 0)?;
+    leaves_volumes(&rt, rt.alloc(), InjectedFault::FailAt(3), None, 0)?;
+    leaves_volumes(&rt, rt.alloc(), InjectedFault::FailAt(4), None, 1)?;
     Ok(())
 }
 
 /// Three blocks are written side by side, and the device stops where they are logged, at the write of their gates.
-const THREE_WRITES: Life = Life {
+const THREE_WRITES: Incarnation = Incarnation {
     slots: 3,
     hands: 3,
     rows: &[
@@ -441,7 +441,7 @@ const THREE_WRITES: Life = Life {
 };
 
 /// The gates are open, shut and open: the first block alone is there. Another one takes its place.
-const FIRST_BLOCK: Life = Life {
+const FIRST_BLOCK: Incarnation = Incarnation {
     slots: 1,
     hands: 1,
     rows: &[
@@ -454,7 +454,7 @@ const FIRST_BLOCK: Life = Life {
 };
 
 /// What lay after the shut gate is gone.
-const LAST_BLOCK: Life = Life {
+const LAST_BLOCK: Incarnation = Incarnation {
     slots: 1,
     hands: 1,
     rows: &[
@@ -468,7 +468,7 @@ const LAST_BLOCK: Life = Life {
 #[test]
 fn torn_gates_leave_a_beginning(rt: HostRuntime) -> Result<(), Fail> {
     let alloc = rt.alloc();
-    let device = left_with(&rt, alloc, FLAT, &THREE_WRITES, 15, Fuse::StopAt(3))?;
+    let device = left_with(&rt, alloc, FLAT, &THREE_WRITES, 15, InjectedFault::StopAt(3))?;
     let device = device.crash(torn(alloc, MIXED)?);
     let device = lived(&rt, alloc, device, &FIRST_BLOCK)?;
     let device = device.crash(torn(alloc, OLD)?);
@@ -477,9 +477,9 @@ fn torn_gates_leave_a_beginning(rt: HostRuntime) -> Result<(), Fail> {
 }
 
 /// A change before a cut, and one after it.
-const BEHIND_A_CUT: Lives = Lives {
+const BEHIND_A_CUT: Incarnations = Incarnations {
     numbers: SMALL,
-    lives: &[Life {
+    incarnations: &[Incarnation {
         slots: 1,
         hands: 1,
         rows: &[
@@ -491,9 +491,9 @@ const BEHIND_A_CUT: Lives = Lives {
 };
 
 /// The same, and the point is ended.
-const BEHIND_A_FLIP: Lives = Lives {
+const BEHIND_A_FLIP: Incarnations = Incarnations {
     numbers: SMALL,
-    lives: &[Life {
+    incarnations: &[Incarnation {
         slots: 1,
         hands: 1,
         rows: &[
@@ -509,7 +509,7 @@ const BEHIND_A_FLIP: Lives = Lives {
 };
 
 /// Both changes are there.
-const BOTH: Life = Life {
+const BOTH: Incarnation = Incarnation {
     slots: 1,
     hands: 1,
     rows: &[Serves("list 0 0", "files 0")],
@@ -519,11 +519,11 @@ const BOTH: Life = Life {
 fn has_both(
     rt: &impl Abort,
     alloc: Global,
-    lives: &Lives,
+    incarnations: &Incarnations,
     area: usize,
     records: usize,
 ) -> Result<(), Wrong> {
-    let device = left_by(rt, alloc, lives)?.crash(torn(alloc, OLD)?);
+    let device = left_by(rt, alloc, incarnations)?.crash(torn(alloc, OLD)?);
     let device = is_shown(rt, alloc, device, area, records, [1, 1, 0])?;
     let device = lived(rt, alloc, device, &BOTH)?;
     is_shown(rt, alloc, device, 1, 0, [1, 1, 0])?;
@@ -538,7 +538,7 @@ fn changes_behind_a_cut_are_there(rt: HostRuntime) -> Result<(), Fail> {
 }
 
 /// Cuts, of which each writes the pieces that have changed since its area was written.
-const CHANGED_PIECES: Life = Life {
+const CHANGED_PIECES: Incarnation = Incarnation {
     slots: 1,
     hands: 1,
     rows: &[
@@ -588,7 +588,7 @@ fn cuts_leave(
     area: usize,
     summary: [u32; 3],
 ) -> Result<(), Wrong> {
-    let beginning = Life {
+    let beginning = Incarnation {
         slots: CHANGED_PIECES.slots,
         hands: CHANGED_PIECES.hands,
         rows: CHANGED_PIECES.rows.get(..first).unwrap_or(&[]),

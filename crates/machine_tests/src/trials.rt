@@ -3,7 +3,7 @@ use crate::drawing::Drawing;
 use crate::making::{FLAT, SMALL, WHOLE, one, open_machine};
 use crate::serial::Serial;
 use crate::trials::Act::{Arrive, Do, Serve};
-use crate::world::World;
+use crate::world::CoreState;
 use affinity::Geometry;
 use checkpoint::OpenFault;
 use disk::MemDisk;
@@ -97,8 +97,8 @@ impl List {
     }
 
     /// Makes the steps, also those after a fault, and tells what has to come of them.
-    fn make(&self, alloc: Global, machine: &mut Machine<MemDisk>) -> Result<World, Wrong> {
-        let mut world = World::new(alloc, self.geometry, self.slots, self.hands)?;
+    fn make(&self, alloc: Global, machine: &mut Machine<MemDisk>) -> Result<CoreState, Wrong> {
+        let mut world = CoreState::new(alloc, self.geometry, self.slots, self.hands)?;
         for step in self.steps.as_slice() {
             let outcome = one(machine, *step);
             if !world.note(step, &outcome)? {

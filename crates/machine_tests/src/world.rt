@@ -35,7 +35,7 @@ impl Hand {
 
 /// A machine on a device that was just formatted and opened, and all that came of its steps.
 #[derive(Drop)]
-pub(crate) struct World {
+pub(crate) struct CoreState {
     alloc: Global,
     geometry: Geometry,
     serial: Serial,
@@ -57,7 +57,7 @@ pub(crate) struct World {
     pub(crate) changes: Vec<Msg>,
 
     /// How many of them were logged.
-    settled: usize,
+    committed: usize,
 }
 
 fn is_related(taken: &Taken, other: &Taken) -> bool {
@@ -68,14 +68,14 @@ fn is_changing(taken: &Taken) -> bool {
     changing(taken.message.kind())
 }
 
-impl World {
+impl CoreState {
     pub(crate) fn new(
         alloc: Global,
         geometry: Geometry,
         slots: usize,
         hands: usize,
-    ) -> Result<World, AllocError> {
-        Ok(World {
+    ) -> Result<CoreState, AllocError> {
+        Ok(CoreState {
             alloc,
             geometry,
             serial: Serial::new(alloc, geometry),
@@ -89,14 +89,14 @@ impl World {
             room: usize::from(geometry.half),
             failed: false,
             changes: Vec::new(alloc),
-            settled: 0,
+            committed: 0,
         })
     }
 
     /// What may be there after a crash now.
     pub(crate) fn progress(&self) -> Progress {
         Progress {
-            answered: self.settled,
+            answered: self.committed,
             begun: self.changes.len(),
             is_whole: !self.failed,
         }
@@ -253,15 +253,15 @@ impl World {
             return Ok(Outcome::LogFault(CoreFault::Failed));
         }
         let told = self.carry_out(count)?;
-        let appended = self.changes.len().saturating_sub(self.settled);
+        let appended = self.changes.len().saturating_sub(self.committed);
         if fails && appended > 0 {
             self.failed = true;
             return Ok(Outcome::LogFault(CoreFault::Device));
         }
-        for change in self.changes.iter().skip(self.settled) {
+        for change in self.changes.iter().skip(self.committed) {
             self.areas.change(change);
         }
-        self.settled = self.changes.len();
+        self.committed = self.changes.len();
         self.room = self.room.saturating_sub(appended);
         let logged = told.len();
         for row in told.as_slice() {

@@ -10,7 +10,7 @@ use Rattle.messages.specs.declared.Msg.{Msg}
 use Rattle.messages.specs.Messages.{place}
 use Rattle.meaning.specs.State.{State}
 use Rattle.meaning.specs.Serial.{reply_to, next_state, fold}
-use Rattle.meaning.specs.Order.{told, messages, put, by_ticket, IsBefore, KeepsOrder}
+use Rattle.meaning.specs.Order.{serial_replies, messages, put, by_ticket, IsBefore, KeepsOrder}
 use Rattle.meaning.specs.Laws.{SameByTicket, AreInOrder}
 use Rattle.meaning.proofs.Frame.{commute}
 
@@ -80,17 +80,17 @@ unrelated g e d h late = false_from_ne_true _ (λ r. true≢false (sym (lt-ltb e
 
 module _ (g : Geometry) (e : ℕ × Msg) where
   -- a message that comes first may as well come at its ticket
-  pub told-put : (x : State) (ds : List (ℕ × Msg)) → AllByRecursion (IsBefore g e) ds → told g x (put e ds) ≡ put (e.0, reply_to g x e.1) (told g (next_state g x e.1) ds)
-  told-put x [] h = refl
-  told-put x (d ∷ ds) h =
-      let rest = told-put (next_state g x d.1) ds h.1 in
+  pub serial_replies-put : (x : State) (ds : List (ℕ × Msg)) → AllByRecursion (IsBefore g e) ds → serial_replies g x (put e ds) ≡ put (e.0, reply_to g x e.1) (serial_replies g (next_state g x e.1) ds)
+  serial_replies-put x [] h = refl
+  serial_replies-put x (d ∷ ds) h =
+      let rest = serial_replies-put (next_state g x d.1) ds h.1 in
       elim (nat_lt e.0 d.0) as (λ b. nat_lt e.0 d.0 ≡ b
-      → told g x (if b then e ∷ d ∷ ds else d ∷ put e ds)
-      ≡ (if b then (e.0, reply_to g x e.1) ∷ told g (next_state g x e.1) (d ∷ ds) else (d.0, reply_to g (next_state g x e.1) d.1) ∷ put (e.0, reply_to g x e.1) (told g (next_state g (next_state g x e.1) d.1) ds))) [
+      → serial_replies g x (if b then e ∷ d ∷ ds else d ∷ put e ds)
+      ≡ (if b then (e.0, reply_to g x e.1) ∷ serial_replies g (next_state g x e.1) (d ∷ ds) else (d.0, reply_to g (next_state g x e.1) d.1) ∷ put (e.0, reply_to g x e.1) (serial_replies g (next_state g (next_state g x e.1) d.1) ds))) [
         | true ↦ λ late. refl
         | false ↦ λ late.
             let c = commute g x e.1 d.1 (unrelated g e d h.0 late) in
-            λ i. ◌∷◌ (d.0, (sym c.second) i) ((rest ∙ (λ j. put (e.0, c.first j) (told g (sym c.state j) ds))) i)
+            λ i. ◌∷◌ (d.0, (sym c.second) i) ((rest ∙ (λ j. put (e.0, c.first j) (serial_replies g (sym c.state j) ds))) i)
       ] refl
 
   pub fold-put : (x : State) (ds : List (ℕ × Msg)) → AllByRecursion (IsBefore g e) ds → fold g x (messages (put e ds)) ≡ fold g (next_state g x e.1) (messages ds)
@@ -101,13 +101,13 @@ module _ (g : Geometry) (e : ℕ × Msg) where
         | false ↦ λ late. fold-put (next_state g x d.1) ds h.1 ∙ ap (λ y. fold g y (messages ds)) (sym (commute g x e.1 d.1 (unrelated g e d h.0 late)).state)
       ] refl
 
-pub told-by_ticket : (g : Geometry) (x : State) (es : List (ℕ × Msg)) → KeepsOrder g es → told g x (by_ticket es) ≡ by_ticket (told g x es)
-told-by_ticket g x [] h = refl
-told-by_ticket g x (e ∷ es) h = told-put g e x (by_ticket es) (all-by_ticket (IsBefore g e) es h.0) ∙ ap (put (e.0, reply_to g x e.1)) (told-by_ticket g (next_state g x e.1) es h.1)
+pub serial_replies-by_ticket : (g : Geometry) (x : State) (es : List (ℕ × Msg)) → KeepsOrder g es → serial_replies g x (by_ticket es) ≡ by_ticket (serial_replies g x es)
+serial_replies-by_ticket g x [] h = refl
+serial_replies-by_ticket g x (e ∷ es) h = serial_replies-put g e x (by_ticket es) (all-by_ticket (IsBefore g e) es h.0) ∙ ap (put (e.0, reply_to g x e.1)) (serial_replies-by_ticket g (next_state g x e.1) es h.1)
 
 pub fold-by_ticket : (g : Geometry) (x : State) (es : List (ℕ × Msg)) → KeepsOrder g es → fold g x (messages (by_ticket es)) ≡ fold g x (messages es)
 fold-by_ticket g x [] h = refl
 fold-by_ticket g x (e ∷ es) h = fold-put g e x (by_ticket es) (all-by_ticket (IsBefore g e) es h.0) ∙ fold-by_ticket g (next_state g x e.1) es h.1
 
 pub same_by_ticket : (g : Geometry) (x : State) (es : List (ℕ × Msg)) → KeepsOrder g es → SameByTicket g x es
-same_by_ticket g x es h = record { told = told-by_ticket g x es h; state = fold-by_ticket g x es h }
+same_by_ticket g x es h = record { told = serial_replies-by_ticket g x es h; state = fold-by_ticket g x es h }

@@ -10,7 +10,7 @@ use Rattle.messages.specs.Messages.{place}
 use Rattle.meaning.specs.State.{State}
 use Rattle.meaning.specs.Serial.{reply_to, next_state, fold, is_loggable}
 use Rattle.meaning.specs.Shares.{share as share_at}
-use Rattle.meaning.specs.Order.{told as told_at, messages, by_ticket}
+use Rattle.meaning.specs.Order.{serial_replies as told_at, messages, by_ticket}
 
 -- the paths that are neither this one nor below it
 abbrev pub outside : Path → Path → Bool

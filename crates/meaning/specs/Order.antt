@@ -10,9 +10,9 @@ use Rattle.meaning.specs.State.{State}
 use Rattle.meaning.specs.Serial.{reply_to, next_state}
 
 -- each ticket with the reply to its message, where the messages run in this order
-abbrev pub told : Geometry → State → List (ℕ × Msg) → List (ℕ × Reply)
-told g x [] = []
-told g x (e ∷ es) = (e.0, reply_to g x e.1) ∷ told g (next_state g x e.1) es
+abbrev pub serial_replies : Geometry → State → List (ℕ × Msg) → List (ℕ × Reply)
+serial_replies g x [] = []
+serial_replies g x (e ∷ es) = (e.0, reply_to g x e.1) ∷ serial_replies g (next_state g x e.1) es
 
 abbrev pub messages : List (ℕ × Msg) → List Msg
 messages es = map (λ e. e.1) es

@@ -3,10 +3,10 @@ use Rattle.std.proofs.Common.{◌≡◌, ℕ, List, Some, ap, sym, ◌∙◌, ar
 use Rattle.hex.proofs.HexLemmas.{decode_of-ok}
 use Rattle.messages.specs.declared.Block.{Block}
 use Rattle.messages.specs.Lines.{bytes_in_word, block_in_word, label_in_word}
-use Rattle.messages.specs.Grammar.{SaysBytes}
+use Rattle.messages.specs.Grammar.{SpellsBytes}
 use Rattle.message.proofs.Blocks.{bytes_parts, bytes_from, block_bytes, bytes_block, label_bytes}
 
-bytes_say : (size : ℕ) (digits whole : List ℕ) → bytes_in_word size digits ≡ Some whole → SaysBytes size digits whole
+bytes_say : (size : ℕ) (digits whole : List ℕ) → bytes_in_word size digits ≡ Some whole → SpellsBytes size digits whole
 bytes_say size digits whole h =
     let p = bytes_parts size digits whole h in
     let ok = decode_of-ok digits p.0 p.1.decoded in
@@ -15,7 +15,7 @@ bytes_say size digits whole h =
     let high = p.1.high in
     (p.0, p.1.decoded, omega arith, omega arith, p.2)
 
-say_bytes : (size : ℕ) (digits whole : List ℕ) → SaysBytes size digits whole → bytes_in_word size digits ≡ Some whole
+say_bytes : (size : ℕ) (digits whole : List ℕ) → SpellsBytes size digits whole → bytes_in_word size digits ≡ Some whole
 say_bytes size digits whole h =
     let ok = decode_of-ok digits h.0 h.1 in
     let len = ok.2 in
@@ -23,14 +23,14 @@ say_bytes size digits whole h =
     let high = h.3 in
     bytes_from size digits h.0 (record { low = omega arith; high = omega arith; decoded = h.1 }) ∙ ap Some (sym h.4)
 
-pub block_says : (digits : List ℕ) (content : Block) → block_in_word digits ≡ Some content → SaysBytes 512 digits content.0
+pub block_says : (digits : List ℕ) (content : Block) → block_in_word digits ≡ Some content → SpellsBytes 512 digits content.0
 block_says digits content h = bytes_say 512 digits content.0 (block_bytes digits content h)
 
-pub says_block : (digits : List ℕ) (content : Block) → SaysBytes 512 digits content.0 → block_in_word digits ≡ Some content
+pub says_block : (digits : List ℕ) (content : Block) → SpellsBytes 512 digits content.0 → block_in_word digits ≡ Some content
 says_block digits content h = bytes_block digits content (say_bytes 512 digits content.0 h)
 
-pub label_says : (digits bytes : List ℕ) → label_in_word digits ≡ Some bytes → SaysBytes 32 digits bytes
+pub label_says : (digits bytes : List ℕ) → label_in_word digits ≡ Some bytes → SpellsBytes 32 digits bytes
 label_says digits bytes h = bytes_say 32 digits bytes (sym (label_bytes digits) ∙ h)
 
-pub says_label : (digits bytes : List ℕ) → SaysBytes 32 digits bytes → label_in_word digits ≡ Some bytes
+pub says_label : (digits bytes : List ℕ) → SpellsBytes 32 digits bytes → label_in_word digits ≡ Some bytes
 says_label digits bytes h = label_bytes digits ∙ say_bytes 32 digits bytes h

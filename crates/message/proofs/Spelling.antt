@@ -13,7 +13,7 @@ use Rattle.messages.specs.declared.Msg.{Msg}
 use Rattle.messages.specs.declared.Msg.TheVariants.{MakeVol, DropVol, Create, Delete, Seal, Unseal, Write, Punch, Read, List as ListFiles, Usage, Summary, SetLabel, Label}
 use Rattle.messages.specs.Lines.{words, number_in_word, block_in_word, label_in_word}
 use Rattle.messages.specs.Messages.{kind, numbers}
-use Rattle.messages.specs.Grammar.{message_of, of_words, of_kind, of_volume, of_file, of_block, of_data, of_label, of_nothing, kind_named, keyword, IsData, SaysBytes, Spells, ◌>>=◌}
+use Rattle.messages.specs.Grammar.{message_of, of_words, of_kind, of_volume, of_file, of_block, of_data, of_label, of_nothing, kind_named, keyword, IsData, SpellsBytes, Spells, ◌>>=◌}
 use Rattle.message.proofs.Words.{HasNoSpace, join-words, words-join}
 use Rattle.message.proofs.Numbers.{decimal-number, number-decimal, number_no_space}
 use Rattle.message.proofs.Blocks.{block_no_space, label_no_space}
@@ -82,7 +82,7 @@ block_said make (x ∷ y ∷ z ∷ w ∷ u ∷ ws) m h = cc h
 
 data_said : (make : ℕ → ℕ → ℕ → ℕ → Block → Msg) (ws : List (List ℕ)) (m : Msg) → of_data make ws ≡ Some m
     → (a : ℕ) × (v : ℕ) × (f : ℕ) × (b : ℕ) × (content : Block) × (digits : List ℕ)
-    × (m ≡ make a v f b content) × (ws ≡ map decimal (a ∷ v ∷ f ∷ b ∷ []) ++ digits ∷ []) × AreSmall (a ∷ v ∷ f ∷ b ∷ []) × SaysBytes 512 digits content.0
+    × (m ≡ make a v f b content) × (ws ≡ map decimal (a ∷ v ∷ f ∷ b ∷ []) ++ digits ∷ []) × AreSmall (a ∷ v ∷ f ∷ b ∷ []) × SpellsBytes 512 digits content.0
 data_said make [] m h = cc h
 data_said make (x ∷ []) m h = cc h
 data_said make (x ∷ y ∷ []) m h = cc h
@@ -100,7 +100,7 @@ data_said make (x ∷ y ∷ z ∷ w ∷ u ∷ t ∷ ws) m h = cc h
 
 label_said : (make : ℕ → ℕ → List ℕ → Msg) (ws : List (List ℕ)) (m : Msg) → of_label make ws ≡ Some m
     → (a : ℕ) × (v : ℕ) × (bytes : List ℕ) × (digits : List ℕ)
-    × (m ≡ make a v bytes) × (ws ≡ map decimal (a ∷ v ∷ []) ++ digits ∷ []) × AreSmall (a ∷ v ∷ []) × SaysBytes 32 digits bytes
+    × (m ≡ make a v bytes) × (ws ≡ map decimal (a ∷ v ∷ []) ++ digits ∷ []) × AreSmall (a ∷ v ∷ []) × SpellsBytes 32 digits bytes
 label_said make [] m h = cc h
 label_said make (x ∷ []) m h = cc h
 label_said make (x ∷ y ∷ []) m h = cc h

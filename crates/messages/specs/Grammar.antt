@@ -136,14 +136,14 @@ message_of line = if nat_lt 1100 (length line) then None else of_words (words li
 -- ---- by the message: how its line is put together
 
 -- The hexadecimal digits say so many bytes: one at least, and zeros behind those that have digits.
-abbrev pub SaysBytes : ℕ → List ℕ → List ℕ → Type 0
-SaysBytes size digits whole = (bytes : List ℕ) × (decode_of digits ≡ Ok bytes) × (1 ≤ length bytes) × (length bytes ≤ size)
+abbrev pub SpellsBytes : ℕ → List ℕ → List ℕ → Type 0
+SpellsBytes size digits whole = (bytes : List ℕ) × (decode_of digits ≡ Ok bytes) × (1 ≤ length bytes) × (length bytes ≤ size)
     × (whole ≡ padded size bytes)
 
 -- what stands behind the numbers of a message
 abbrev pub IsData : Msg → List (List ℕ) → Type 0
-IsData (Write a v f b content) behind = (digits : List ℕ) × (behind ≡ digits ∷ []) × SaysBytes 512 digits content.0
-IsData (SetLabel a v bytes) behind = (digits : List ℕ) × (behind ≡ digits ∷ []) × SaysBytes 32 digits bytes
+IsData (Write a v f b content) behind = (digits : List ℕ) × (behind ≡ digits ∷ []) × SpellsBytes 512 digits content.0
+IsData (SetLabel a v bytes) behind = (digits : List ℕ) × (behind ≡ digits ∷ []) × SpellsBytes 32 digits bytes
 IsData _ behind = behind ≡ []
 
 -- The line spells the message: its keyword, its numbers in decimal and its data, parted by single spaces.

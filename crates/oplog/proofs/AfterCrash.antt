@@ -1,4 +1,4 @@
--- What a device stands for after a crash, from the clauses of a log's calls.
+-- What a device recovers to after a crash, from the clauses of a log's calls.
 use Rattle.std.proofs.Common.{◌≡◌, ◌≢◌, ◌<◌, ℕ, Bool, true, false, cond, eqb, List, [], take, get_or, Option, refl, ◌∙◌, sym, ap, subst, arith}
 use Rattle.std.proofs.lemmas.Bool.{ne_eqb}
 use Rattle.disk.specs.Device.{Medium, IsSynced}
@@ -6,9 +6,9 @@ use Rattle.disk.proofs.Leaves.{calm_left}
 use Rattle.disk.proofs.Moments.{weaker}
 use Rattle.device_map.specs.Layout.{Layout, part_bytes, root, half, image, other}
 use Rattle.oplog.specs.Front.{chain, front}
-use Rattle.oplog.specs.Stands.{Meaning, named_area, current_of, run, stands_as}
+use Rattle.oplog.specs.Recovery.{Meaning, named_area, current_of, run, recovers_as}
 use Rattle.oplog.specs.Changes.{IsSameBut, IsSameButChain, HasMore}
-use Rattle.oplog.specs.Crash.{StandsBy, StandsByNow, AppendStands, AllByArea, ImageByArea, ClearByArea, ChainByArea, ChainedByArea, TornRootStands, FlipByArea}
+use Rattle.oplog.specs.Crash.{RecoversBy, RecoversByNow, AppendRecovers, AllByArea, ImageByArea, ClearByArea, ChainByArea, ChainedByArea, TornRootRecovers, FlipByArea}
 use Rattle.oplog.proofs.Kept.{same_named, same_chain, grown_as, root_kept, half_kept, image_kept, chain_kept}
 
 -- a half that is current by itself has no chain
@@ -25,15 +25,15 @@ pub current_kept : (g : Layout) (n p : ℕ) (a c : List ℕ) → half n ≢ p �
 current_kept g n p a c apart same = ap (λ (l : List ℕ). cond (eqb (get_or l 0 0) 1) (other n) n) (same.others (half n) apart)
 
 module _ {S : Type 0} (means : Meaning S) where
-  more_by : (g : Layout) (n h : ℕ) (x : Option S) (more : List (List ℕ)) (a c : List ℕ) → n < 2 → h < 2 → HasMore g h more a c → StandsBy means g n h x a → StandsBy means g n h (run means x more) c
-  more_by g n h x more a c is_area is_half has stood = record {
-    named = same_named means g h more a c is_half has ∙ stood.named;
-    current = ap (λ (b : ℕ). cond (eqb b 1) (other n) n) (same_chain means g h more a c is_half has n is_area) ∙ stood.current;
-    is = grown_as means g h more a c is_half has n is_area stood.current ∙ ap (λ (y : Option S). run means y more) stood.is;
+  more_by : (g : Layout) (n h : ℕ) (x : Option S) (more : List (List ℕ)) (a c : List ℕ) → n < 2 → h < 2 → HasMore g h more a c → RecoversBy means g n h x a → RecoversBy means g n h (run means x more) c
+  more_by g n h x more a c is_area is_half has recovered_before = record {
+    named = same_named means g h more a c is_half has ∙ recovered_before.named;
+    current = ap (λ (b : ℕ). cond (eqb b 1) (other n) n) (same_chain means g h more a c is_half has n is_area) ∙ recovered_before.current;
+    is = grown_as means g h more a c is_half has n is_area recovered_before.current ∙ ap (λ (y : Option S). run means y more) recovered_before.is;
   }
 
-  pub append_stands : AppendStands means
-  append_stands g n h x more w0 w1 is_area is_half before moments =
+  pub append_recovers : AppendRecovers means
+  append_recovers g n h x more w0 w1 is_area is_half before moments =
       weaker w0 w1 _ _ moments
       (λ c grew. record {
         added = grew.added;
@@ -50,25 +50,25 @@ module _ {S : Type 0} (means : Meaning S) where
   image_by_area g n h x w0 w1 is_area before moments =
       weaker w0 w1 _ _ moments
       (λ c after.
-      let stood = before after.old after.left in
+      let recovered_before = before after.old after.left in
       record {
-        named = named_kept g (image (other n)) after.old c (λ is. omega (arith, is)) after.change ∙ stood.named;
-        current = current_kept g n (image (other n)) after.old c (λ is. omega (arith, is, is_area)) after.change ∙ stood.current;
-        is = image_kept means g n after.old c is_area after.change ∙ stood.is;
+        named = named_kept g (image (other n)) after.old c (λ is. omega (arith, is)) after.change ∙ recovered_before.named;
+        current = current_kept g n (image (other n)) after.old c (λ is. omega (arith, is, is_area)) after.change ∙ recovered_before.current;
+        is = image_kept means g n after.old c is_area after.change ∙ recovered_before.is;
       })
 
   pub clear_by_area : ClearByArea means
   clear_by_area g n x w0 w1 is_area before moments =
       weaker w0 w1 _ _ moments
       (λ c after.
-      let stood = before after.old after.left in
+      let recovered_before = before after.old after.left in
       record {
-        named = named_kept g (half (other n)) after.old c (λ is. omega (arith, is)) after.change.same ∙ stood.named;
-        current = current_kept g n (half (other n)) after.old c (λ is. omega (arith, is, is_area)) after.change.same ∙ stood.current;
-        is = half_kept means g n after.old c is_area (no_chain_by n (eqb (chain g n after.old) 1) is_area stood.current) after.change.same ∙ stood.is;
+        named = named_kept g (half (other n)) after.old c (λ is. omega (arith, is)) after.change.same ∙ recovered_before.named;
+        current = current_kept g n (half (other n)) after.old c (λ is. omega (arith, is, is_area)) after.change.same ∙ recovered_before.current;
+        is = half_kept means g n after.old c is_area (no_chain_by n (eqb (chain g n after.old) 1) is_area recovered_before.current) after.change.same ∙ recovered_before.is;
       })
 
-  chain_by : (g : Layout) (n : ℕ) (x : Option S) (a c : List ℕ) → n < 2 → front g (other n) a ≡ [] → chain g (other n) a ≢ 1 → IsSameButChain g n a c → named_area g a ≡ n → stands_as means g n a ≡ x → StandsBy means g n (current_of g n c) x c
+  chain_by : (g : Layout) (n : ℕ) (x : Option S) (a c : List ℕ) → n < 2 → front g (other n) a ≡ [] → chain g (other n) a ≢ 1 → IsSameButChain g n a c → named_area g a ≡ n → recovers_as means g n a ≡ x → RecoversBy means g n (current_of g n c) x c
   chain_by g n x a c is_area none no_chain change named is = record {
     named = named_kept g (half n) a c (λ is. omega (arith, is)) change.same ∙ named;
     current = refl;
@@ -79,39 +79,39 @@ module _ {S : Type 0} (means : Meaning S) where
   chain_by_area g n x w0 w1 is_area before empty moments =
       weaker w0 w1 _ _ moments
       (λ c after.
-      let stood = before after.old after.left in
+      let recovered_before = before after.old after.left in
       let none = empty after.old after.left in
-      chain_by g n x after.old c is_area none.0 none.1 after.change stood.named stood.is)
+      chain_by g n x after.old c is_area none.0 none.1 after.change recovered_before.named recovered_before.is)
 
-  -- at a device with nothing loose, of which a crash leaves what a read gives
-  settled : (g : Layout) (n h : ℕ) (x : Option S) (m : Medium) → IsSynced m → StandsBy means g n h x m.now → StandsByNow means g n h x m
-  settled g n h x m calm stands c left = subst (λ (l : List ℕ). StandsBy means g n h x l) (sym (calm_left m c calm left)) stands
+  -- at a device with nothing unsynced, of which a crash leaves what a read gives
+  committed : (g : Layout) (n h : ℕ) (x : Option S) (m : Medium) → IsSynced m → RecoversBy means g n h x m.now → RecoversByNow means g n h x m
+  committed g n h x m calm recovers c left = subst (λ (l : List ℕ). RecoversBy means g n h x l) (sym (calm_left m c calm left)) recovers
 
   pub chained_by_area : ChainedByArea means
   chained_by_area g n x w0 w1 is_area before empty chained =
-      let stood = chain_by g n x w0.now w1.now is_area empty.0 empty.1 chained.same before.named before.is in
+      let recovered_before = chain_by g n x w0.now w1.now is_area empty.0 empty.1 chained.same before.named before.is in
       let follows : current_of g n w1.now ≡ other n = ap (λ (b : ℕ). cond (eqb b 1) (other n) n) chained.chain in
-      settled g n (other n) x w1 chained.calm (subst (λ (h : ℕ). StandsBy means g n h x w1.now) follows stood)
+      committed g n (other n) x w1 chained.calm (subst (λ (h : ℕ). RecoversBy means g n h x w1.now) follows recovered_before)
 
   either : (x : Option S) (P : ℕ → Option S) (t : Bool) → P 0 ≡ x → P 1 ≡ x → P (cond t 1 0) ≡ x
   either x P true first second = second
   either x P false first second = first
 
-  pub torn_root_stands : TornRootStands means
-  torn_root_stands g x w0 w1 before moments =
+  pub torn_root_recovers : TornRootRecovers means
+  torn_root_recovers g x w0 w1 before moments =
       weaker w0 w1 _ _ moments
       (λ c after.
       let both = before after.old after.left in
-      let kept : (n : ℕ) → stands_as means g n c ≡ stands_as means g n after.old = λ n. root_kept means g n after.old c after.change.same in
+      let kept : (n : ℕ) → recovers_as means g n c ≡ recovers_as means g n after.old = λ n. root_kept means g n after.old c after.change.same in
       record {
         named = refl;
         current = refl;
-        is = either x (λ (n : ℕ). stands_as means g n c) (eqb (get_or (part_bytes g root c) 0 0) 1) (kept 0 ∙ both.0) (kept 1 ∙ both.1);
+        is = either x (λ (n : ℕ). recovers_as means g n c) (eqb (get_or (part_bytes g root c) 0 0) 1) (kept 0 ∙ both.0) (kept 1 ∙ both.1);
       })
 
   pub flip_by_area : FlipByArea means
   flip_by_area g n h x w0 w1 flip current is =
-      settled g n h x w1 flip.calm
+      committed g n h x w1 flip.calm
       (record {
         named = flip.named;
         current = current_kept g n root w0.now w1.now (λ is. omega (arith, is)) flip.same.same ∙ current;

@@ -90,7 +90,7 @@ module _ (g : Layout) (h k : ℕ) (more : List (List ℕ)) (is_half : h < 2) (si
       grew = record {
         added = torn.0;
         at_most = torn.1;
-        has = record { old = w0.now; left = itself w0.now w0.loose are_bytes; change = torn.2 };
+        has = record { old = w0.now; left = itself w0.now w0.unsynced are_bytes; change = torn.2 };
       }
 
       module _ (ones : slice c (part_at g (half h) + (64 + k)) (length more) ≡ replicate (length more) 1) where
@@ -142,7 +142,7 @@ module _ (g : Layout) (h k : ℕ) (more : List (List ℕ)) (is_half : h < 2) (si
         };
         left = λ c left. record {
           old = w0.now;
-          left = itself w0.now w0.loose are_bytes;
+          left = itself w0.now w0.unsynced are_bytes;
           change = subst (HasMore g h more w0.now) (sym (calm_left w2 c gates.calm left)) (has_all w2.now put_gates are_ones);
         };
         calm = λ _. gates.calm;

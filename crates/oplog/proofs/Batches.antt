@@ -2,7 +2,7 @@
 use Rattle.std.proofs.Common.{◌≡◌, ℕ, zero, suc, ◌+◌, ◌≤◌, List, [], ◌∷◌, ◌++◌, length, take, drop, refl, sym, ◌∙◌, ap, subst, arith, length-append}
 use Rattle.std.proofs.lemmas.List.{append-nil, append_assoc, map-append, length-map, length-take-le, take-append-le, take-take, take-append-drop, drop-take, drop-drop}
 use Rattle.disk.specs.Device.{Medium}
-use Rattle.disk.specs.Moments.{LeavesOnly}
+use Rattle.disk.specs.Moments.{CrashImagesAre}
 use Rattle.disk.proofs.Moments.{started, weaker, then}
 use Rattle.messages.specs.declared.Msg.{Msg}
 use Rattle.message.specs.Records.{record_of}
@@ -38,7 +38,7 @@ more_then g h more others a b c first second = record {
 
 -- Of all these records the first were added to half h, behind k others.
 pub record SoFar (g : Layout) (h k : ℕ) (more all : List (List ℕ)) (old new : Medium) : Type 0 where
-  pub moments : LeavesOnly old new (Grew g h all old)
+  pub moments : CrashImagesAre old new (Grew g h all old)
   pub has : HasAll g h k more old new
 
 pub begun : (g : Layout) (h k : ℕ) (all : List (List ℕ)) (m : Medium) → IsReady g h k m → SoFar g h k [] all m m
@@ -54,7 +54,7 @@ begun g h k all m ready = record {
 
 -- One batch more.
 module _ (g : Layout) (h k : ℕ) (more batch later : List (List ℕ)) (w0 w w' : Medium) (so_far : SoFar g h k more (more ++ (batch ++ later)) w0 w) where
-  pub batch_moments : LeavesOnly w w' (Grew g h batch w) → LeavesOnly w0 w' (Grew g h (more ++ (batch ++ later)) w0)
+  pub batch_moments : CrashImagesAre w w' (Grew g h batch w) → CrashImagesAre w0 w' (Grew g h (more ++ (batch ++ later)) w0)
   batch_moments moments =
       then w0 w w' _ so_far.moments
       (weaker w w' _ _ moments
@@ -73,7 +73,7 @@ module _ (g : Layout) (h k : ℕ) (more batch later : List (List ℕ)) (w0 w w' 
         };
       }))
 
-  pub batch_more : LeavesOnly w w' (Grew g h batch w) → HasAll g h (k + length more) batch w w' → SoFar g h k (more ++ batch) (more ++ (batch ++ later)) w0 w'
+  pub batch_more : CrashImagesAre w w' (Grew g h batch w) → HasAll g h (k + length more) batch w w' → SoFar g h k (more ++ batch) (more ++ (batch ++ later)) w0 w'
   batch_more moments has = record {
     moments = batch_moments moments;
     has = record {
@@ -109,9 +109,9 @@ module _ (g : Layout) (h k m n : ℕ) (messages : List Msg) (inside : m + n ≤ 
     pub now_ready : IsReady g h (k + m) w
     now_ready = subst (λ (j : ℕ). IsReady g h (k + j) w) count so_far.has.ready
 
-    module _ (moments : LeavesOnly w w' (Grew g h (records_of (take n (drop m messages))) w)) where
-      pub messages_moments : LeavesOnly w0 w' (Grew g h (records_of messages) w0)
-      messages_moments = subst (λ (l : List (List ℕ)). LeavesOnly w0 w' (Grew g h l w0)) parted (batch_moments g h k _ _ _ w0 w w' so_far' moments)
+    module _ (moments : CrashImagesAre w w' (Grew g h (records_of (take n (drop m messages))) w)) where
+      pub messages_moments : CrashImagesAre w0 w' (Grew g h (records_of messages) w0)
+      messages_moments = subst (λ (l : List (List ℕ)). CrashImagesAre w0 w' (Grew g h l w0)) parted (batch_moments g h k _ _ _ w0 w w' so_far' moments)
 
       pub messages_more : HasAll g h (k + m) (records_of (take n (drop m messages))) w w' → SoFar g h k (records_of (take (m + n) messages)) (records_of messages) w0 w'
       messages_more has =

@@ -6,7 +6,7 @@ use Rattle.disk.proofs.Leaves.{calm_left}
 use Rattle.device_map.specs.Layout.{Layout}
 use Rattle.oplog.specs.Front.{open_gates, front}
 use Rattle.oplog.specs.Changes.{Grew}
-use Rattle.oplog.specs.Stands.{Meaning, named_area, in_force, current, stands}
+use Rattle.oplog.specs.Recovery.{Meaning, named_area, in_force, current, recovers}
 
 -- ---- the front ends at the first gate that isn't 1
 second_is_not_open : open_gates (1 ∷ 77 ∷ 1 ∷ 0 ∷ []) ≡ 1
@@ -53,23 +53,23 @@ current_under_a_chain = refl
 torn_root : named_area g (device 77 0 0 (0 ∷ 0 ∷ 0 ∷ 0 ∷ []) (0 ∷ 0 ∷ 0 ∷ 0 ∷ [])) ≡ 0
 torn_root = refl
 
--- What a device stands for, where an image holds its first byte and a record adds its kind.
+-- What a device recovers to, where an image holds its first byte and a record adds its kind.
 abbrev counting : Meaning ℕ
 counting = record { read = λ bytes. Some (length (take 1 bytes)); apply = λ x r. Some (x + length (take 1 r)); is_header = λ bytes. true }
 
-abbrev stood : List ℕ → Option ℕ
-stood c = stands counting g c
+abbrev recovered_before : List ℕ → Option ℕ
+recovered_before c = recovers counting g c
 
-records_are_run : stood (device 0 1 0 (1 ∷ 1 ∷ 0 ∷ 0 ∷ []) (1 ∷ 0 ∷ 1 ∷ 1 ∷ [])) ≡ Some 4
+records_are_run : recovered_before (device 0 1 0 (1 ∷ 1 ∷ 0 ∷ 0 ∷ []) (1 ∷ 0 ∷ 1 ∷ 1 ∷ [])) ≡ Some 4
 records_are_run = refl
 
-two_chains_are_not_sound : stood (device 0 1 1 (1 ∷ 1 ∷ 0 ∷ 0 ∷ []) (1 ∷ 0 ∷ 1 ∷ 1 ∷ [])) ≡ None
+two_chains_are_not_sound : recovered_before (device 0 1 1 (1 ∷ 1 ∷ 0 ∷ 0 ∷ []) (1 ∷ 0 ∷ 1 ∷ 1 ∷ [])) ≡ None
 two_chains_are_not_sound = refl
 
-too_short : stood (take 8839 (device 0 0 0 (1 ∷ 1 ∷ 0 ∷ 0 ∷ []) (1 ∷ 0 ∷ 1 ∷ 1 ∷ []))) ≡ None
+too_short : recovered_before (take 8839 (device 0 0 0 (1 ∷ 1 ∷ 0 ∷ 0 ∷ []) (1 ∷ 0 ∷ 1 ∷ 1 ∷ []))) ≡ None
 too_short = refl
 
--- ---- what is no growth of half 0, which has two records in its front and nothing loose
+-- ---- what is no growth of half 0, which has two records in its front and nothing unsynced
 abbrev before : Medium
 before = begun (device 0 0 0 (1 ∷ 1 ∷ 0 ∷ 0 ∷ []) (0 ∷ 0 ∷ 0 ∷ 0 ∷ []))
 

@@ -1,4 +1,4 @@
--- ---- For the layer above. The laws of AfterCrash and what keeps what a device stands for (Kept); a half that is ready
+-- ---- For the layer above. The laws of AfterCrash and what keeps what a device recovers to (Kept); a half that is ready
 -- ---- (Ready, Batches); parts of a device, written and read (Slices, OneWrite, Reading); records as rows (RecordRows),
 -- ---- and which are bad (BadRecords); a call that is known not to have failed (Answered).
 pub mod AfterCrash

@@ -2,7 +2,7 @@
 use Rattle.std.proofs.Common.{◌≡◌, ℕ, zero, suc, ◌+◌, ◌-◌, ◌<◌, ◌≤◌, cond, eqb, List, [], ◌∷◌, length, take, drop, get_or, replicate, refl, sym, ◌∙◌, ap, subst, arith}
 use Rattle.std.proofs.lemmas.List.{length-replicate, take-take, drop-take, drop-replicate, get_or-take, get_or-drop, get_or-replicate}
 use Rattle.disk.specs.Device.{Medium, SameOutside}
-use Rattle.disk.specs.Moments.{LeavesOnly}
+use Rattle.disk.specs.Moments.{CrashImagesAre}
 use Rattle.disk.proofs.Leaves.{calm_range}
 use Rattle.disk.proofs.Moments.{weaker}
 use Rattle.disk.proofs.Outside.{same_drop}
@@ -33,7 +33,7 @@ module _ (g : Layout) (h at : ℕ) (bytes : List ℕ) (is_half : h < 2) (place :
         records = same_drop 0 (length bytes) (part_bytes g (half h) old) (part_bytes g (half h) c) (within (part_at g (half h)) (part_size g (half h)) 0 (length bytes) old c room same') (64 + g.slots) (omega (arith, few));
       }
 
-  pub clear_moments : (w0 w1 : Medium) → LeavesOnly w0 w1 (After w0 (SameOutside {X = ℕ} at (length bytes))) → LeavesOnly w0 w1 (After w0 (IsSameButGates g h))
+  pub clear_moments : (w0 w1 : Medium) → CrashImagesAre w0 w1 (After w0 (SameOutside {X = ℕ} at (length bytes))) → CrashImagesAre w0 w1 (After w0 (IsSameButGates g h))
   clear_moments w0 w1 moments = weaker w0 w1 _ _ moments (λ c after. record { old = after.old; left = after.left; change = gates_alone after.old c after.change })
 
   module _ (w0 w1 : Medium) (fits : device_size g ≤ length w0.now) (stored : Stored at bytes w0 w1) where
@@ -79,7 +79,7 @@ module _ (g : Layout) (h at : ℕ) (is_half : h < 2) (place : at ≡ part_at g (
         beside = same_drop 0 1 (part_bytes g (half h) old) (part_bytes g (half h) c) (within (part_at g (half h)) (part_size g (half h)) 0 1 old c room same') 1 (omega arith);
       }
 
-  pub chain_moments : (w0 w1 : Medium) → LeavesOnly w0 w1 (After w0 (SameOutside {X = ℕ} at 1)) → LeavesOnly w0 w1 (After w0 (IsSameButChain g h))
+  pub chain_moments : (w0 w1 : Medium) → CrashImagesAre w0 w1 (After w0 (SameOutside {X = ℕ} at 1)) → CrashImagesAre w0 w1 (After w0 (IsSameButChain g h))
   chain_moments w0 w1 moments = weaker w0 w1 _ _ moments (λ c after. record { old = after.old; left = after.left; change = chain_alone after.old c after.change })
 
   pub chained : (w0 w1 : Medium) → device_size g ≤ length w0.now → Stored at (1 ∷ []) w0 w1 → Chained g h w0 w1
@@ -100,7 +100,7 @@ module _ (g : Layout) (n : ℕ) where
     beside = same_drop 0 1 (part_bytes g root old) (part_bytes g root c) (within 64 64 0 1 old c (omega arith) same) 1 (omega arith);
   }
 
-  pub root_moments : (w0 w1 : Medium) → LeavesOnly w0 w1 (After w0 (SameOutside {X = ℕ} 64 1)) → LeavesOnly w0 w1 (After w0 (IsSameButRoot g))
+  pub root_moments : (w0 w1 : Medium) → CrashImagesAre w0 w1 (After w0 (SameOutside {X = ℕ} 64 1)) → CrashImagesAre w0 w1 (After w0 (IsSameButRoot g))
   root_moments w0 w1 moments = weaker w0 w1 _ _ moments (λ c after. record { old = after.old; left = after.left; change = root_alone after.old c after.change })
 
   named_by : (n b : ℕ) → n < 2 → b ≡ n → ◌≡◌ {A = ℕ} (cond (eqb b 1) 1 0) n

@@ -3,7 +3,7 @@ use Rattle.std.proofs.Common.{ℕ, ◌+◌, ◌≤◌, List, length, Result, Ok,
 use Rattle.disk.specs.declared.fault.DiskFault.{DiskFault}
 use Rattle.disk.specs.declared.fault.DiskFault.TheVariants.{OutOfRange, Device}
 use Rattle.disk.specs.Device.{AreBytes, Medium, SameOutside, Writes}
-use Rattle.disk.specs.Moments.{LeavesOnly}
+use Rattle.disk.specs.Moments.{CrashImagesAre}
 use Rattle.disk.proofs.Calls.{after_write}
 use Rattle.disk.proofs.Moments.{started}
 use Rattle.disk.proofs.Outside.{same_all}
@@ -12,7 +12,7 @@ use Rattle.oplog.specs.Changes.{After}
 use Rattle.oplog.specs.Store.{Touched}
 
 module _ (w0 w1 : Medium) (at : ℕ) (bytes : List ℕ) where
-  pub written : (r : Result (Unit {0}) DiskFault) → at + length bytes ≤ length w0.now → AreBytes w0.now → Writes at bytes r w0 w1 → LeavesOnly w0 w1 (After w0 (SameOutside {X = ℕ} at (length bytes)))
+  pub written : (r : Result (Unit {0}) DiskFault) → at + length bytes ≤ length w0.now → AreBytes w0.now → Writes at bytes r w0 w1 → CrashImagesAre w0 w1 (After w0 (SameOutside {X = ℕ} at (length bytes)))
   written r inside are writes =
       after_write w0 w0 w1 _
       (started w0 _ (λ c left. record { old = c; left = left; change = same_all at (length bytes) c })) at bytes inside are r writes
@@ -21,9 +21,9 @@ module _ (w0 w1 : Medium) (at : ℕ) (bytes : List ℕ) where
   -- done, or nothing done, or failed
   pub touched : (r : Result (Unit {0}) DiskFault) → at + length bytes ≤ length w0.now → Writes at bytes r w0 w1 → Touched at (length bytes) w0 w1
   touched (Ok u) inside writes =
-      subst (λ (m : Medium). Touched at (length bytes) w0 m) (sym writes.ok) (record { now = overlaid_outside w0.now at bytes; loose = marked_outside w0.loose at (length bytes) })
+      subst (λ (m : Medium). Touched at (length bytes) w0 m) (sym writes.ok) (record { now = overlaid_outside w0.now at bytes; unsynced = marked_outside w0.unsynced at (length bytes) })
   touched (Err OutOfRange) inside writes =
-      subst (λ (m : Medium). Touched at (length bytes) w0 m) (sym (writes.outside refl)) (record { now = same_all at (length bytes) w0.now; loose = same_all at (length bytes) w0.loose })
+      subst (λ (m : Medium). Touched at (length bytes) w0 m) (sym (writes.outside refl)) (record { now = same_all at (length bytes) w0.now; unsynced = same_all at (length bytes) w0.unsynced })
   touched (Err Device) inside writes =
       let fails = writes.device refl in
-      record { now = fails.bytes; loose = subst (λ l. SameOutside at (length bytes) w0.loose l) (sym fails.loose) (marked_outside w0.loose at (length bytes)) }
+      record { now = fails.bytes; unsynced = subst (λ l. SameOutside at (length bytes) w0.unsynced l) (sym fails.unsynced) (marked_outside w0.unsynced at (length bytes)) }

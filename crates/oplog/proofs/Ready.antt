@@ -26,7 +26,7 @@ ready_beside g h k p i n at w w' is_part apart place inside wrote ready =
     record {
       used = ap (λ (l : List ℕ). open_gates (gates_in g.slots l)) kept ∙ ready.used;
       shut = ap (λ (l : List ℕ). drop k (gates_in g.slots l)) kept ∙ ready.shut;
-      calm = other_part g p (half h) i n at w.loose w'.loose place inside apart wrote.loose ∙ ready.calm;
+      calm = other_part g p (half h) i n at w.unsynced w'.unsynced place inside apart wrote.unsynced ∙ ready.calm;
     }
 
 -- The current half was the named one, the other was cleared, and then the chain to it was opened.

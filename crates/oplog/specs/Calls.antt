@@ -1,7 +1,7 @@
 -- What the calls of a log ask of its device and do to it, in the words of contracts.
 use Rattle.std.specs.Prelude.{◌≡◌, ◌≤◌, ℕ, List, length, Result}
 use Rattle.disk.specs.Device.{Medium}
-use Rattle.disk.specs.Moments.{LeavesOnly}
+use Rattle.disk.specs.Moments.{CrashImagesAre}
 use Rattle.messages.specs.declared.Msg.{Msg}
 use Rattle.oplog.specs.declared.fault.LogFault.{LogFault}
 use Rattle.oplog.specs.declared.half.Half.{Half}
@@ -17,7 +17,7 @@ use Rattle.oplog.specs.Log.{Log, layout, IsOfRecord}
 abbrev pub HasParts : Log → Medium → Type 0
 HasParts log m = device_size (layout log) ≤ length m.now
 
--- The current half has as many records as the log says, shut gates behind them, and nothing loose.
+-- The current half has as many records as the log says, shut gates behind them, and nothing unsynced.
 abbrev pub IsReadyFor : Log → Medium → Type 0
 IsReadyFor log m = IsReady (layout log) log.current log.used m
 
@@ -25,7 +25,7 @@ IsReadyFor log m = IsReady (layout log) log.current log.used m
 
 -- The current half grows by the first so many of these messages.
 abbrev pub Grows : Log → List Msg → Medium → Medium → Type 0
-Grows log messages old new = LeavesOnly old new (Grew (layout log) log.current (records_of messages) old)
+Grows log messages old new = CrashImagesAre old new (Grew (layout log) log.current (records_of messages) old)
 
 abbrev pub HasAdded : Log → List Msg → Medium → Medium → Type 0
 HasAdded log messages old new = HasAll (layout log) log.current log.used (records_of messages) old new
@@ -70,7 +70,7 @@ abbrev pub IsHalfReady : Half → ℕ → Medium → Type 0
 IsHalfReady half used m = IsReady (layout_of half.geometry) half.number used m
 
 abbrev pub HalfGrows : Half → List Msg → Medium → Medium → Type 0
-HalfGrows half messages old new = LeavesOnly old new (Grew (layout_of half.geometry) half.number (records_of messages) old)
+HalfGrows half messages old new = CrashImagesAre old new (Grew (layout_of half.geometry) half.number (records_of messages) old)
 
 abbrev pub HalfHasAdded : Half → ℕ → List Msg → Medium → Medium → Type 0
 HalfHasAdded half used messages old new = HasAll (layout_of half.geometry) half.number used (records_of messages) old new

@@ -1,9 +1,9 @@
 -- How the calls of a log change the bytes of a device, and what a crash leaves while they do.
 use Rattle.std.specs.Prelude.{◌≡◌, ◌≢◌, ◌≤◌, ℕ, ◌+◌, false, List, ◌++◌, length, take, drop, replicate}
-use Rattle.disk.specs.Device.{Medium, Leaves, IsSynced}
-use Rattle.disk.specs.Moments.{LeavesOnly}
+use Rattle.disk.specs.Device.{Medium, IsCrashImage, IsSynced}
+use Rattle.disk.specs.Moments.{CrashImagesAre}
 use Rattle.device_map.specs.Layout.{Layout, slice, root, half, part_bytes, part_at, part_size, device_size, chain_area}
-use Rattle.oplog.specs.Stands.{named_area}
+use Rattle.oplog.specs.Recovery.{named_area}
 use Rattle.oplog.specs.Front.{chain, gates, front, open_gates, IsShutBehind}
 
 -- ---- from the bytes old to the bytes c
@@ -41,12 +41,12 @@ pub record IsSameButRoot (g : Layout) (old c : List ℕ) : Type 0 where
 -- This is what a crash before might have left, changed in this way.
 pub record After (before : Medium) (Change : List ℕ → List ℕ → Type 0) (c : List ℕ) : Type 0 where
   pub old : List ℕ
-  pub left : Leaves before old
+  pub left : IsCrashImage before old
   pub change : Change old c
 
 -- A crash at any moment from `old` to `new` leaves what a crash before might have left, changed in this way.
 abbrev pub ChangesOnly : Medium → Medium → (List ℕ → List ℕ → Type 0) → Type 0
-ChangesOnly old new Change = LeavesOnly old new (After old Change)
+ChangesOnly old new Change = CrashImagesAre old new (After old Change)
 
 -- This is what a crash before might have left, with the first so many of these records added to half h.
 pub record Grew (g : Layout) (h : ℕ) (more : List (List ℕ)) (before : Medium) (c : List ℕ) : Type 0 where
@@ -56,25 +56,25 @@ pub record Grew (g : Layout) (h : ℕ) (more : List (List ℕ)) (before : Medium
 
 -- ---- of a device
 
--- nothing is loose in this part
+-- nothing is unsynced in this part
 abbrev pub IsSyncedIn : Layout → ℕ → Medium → Type 0
-IsSyncedIn g p m = slice m.loose (part_at g p) (part_size g p) ≡ replicate (part_size g p) false
+IsSyncedIn g p m = slice m.unsynced (part_at g p) (part_size g p) ≡ replicate (part_size g p) false
 
--- Half h has k records in its front and gates 0 behind them, and nothing in it is loose.
+-- Half h has k records in its front and gates 0 behind them, and nothing in it is unsynced.
 pub record IsReady (g : Layout) (h k : ℕ) (m : Medium) : Type 0 where
   pub used : open_gates (gates g h m.now) ≡ k
   pub shut : IsShutBehind g h k m.now
   pub calm : IsSyncedIn g (half h) m
 
--- All of these records were added to half h, behind k others, and none of them is loose.
+-- All of these records were added to half h, behind k others, and none of them is unsynced.
 pub record HasAll (g : Layout) (h k : ℕ) (more : List (List ℕ)) (old new : Medium) : Type 0 where
   pub has : HasMore g h more old.now new.now
   pub ready : IsReady g h (k + length more) new
-  pub left : (c : List ℕ) → Leaves new c → After old (HasMore g h more) c
+  pub left : (c : List ℕ) → IsCrashImage new c → After old (HasMore g h more) c
   -- nor is anything else, if nothing was
   pub calm : IsSynced old → IsSynced new
 
--- The chain byte of half h, the bytes beside it and its gates are 0, and nothing is loose.
+-- The chain byte of half h, the bytes beside it and its gates are 0, and nothing is unsynced.
 pub record Cleared (g : Layout) (h : ℕ) (old new : Medium) : Type 0 where
   pub same : IsSameButGates g h old.now new.now
   pub zeros : take (chain_area + g.slots) (part_bytes g (half h) new.now) ≡ replicate (chain_area + g.slots) 0
@@ -82,13 +82,13 @@ pub record Cleared (g : Layout) (h : ℕ) (old new : Medium) : Type 0 where
   pub ready : IsReady g h 0 new
   pub calm : IsSynced new
 
--- The chain byte of half h is 1, and nothing is loose.
+-- The chain byte of half h is 1, and nothing is unsynced.
 pub record Chained (g : Layout) (h : ℕ) (old new : Medium) : Type 0 where
   pub same : IsSameButChain g h old.now new.now
   pub chain : chain g h new.now ≡ 1
   pub calm : IsSynced new
 
--- The root zone names area n, and nothing is loose.
+-- The root zone names area n, and nothing is unsynced.
 pub record Flipped (g : Layout) (n : ℕ) (old new : Medium) : Type 0 where
   pub same : IsSameButRoot g old.now new.now
   pub named : named_area g new.now ≡ n

@@ -1,6 +1,6 @@
 -- The words of a log: its front, its calls and their costs, and what a device recovers to after a crash.
 pub mod Front
-pub mod Stands
+pub mod Recovery
 pub mod Changes
 pub mod Log
 pub mod Crash

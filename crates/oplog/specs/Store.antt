@@ -2,12 +2,12 @@
 use Rattle.std.specs.Prelude.{◌≡◌, ℕ, List}
 use Rattle.disk.specs.Device.{Medium, SameOutside, IsSynced, overlaid}
 
--- Outside these n places nothing has changed, neither what a read gives nor what is loose.
+-- Outside these n places nothing has changed, neither what a read gives nor what is unsynced.
 pub record Touched (at n : ℕ) (old new : Medium) : Type 0 where
   pub now : SameOutside at n old.now new.now
-  pub loose : SameOutside at n old.loose new.loose
+  pub unsynced : SameOutside at n old.unsynced new.unsynced
 
--- The bytes stand there, all others are as they were, and nothing is loose.
+-- The bytes stand there, all others are as they were, and nothing is unsynced.
 pub record Stored (at : ℕ) (bytes : List ℕ) (old new : Medium) : Type 0 where
   pub now : new.now ≡ overlaid old.now at bytes
   pub calm : IsSynced new

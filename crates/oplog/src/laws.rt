@@ -1,43 +1,43 @@
 //! What a crash leaves of a device while its log is changed: laws of the definitions alone. No
 //! function here does anything; its contract is the law.
 //!
-//! What a device stands for comes from the layer above, as a `Meaning`: `read` gives the state that
+//! What a device recovers to comes from the layer above, as a `Meaning`: `read` gives the state that
 //! an image holds, `apply` what a record makes of a state, and `is_header` tells a header. Each law
-//! takes what a device stands for before a stretch of calls, with the area that it names and its
+//! takes what a device recovers to before a stretch of calls, with the area that it names and its
 //! current half, and gives the same of whatever a crash leaves.
 
 ghost use Rattle.std.specs.Prelude.{◌≡◌, ◌<◌, ℕ, [], List, get_or, length};
-ghost use Rattle.oplog.specs.Crash.{AllByArea, AppendStands, ChainByArea, ChainedByArea, ClearByArea, FlipByArea, ImageByArea, TornRootStands};
+ghost use Rattle.oplog.specs.Crash.{AllByArea, AppendRecovers, ChainByArea, ChainedByArea, ClearByArea, FlipByArea, ImageByArea, TornRootRecovers};
 ghost use Rattle.oplog.specs.Front.{front, record_at};
 ghost use Rattle.device_map.specs.Layout.{Layout};
 ghost use Rattle.oplog.specs.Logged.{NoRecordSaysNone, RecordsAreBytes};
-ghost use Rattle.oplog.specs.Stands.{Meaning};
+ghost use Rattle.oplog.specs.Recovery.{Meaning};
 
-/// While records are appended to the current half, a crash leaves a device that stands for the first m
-/// of them, run on what it stood for; once `append` is done, for all of them.
+/// While records are appended to the current half, a crash leaves a device that recovers to the first m
+/// of them, run on what it recovered to; once `append` is done, for all of them.
 pub fn appended_records_stand<S>()
-    ensures some { (means : Meaning S) → AppendStands means }
+    ensures some { (means : Meaning S) → AppendRecovers means }
     ensures all { (means : Meaning S) → AllByArea means }
 {}
 
 /// While the other half is cleared and isn't current, or the other image is written, whatever a crash
-/// leaves stands for the same.
+/// leaves recovers to the same.
 pub fn the_other_area_may_be_torn<S>()
     ensures half { (means : Meaning S) → ClearByArea means }
     ensures image { (means : Meaning S) → ImageByArea means }
 {}
 
 /// While the chain byte of the named half is written, with the other half empty, whatever a crash
-/// leaves stands for the same; once `open_chain` is done, with the other half as its current one.
+/// leaves recovers to the same; once `open_chain` is done, with the other half as its current one.
 pub fn a_torn_chain_does_no_harm<S>()
     ensures torn { (means : Meaning S) → ChainByArea means }
     ensures chained { (means : Meaning S) → ChainedByArea means }
 {}
 
-/// Where both areas stand for the same, a crash while one is named leaves a device that stands for
-/// it; once `flip_root` is done, it stands for what the area stood for that is named now.
+/// Where both areas recover to the same, a crash while one is named leaves a device that recovers to
+/// it; once `flip_root` is done, it recovers to what the area recovered to that is named now.
 pub fn a_torn_root_does_no_harm<S>()
-    ensures torn { (means : Meaning S) → TornRootStands means }
+    ensures torn { (means : Meaning S) → TornRootRecovers means }
     ensures flipped { (means : Meaning S) → FlipByArea means }
 {}
 

@@ -24,7 +24,7 @@ pub fn write<D: Disk>(disk: &mut D, at: u64, bytes: &[u8]) -> Result<(), DiskFau
     disk.write_at(at, bytes)
 }
 
-/// Writes these bytes from the byte `at` on, and syncs: then nothing on the device is loose. `Device`
+/// Writes these bytes from the byte `at` on, and syncs: then nothing on the device is unsynced. `Device`
 /// exactly where the device failed, and then what a read gives there is unspecified.
 pub fn store<D: Disk>(disk: &mut D, at: u64, bytes: &[u8]) -> Result<(), DiskFault>
     requires { at + length bytes.now ≤ length (D.medium disk.old).now }

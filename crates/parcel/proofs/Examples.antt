@@ -9,7 +9,7 @@ use Rattle.parcel.specs.Nodes.{Node, Nodes, in_row, put_at}
 use Rattle.parcel.specs.Nodes.Node.{Inner, Marks, Files, Slots, Text}
 use Rattle.stripe.specs.Entries.{entry_bytes}
 use Rattle.stripe.specs.Stripe.{StripePart}
-use Rattle.parcel.specs.Pieces.{spelled, said_label, said_piece}
+use Rattle.parcel.specs.Pieces.{spelled, decoded_label, decoded_piece}
 use Rattle.parcel.specs.declared.pieces.volumes.VolumePiece.{VolumePiece}
 use Rattle.parcel.specs.Tree.{HasGap, IsOut, standing_at}
 
@@ -120,14 +120,14 @@ piece_of_none : spelled (record sealed_volume { made = false }) ≡ replicate 64
 piece_of_none = refl
 
 -- of the files that bytes tell, those of the geometry are looked at
-only_its_files : (said_piece 2 small (1 ∷ 1 ∷ replicate 6 0 ++ 7 ∷ replicate 55 0)).files ≡ 3
+only_its_files : (decoded_piece 2 small (1 ∷ 1 ∷ replicate 6 0 ++ 7 ∷ replicate 55 0)).files ≡ 3
 only_its_files = refl
 
 -- the label is in the bytes of version 2 alone
-label_of_version_2 : said_label 2 (replicate 16 0 ++ 99 ∷ replicate 47 0) ≡ 99 ∷ replicate 31 0
+label_of_version_2 : decoded_label 2 (replicate 16 0 ++ 99 ∷ replicate 47 0) ≡ 99 ∷ replicate 31 0
 label_of_version_2 = refl
 
-no_label_in_version_1 : said_label 1 (replicate 16 0 ++ 99 ∷ replicate 47 0) ≡ replicate 32 0
+no_label_in_version_1 : decoded_label 1 (replicate 16 0 ++ 99 ∷ replicate 47 0) ≡ replicate 32 0
 no_label_in_version_1 = refl
 
 -- an entry: block 1 of file 1, which holds 0x61 and zeros

@@ -19,7 +19,7 @@ use Rattle.image.proofs.Numbers.{in_aggregates, in_volumes}
 use Rattle.parcel.specs.Fits.{FitsLogical, FitsVolume, FitsAggregate, FitsRoot, IsWholeChild, IsWholeLogical, IsWholeVolume, IsWholeAggregate, IsWholeRoot}
 use Rattle.parcel.specs.Levels.{volume_below, volume_in, is_whole_root}
 use Rattle.parcel.specs.Nodes.{Nodes, in_child, in_stripe, in_label, in_logical, in_volume, in_aggregate, in_root, marks_made, marks_sealed, files_have, slots_hold, text_of, tree_state}
-use Rattle.parcel.specs.Pieces.{HasFacts, IsPartRead, spelled, said_piece, volume_with, with_files, facts_with}
+use Rattle.parcel.specs.Pieces.{HasFacts, IsPartRead, spelled, decoded_piece, volume_with, with_files, facts_with}
 use Rattle.parcel.specs.Shown.{volume_facts, files_in, blocks_below, blocks_in, blocks_of, shown_label}
 use Rattle.parcel.specs.Tree.{IsIn}
 use Rattle.parcel.specs.declared.parts.Label.{Label}
@@ -30,22 +30,22 @@ use Rattle.parcel.specs.declared.parts.Root.{Root}
 use Rattle.parcel.proofs.ChildRows.{fits_in_place}
 use Rattle.parcel.proofs.Lending.{path_there}
 use Rattle.parcel.proofs.StripePieces.{stripe_good, stripe_is_piece}
-use Rattle.parcel.proofs.VolumePieces.{volume_said, facts_said}
+use Rattle.parcel.proofs.VolumePieces.{volume_decoded, facts_decoded}
 use Rattle.parcel.proofs.Whole.{root_whole, root_gap, child_whole_at}
 
 -- ---- the volume's own piece
 
 pub volume_is_read : (version : ℕ) (g : Geometry) (bytes : List ℕ) (good : Bool) (old new : Vol) → FitsVolume g old → IsWholeVolume old
-    → (IsTrue good ↔ (bytes ≡ spelled (said_piece version g bytes))) → (IsTrue good → new ≡ volume_with (said_piece version g bytes) old) → (IsFalse good → new ≡ old)
+    → (IsTrue good ↔ (bytes ≡ spelled (decoded_piece version g bytes))) → (IsTrue good → new ≡ volume_with (decoded_piece version g bytes) old) → (IsFalse good → new ≡ old)
     → IsPartRead version g zero bytes good old new
 volume_is_read version g bytes good old new fits whole is taken kept = record {
   fits = by_fits good refl;
   whole = by_whole good refl;
   spelled = λ x a v state has. (
-    λ on. is.0 on ∙ sym (volume_said version g x a v bytes),
-    λ same. is.1 (same ∙ volume_said version g x a v bytes),
+    λ on. is.0 on ∙ sym (volume_decoded version g x a v bytes),
+    λ same. is.1 (same ∙ volume_decoded version g x a v bytes),
   );
-  facts = λ on. ap (volume_facts g) (taken on) ∙ facts_said version g bytes (is.0 on) old whole;
+  facts = λ on. ap (volume_facts g) (taken on) ∙ facts_decoded version g bytes (is.0 on) old whole;
 }
   where
     files_fit : (o : Option Logical) → IfSome o (FitsLogical g) → IfSome (with_files (little_number 8 (bytes_at 8 8 bytes) % 2 ^ g.files) o) (FitsLogical g)

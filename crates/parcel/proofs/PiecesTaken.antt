@@ -14,9 +14,9 @@ use Rattle.meaning.specs.Shares.{AgreeOn}
 use Rattle.meaning.specs.State.{State, VolumeKey, FileKey, BlockKey, IsState, is_volume, is_block_of}
 use Rattle.meaning.proofs.Agree.{agree-sym, agree-trans}
 use Rattle.meaning.proofs.ShareLaws.{agree_in_and_out}
-use Rattle.image.specs.Pieces.{part_piece, piece_part_size, with_part, with_volume_piece, with_stripe_piece, is_made_in, is_sealed_in, has_file_in, label_in as said_label_in, block_in}
+use Rattle.image.specs.Pieces.{part_piece, piece_part_size, with_part, with_volume_piece, with_stripe_piece, is_made_in, is_sealed_in, has_file_in, label_in as decoded_label_in, block_in}
 use Rattle.parcel.specs.Nodes.{Nodes, in_child, in_logical, in_volume, files_bits, tree_state, PutsBack}
-use Rattle.parcel.specs.Pieces.{HasFacts, IsPartRead, IsRead, facts_with, spelled, said_piece}
+use Rattle.parcel.specs.Pieces.{HasFacts, IsPartRead, IsRead, facts_with, spelled, decoded_piece}
 use Rattle.parcel.specs.Shown.{volume_facts, files_in}
 use Rattle.parcel.specs.Tree.{IsIn}
 use Rattle.parcel.specs.Volume.{Facts}
@@ -29,7 +29,7 @@ use Rattle.parcel.proofs.PieceParts.{state_there}
 use Rattle.parcel.proofs.SerialRuns.{begins_split}
 use Rattle.parcel.proofs.Shows.{has_none}
 use Rattle.parcel.proofs.StripePieces.{stripe_is_piece, stripe_state}
-use Rattle.parcel.proofs.VolumePieces.{volume_said, volume_state}
+use Rattle.parcel.proofs.VolumePieces.{volume_decoded, volume_state}
 
 -- ---- states that have the same there
 
@@ -59,7 +59,7 @@ module _ (g : Geometry) (a v : ℕ) where
     sealed = ap (λ (t : Bool). if t then is_sealed_in bytes else x.sealed (a, v)) here;
     files = λ f. ap (λ (t : Bool). if t then has_file_in bytes f else x.files (a, v, f)) here;
     blocks = has.blocks;
-    label = ap (λ (t : Bool). if t then said_label_in version bytes else x.labels (a, v)) here;
+    label = ap (λ (t : Bool). if t then decoded_label_in version bytes else x.labels (a, v)) here;
   }
   facts_taken version x h has (suc s) bytes = record {
     made = has.made;
@@ -83,7 +83,7 @@ module _ (g : Geometry) (a v : ℕ) where
     sealed = λ k r. ap (λ (t : Bool). if t then is_sealed_in bytes else x.sealed k) (not_there k.0 k.1 [] r);
     files = λ k r. ap (λ (t : Bool). if t then has_file_in bytes k.2 else x.files k) (not_there k.0 k.1 (0 ∷ []) r);
     blocks = λ k r. refl;
-    labels = λ k r. ap (λ (t : Bool). if t then said_label_in version bytes else x.labels k) (not_there k.0 k.1 (1 ∷ []) r);
+    labels = λ k r. ap (λ (t : Bool). if t then decoded_label_in version bytes else x.labels k) (not_there k.0 k.1 (1 ∷ []) r);
   }
   elsewhere_taken version x (suc s) bytes = record {
     made = λ k r. refl;
@@ -102,7 +102,7 @@ files_told (Some l) f = refl
 pub part_state : (version : ℕ) (g : Geometry) (x : State) → IsState g x → (a v : ℕ) → a < g.aggregates → v < g.volumes → (w : Vol) → HasFacts x a v (volume_facts g w) → (part : ℕ) → (part ≡ 0 → (f b : ℕ) → x.blocks (a, v, f, b) ≡ None)
     → (bytes : List ℕ) → AreSizedBytes (piece_part_size g part) bytes → bytes ≡ part_piece version g (with_part version g x a v part bytes) a v part → IsState g (with_part version g x a v part bytes)
 part_state version g x is a v first second w has zero empty bytes are good =
-    volume_state version g bytes (good ∙ volume_said version g x a v bytes) x is a v first second (empty refl) are
+    volume_state version g bytes (good ∙ volume_decoded version g x a v bytes) x is a v first second (empty refl) are
 part_state version g x is a v first second w has (suc s) empty bytes are good =
     let files : ℕ = files_bits (in_child in_logical w.logical []) in
     let told : (f : ℕ) → x.files (a, v, f) ≡ has_file files f = λ f. has.files f ∙ files_told w.logical f in

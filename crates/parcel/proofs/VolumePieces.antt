@@ -13,17 +13,17 @@ use Rattle.messages.specs.Replies.{has_file}
 use Rattle.messages.specs.declared.Block.{Block}
 use Rattle.meaning.specs.Serial.{file_bits, no_label}
 use Rattle.meaning.specs.State.{State, VolumeKey, FileKey, BlockKey, IsState, is_volume, sum_below, one_if}
-use Rattle.image.specs.Pieces.{volume_piece, label_bytes, bytes_at, is_made_in, is_sealed_in, has_file_in, label_in as said_label_in, with_volume_piece}
+use Rattle.image.specs.Pieces.{volume_piece, label_bytes, bytes_at, is_made_in, is_sealed_in, has_file_in, label_in as decoded_label_in, with_volume_piece}
 use Rattle.image.proofs.Measures.{all-take, all-drop, all-zeros}
 use Rattle.parcel.specs.Fits.{FitsLogical, FitsVolume, IsWholeChild, IsWholeLogical, IsWholeVolume}
 use Rattle.parcel.specs.Nodes.{in_child, in_logical, files_bits}
-use Rattle.parcel.specs.Pieces.{HasFacts, spelled, said_label, said_piece, volume_piece_of, volume_with, with_files, facts_with}
+use Rattle.parcel.specs.Pieces.{HasFacts, spelled, decoded_label, decoded_piece, volume_piece_of, volume_with, with_files, facts_with}
 use Rattle.parcel.specs.Shown.{volume_facts, files_in, blocks_below}
 use Rattle.parcel.specs.declared.parts.Logical.{Logical}
 use Rattle.parcel.specs.declared.parts.Vol.{Vol}
 use Rattle.parcel.specs.declared.pieces.volumes.VolumePiece.{VolumePiece}
 use Rattle.image.proofs.FileNumber.{sum_bits, bits_back}
-use Rattle.image.proofs.Said.{label_is}
+use Rattle.image.proofs.Decoded.{label_is}
 use Rattle.parcel.proofs.Shows.{has_none}
 
 -- ---- what is spelled
@@ -56,14 +56,14 @@ here : (a v : ℕ) → is_volume a v (a, v) ≡ true
 here a v = and_from (a == a) (v == v) (eq-eqb a a refl) (eq-eqb v v refl)
 
 -- what bytes say, spelled in the state that they lead to
-pub volume_said : (version : ℕ) (g : Geometry) (x : State) (a v : ℕ) (bytes : List ℕ) → volume_piece version g (with_volume_piece version x a v bytes) a v ≡ spelled (said_piece version g bytes)
-volume_said version g x a v bytes =
-    volume_spelled version g (with_volume_piece version x a v bytes) a v (said_piece version g bytes)
+pub volume_decoded : (version : ℕ) (g : Geometry) (x : State) (a v : ℕ) (bytes : List ℕ) → volume_piece version g (with_volume_piece version x a v bytes) a v ≡ spelled (decoded_piece version g bytes)
+volume_decoded version g x a v bytes =
+    volume_spelled version g (with_volume_piece version x a v bytes) a v (decoded_piece version g bytes)
     (ap (λ (t : Bool). if t then is_made_in bytes else x.made (a, v)) (here a v))
     (ap (λ (t : Bool). if t then is_sealed_in bytes else x.sealed (a, v)) (here a v))
     ((λ i. sum_below g.files (λ f. if (if here a v i then has_file_in bytes f else x.files (a, v, f)) then 2 ^ f else 0)) ∙ sum_bits g.files (little_number 8 (bytes_at 8 8 bytes)))
     (λ on.
-    ap (λ (t : Bool). label_bytes version (if t then said_label_in version bytes else x.labels (a, v))) (here a v)
+    ap (λ (t : Bool). label_bytes version (if t then decoded_label_in version bytes else x.labels (a, v))) (here a v)
     ∙ ap (λ (t : Bool). label_bytes version (if t then Some (if version == 2 then bytes_at 16 32 bytes else no_label) else None)) on
     ∙ by (version == 2))
   where
@@ -73,7 +73,7 @@ volume_said version g x a v bytes =
 
 -- ---- bytes that spell what they say
 
-module _ (version : ℕ) (g : Geometry) (bytes : List ℕ) (good : bytes ≡ spelled (said_piece version g bytes)) where
+module _ (version : ℕ) (g : Geometry) (bytes : List ℕ) (good : bytes ≡ spelled (decoded_piece version g bytes)) where
   abbrev number : ℕ
   number = little_number 8 (bytes_at 8 8 bytes)
 
@@ -85,7 +85,7 @@ module _ (version : ℕ) (g : Geometry) (bytes : List ℕ) (good : bytes ≡ spe
 
   not_made : is_made_in bytes ≡ false → bytes ≡ replicate 64 0
   not_made off =
-      good ∙ ap (λ (t : Bool). if t then 1 ∷ one_if (is_sealed_in bytes) ∷ [] ++ replicate 6 0 ++ little_bytes 8 (number % 2 ^ g.files) ++ said_label version bytes ++ replicate 16 0 else replicate 64 0) off
+      good ∙ ap (λ (t : Bool). if t then 1 ∷ one_if (is_sealed_in bytes) ∷ [] ++ replicate 6 0 ++ little_bytes 8 (number % 2 ^ g.files) ++ decoded_label version bytes ++ replicate 16 0 else replicate 64 0) off
 
   eight_again : (n : ℕ) → n < 2 ^ 64 → little_number 8 (little_bytes 8 n) ≡ n
   eight_again n below = omega (arith, below)
@@ -98,7 +98,7 @@ module _ (version : ℕ) (g : Geometry) (bytes : List ℕ) (good : bytes ≡ spe
       by true on =
           sym (eight_again (number % 2 ^ g.files) fits_eight)
           ∙ sym (ap (λ (l : List ℕ). little_number 8 (bytes_at 8 8 l))
-          (good ∙ ap (λ (t : Bool). if t then 1 ∷ one_if (is_sealed_in bytes) ∷ [] ++ replicate 6 0 ++ little_bytes 8 (number % 2 ^ g.files) ++ said_label version bytes ++ replicate 16 0 else replicate 64 0) on))
+          (good ∙ ap (λ (t : Bool). if t then 1 ∷ one_if (is_sealed_in bytes) ∷ [] ++ replicate 6 0 ++ little_bytes 8 (number % 2 ^ g.files) ++ decoded_label version bytes ++ replicate 16 0 else replicate 64 0) on))
       by false off =
           let none : number ≡ 0 = ap (λ (l : List ℕ). little_number 8 (bytes_at 8 8 l)) (not_made off) in
           let least = pow_pos g.files in
@@ -129,13 +129,13 @@ module _ (version : ℕ) (g : Geometry) (bytes : List ℕ) (good : bytes ≡ spe
       (cases_lt f g.files)
 
   -- what the volume has then
-  pub facts_said : (w : Vol) → IsWholeVolume w → volume_facts g (volume_with (said_piece version g bytes) w) ≡ facts_with version g (volume_facts g w) zero bytes
-  facts_said w whole = λ i. record {
+  pub facts_decoded : (w : Vol) → IsWholeVolume w → volume_facts g (volume_with (decoded_piece version g bytes) w) ≡ facts_with version g (volume_facts g w) zero bytes
+  facts_decoded w whole = λ i. record {
     made = is_made_in bytes;
     sealed = is_sealed_in bytes;
     files = λ f. files_same w.logical whole.0 f i;
     blocks = λ f b. blocks_same w.logical f b i;
-    label = said_label_in version bytes;
+    label = decoded_label_in version bytes;
   }
     where
       files_same : (o : Option Logical) → IsWholeChild IsWholeLogical o → (f : ℕ) → files_in (with_files (number % 2 ^ g.files) o) f ≡ has_file_in bytes f
@@ -202,7 +202,7 @@ module _ (version : ℕ) (g : Geometry) (bytes : List ℕ) (good : bytes ≡ spe
 
     label_bounds : (k : VolumeKey) → IfSome (taken.labels k) (AreSizedBytes 32)
     label_bounds k =
-        elim (is_volume a v k) as (λ (t : Bool). IfSome (if t then said_label_in version bytes else x.labels k) (AreSizedBytes 32)) [
+        elim (is_volume a v k) as (λ (t : Bool). IfSome (if t then decoded_label_in version bytes else x.labels k) (AreSizedBytes 32)) [
           | true ↦ label_is version bytes are
           | false ↦ is.label_content k
         ]

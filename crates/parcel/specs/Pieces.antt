@@ -8,7 +8,7 @@ use Rattle.stripe.specs.Entries.{IsStripePiece}
 use Rattle.stripe.specs.Stripe.{StripePart}
 use Rattle.meaning.specs.State.{State, IsState, one_if}
 use Rattle.meaning.specs.Serial.{no_label}
-use Rattle.image.specs.Pieces.{is_made_in, is_sealed_in, has_file_in, label_in as said_label_in, block_in, bytes_at, part_piece, with_part}
+use Rattle.image.specs.Pieces.{is_made_in, is_sealed_in, has_file_in, label_in as decoded_label_in, block_in, bytes_at, part_piece, with_part}
 use Rattle.parcel.specs.Fits.{FitsStripe, FitsVolume, IsWholeChild, IsWholeVolume}
 use Rattle.parcel.specs.Nodes.{Nodes, in_volume, files_bits, PutsBack}
 use Rattle.parcel.specs.Shown.{blocks_in, volume_facts, shown_label}
@@ -25,17 +25,17 @@ spelled p =
     else replicate 64 0
 
 -- the label that bytes say: before version 2 there is none, and zeros stand for it
-abbrev pub said_label : ℕ → List ℕ → List ℕ
-said_label version bytes = if version == 2 then bytes_at 16 32 bytes else no_label
+abbrev pub decoded_label : ℕ → List ℕ → List ℕ
+decoded_label version bytes = if version == 2 then bytes_at 16 32 bytes else no_label
 
 -- what bytes say as a volume's piece, of the files that the geometry has
-abbrev pub said_piece : ℕ → Geometry → List ℕ → VolumePiece
-said_piece version g bytes =
+abbrev pub decoded_piece : ℕ → Geometry → List ℕ → VolumePiece
+decoded_piece version g bytes =
     record {
       made = is_made_in bytes;
       sealed = is_sealed_in bytes;
       files = little_number 8 (bytes_at 8 8 bytes) % 2 ^ g.files;
-      label = said_label version bytes;
+      label = decoded_label version bytes;
     }
 
 -- the piece of a volume of the tree
@@ -77,7 +77,7 @@ facts_with version g h zero bytes =
       sealed = is_sealed_in bytes;
       files = has_file_in bytes;
       blocks = h.blocks;
-      label = said_label_in version bytes;
+      label = decoded_label_in version bytes;
     }
 facts_with version g h (suc s) bytes = record h { blocks = λ f b. if group g f b == s then block_in g bytes f b else h.blocks f b }
 

@@ -1,4 +1,4 @@
-//! Calls that fail by a fuse, and devices for which there is no memory.
+//! Calls that fail by a injected fault, and devices for which there is no memory.
 use crate::common::{holds, same};
 use crate::disk_calls::{Call, FAULT, FINE, OUTSIDE, expect};
 use disk::{DiskFault, MemDisk, Torn};
@@ -6,15 +6,15 @@ use std::alloc::{AllocError, Global};
 use std::test::Fail;
 
 #[derive(Drop)]
-enum Fuse {
+enum InjectedFault {
     FailAt(u64),
     StopAt(u64),
 }
 
-fn set(disk: &mut MemDisk, fuse: &Fuse) {
-    match fuse {
-        Fuse::FailAt(n) if *n > 0 => disk.fail_at(*n),
-        Fuse::StopAt(n) if *n > 0 => disk.stop_at(*n),
+fn set(disk: &mut MemDisk, injected_fault: &InjectedFault) {
+    match injected_fault {
+        InjectedFault::FailAt(n) if *n > 0 => disk.fail_at(*n),
+        InjectedFault::StopAt(n) if *n > 0 => disk.stop_at(*n),
         _ => {}
     }
 }
@@ -28,16 +28,16 @@ const CALLS: [Call; 5] = [
 ];
 
 /// Fuses, set one after the other, and what each of the calls answers then.
-const BLOWN: [(&[Fuse], [Result<(), DiskFault>; 5]); 5] = [
-    (&[Fuse::FailAt(2)], [FINE, FAULT, OUTSIDE, FINE, FINE]),
-    (&[Fuse::FailAt(3)], [FINE, FINE, OUTSIDE, FAULT, FINE]),
-    (&[Fuse::StopAt(2)], [FINE, FAULT, OUTSIDE, FAULT, FAULT]),
+const BLOWN: [(&[InjectedFault], [Result<(), DiskFault>; 5]); 5] = [
+    (&[InjectedFault::FailAt(2)], [FINE, FAULT, OUTSIDE, FINE, FINE]),
+    (&[InjectedFault::FailAt(3)], [FINE, FINE, OUTSIDE, FAULT, FINE]),
+    (&[InjectedFault::StopAt(2)], [FINE, FAULT, OUTSIDE, FAULT, FAULT]),
     (
-        &[Fuse::StopAt(1), Fuse::FailAt(2)],
+        &[InjectedFault::StopAt(1), InjectedFault::FailAt(2)],
         [FINE, FAULT, OUTSIDE, FINE, FINE],
     ),
     (
-        &[Fuse::FailAt(1), Fuse::StopAt(4)],
+        &[InjectedFault::FailAt(1), InjectedFault::StopAt(4)],
         [FINE, FINE, OUTSIDE, FINE, FAULT],
     ),
 ];
@@ -48,8 +48,8 @@ const NONE_BLOWN: [Result<(), DiskFault>; 5] = [FINE, FINE, OUTSIDE, FINE, FINE]
 fn fuses_fail_the_calls_that_they_name(rt: HostRuntime) -> Result<(), Fail> {
     for (fuses, wanted) in BLOWN {
         let mut disk = MemDisk::new(rt.alloc(), 4)?;
-        for fuse in fuses {
-            set(&mut disk, fuse);
+        for injected_fault in fuses {
+            set(&mut disk, injected_fault);
         }
         expect(&rt, rt.alloc(), &mut disk, &CALLS, &wanted)?;
         // A call that leaves the device is not counted.

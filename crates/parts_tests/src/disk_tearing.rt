@@ -78,7 +78,7 @@ fn device_of(alloc: Global, row: &Row) -> Result<MemDisk, AllocError> {
     Ok(disk)
 }
 
-/// What a crash of this kind leaves of the device, and a second one after it, where nothing is loose.
+/// What a crash of this kind leaves of the device, and a second one after it, where nothing is unsynced.
 fn leaves(
     rt: &impl Abort,
     alloc: Global,
@@ -94,7 +94,7 @@ fn leaves(
     Ok(())
 }
 
-/// After these calls each kind of crash tears what is loose.
+/// After these calls each kind of crash tears what is unsynced.
 fn tears(rt: &impl Abort, alloc: Global, row: &Row) -> Result<(), AllocError> {
     same(rt, device_of(alloc, row)?.bytes(), &row.now);
     leaves(rt, alloc, row, Torn::Old, &row.old)?;
@@ -105,7 +105,7 @@ fn tears(rt: &impl Abort, alloc: Global, row: &Row) -> Result<(), AllocError> {
 }
 
 #[test]
-fn each_kind_of_crash_tears_what_is_loose(rt: HostRuntime) -> Result<(), Fail> {
+fn each_kind_of_crash_tears_what_is_unsynced(rt: HostRuntime) -> Result<(), Fail> {
     for row in &ROWS {
         tears(&rt, rt.alloc(), row)?;
     }

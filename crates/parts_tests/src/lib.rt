@@ -18,6 +18,6 @@ mod disk_fuses;
 #[cfg(test)]
 mod disk_tearing;
 #[cfg(test)]
-mod turns_making;
+mod run_queue_making;
 #[cfg(test)]
 mod workers_hand_off;

@@ -14,7 +14,7 @@ use std::sync::atomic::{AtomicBool, AtomicU64, Ordering};
 use std::test::Fail;
 use std::thread::Threads;
 use std::{env, thread};
-use workers::{Bench, DispatchSeat, Duty, Gate, OpenGate};
+use workers::{Bench, DispatchSeat, DispatcherTask, Gate, OpenGate};
 
 /// One volume of two files of four blocks, in two stripes that hold two blocks each.
 const SMALL: [u16; 8] = [1, 1, 2, 1, 2, 4, 2, 4];
@@ -82,27 +82,27 @@ fn reply_alone(alloc: Global, ticket: u64) -> Result<Option<Reply>, Fail> {
 // Offers the job of a ticket; says whether the place took it.
 fn offer(
     bench: &Bench,
-    desk: &mut DispatchSeat,
+    dispatch_seat: &mut DispatchSeat,
     alloc: Global,
     k: usize,
     ticket: u64,
 ) -> Result<bool, Fail>
-    requires { (desk.old.bench ≡ bench.now) × (k < bench.now.slots) }
-    ensures { desk.new.bench ≡ desk.old.bench }
+    requires { (dispatch_seat.old.bench ≡ bench.now) × (k < bench.now.slots) }
+    ensures { dispatch_seat.new.bench ≡ dispatch_seat.old.bench }
 {
     let Some(job) = job(alloc, ticket)? else {
         return Ok(false);
     };
-    Ok(bench.offer(desk, k, job).is_ok())
+    Ok(bench.offer(dispatch_seat, k, job).is_ok())
 }
 
 // The ticket and the reply of the result at a place, once it is there.
-fn collect(bench: &Bench, desk: &mut DispatchSeat, k: usize) -> Option<(u64, Reply)>
-    requires { (desk.old.bench ≡ bench.now) × (k < bench.now.slots) }
-    ensures { desk.new.bench ≡ desk.old.bench }
+fn collect(bench: &Bench, dispatch_seat: &mut DispatchSeat, k: usize) -> Option<(u64, Reply)>
+    requires { (dispatch_seat.old.bench ≡ bench.now) × (k < bench.now.slots) }
+    ensures { dispatch_seat.new.bench ≡ dispatch_seat.old.bench }
 {
     for _ in 0..MOST_TRIES {
-        if let Some(done) = bench.collect(desk, k) {
+        if let Some(done) = bench.collect(dispatch_seat, k) {
             return Some((done.ticket(), *done.reply()));
         }
         thread::yield_now();
@@ -113,18 +113,18 @@ fn collect(bench: &Bench, desk: &mut DispatchSeat, k: usize) -> Option<(u64, Rep
 // Whether the job of a ticket is handed back by a place where something is lent.
 fn is_handed_back(
     bench: &Bench,
-    desk: &mut DispatchSeat,
+    dispatch_seat: &mut DispatchSeat,
     alloc: Global,
     k: usize,
     ticket: u64,
 ) -> Result<bool, Fail>
-    requires { (desk.old.bench ≡ bench.now) × (k < bench.now.slots) }
-    ensures { desk.new.bench ≡ desk.old.bench }
+    requires { (dispatch_seat.old.bench ≡ bench.now) × (k < bench.now.slots) }
+    ensures { dispatch_seat.new.bench ≡ dispatch_seat.old.bench }
 {
     let Some(job) = job(alloc, ticket)? else {
         return Ok(false);
     };
-    match bench.offer(desk, k, job) {
+    match bench.offer(dispatch_seat, k, job) {
         Ok(()) => Ok(false),
         Err(back) => Ok(back.ticket() == ticket),
     }
@@ -132,13 +132,13 @@ fn is_handed_back(
 
 // One job offered at place 0 of two, which nobody runs yet: the next one is handed back there, and no
 // result is anywhere.
-fn offers_one(bench: &Bench, desk: &mut DispatchSeat, alloc: Global) -> Result<bool, Fail>
-    requires { (desk.old.bench ≡ bench.now) × (1 < bench.now.slots) }
-    ensures { desk.new.bench ≡ desk.old.bench }
+fn offers_one(bench: &Bench, dispatch_seat: &mut DispatchSeat, alloc: Global) -> Result<bool, Fail>
+    requires { (dispatch_seat.old.bench ≡ bench.now) × (1 < bench.now.slots) }
+    ensures { dispatch_seat.new.bench ≡ dispatch_seat.old.bench }
 {
-    let first = offer(bench, desk, alloc, 0, 11)?;
-    let second = is_handed_back(bench, desk, alloc, 0, 12)?;
-    let nothing = bench.collect(desk, 0).is_none() && bench.collect(desk, 1).is_none();
+    let first = offer(bench, dispatch_seat, alloc, 0, 11)?;
+    let second = is_handed_back(bench, dispatch_seat, alloc, 0, 12)?;
+    let nothing = bench.collect(dispatch_seat, 0).is_none() && bench.collect(dispatch_seat, 1).is_none();
     Ok(first && second && nothing)
 }
 
@@ -146,13 +146,13 @@ fn offers_one(bench: &Bench, desk: &mut DispatchSeat, alloc: Global) -> Result<b
 #[test]
 fn a_bench_is_opened_at_the_next_try(rt: HostRuntime) -> Result<(), Fail> {
     let alloc = rt.alloc();
-    let (_bench, desk, seats) = match Bench::open(alloc, 2, 3) {
+    let (_bench, dispatch_seat, seats) = match Bench::open(alloc, 2, 3) {
         Ok(opened) => opened,
         Err(_) => Bench::open(alloc, 2, 3)?,
     };
     holds(
         &rt,
-        desk.places() == 2 && !desk.any_lent() && seats.len() == 3,
+        dispatch_seat.places() == 2 && !dispatch_seat.any_lent() && seats.len() == 3,
     );
     Ok(())
 }
@@ -161,21 +161,21 @@ fn a_bench_is_opened_at_the_next_try(rt: HostRuntime) -> Result<(), Fail> {
 fn one_worker_answers_one_job(rt: HostRuntime) -> Result<(), Fail> {
     let alloc = rt.alloc();
     let alone = replies_alone(alloc)?;
-    let (bench, desk, seats) = Bench::open(alloc, 2, 1)?;
+    let (bench, dispatch_seat, seats) = Bench::open(alloc, 2, 1)?;
     let gate = OpenGate;
     let (runtime, bench, gate) = (&rt, &bench, &gate);
     let fine = thread::scope(
         thread::scope_env(),
         runtime,
         move |scope| -> Result<bool, Fail>
-            requires desk { (desk.bench ≡ bench.now) × (bench.now.slots ≡ 2) }
+            requires dispatch_seat { (dispatch_seat.bench ≡ bench.now) × (bench.now.slots ≡ 2) }
             requires seats { All (λ w. w ≡ bench.now) seats.items }
         {
-            let mut desk = desk;
-            let offered = offers_one(bench, &mut desk, alloc);
-            let started = bench.start(runtime, scope, &mut desk, seats, gate).is_ok();
-            let collected = is_answer(collect(bench, &mut desk, 0), 11, &alone);
-            bench.stop(&mut desk);
+            let mut dispatch_seat = dispatch_seat;
+            let offered = offers_one(bench, &mut dispatch_seat, alloc);
+            let started = bench.start(runtime, scope, &mut dispatch_seat, seats, gate).is_ok();
+            let collected = is_answer(collect(bench, &mut dispatch_seat, 0), 11, &alone);
+            bench.stop(&mut dispatch_seat);
             Ok(offered? && started && collected)
         },
     )?;
@@ -187,50 +187,50 @@ fn one_worker_answers_one_job(rt: HostRuntime) -> Result<(), Fail> {
 #[derive(Drop)]
 struct RoundTrip<'c> {
     bench: &'c Bench,
-    desk: DispatchSeat,
+    dispatch_seat: DispatchSeat,
     alloc: Global,
 }
 
 impl<'c> Model for RoundTrip<'c> {
     ghost use Rattle.std.specs.Prelude.{◌≡◌, ◌<◌};
-    ghost use Rattle.workers.specs.Desk.{Desk};
+    ghost use Rattle.workers.specs.Seats.{DispatchSeatView};
 
-    ghost Value = { Desk };
+    ghost Value = { DispatchSeatView };
 
-    ghost view = { λ s. s.desk };
+    ghost view = { λ s. s.dispatch_seat };
 
-    ghost invariant = { λ s. (s.desk.bench ≡ s.bench.now) × (0 < s.bench.now.slots) };
+    ghost invariant = { λ s. (s.dispatch_seat.bench ≡ s.bench.now) × (0 < s.bench.now.slots) };
 }
 
-impl<'c> Duty<Result<Option<(u64, Reply)>, Fail>> for RoundTrip<'c> {
+impl<'c> DispatcherTask<Result<Option<(u64, Reply)>, Fail>> for RoundTrip<'c> {
     ghost can_begin = { λ s. Unit {0} };
 
     ghost gives = { λ old new end. Unit {0} };
 
-    fn fulfil<T: Wait, G: Gate>(&mut self, rt: &T, gate: &G) -> Result<Option<(u64, Reply)>, Fail> {
+    fn run_task<T: Wait, G: Gate>(&mut self, rt: &T, gate: &G) -> Result<Option<(u64, Reply)>, Fail> {
         let _ = rt;
         let _ = gate;
-        if offer(self.bench, &mut self.desk, self.alloc, 0, 11)? {
-            Ok(collect(self.bench, &mut self.desk, 0))
+        if offer(self.bench, &mut self.dispatch_seat, self.alloc, 0, 11)? {
+            Ok(collect(self.bench, &mut self.dispatch_seat, 0))
         } else {
             Ok(None)
         }
     }
 
-    fn release(&mut self) {
-        self.bench.stop(&mut self.desk);
+    fn stop_workers(&mut self) {
+        self.bench.stop(&mut self.dispatch_seat);
     }
 }
 
 // Where it isn't released this doesn't end.
 #[test]
-fn a_duty_is_done_beside_a_worker(rt: HostRuntime) -> Result<(), Fail> {
+fn a_task_is_done_beside_a_worker(rt: HostRuntime) -> Result<(), Fail> {
     let alloc = rt.alloc();
     let alone = reply_alone(alloc, 11)?;
-    let (bench, desk, seats) = Bench::open(alloc, 2, 1)?;
+    let (bench, dispatch_seat, seats) = Bench::open(alloc, 2, 1)?;
     let mut trip = RoundTrip {
         bench: &bench,
-        desk,
+        dispatch_seat,
         alloc,
     };
     let came = bench.with_workers(&rt, &OpenGate, seats, &mut trip)??;
@@ -245,19 +245,19 @@ fn a_duty_is_done_beside_a_worker(rt: HostRuntime) -> Result<(), Fail> {
 // Where a thread can't be started nobody stops the bench but `start`, so this ends only if it did.
 #[test]
 fn a_bench_with_no_job_starts_and_ends(rt: HostRuntime) -> Result<(), Fail> {
-    let (bench, desk, seats) = Bench::open(rt.alloc(), 2, 3)?;
+    let (bench, dispatch_seat, seats) = Bench::open(rt.alloc(), 2, 3)?;
     let gate = OpenGate;
     let (runtime, bench, gate) = (&rt, &bench, &gate);
     thread::scope(
         thread::scope_env(),
         runtime,
         move |scope| -> Result<(), Fail>
-            requires desk { desk.bench ≡ bench.now }
+            requires dispatch_seat { dispatch_seat.bench ≡ bench.now }
             requires seats { All (λ w. w ≡ bench.now) seats.items }
         {
-            let mut desk = desk;
-            bench.start(runtime, scope, &mut desk, seats, gate)?;
-            bench.stop(&mut desk);
+            let mut dispatch_seat = dispatch_seat;
+            bench.start(runtime, scope, &mut dispatch_seat, seats, gate)?;
+            bench.stop(&mut dispatch_seat);
             Ok(())
         },
     )
@@ -266,22 +266,22 @@ fn a_bench_with_no_job_starts_and_ends(rt: HostRuntime) -> Result<(), Fail> {
 // Each of many jobs at place 0 is there when the wait for it returns.
 fn jobs_waited_for<R: Wait>(
     bench: &Bench,
-    desk: &mut DispatchSeat,
+    dispatch_seat: &mut DispatchSeat,
     alloc: Global,
     rt: &R,
 ) -> Result<bool, Fail>
-    requires { (desk.old.bench ≡ bench.now) × (0 < bench.now.slots) }
-    ensures { desk.new.bench ≡ desk.old.bench }
+    requires { (dispatch_seat.old.bench ≡ bench.now) × (0 < bench.now.slots) }
+    ensures { dispatch_seat.new.bench ≡ dispatch_seat.old.bench }
 {
     let mut fine = true;
     for ticket in 0..1_000 {
-        if !offer(bench, desk, alloc, 0, ticket)? {
+        if !offer(bench, dispatch_seat, alloc, 0, ticket)? {
             return Ok(false);
         }
-        bench.wait(rt, desk);
+        bench.wait(rt, dispatch_seat);
         fine = fine
             && bench
-                .collect(desk, 0)
+                .collect(dispatch_seat, 0)
                 .is_some_and(|done| done.ticket() == ticket);
     }
     Ok(fine)
@@ -290,24 +290,24 @@ fn jobs_waited_for<R: Wait>(
 #[test]
 fn a_wait_ends_with_the_delivery(rt: HostRuntime) -> Result<(), Fail> {
     let alloc = rt.alloc();
-    let (bench, desk, seats) = Bench::open(alloc, 1, 1)?;
+    let (bench, dispatch_seat, seats) = Bench::open(alloc, 1, 1)?;
     let gate = OpenGate;
     let (runtime, bench, gate) = (&rt, &bench, &gate);
     let fine = thread::scope(
         thread::scope_env(),
         runtime,
         move |scope| -> Result<bool, Fail>
-            requires desk { (desk.bench ≡ bench.now) × (bench.now.slots ≡ 1) }
+            requires dispatch_seat { (dispatch_seat.bench ≡ bench.now) × (bench.now.slots ≡ 1) }
             requires seats { All (λ w. w ≡ bench.now) seats.items }
         {
-            let mut desk = desk;
-            let started = bench.start(runtime, scope, &mut desk, seats, gate).is_ok();
+            let mut dispatch_seat = dispatch_seat;
+            let started = bench.start(runtime, scope, &mut dispatch_seat, seats, gate).is_ok();
             let fine = if started {
-                jobs_waited_for(bench, &mut desk, alloc, runtime)
+                jobs_waited_for(bench, &mut dispatch_seat, alloc, runtime)
             } else {
                 Ok(false)
             };
-            bench.stop(&mut desk);
+            bench.stop(&mut dispatch_seat);
             fine
         },
     )?;
@@ -353,22 +353,22 @@ impl Gate for Holding {
 // The job after an even ticket is answered while that of the ticket is held.
 fn two_jobs(
     bench: &Bench,
-    desk: &mut DispatchSeat,
+    dispatch_seat: &mut DispatchSeat,
     alloc: Global,
     gate: &Holding,
     ticket: u64,
 ) -> Result<bool, Fail>
-    requires { (desk.old.bench ≡ bench.now) × (1 < bench.now.slots) }
-    ensures { desk.new.bench ≡ desk.old.bench }
+    requires { (dispatch_seat.old.bench ≡ bench.now) × (1 < bench.now.slots) }
+    ensures { dispatch_seat.new.bench ≡ dispatch_seat.old.bench }
 {
     let behind = ticket.wrapping_add(1);
     let (Some(first), Some(second)) = (job(alloc, ticket)?, job(alloc, behind)?) else {
         return Ok(false);
     };
-    let offered = bench.offer(desk, 0, first).is_ok() && bench.offer(desk, 1, second).is_ok();
-    let answered = collect(bench, desk, 1).is_some();
+    let offered = bench.offer(dispatch_seat, 0, first).is_ok() && bench.offer(dispatch_seat, 1, second).is_ok();
+    let answered = collect(bench, dispatch_seat, 1).is_some();
     gate.answered(behind);
-    let freed = collect(bench, desk, 0).is_some();
+    let freed = collect(bench, dispatch_seat, 0).is_some();
     Ok(offered && answered && freed && !gate.gave_up.load(Ordering::SeqCst))
 }
 
@@ -383,20 +383,20 @@ fn pause(looks: u64) {
 // the one that looks on may take the first of them, which holds it, while no offer has woken the other.
 fn all_meetings(
     bench: &Bench,
-    desk: &mut DispatchSeat,
+    dispatch_seat: &mut DispatchSeat,
     alloc: Global,
     gate: &Holding,
     meetings: u64,
 ) -> Result<bool, Fail>
-    requires { (desk.old.bench ≡ bench.now) × (1 < bench.now.slots) }
-    ensures { desk.new.bench ≡ desk.old.bench }
+    requires { (dispatch_seat.old.bench ≡ bench.now) × (1 < bench.now.slots) }
+    ensures { dispatch_seat.new.bench ≡ dispatch_seat.old.bench }
 {
     for meeting in 0..meetings {
         pause(LONG_PAUSE);
         let single = meeting.wrapping_mul(4).wrapping_add(1);
-        let done = offer(bench, desk, alloc, 0, single)? && collect(bench, desk, 0).is_some();
+        let done = offer(bench, dispatch_seat, alloc, 0, single)? && collect(bench, dispatch_seat, 0).is_some();
         pause(meeting % SHORT_PAUSES);
-        if !done || !two_jobs(bench, desk, alloc, gate, single.wrapping_add(1))? {
+        if !done || !two_jobs(bench, dispatch_seat, alloc, gate, single.wrapping_add(1))? {
             return Ok(false);
         }
     }
@@ -414,16 +414,16 @@ fn most_rounds<R: Env + Alloc>(rt: &R) -> u64 {
 // Two jobs at once, and then the meetings.
 fn first_and_meetings(
     bench: &Bench,
-    desk: &mut DispatchSeat,
+    dispatch_seat: &mut DispatchSeat,
     alloc: Global,
     gate: &Holding,
     meetings: u64,
 ) -> Result<bool, Fail>
-    requires { (desk.old.bench ≡ bench.now) × (1 < bench.now.slots) }
-    ensures { desk.new.bench ≡ desk.old.bench }
+    requires { (dispatch_seat.old.bench ≡ bench.now) × (1 < bench.now.slots) }
+    ensures { dispatch_seat.new.bench ≡ dispatch_seat.old.bench }
 {
-    let first = two_jobs(bench, desk, alloc, gate, 0)?;
-    Ok(first && all_meetings(bench, desk, alloc, gate, meetings)?)
+    let first = two_jobs(bench, dispatch_seat, alloc, gate, 0)?;
+    Ok(first && all_meetings(bench, dispatch_seat, alloc, gate, meetings)?)
 }
 
 // Whether two jobs run at once at a bench with two workers, and again in each of the meetings.
@@ -432,20 +432,20 @@ fn two_workers_meet<R: Threads + Wait + Sync>(
     alloc: Global,
     meetings: u64,
 ) -> Result<bool, Fail> {
-    let (bench, desk, seats) = Bench::open(alloc, 2, 2)?;
+    let (bench, dispatch_seat, seats) = Bench::open(alloc, 2, 2)?;
     let gate = Holding::new();
     let (bench, gate) = (&bench, &gate);
     thread::scope(
         thread::scope_env(),
         rt,
         move |scope| -> Result<bool, Fail>
-            requires desk { (desk.bench ≡ bench.now) × (bench.now.slots ≡ 2) }
+            requires dispatch_seat { (dispatch_seat.bench ≡ bench.now) × (bench.now.slots ≡ 2) }
             requires seats { All (λ w. w ≡ bench.now) seats.items }
         {
-            let mut desk = desk;
-            let started = bench.start(rt, scope, &mut desk, seats, gate).is_ok();
-            let fine = first_and_meetings(bench, &mut desk, alloc, gate, meetings);
-            bench.stop(&mut desk);
+            let mut dispatch_seat = dispatch_seat;
+            let started = bench.start(rt, scope, &mut dispatch_seat, seats, gate).is_ok();
+            let fine = first_and_meetings(bench, &mut dispatch_seat, alloc, gate, meetings);
+            bench.stop(&mut dispatch_seat);
             Ok(fine? && started)
         },
     )
@@ -488,18 +488,18 @@ fn is_answer(came: Option<(u64, Reply)>, ticket: u64, alone: &[Option<Reply>]) -
 // The ticket and the reply of the result at a place: the dispatcher sleeps until it is there.
 fn await_result<R: Wait>(
     bench: &Bench,
-    desk: &mut DispatchSeat,
+    dispatch_seat: &mut DispatchSeat,
     rt: &R,
     k: usize,
 ) -> Option<(u64, Reply)>
-    requires { (desk.old.bench ≡ bench.now) × (k < bench.now.slots) }
-    ensures { desk.new.bench ≡ desk.old.bench }
+    requires { (dispatch_seat.old.bench ≡ bench.now) × (k < bench.now.slots) }
+    ensures { dispatch_seat.new.bench ≡ dispatch_seat.old.bench }
 {
     for _ in rt.forever() {
-        if let Some(done) = bench.collect(desk, k) {
+        if let Some(done) = bench.collect(dispatch_seat, k) {
             return Some((done.ticket(), *done.reply()));
         }
-        bench.wait(rt, desk);
+        bench.wait(rt, dispatch_seat);
     }
     None
 }
@@ -507,22 +507,22 @@ fn await_result<R: Wait>(
 // Offers a job at each place, where the one before has to be answered first. Says whether all was so.
 fn offer_round<R: Wait>(
     bench: &Bench,
-    desk: &mut DispatchSeat,
+    dispatch_seat: &mut DispatchSeat,
     with: (&R, Global),
     places: usize,
     round: u64,
     alone: &[Option<Reply>],
 ) -> Result<bool, Fail>
-    requires { (desk.old.bench ≡ bench.now) × (places ≡ bench.now.slots) }
-    ensures { desk.new.bench ≡ desk.old.bench }
+    requires { (dispatch_seat.old.bench ≡ bench.now) × (places ≡ bench.now.slots) }
+    ensures { dispatch_seat.new.bench ≡ dispatch_seat.old.bench }
 {
     let (rt, alloc) = with;
     for k in 0..places {
         let before = round.wrapping_mul(STRIDE).wrapping_add(k as u64);
-        if round > 0 && !is_answer(await_result(bench, desk, rt, k), before, alone) {
+        if round > 0 && !is_answer(await_result(bench, dispatch_seat, rt, k), before, alone) {
             return Ok(false);
         }
-        if !offer(bench, desk, alloc, k, before.wrapping_add(STRIDE))? {
+        if !offer(bench, dispatch_seat, alloc, k, before.wrapping_add(STRIDE))? {
             return Ok(false);
         }
     }
@@ -532,19 +532,19 @@ fn offer_round<R: Wait>(
 // Collects the last job of each place, after which nothing is left. Says whether all was so.
 fn collect_round<R: Wait>(
     bench: &Bench,
-    desk: &mut DispatchSeat,
+    dispatch_seat: &mut DispatchSeat,
     rt: &R,
     places: usize,
     round: u64,
     alone: &[Option<Reply>],
 ) -> bool
-    requires { (desk.old.bench ≡ bench.now) × (places ≡ bench.now.slots) }
-    ensures { desk.new.bench ≡ desk.old.bench }
+    requires { (dispatch_seat.old.bench ≡ bench.now) × (places ≡ bench.now.slots) }
+    ensures { dispatch_seat.new.bench ≡ dispatch_seat.old.bench }
 {
     for k in 0..places {
         let last = round.wrapping_mul(STRIDE).wrapping_add(k as u64);
-        let came = await_result(bench, desk, rt, k);
-        if !is_answer(came, last, alone) || bench.collect(desk, k).is_some() {
+        let came = await_result(bench, dispatch_seat, rt, k);
+        if !is_answer(came, last, alone) || bench.collect(dispatch_seat, k).is_some() {
             return false;
         }
     }
@@ -555,22 +555,22 @@ fn collect_round<R: Wait>(
 // whether each came back once, with the reply that its message gets alone.
 fn all_jobs<R: Wait>(
     bench: &Bench,
-    desk: &mut DispatchSeat,
+    dispatch_seat: &mut DispatchSeat,
     with: (&R, Global),
     places: usize,
     rounds: u64,
 ) -> Result<bool, Fail>
-    requires { (desk.old.bench ≡ bench.now) × (places ≡ bench.now.slots) }
-    ensures { desk.new.bench ≡ desk.old.bench }
+    requires { (dispatch_seat.old.bench ≡ bench.now) × (places ≡ bench.now.slots) }
+    ensures { dispatch_seat.new.bench ≡ dispatch_seat.old.bench }
 {
     let (rt, alloc) = with;
     let alone = replies_alone(alloc)?;
     for round in 0..rounds {
-        if !offer_round(bench, desk, with, places, round, &alone)? {
+        if !offer_round(bench, dispatch_seat, with, places, round, &alone)? {
             return Ok(false);
         }
     }
-    Ok(collect_round(bench, desk, rt, places, rounds, &alone))
+    Ok(collect_round(bench, dispatch_seat, rt, places, rounds, &alone))
 }
 
 // Whether all jobs come back at a bench with as many places as workers.
@@ -582,20 +582,20 @@ fn hands_off_all<R: Threads + Wait + Sync>(
 ) -> Result<bool, Fail>
     requires { places ≤ 64 }
 {
-    let (bench, desk, seats) = Bench::open(alloc, places, places)?;
+    let (bench, dispatch_seat, seats) = Bench::open(alloc, places, places)?;
     let gate = OpenGate;
     let (bench, gate) = (&bench, &gate);
     thread::scope(
         thread::scope_env(),
         rt,
         move |scope| -> Result<bool, Fail>
-            requires desk { (desk.bench ≡ bench.now) × (bench.now.slots ≡ places) }
+            requires dispatch_seat { (dispatch_seat.bench ≡ bench.now) × (bench.now.slots ≡ places) }
             requires seats { All (λ w. w ≡ bench.now) seats.items }
         {
-            let mut desk = desk;
-            let started = bench.start(rt, scope, &mut desk, seats, gate).is_ok();
-            let fine = all_jobs(bench, &mut desk, (rt, alloc), places, rounds);
-            bench.stop(&mut desk);
+            let mut dispatch_seat = dispatch_seat;
+            let started = bench.start(rt, scope, &mut dispatch_seat, seats, gate).is_ok();
+            let fine = all_jobs(bench, &mut dispatch_seat, (rt, alloc), places, rounds);
+            bench.stop(&mut dispatch_seat);
             Ok(fine? && started)
         },
     )

@@ -2,54 +2,54 @@
 use Rattle.std.proofs.Common.{◌≡◌, ℕ, false, List, [], ◌++◌, ap, sym, ◌∙◌, subst, length, drop, arith}
 use Rattle.std.proofs.lemmas.List.{drop_all, take_all}
 use Rattle.affinity.specs.declared.geometry.Geometry.{Geometry}
-use Rattle.disk.specs.Device.{Leaves}
+use Rattle.disk.specs.Device.{IsCrashImage}
 use Rattle.journal.specs.Journal.{HoldsSome}
 use Rattle.legal_runs.proofs.Answering.{answered_left}
 use Rattle.legal_runs.proofs.Idle.{none_logged}
 use Rattle.legal_runs.specs.Crash.{in_doubt}
 use Rattle.legal_runs.specs.Events.{Event, Hands, loggable}
-use Rattle.legal_runs.specs.Laws.{IsIdle, IsSoundWorld}
-use Rattle.legal_runs.specs.Lives.{HoldsAnswered, Ran}
+use Rattle.legal_runs.specs.Laws.{IsIdle, IsSoundCoreState}
+use Rattle.legal_runs.specs.Incarnations.{HoldsAnswered, Ran}
 use Rattle.legal_runs.specs.Runs.{IsLegal, last}
 use Rattle.runs.proofs.Events.{some_of}
-use Rattle.runs.proofs.Running.{StandsSince, stands_for_run}
+use Rattle.runs.proofs.Running.{RecoversSince, recovers_for_run}
 use Rattle.runs.specs.Machine.{MachineView, machine_of}
-use Rattle.runs.specs.Stages.{StandsForRun}
+use Rattle.runs.specs.Stages.{RecoversForRun}
 use Rattle.runs.specs.declared.hands.Holding.{Holding}
-use Rattle.scheduler.specs.Kept.{CoreView, StandsNow, world_of}
+use Rattle.scheduler.specs.CoreView.{CoreView, RecoversNow, core_state_of}
 
 module _ (start : MachineView) (new : CoreView) (hands : List Holding) (events : List Event)
-    (legal : IsLegal start.core.geometry (machine_of start) events) (sound : IsSoundWorld start.core.geometry (world_of start.core))
+    (legal : IsLegal start.core.geometry (machine_of start) events) (sound : IsSoundCoreState start.core.geometry (core_state_of start.core))
     (ends : last (machine_of start) events ≡ machine_of (record { core = new; hands = hands })) (same : new.geometry ≡ start.core.geometry)
-    (none : new.failed ≡ false → new.doubt ≡ []) (stands : StandsNow new) (c : List ℕ) (left : Leaves new.medium c) where
+    (none : new.failed ≡ false → new.doubt ≡ []) (recovers : RecoversNow new) (c : List ℕ) (left : IsCrashImage new.medium c) where
   abbrev g : Geometry
   g = start.core.geometry
 
   abbrev w : Hands
   w = machine_of start
 
-  base : HoldsSome g (last w events).core.settled (in_doubt (last w events).core []) c
-  base = subst (λ (x : Hands). HoldsSome g x.core.settled (in_doubt x.core []) c) (sym ends)
-      (subst (λ (y : Geometry). HoldsSome y (world_of new).settled (in_doubt (world_of new) []) c) same
-      (some_of new.geometry (world_of new).settled new.failed new.doubt [] c none (stands c left)))
+  base : HoldsSome g (last w events).core.committed (in_doubt (last w events).core []) c
+  base = subst (λ (x : Hands). HoldsSome g x.core.committed (in_doubt x.core []) c) (sym ends)
+      (subst (λ (y : Geometry). HoldsSome y (core_state_of new).committed (in_doubt (core_state_of new) []) c) same
+      (some_of new.geometry (core_state_of new).committed new.failed new.doubt [] c none (recovers c left)))
 
-  since : StandsSince g w events (length events) c
+  since : RecoversSince g w events (length events) c
   since = record {
     at = length events;
     since = omega arith;
     within = omega arith;
-    stands = subst (λ (es : List Event). HoldsSome g (last w es).core.settled (in_doubt (last w es).core (drop (length events) events)) c)
+    recovers = subst (λ (es : List Event). HoldsSome g (last w es).core.committed (in_doubt (last w es).core (drop (length events) events)) c)
         (sym (take_all (length events) events (omega arith)))
-        (subst (λ (ds : List Event). HoldsSome g (last w events).core.settled (in_doubt (last w events).core ds) c)
+        (subst (λ (ds : List Event). HoldsSome g (last w events).core.committed (in_doubt (last w events).core ds) c)
         (sym (drop_all (length events) events (omega arith))) base);
   }
 
-  pub ended_so : StandsForRun g w events (length events) c
-  ended_so = stands_for_run g w events (length events) c legal sound since
+  pub ended_so : RecoversForRun g w events (length events) c
+  ended_so = recovers_for_run g w events (length events) c legal sound since
 
-  pub holds_answered : IsIdle (world_of start.core)
-      → (h : StandsForRun g w events (length events) c) × HoldsAnswered (Ran w events (length events)) h.left.log
+  pub holds_answered : IsIdle (core_state_of start.core)
+      → (h : RecoversForRun g w events (length events) c) × HoldsAnswered (Ran w events (length events)) h.left.log
   holds_answered idle =
       let l = ended_so.left in
       let k = answered_left g w events (length events) l.after l.log legal l.since l.is_log in
-      (ended_so, (k.0, ap (λ ms. loggable ms ++ l.log) (sym (none_logged (world_of start.core) idle)) ∙ k.1))
+      (ended_so, (k.0, ap (λ ms. loggable ms ++ l.log) (sym (none_logged (core_state_of start.core) idle)) ∙ k.1))

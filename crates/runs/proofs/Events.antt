@@ -9,7 +9,7 @@ use Rattle.std.proofs.lemmas.Option.{get_or_from_slice_get, slice_get-map, slice
 use Rattle.affinity.specs.declared.geometry.Geometry.{Geometry}
 use Rattle.disk.proofs.Moments.{started}
 use Rattle.disk.specs.Device.{Medium}
-use Rattle.disk.specs.Moments.{LeavesOnly}
+use Rattle.disk.specs.Moments.{CrashImagesAre}
 use Rattle.journal.specs.Journal.{HoldsSome}
 use Rattle.legal_runs.proofs.Elements.{in_contained}
 use Rattle.legal_runs.proofs.Outs.{event_keeps_out, event_sees}
@@ -19,7 +19,7 @@ use Rattle.legal_runs.specs.Eligible.{next_eligible}
 use Rattle.legal_runs.specs.Events.{Event, Hand, Hands, IsAllowed, answer, arrive, back_from, give_back, grant, grant_hand, grant_to, happens, is_empty, no_grant, out_with, result_in, run_hand}
 use Rattle.legal_runs.specs.Events.{Job as JobIn, Result as ResultIn}
 use Rattle.legal_runs.specs.Laws.{moves_what_is_out}
-use Rattle.legal_runs.specs.World.{Entry, World}
+use Rattle.legal_runs.specs.CoreState.{Entry, CoreState}
 use Rattle.legal_runs.specs.declared.outcomes.ArriveRefusal.{ArriveRefusal}
 use Rattle.legal_runs.specs.declared.outcomes.Outcome.{Outcome}
 use Rattle.legal_runs.specs.declared.outcomes.Outcome.TheVariants as outcomes
@@ -41,7 +41,7 @@ use Rattle.meaning.specs.State.{State}
 use Rattle.scheduler.proofs.Called.{answer_called, arrive_called}
 use Rattle.scheduler.specs.Calls.{IsGrantOf, IsNoGrant, answer_outcome, arrive_outcome}
 use Rattle.scheduler.specs.Jobs.{IsResultOf}
-use Rattle.scheduler.specs.Kept.{CoreView, StandsNow, StandsThroughout, world_of}
+use Rattle.scheduler.specs.CoreView.{CoreView, RecoversNow, RecoversThroughout, core_state_of}
 
 -- ---- what a crash leaves of a device that is left alone
 
@@ -57,40 +57,40 @@ some_of g x false doubt ms c none h =
     let k = subst (λ (l : List Msg). HoldsSome g x l c) (none refl) h in
     record { added = 0; at_most = omega arith; is = k.is ∙ ap (λ (l : List Msg). Some (fold g x l)) (take_none k.added) }
 
-pub quiet_moments : (old new : CoreView) (ms : List Msg) → (old.failed ≡ false → old.doubt ≡ []) → StandsNow old
-    → new.medium ≡ old.medium → StandsThroughout ms old new
-quiet_moments old new ms none stands same =
-    let P : List ℕ → Type 0 = HoldsSome old.geometry (world_of old).settled (if old.failed then old.doubt else ms) in
-    subst (λ (m : Medium). LeavesOnly old.medium m P) (sym same)
-    (started old.medium P (λ c left. some_of old.geometry (world_of old).settled old.failed old.doubt ms c none (stands c left)))
+pub quiet_moments : (old new : CoreView) (ms : List Msg) → (old.failed ≡ false → old.doubt ≡ []) → RecoversNow old
+    → new.medium ≡ old.medium → RecoversThroughout ms old new
+quiet_moments old new ms none recovers same =
+    let P : List ℕ → Type 0 = HoldsSome old.geometry (core_state_of old).committed (if old.failed then old.doubt else ms) in
+    subst (λ (m : Medium). CrashImagesAre old.medium m P) (sym same)
+    (started old.medium P (λ c left. some_of old.geometry (core_state_of old).committed old.failed old.doubt ms c none (recovers c left)))
 
 -- The calls that leave the device alone.
-module _ (keeps : Type 0) (old new : CoreView) (none : old.failed ≡ false → old.doubt ≡ []) (stands : keeps → StandsNow old)
+module _ (keeps : Type 0) (old new : CoreView) (none : old.failed ≡ false → old.doubt ≡ []) (recovers : keeps → RecoversNow old)
     (geometry : new.geometry ≡ old.geometry) (same : new.medium ≡ old.medium) where
-  pub arrive_step : (m : Msg) (r : Result ℕ ArriveRefusal) → (arrive_outcome r, world_of new) ≡ arrive old.geometry (world_of old) m
+  pub arrive_step : (m : Msg) (r : Result ℕ ArriveRefusal) → (arrive_outcome r, core_state_of new) ≡ arrive old.geometry (core_state_of old) m
       → IsCoreStep keeps old new (steps.Arrive m) (arrive_outcome r)
   arrive_step m r e = record {
     rose = false;
-    called = arrive_called old.geometry (world_of old) (world_of new) m r e;
+    called = arrive_called old.geometry (core_state_of old) (core_state_of new) m r e;
     geometry = geometry;
     failures = ap (λ (m : Medium). m.faults) same;
-    any_moment = λ kept. quiet_moments old new [] none (stands kept) same;
+    any_moment = λ kept. quiet_moments old new [] none (recovers kept) same;
   }
 
-  pub answer_step : (r : Option (ℕ × Reply)) → (answer_outcome r, world_of new) ≡ answer (world_of old) old.logged
+  pub answer_step : (r : Option (ℕ × Reply)) → (answer_outcome r, core_state_of new) ≡ answer (core_state_of old) old.logged
       → IsCoreStep keeps old new steps.Answer (answer_outcome r)
   answer_step r e = record {
     rose = false;
-    called = answer_called old.geometry (world_of old) (world_of new) r e;
+    called = answer_called old.geometry (core_state_of old) (core_state_of new) r e;
     geometry = geometry;
     failures = ap (λ (m : Medium). m.faults) same;
-    any_moment = λ kept. quiet_moments old new [] none (stands kept) same;
+    any_moment = λ kept. quiet_moments old new [] none (recovers kept) same;
   }
 
 -- ---- steps of the core
 
 module _ (keeps : Type 0) (old new : CoreView) (hands : List Holding) (step : Step) (outcome : Outcome)
-    (h : HoldsJobs old.geometry (world_of old) hands) (k : IsCoreStep keeps old new step outcome) where
+    (h : HoldsJobs old.geometry (core_state_of old) hands) (k : IsCoreStep keeps old new step outcome) where
   pub core_step : IsMachineStep keeps (record { core = old; hands = hands }) (record { core = new; hands = hands }) step outcome
   core_step = record {
     rose = k.rose;
@@ -101,16 +101,16 @@ module _ (keeps : Type 0) (old new : CoreView) (hands : List Holding) (step : St
   }
 
   abbrev was : Hands
-  was = record { core = world_of old; hands = map hand_of hands }
+  was = record { core = core_state_of old; hands = map hand_of hands }
 
   abbrev event : Event
-  event = record { step = step; outcome = outcome; rose = k.rose; world = record { core = world_of new; hands = map hand_of hands } }
+  event = record { step = step; outcome = outcome; rose = k.rose; state_after = record { core = core_state_of new; hands = map hand_of hands } }
 
-  pub core_holds : moves_what_is_out step ≡ false → HoldsJobs new.geometry (world_of new) hands
+  pub core_holds : moves_what_is_out step ≡ false → HoldsJobs new.geometry (core_state_of new) hands
   core_holds still =
       let allowed : IsAllowed old.geometry was event = k.called (map hand_of hands) in
-      subst (λ (y : Geometry). HoldsJobs y (world_of new) hands) (sym k.geometry)
-      (hands_stay old.geometry (world_of old) (world_of new) hands h (event_sound old.geometry was event allowed h.sound)
+      subst (λ (y : Geometry). HoldsJobs y (core_state_of new) hands) (sym k.geometry)
+      (hands_stay old.geometry (core_state_of old) (core_state_of new) hands h (event_sound old.geometry was event allowed h.sound)
       (λ e out. event_sees old.geometry was event e allowed h.sound (in_contained _ e out))
       (λ i ticket m is out. subst (λ (l : List Entry). Contains l (ticket, m))
       (sym (event_keeps_out old.geometry was event allowed still)) out))
@@ -119,7 +119,7 @@ module _ (keeps : Type 0) (old new : CoreView) (hands : List Holding) (step : St
 
 -- Such a step was carried out while the device was left alone.
 module _ (keeps : Type 0) (old new : CoreView) (hands after : List Holding) (step : Step) (outcome : Outcome)
-    (none : old.failed ≡ false → old.doubt ≡ []) (stands : keeps → StandsNow old) (geometry : new.geometry ≡ old.geometry)
+    (none : old.failed ≡ false → old.doubt ≡ []) (recovers : keeps → RecoversNow old) (geometry : new.geometry ≡ old.geometry)
     (same : new.medium ≡ old.medium) where
   pub quiet_step : happens old.geometry 0 (machine_of (record { core = old; hands = hands })) step
       ≡ (outcome, machine_of (record { core = new; hands = after }))
@@ -129,7 +129,7 @@ module _ (keeps : Type 0) (old new : CoreView) (hands after : List Holding) (ste
     allowed = record { to_write = 0; at_most = omega arith; does = does };
     geometry = geometry;
     failures = ap (λ (m : Medium). m.faults) same;
-    any_moment = λ keeps. quiet_moments old new (to_append (world_of old) step) none (stands keeps) same;
+    any_moment = λ keeps. quiet_moments old new (to_append (core_state_of old) step) none (recovers keeps) same;
   }
 
 map-set : (hands : List Holding) (i : ℕ) (h : Holding) → map hand_of (set hands i h) ≡ set (map hand_of hands) i (hand_of h)
@@ -184,10 +184,10 @@ module _ (g : Geometry) (n : ℕ) (w : Hands) where
   grant_one hand found at works first = grant_at hand false at works ∙ ap (grant_to g w (Some hand)) first
 
 module _ (keeps : Type 0) (old new : CoreView) (hands : List Holding)
-    (none : old.failed ≡ false → old.doubt ≡ []) (stands : keeps → StandsNow old) (geometry : new.geometry ≡ old.geometry)
+    (none : old.failed ≡ false → old.doubt ≡ []) (recovers : keeps → RecoversNow old) (geometry : new.geometry ≡ old.geometry)
     (same : new.medium ≡ old.medium) where
   abbrev Holds : List Holding → Type 0
-  Holds after = HoldsJobs new.geometry (world_of new) after
+  Holds after = HoldsJobs new.geometry (core_state_of new) after
 
   abbrev StepsTo : List Holding → Step → Outcome → Type 0
   StepsTo after step outcome = IsMachineStep keeps (record { core = old; hands = hands }) (record { core = new; hands = after }) step outcome
@@ -198,76 +198,76 @@ module _ (keeps : Type 0) (old new : CoreView) (hands : List Holding)
   at_hand : (hand : ℕ) → position (λ h. is_empty (hand_of h)) hands ≡ Some hand → position is_empty w.hands ≡ Some hand
   at_hand hand at = position_map hands ∙ at
 
-  -- the same world, with the same hands
-  unmoved : (step : Step) (outcome : Outcome) → happens old.geometry 0 w step ≡ (outcome, w) → world_of new ≡ world_of old
+  -- the same core state, with the same hands
+  unmoved : (step : Step) (outcome : Outcome) → happens old.geometry 0 w step ≡ (outcome, w) → core_state_of new ≡ core_state_of old
       → StepsTo hands step outcome
-  unmoved step outcome does still = quiet_step keeps old new hands hands step outcome none stands geometry same
+  unmoved step outcome does still = quiet_step keeps old new hands hands step outcome none recovers geometry same
       (does ∙ (λ i. (outcome, record { core = sym still i; hands = map hand_of hands })))
 
-  pub still_holds : HoldsJobs old.geometry (world_of old) hands → world_of new ≡ world_of old → Holds hands
-  still_holds h still = subst (λ (y : Geometry). HoldsJobs y (world_of new) hands) (sym geometry)
-      (subst (λ (x : World). HoldsJobs old.geometry x hands) (sym still) h)
+  pub still_holds : HoldsJobs old.geometry (core_state_of old) hands → core_state_of new ≡ core_state_of old → Holds hands
+  still_holds h still = subst (λ (y : Geometry). HoldsJobs y (core_state_of new) hands) (sym geometry)
+      (subst (λ (x : CoreState). HoldsJobs old.geometry x hands) (sym still) h)
 
-  pub no_hand : position (λ h. is_empty (hand_of h)) hands ≡ None → world_of new ≡ world_of old → StepsTo hands steps.Grant outcomes.Idle
+  pub no_hand : position (λ h. is_empty (hand_of h)) hands ≡ None → core_state_of new ≡ core_state_of old → StepsTo hands steps.Grant outcomes.Idle
   no_hand at still = unmoved steps.Grant outcomes.Idle (grant_idle old.geometry 0 w (position_map hands ∙ at)) still
 
   pub no_grant_step : (hand : ℕ) (why : Outcome) → position (λ h. is_empty (hand_of h)) hands ≡ Some hand
-      → IsNoGrant old.geometry (world_of old) (world_of new) why → StepsTo hands steps.Grant why
+      → IsNoGrant old.geometry (core_state_of old) (core_state_of new) why → StepsTo hands steps.Grant why
   no_grant_step hand why at k = unmoved steps.Grant why
       (grant_none old.geometry 0 w hand why (at_hand hand at) k.works k.none k.reason) k.same
 
   pub failed_step : (hand : ℕ) → position (λ h. is_empty (hand_of h)) hands ≡ Some hand → old.failed ≡ true
-      → world_of new ≡ world_of old → StepsTo hands steps.Grant outcomes.Failed
+      → core_state_of new ≡ core_state_of old → StepsTo hands steps.Grant outcomes.Failed
   failed_step hand at failed still = unmoved steps.Grant outcomes.Failed (grant_failed old.geometry 0 w hand (at_hand hand at) failed) still
 
   module _ (hand : ℕ) (at : position (λ h. is_empty (hand_of h)) hands ≡ Some hand) (job : JobView)
-      (k : IsGrantOf old.geometry (world_of old) (world_of new) job) where
+      (k : IsGrantOf old.geometry (core_state_of old) (core_state_of new) job) where
     granted : happens old.geometry 0 w steps.Grant
         ≡ (outcomes.Granted hand job.ticket, machine_of (record { core = new; hands = set hands hand (has.Job job) }))
     granted = grant_one old.geometry 0 w hand k.found (at_hand hand at) k.works k.first
-        ∙ (λ i. (outcomes.Granted hand (k.told i).0, record { core = sym k.world i; hands = set (map hand_of hands) hand (JobIn (k.told i).0) }))
-        ∙ (λ i. (outcomes.Granted hand job.ticket, record { core = world_of new; hands = sym (map-set hands hand (has.Job job)) i }))
+        ∙ (λ i. (outcomes.Granted hand (k.told i).0, record { core = sym k.state_after i; hands = set (map hand_of hands) hand (JobIn (k.told i).0) }))
+        ∙ (λ i. (outcomes.Granted hand job.ticket, record { core = core_state_of new; hands = sym (map-set hands hand (has.Job job)) i }))
 
     pub grant_step : StepsTo (set hands hand (has.Job job)) steps.Grant (outcomes.Granted hand job.ticket)
-    grant_step = quiet_step keeps old new hands (set hands hand (has.Job job)) steps.Grant _ none stands geometry same granted
+    grant_step = quiet_step keeps old new hands (set hands hand (has.Job job)) steps.Grant _ none recovers geometry same granted
 
-    pub grant_holds : HoldsJobs old.geometry (world_of old) hands → hand < length hands → Holds (set hands hand (has.Job job))
+    pub grant_holds : HoldsJobs old.geometry (core_state_of old) hands → hand < length hands → Holds (set hands hand (has.Job job))
     grant_holds h within =
         let g = old.geometry in
         let event : Event = record {
           step = steps.Grant;
           outcome = outcomes.Granted hand job.ticket;
           rose = false;
-          world = machine_of (record { core = new; hands = set hands hand (has.Job job) });
+          state_after = machine_of (record { core = new; hands = set hands hand (has.Job job) });
         } in
         let allowed : IsAllowed g w event = record { to_write = 0; at_most = omega arith; does = granted } in
-        let moved : HoldsJobs g (world_of new) hands = hands_stay g (world_of old) (world_of new) hands h
+        let moved : HoldsJobs g (core_state_of new) hands = hands_stay g (core_state_of old) (core_state_of new) hands h
         (event_sound g w event allowed h.sound)
         (λ e out. event_sees g w event e allowed h.sound (in_contained _ e out))
-        (λ i ticket m is out. subst (λ (x : World). Contains x.out (ticket, m)) (sym k.world)
-        (granted_stays g (world_of old) k.found (ticket, m) out)) in
-        subst (λ (y : Geometry). HoldsJobs y (world_of new) (set hands hand (has.Job job))) (sym geometry)
-        (holds_set g (world_of new) hands moved hand within (has.Job job) k.is_job
+        (λ i ticket m is out. subst (λ (x : CoreState). Contains x.out (ticket, m)) (sym k.state_after)
+        (granted_stays g (core_state_of old) k.found (ticket, m) out)) in
+        subst (λ (y : Geometry). HoldsJobs y (core_state_of new) (set hands hand (has.Job job))) (sym geometry)
+        (holds_set g (core_state_of new) hands moved hand within (has.Job job) k.is_job
         (λ i ticket other is mine. fresh h i ticket (h.each i) is (some_same mine)))
       where
         some_same : {a b : ℕ} → ◌≡◌ {A = Option ℕ} (Some a) (Some b) → a ≡ b
         some_same e = cc
 
-        of : (x : Holding) (ticket : ℕ) → IsHandOf old.geometry (world_of old) x → ticket_in x ≡ Some ticket → (m : Msg) × Contains old.out (ticket, m)
+        of : (x : Holding) (ticket : ℕ) → IsHandOf old.geometry (core_state_of old) x → ticket_in x ≡ Some ticket → (m : Msg) × Contains old.out (ticket, m)
         of has.Empty ticket is e = cc
         of (has.Job j) ticket is e = (j.message, subst (λ (t : ℕ). Contains old.out (t, j.message)) (some_same e) is.is_out)
         of (has.Result d) ticket is e = (d.message, subst (λ (t : ℕ). Contains old.out (t, d.message)) (some_same e) is.is_out)
 
-        fresh : HoldsJobs old.geometry (world_of old) hands → (i ticket : ℕ) → IsHandOf old.geometry (world_of old) (hand_at hands i)
+        fresh : HoldsJobs old.geometry (core_state_of old) hands → (i ticket : ℕ) → IsHandOf old.geometry (core_state_of old) (hand_at hands i)
             → ticket_in (hand_at hands i) ≡ Some ticket → job.ticket ≡ ticket → ⊥
         fresh h i ticket is e mine =
             let o = of (hand_at hands i) ticket is e in
-            granted_is_fresh old.geometry (world_of old) k.found h.sound k.first (ticket, o.0) o.1
+            granted_is_fresh old.geometry (core_state_of old) k.found h.sound k.first (ticket, o.0) o.1
             (sym mine ∙ ap (λ (x : Entry). x.0) (sym k.told))
 
 -- ---- a hand that isn't there
 
-module _ (g : Geometry) (n : ℕ) (core : World) (hands : List Holding) (i : ℕ) where
+module _ (g : Geometry) (n : ℕ) (core : CoreState) (hands : List Holding) (i : ℕ) where
   abbrev at_i : Hands
   at_i = record { core = core; hands = map hand_of hands }
 
@@ -280,18 +280,18 @@ module _ (g : Geometry) (n : ℕ) (core : World) (hands : List Holding) (i : ℕ
   back_past : length hands ≤ i → happens g n at_i (steps.Back i) ≡ (outcomes.Idle, at_i)
   back_past over = ap (λ (h : Option Hand). back_from g at_i i (result_in core h)) (past over)
 
-module _ (keeps : Type 0) (core : CoreView) (hands : List Holding) (none : core.failed ≡ false → core.doubt ≡ []) (stands : keeps → StandsNow core)
+module _ (keeps : Type 0) (core : CoreView) (hands : List Holding) (none : core.failed ≡ false → core.doubt ≡ []) (recovers : keeps → RecoversNow core)
     (i : ℕ) where
   abbrev StaysAt : Step → Type 0
   StaysAt step = IsMachineStep keeps (record { core = core; hands = hands }) (record { core = core; hands = hands }) step outcomes.Idle
 
   pub run_nowhere : length hands ≤ i → StaysAt (steps.Run i)
-  run_nowhere over = quiet_step keeps core core hands hands (steps.Run i) outcomes.Idle none stands refl refl
-      (run_past core.geometry 0 (world_of core) hands i over)
+  run_nowhere over = quiet_step keeps core core hands hands (steps.Run i) outcomes.Idle none recovers refl refl
+      (run_past core.geometry 0 (core_state_of core) hands i over)
 
   pub back_nowhere : length hands ≤ i → StaysAt (steps.Back i)
-  back_nowhere over = quiet_step keeps core core hands hands (steps.Back i) outcomes.Idle none stands refl refl
-      (back_past core.geometry 0 (world_of core) hands i over)
+  back_nowhere over = quiet_step keeps core core hands hands (steps.Back i) outcomes.Idle none recovers refl refl
+      (back_past core.geometry 0 (core_state_of core) hands i over)
 
 -- ---- in one hand
 
@@ -308,8 +308,8 @@ module _ (hands : List Holding) (i : ℕ) (x : Holding) (read : slice_get hands 
   put_back : (new : Holding) → new ≡ x → set hands i new ≡ hands
   put_back new same = ap (set hands i) (same ∙ sym it_has) ∙ set-get_or hands i has.Empty
 
-module _ (keeps : Type 0) (core : CoreView) (hands : List Holding) (none : core.failed ≡ false → core.doubt ≡ []) (stands : keeps → StandsNow core)
-    (h : HoldsJobs core.geometry (world_of core) hands) (i : ℕ) where
+module _ (keeps : Type 0) (core : CoreView) (hands : List Holding) (none : core.failed ≡ false → core.doubt ≡ []) (recovers : keeps → RecoversNow core)
+    (h : HoldsJobs core.geometry (core_state_of core) hands) (i : ℕ) where
   abbrev g : Geometry
   g = core.geometry
 
@@ -318,13 +318,13 @@ module _ (keeps : Type 0) (core : CoreView) (hands : List Holding) (none : core.
 
   abbrev Moves : List Holding → Step → Outcome → Type 0
   Moves after step outcome = IsMachineStep keeps (record { core = core; hands = hands }) (record { core = core; hands = after }) step outcome
-      × HoldsJobs g (world_of core) after
+      × HoldsJobs g (core_state_of core) after
 
   -- the hands are as they were
   in_place : (x new : Holding) → slice_get hands i ≡ Some x → new ≡ x → (step : Step) → happens g 0 held_now step ≡ (outcomes.Idle, held_now)
       → Moves (set hands i new) step outcomes.Idle
   in_place x new read same step does = subst (λ (after : List Holding). Moves after step outcomes.Idle) (sym (put_back hands i x read new same))
-      (quiet_step keeps core core hands hands step outcomes.Idle none stands refl refl does, h)
+      (quiet_step keeps core core hands hands step outcomes.Idle none recovers refl refl does, h)
 
   pub no_job : (x new : Holding) (ran : Bool) → slice_get hands i ≡ Some x → IsRunIn x new ran → ran ≡ false
       → Moves (set hands i new) (steps.Run i) outcomes.Idle
@@ -351,18 +351,18 @@ module _ (keeps : Type 0) (core : CoreView) (hands : List Holding) (none : core.
 
     ran_does : happens g 0 held_now (steps.Run i) ≡ (outcomes.Ran, machine_of (record { core = core; hands = ran_hands }))
     ran_does = ap (run_hand held_now i) (shown hands i (has.Job job) read)
-        ∙ (λ j. (outcomes.Ran, record { core = world_of core; hands = set (map hand_of hands) i (ResultIn (sym run.ticket j)) }))
-        ∙ (λ j. (outcomes.Ran, record { core = world_of core; hands = sym (map-set hands i (has.Result done)) j }))
+        ∙ (λ j. (outcomes.Ran, record { core = core_state_of core; hands = set (map hand_of hands) i (ResultIn (sym run.ticket j)) }))
+        ∙ (λ j. (outcomes.Ran, record { core = core_state_of core; hands = sym (map-set hands i (has.Result done)) j }))
 
-    ran_holds : HoldsJobs g (world_of core) ran_hands
+    ran_holds : HoldsJobs g (core_state_of core) ran_hands
     ran_holds =
-        let was : IsHandOf g (world_of core) (has.Job job) = subst (IsHandOf g (world_of core)) (it_has hands i (has.Job job) read) (h.each i) in
-        holds_set g (world_of core) hands h i (is_there hands i (has.Job job) read) (has.Result done) (job_ran g (world_of core) job done was run)
+        let was : IsHandOf g (core_state_of core) (has.Job job) = subst (IsHandOf g (core_state_of core)) (it_has hands i (has.Job job) read) (h.each i) in
+        holds_set g (core_state_of core) hands h i (is_there hands i (has.Job job) read) (has.Result done) (job_ran g (core_state_of core) job done was run)
         (λ k ticket other is mine. other (h.once k i ticket is
         (ap ticket_in (it_has hands i (has.Job job) read) ∙ ap (λ (t : ℕ). Some t) (sym run.ticket) ∙ mine)))
 
     ran_moves : Moves ran_hands (steps.Run i) outcomes.Ran
-    ran_moves = (quiet_step keeps core core hands ran_hands (steps.Run i) outcomes.Ran none stands refl refl ran_does, ran_holds)
+    ran_moves = (quiet_step keeps core core hands ran_hands (steps.Run i) outcomes.Ran none recovers refl refl ran_does, ran_holds)
 
   pub a_job : (x new : Holding) (ran : Bool) → slice_get hands i ≡ Some x → IsRunIn x new ran → ran ≡ true
       → Moves (set hands i new) (steps.Run i) outcomes.Ran
@@ -378,15 +378,15 @@ module _ (keeps : Type 0) (core : CoreView) (hands : List Holding) (none : core.
   taken (has.Result result) new done k = (ap (λ (d : Done). has.Result d) (sym (some_same k.0)), k.1)
 
   module _ (done : Done) (read : slice_get hands i ≡ Some (has.Result done)) where
-    pub was_result : IsResultOf g (world_of core) done
-    was_result = subst (IsHandOf g (world_of core)) (it_has hands i (has.Result done) read) (h.each i)
+    pub was_result : IsResultOf g (core_state_of core) done
+    was_result = subst (IsHandOf g (core_state_of core)) (it_has hands i (has.Result done) read) (h.each i)
 
     abbrev emptied : List Holding
     emptied = set hands i has.Empty
 
     module _ (new : CoreView) (geometry : new.geometry ≡ core.geometry) (same : new.medium ≡ core.medium) (found : Entry × List Entry)
-        (one_out : out_with (world_of core) done.ticket ≡ Some found) (told : found.0 ≡ (done.ticket, done.message))
-        (is : world_of new ≡ give_back g (world_of core) found) where
+        (one_out : out_with (core_state_of core) done.ticket ≡ Some found) (told : found.0 ≡ (done.ticket, done.message))
+        (is : core_state_of new ≡ give_back g (core_state_of core) found) where
       back_does : happens g 0 held_now (steps.Back i) ≡ (outcomes.Back done.ticket, machine_of (record { core = new; hands = emptied }))
       back_does = ap (λ (o : Option Hand). back_from g held_now i (result_in held_now.core o)) (shown hands i (has.Result done) read)
           ∙ ap (back_from g held_now i) one_out
@@ -394,21 +394,21 @@ module _ (keeps : Type 0) (core : CoreView) (hands : List Holding) (none : core.
 
       pub back_step : IsMachineStep keeps (record { core = core; hands = hands }) (record { core = new; hands = emptied }) (steps.Back i)
           (outcomes.Back done.ticket)
-      back_step = quiet_step keeps core new hands emptied (steps.Back i) (outcomes.Back done.ticket) none stands geometry same back_does
+      back_step = quiet_step keeps core new hands emptied (steps.Back i) (outcomes.Back done.ticket) none recovers geometry same back_does
 
       abbrev back_event : Event
       back_event = record {
         step = steps.Back i;
         outcome = outcomes.Back done.ticket;
         rose = false;
-        world = machine_of (record { core = new; hands = emptied });
+        state_after = machine_of (record { core = new; hands = emptied });
       }
 
       allowed : IsAllowed g held_now back_event
       allowed = record { to_write = 0; at_most = omega arith; does = back_does }
 
-      without : HoldsJobs g (world_of core) emptied
-      without = holds_set g (world_of core) hands h i (is_there hands i (has.Result done) read) has.Empty tt (λ k ticket other k_has mine. cc)
+      without : HoldsJobs g (core_state_of core) emptied
+      without = holds_set g (core_state_of core) hands h i (is_there hands i (has.Result done) read) has.Empty tt (λ k ticket other k_has mine. cc)
 
       -- A message in another hand has another ticket.
       others : (k ticket : ℕ) (m : Msg) → ticket_in (hand_at emptied k) ≡ Some ticket → ticket ≢ done.ticket
@@ -424,9 +424,9 @@ module _ (keeps : Type 0) (core : CoreView) (hands : List Holding) (none : core.
               let gone : ◌≡◌ {A = Option ℕ} None (Some ticket) = ap ticket_in (sym empty) ∙ k_has in
               cc
 
-      pub back_holds : HoldsJobs new.geometry (world_of new) emptied
-      back_holds = subst (λ (y : Geometry). HoldsJobs y (world_of new) emptied) (sym geometry)
-          (hands_stay g (world_of core) (world_of new) emptied without (event_sound g held_now back_event allowed h.sound)
+      pub back_holds : HoldsJobs new.geometry (core_state_of new) emptied
+      back_holds = subst (λ (y : Geometry). HoldsJobs y (core_state_of new) emptied) (sym geometry)
+          (hands_stay g (core_state_of core) (core_state_of new) emptied without (event_sound g held_now back_event allowed h.sound)
           (λ e out. event_sees g held_now back_event e allowed h.sound (in_contained _ e out))
-          (λ k ticket m k_has out. subst (λ (x : World). Contains x.out (ticket, m)) (sym is)
-          (returned_stays g (world_of core) done.ticket found one_out (ticket, m) (others k ticket m k_has) out)))
+          (λ k ticket m k_has out. subst (λ (x : CoreState). Contains x.out (ticket, m)) (sym is)
+          (returned_stays g (core_state_of core) done.ticket found one_out (ticket, m) (others k ticket m k_has) out)))

@@ -9,11 +9,11 @@ use Rattle.legal_runs.proofs.Clearing.{all_at}
 use Rattle.legal_runs.proofs.Elements.{contains_in, in_contained}
 use Rattle.legal_runs.proofs.Lists.{picked}
 use Rattle.legal_runs.proofs.Outs.{before_in}
-use Rattle.legal_runs.proofs.Told.{IsIn, in_either, in_left, in_right}
+use Rattle.legal_runs.proofs.SerialReplies.{IsIn, in_either, in_left, in_right}
 use Rattle.legal_runs.specs.Eligible.{is_eligible, next_eligible}
 use Rattle.legal_runs.specs.Events.{give_back, grant, out_with}
-use Rattle.legal_runs.specs.Laws.{IsSoundWorld}
-use Rattle.legal_runs.specs.World.{Entry, World}
+use Rattle.legal_runs.specs.Laws.{IsSoundCoreState}
+use Rattle.legal_runs.specs.CoreState.{Entry, CoreState}
 use Rattle.runs.proofs.Jobs.{SeesSame, job_stays, result_stays}
 use Rattle.runs.specs.Machine.{HoldsJobs, IsHandOf, hand_at, ticket_in}
 use Rattle.runs.specs.declared.hands.Holding.{Holding}
@@ -29,10 +29,10 @@ one_or_other i k = elim (i == k) as (λ b. (i == k) ≡ b → (i ≡ k) ⊎ (i �
 
 module _ (g : Geometry) where
   -- The message of a ticket that the hand has stays out.
-  abbrev StaysOut : World → World → Holding → Type 0
+  abbrev StaysOut : CoreState → CoreState → Holding → Type 0
   StaysOut old new h = (ticket : ℕ) (m : Msg) → ticket_in h ≡ Some ticket → Contains old.out (ticket, m) → Contains new.out (ticket, m)
 
-  hand_stays : (old new : World) (h : Holding) → IsHandOf g old h → StaysOut old new h
+  hand_stays : (old new : CoreState) (h : Holding) → IsHandOf g old h → StaysOut old new h
       → ((e : Entry) → Contains old.out e → SeesSame g old new e.1) → IsHandOf g new h
   hand_stays old new has.Empty is stays sees = tt
   hand_stays old new (has.Job job) is stays sees = job_stays g old new job is (sees (job.ticket, job.message) is.is_out)
@@ -41,7 +41,7 @@ module _ (g : Geometry) where
       (stays done.ticket done.message refl is.is_out)
 
   -- The hands are as they were, and the messages that they have stay out.
-  pub hands_stay : (old new : World) (hands : List Holding) → HoldsJobs g old hands → IsSoundWorld g new
+  pub hands_stay : (old new : CoreState) (hands : List Holding) → HoldsJobs g old hands → IsSoundCoreState g new
       → ((e : Entry) → Contains old.out e → SeesSame g old new e.1) → ((i : ℕ) → StaysOut old new (hand_at hands i))
       → HoldsJobs g new hands
   hands_stay old new hands h sound sees stays = record {
@@ -51,7 +51,7 @@ module _ (g : Geometry) where
   }
 
   -- One hand has something else, of a message that no other hand has.
-  module _ (w : World) (hands : List Holding) (h : HoldsJobs g w hands) (k : ℕ) (within : k < length hands) (new : Holding)
+  module _ (w : CoreState) (hands : List Holding) (h : HoldsJobs g w hands) (k : ℕ) (within : k < length hands) (new : Holding)
       (is : IsHandOf g w new)
       (fresh : (i ticket : ℕ) → i ≢ k → ticket_in (hand_at hands i) ≡ Some ticket → ticket_in new ≡ Some ticket → ⊥) where
     there : hand_at (set hands k new) k ≡ new
@@ -84,11 +84,11 @@ module _ (g : Geometry) where
 
   -- ---- what is out after a grant and after a return
 
-  pub granted_stays : (w : World) (found : Entry × List Entry) (e : Entry) → Contains w.out e → Contains (grant w found).out e
+  pub granted_stays : (w : CoreState) (found : Entry × List Entry) (e : Entry) → Contains w.out e → Contains (grant w found).out e
   granted_stays w found e out = contains_in _ e (in_left e w.out (found.0 ∷ []) (in_contained _ e out))
 
   -- The ticket of what goes out is that of no message which is out.
-  pub granted_is_fresh : (w : World) (found : Entry × List Entry) → IsSoundWorld g w → next_eligible g w ≡ Some found → (e : Entry)
+  pub granted_is_fresh : (w : CoreState) (found : Entry × List Entry) → IsSoundCoreState g w → next_eligible g w ≡ Some found → (e : Entry)
       → Contains w.out e → e.0 ≡ found.0.0 → ⊥
   granted_is_fresh w found sound first e out =
       let R : Entry → Entry → Type 0 = λ c d. c.0 ≡ d.0 → ⊥ in
@@ -96,7 +96,7 @@ module _ (g : Geometry) where
       let waits : IsIn found.0 w.waiting = subst (IsIn found.0) (sym k.whole) (in_right found.0 k.before (found.0 ∷ k.behind) (inl refl)) in
       all_at (λ c. R c found.0) w.out e (before_in R w.out w.waiting found.0 sound.once waits) (in_contained _ e out)
 
-  pub returned_stays : (w : World) (ticket : ℕ) (found : Entry × List Entry) → out_with w ticket ≡ Some found → (e : Entry)
+  pub returned_stays : (w : CoreState) (ticket : ℕ) (found : Entry × List Entry) → out_with w ticket ≡ Some found → (e : Entry)
       → e.0 ≢ ticket → Contains w.out e → Contains (give_back g w found).out e
   returned_stays w ticket found one_out e other out =
       let k = picked (λ d. d.0 == ticket) w.out found one_out in

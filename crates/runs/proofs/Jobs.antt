@@ -3,7 +3,7 @@ use Rattle.std.proofs.Common.{◌≡◌, ap, sym, subst, ◌∙◌}
 use Rattle.std.specs.List.{Contains}
 use Rattle.affinity.specs.Path.{are_related}
 use Rattle.affinity.specs.declared.geometry.Geometry.{Geometry}
-use Rattle.legal_runs.specs.World.{Entry, World}
+use Rattle.legal_runs.specs.CoreState.{Entry, CoreState}
 use Rattle.messages.specs.Messages.{place}
 use Rattle.messages.specs.declared.Msg.{Msg}
 use Rattle.parcel.proofs.SerialRuns.{serial_run}
@@ -18,32 +18,32 @@ use Rattle.scheduler.specs.Jobs.{IsJobOf, IsResultOf}
 
 module _ (g : Geometry) where
   -- A job that runs becomes its result.
-  pub job_ran : (w : World) (job : JobView) (done : Done) → IsJobOf g w job → IsJobRun job done → IsResultOf g w done
+  pub job_ran : (w : CoreState) (job : JobView) (done : Done) → IsJobOf g w job → IsJobRun job done → IsResultOf g w done
   job_ran w job done h run =
-      let k = serial_run job done w.settled run h.lent in
+      let k = serial_run job done w.committed run h.lent in
       let same : ◌≡◌ {A = Geometry × Msg} (job.geometry, job.message) (g, done.message) = λ i. (h.geometry i, sym run.message i) in
       record {
         is_out = subst (λ (e : Entry). Contains w.out e) (λ i. (sym run.ticket i, sym run.message i)) h.is_out;
         suits = subst (λ (p : Geometry × Msg). Suits p.0 p.1 done.parcels) same run.suits;
-        reply = k.reply ∙ ap (λ (p : Geometry × Msg). reply_to p.0 w.settled p.1) same;
+        reply = k.reply ∙ ap (λ (p : Geometry × Msg). reply_to p.0 w.committed p.1) same;
         standing = job.standing;
-        shows = subst (λ (p : Geometry × Msg). Shows p.0 (place p.0 p.1) job.standing done.parcels (next_state p.0 w.settled p.1)) same k.shows;
+        shows = subst (λ (p : Geometry × Msg). Shows p.0 (place p.0 p.1) job.standing done.parcels (next_state p.0 w.committed p.1)) same k.shows;
       }
 
-  -- The message sees the same in the settled state of both worlds.
-  abbrev pub SeesSame : World → World → Msg → Type 0
-  SeesSame old new m = AgreeOn g (are_related (place g m)) new.settled old.settled
+  -- The message sees the same in the committed state of both core states.
+  abbrev pub SeesSame : CoreState → CoreState → Msg → Type 0
+  SeesSame old new m = AgreeOn g (are_related (place g m)) new.committed old.committed
 
-  pub job_stays : (old new : World) (job : JobView) → IsJobOf g old job → SeesSame old new job.message
+  pub job_stays : (old new : CoreState) (job : JobView) → IsJobOf g old job → SeesSame old new job.message
       → Contains new.out (job.ticket, job.message) → IsJobOf g new job
   job_stays old new job h same out =
-      let there = subst (λ (y : Geometry). AgreeOn y (are_related (place y job.message)) new.settled old.settled) (sym h.geometry) same in
+      let there = subst (λ (y : Geometry). AgreeOn y (are_related (place y job.message)) new.committed old.committed) (sym h.geometry) same in
       record { geometry = h.geometry; is_out = out; lent = agree-trans h.lent (agree-sym there) }
 
-  pub result_stays : (old new : World) (done : Done) → IsResultOf g old done → SeesSame old new done.message
+  pub result_stays : (old new : CoreState) (done : Done) → IsResultOf g old done → SeesSame old new done.message
       → Contains new.out (done.ticket, done.message) → IsResultOf g new done
   result_stays old new done h same out =
-      let k = reads_only g (are_related (place g done.message)) new.settled old.settled done.message same (λ q r. r) in
+      let k = reads_only g (are_related (place g done.message)) new.committed old.committed done.message same (λ q r. r) in
       record {
         is_out = out;
         suits = h.suits;

@@ -5,127 +5,127 @@ use Rattle.std.specs.List.{AllByRecursion}
 use Rattle.std.proofs.lemmas.List.{map-append, take_more, take_more_set}
 use Rattle.affinity.specs.declared.geometry.Geometry.{Geometry}
 use Rattle.disk.proofs.Moments.{only_now}
-use Rattle.disk.specs.Device.{Leaves, Medium}
-use Rattle.disk.specs.Moments.{LeavesOnly, left_since, moment}
+use Rattle.disk.specs.Device.{IsCrashImage, Medium}
+use Rattle.disk.specs.Moments.{CrashImagesAre, left_since, moment}
 use Rattle.journal.specs.Journal.{HoldsSome}
 use Rattle.legal_runs.proofs.Arrivals.{answered_by_ticket}
-use Rattle.legal_runs.proofs.Crashes.{left_is_settled}
+use Rattle.legal_runs.proofs.Crashes.{left_is_committed}
 use Rattle.legal_runs.proofs.Elements.{contains_in, in_contained}
 use Rattle.legal_runs.proofs.Joining.{runs_join}
 use Rattle.legal_runs.proofs.Runs.{run_follows}
 use Rattle.legal_runs.proofs.Sound.{run_sound}
 use Rattle.legal_runs.specs.Crash.{IsLogAfter, in_doubt}
 use Rattle.legal_runs.specs.Events.{Event, Hands, IsAllowed, touches_device}
-use Rattle.legal_runs.specs.Laws.{AreApart, IsSoundWorld}
+use Rattle.legal_runs.specs.Laws.{AreApart, IsSoundCoreState}
 use Rattle.legal_runs.specs.Runs.{IsLegal, IsRun, journal, last}
-use Rattle.legal_runs.specs.World.{held}
+use Rattle.legal_runs.specs.CoreState.{held}
 use Rattle.legal_runs.specs.declared.outcomes.Outcome.{Outcome}
 use Rattle.legal_runs.specs.declared.outcomes.Step.{Step}
 use Rattle.runs.proofs.Events.{some_of}
 use Rattle.runs.specs.Machine.{MachineView, HasRun, HasStages, machine_of}
-use Rattle.runs.specs.Stages.{AreSafe, Stage, StandsForRun, TouchAsTold, device_after, events_of}
+use Rattle.runs.specs.Stages.{AreSafe, Stage, RecoversForRun, TouchesAgree, device_after, events_of}
 use Rattle.runs.specs.Steps.{IsMachineStep}
 use Rattle.messages.specs.declared.Msg.{Msg}
 use Rattle.meaning.specs.Serial.{fold}
 use Rattle.scheduler.specs.Calls.{CountsFailure}
 use Rattle.runs.specs.declared.hands.Holding.{Holding}
-use Rattle.scheduler.specs.Kept.{CoreView, StandsNow, world_of}
+use Rattle.scheduler.specs.CoreView.{CoreView, RecoversNow, core_state_of}
 
 -- ---- what a crash of a run leaves
 
--- These bytes stand for what was settled after so many events, with the first so many of what was in doubt then.
-abbrev pub StandsAt : Geometry → Hands → List Event → List ℕ → ℕ → Type 0
-StandsAt g w events c j = HoldsSome g (last w (take j events)).core.settled (in_doubt (last w (take j events)).core (drop j events)) c
+-- These bytes recover to what was committed after so many events, with the first so many of what was in doubt then.
+abbrev pub RecoversAt : Geometry → Hands → List Event → List ℕ → ℕ → Type 0
+RecoversAt g w events c j = HoldsSome g (last w (take j events)).core.committed (in_doubt (last w (take j events)).core (drop j events)) c
 
 -- At some such place from event k on.
-pub record StandsSince (g : Geometry) (w : Hands) (events : List Event) (k : ℕ) (c : List ℕ) : Type 0 where
+pub record RecoversSince (g : Geometry) (w : Hands) (events : List Event) (k : ℕ) (c : List ℕ) : Type 0 where
   pub at : ℕ
   pub since : k ≤ at
   pub within : at ≤ length events
-  pub stands : StandsAt g w events c at
+  pub recovers : RecoversAt g w events c at
 
 module _ (g : Geometry) where
   -- what a crash leaves when all events have ended
   abbrev EndsSo : Hands → Medium → List Stage → Type 0
-  EndsSo w m stages = (c : List ℕ) → Leaves (device_after m stages) c
-      → HoldsSome g (last w (events_of stages)).core.settled (in_doubt (last w (events_of stages)).core []) c
+  EndsSo w m stages = (c : List ℕ) → IsCrashImage (device_after m stages) c
+      → HoldsSome g (last w (events_of stages)).core.committed (in_doubt (last w (events_of stages)).core []) c
 
-  later : (w : Hands) (event : Event) (events : List Event) (k : ℕ) (c : List ℕ) → StandsSince g event.world events k c
-      → StandsSince g w (event ∷ events) (suc k) c
-  later w event events k c h = record { at = suc h.at; since = omega (arith, h.since); within = omega (arith, h.within); stands = h.stands }
+  later : (w : Hands) (event : Event) (events : List Event) (k : ℕ) (c : List ℕ) → RecoversSince g event.state_after events k c
+      → RecoversSince g w (event ∷ events) (suc k) c
+  later w event events k c h = record { at = suc h.at; since = omega (arith, h.since); within = omega (arith, h.within); recovers = h.recovers }
 
-  earlier : (w : Hands) (events : List Event) (k j : ℕ) (c : List ℕ) → j ≤ k → StandsSince g w events k c → StandsSince g w events j c
-  earlier w events k j c le h = record { at = h.at; since = omega (arith, h.since, le); within = h.within; stands = h.stands }
+  earlier : (w : Hands) (events : List Event) (k j : ℕ) (c : List ℕ) → j ≤ k → RecoversSince g w events k c → RecoversSince g w events j c
+  earlier w events k j c le h = record { at = h.at; since = omega (arith, h.since, le); within = h.within; recovers = h.recovers }
 
   -- It was left before the run, or at some moment of it.
   parted : (w : Hands) (m : Medium) (stages : List Stage) → AreSafe g w m stages → (t : ℕ) (c : List ℕ) → t ≤ moment m
-      → left_since (device_after m stages) t c → left_since m t c ⊎ StandsSince g w (events_of stages) 0 c
+      → left_since (device_after m stages) t c → left_since m t c ⊎ RecoversSince g w (events_of stages) 0 c
   parted w m [] safe t c early since = inl since
   parted w m (stage ∷ stages) safe t c early since =
       ⊎_elim
       (λ mid. ⊎_elim (λ (was : left_since m t c). inl was)
-      (λ now. inr (record { at = 0; since = omega arith; within = omega arith; stands = now })) (safe.0.before t c early mid))
-      (λ (rest : StandsSince g stage.event.world (events_of stages) 0 c).
+      (λ now. inr (record { at = 0; since = omega arith; within = omega arith; recovers = now })) (safe.0.before t c early mid))
+      (λ (rest : RecoversSince g stage.event.state_after (events_of stages) 0 c).
       inr (earlier w (stage.event ∷ events_of stages) 1 0 c (omega arith) (later w stage.event (events_of stages) 0 c rest)))
-      (parted stage.event.world stage.medium stages safe.1 t c (omega (arith, early, safe.0.later)) since)
+      (parted stage.event.state_after stage.medium stages safe.1 t c (omega (arith, early, safe.0.later)) since)
 
   from_start : (w : Hands) (m : Medium) (stages : List Stage) → AreSafe g w m stages → EndsSo w m stages → (c : List ℕ)
-      → left_since (device_after m stages) (moment m) c → StandsSince g w (events_of stages) 0 c
-  from_start w m [] safe ends c since = record { at = 0; since = omega arith; within = omega arith; stands = ends c (only_now m c since) }
+      → left_since (device_after m stages) (moment m) c → RecoversSince g w (events_of stages) 0 c
+  from_start w m [] safe ends c since = record { at = 0; since = omega arith; within = omega arith; recovers = ends c (only_now m c since) }
   from_start w m (stage ∷ stages) safe ends c since =
       ⊎_elim
-      (λ mid. record { at = 0; since = omega arith; within = omega arith; stands = safe.0.each c mid })
-      (λ (rest : StandsSince g stage.event.world (events_of stages) 0 c).
+      (λ mid. record { at = 0; since = omega arith; within = omega arith; recovers = safe.0.each c mid })
+      (λ (rest : RecoversSince g stage.event.state_after (events_of stages) 0 c).
       earlier w (stage.event ∷ events_of stages) 1 0 c (omega arith) (later w stage.event (events_of stages) 0 c rest))
-      (parted stage.event.world stage.medium stages safe.1 (moment m) c safe.0.later since)
+      (parted stage.event.state_after stage.medium stages safe.1 (moment m) c safe.0.later since)
 
   from_event : (w : Hands) (m : Medium) (stages : List Stage) → AreSafe g w m stages → EndsSo w m stages → (k : ℕ) (c : List ℕ)
       → k ≤ length stages → left_since (device_after m stages) (moment (device_after m (take k stages))) c
-      → StandsSince g w (events_of stages) k c
+      → RecoversSince g w (events_of stages) k c
   from_event w m stages safe ends zero c le since = from_start w m stages safe ends c since
   from_event w m [] safe ends (suc k) c le since = absurd (omega (arith, le))
   from_event w m (stage ∷ stages) safe ends (suc k) c le since =
       later w stage.event (events_of stages) k c
-      (from_event stage.event.world stage.medium stages safe.1 ends k c (omega (arith, le)) since)
+      (from_event stage.event.state_after stage.medium stages safe.1 ends k c (omega (arith, le)) since)
 
-  -- So it stands for a state that the run may leave.
-  pub stands_for_run : (w : Hands) (events : List Event) (k : ℕ) (c : List ℕ) → IsLegal g w events → IsSoundWorld g w.core
-      → StandsSince g w events k c → StandsForRun g w events k c
-  stands_for_run w events k c legal sound h =
+  -- So it recovers to a state that the run may leave.
+  pub recovers_for_run : (w : Hands) (events : List Event) (k : ℕ) (c : List ℕ) → IsLegal g w events → IsSoundCoreState g w.core
+      → RecoversSince g w events k c → RecoversForRun g w events k c
+  recovers_for_run w events k c legal sound h =
       let first = take h.at events in
       let doubt = in_doubt (last w first).core (drop h.at events) in
-      let log : List Msg = journal w first ++ take h.stands.added doubt in
-      let is_log : IsLogAfter w events h.at log = record { some = h.stands.added; at_most = h.stands.at_most; is = refl } in
+      let log : List Msg = journal w first ++ take h.recovers.added doubt in
+      let is_log : IsLogAfter w events h.at log = record { some = h.recovers.added; at_most = h.recovers.at_most; is = refl } in
       record {
-        state = fold g (last w first).core.settled (take h.stands.added doubt);
-        is = h.stands.is;
+        state = fold g (last w first).core.committed (take h.recovers.added doubt);
+        is = h.recovers.is;
         left = record {
           after = h.at;
           since = h.since;
           within = h.within;
           log = log;
           is_log = is_log;
-          state = sym (left_is_settled g w events h.at log legal sound is_log);
+          state = sym (left_is_committed g w events h.at log legal sound is_log);
         };
       }
 
-  left_by_run : (w : Hands) (m : Medium) (stages : List Stage) → IsLegal g w (events_of stages) → IsSoundWorld g w.core
+  left_by_run : (w : Hands) (m : Medium) (stages : List Stage) → IsLegal g w (events_of stages) → IsSoundCoreState g w.core
       → AreSafe g w m stages → EndsSo w m stages → (k : ℕ) (c : List ℕ) → k ≤ length stages
-      → left_since (device_after m stages) (moment (device_after m (take k stages))) c → StandsForRun g w (events_of stages) k c
+      → left_since (device_after m stages) (moment (device_after m (take k stages))) c → RecoversForRun g w (events_of stages) k c
   left_by_run w m stages legal sound safe ends k c le since =
-      stands_for_run w (events_of stages) k c legal sound (from_event w m stages safe ends k c le since)
+      recovers_for_run w (events_of stages) k c legal sound (from_event w m stages safe ends k c le since)
 
   -- So it is where the core at the end is as it always is.
-  pub left_since_event : (w : Hands) (m : Medium) (stages : List Stage) (new : MachineView) → IsLegal g w (events_of stages) → IsSoundWorld g w.core
+  pub left_since_event : (w : Hands) (m : Medium) (stages : List Stage) (new : MachineView) → IsLegal g w (events_of stages) → IsSoundCoreState g w.core
       → AreSafe g w m stages → last w (events_of stages) ≡ machine_of new → new.core.geometry ≡ g → device_after m stages ≡ new.core.medium
-      → (new.core.failed ≡ false → new.core.doubt ≡ []) → StandsNow new.core → (k : ℕ) (c : List ℕ) → k ≤ length stages
-      → left_since new.core.medium (moment (device_after m (take k stages))) c → StandsForRun g w (events_of stages) k c
-  left_since_event w m stages new legal sound safe ended same device none stands k c le since =
+      → (new.core.failed ≡ false → new.core.doubt ≡ []) → RecoversNow new.core → (k : ℕ) (c : List ℕ) → k ≤ length stages
+      → left_since new.core.medium (moment (device_after m (take k stages))) c → RecoversForRun g w (events_of stages) k c
+  left_since_event w m stages new legal sound safe ended same device none recovers k c le since =
       let ends : EndsSo w m stages = λ b left.
-      subst (λ (x : Hands). HoldsSome g x.core.settled (in_doubt x.core []) b) (sym ended)
-      (subst (λ (y : Geometry). HoldsSome y (world_of new.core).settled (in_doubt (world_of new.core) []) b) same
-      (some_of new.core.geometry (world_of new.core).settled new.core.failed new.core.doubt [] b none
-      (stands b (subst (λ (x : Medium). Leaves x b) device left)))) in
+      subst (λ (x : Hands). HoldsSome g x.core.committed (in_doubt x.core []) b) (sym ended)
+      (subst (λ (y : Geometry). HoldsSome y (core_state_of new.core).committed (in_doubt (core_state_of new.core) []) b) same
+      (some_of new.core.geometry (core_state_of new.core).committed new.core.failed new.core.doubt [] b none
+      (recovers b (subst (λ (x : Medium). IsCrashImage x b) device left)))) in
       left_by_run w m stages legal sound safe ends k c le
       (subst (λ (x : Medium). left_since x (moment (device_after m (take k stages))) c) (sym device) since)
 
@@ -134,18 +134,18 @@ module _ (g : Geometry) where
   pub safe-append : (w : Hands) (m : Medium) (xs ys : List Stage) → AreSafe g w m xs
       → AreSafe g (last w (events_of xs)) (device_after m xs) ys → AreSafe g w m (xs ++ ys)
   safe-append w m [] ys h k = k
-  safe-append w m (s ∷ xs) ys h k = (h.0, safe-append s.event.world s.medium xs ys h.1 k)
+  safe-append w m (s ∷ xs) ys h k = (h.0, safe-append s.event.state_after s.medium xs ys h.1 k)
 
 pub after-append : (m : Medium) (xs ys : List Stage) → device_after m (xs ++ ys) ≡ device_after (device_after m xs) ys
 after-append m [] ys = refl
 after-append m (s ∷ xs) ys = after-append s.medium xs ys
 
-told-push : (w : Hands) (m : Medium) (stages : List Stage) (stage : Stage) → TouchAsTold w m stages
+told-push : (w : Hands) (m : Medium) (stages : List Stage) (stage : Stage) → TouchesAgree w m stages
     → CountsFailure stage.event.rose (device_after m stages).faults stage.medium.faults
     → (touches_device (last w (events_of stages)).core stage.event.step ≡ false → stage.medium ≡ device_after m stages)
-    → TouchAsTold w m (stages ++ stage ∷ [])
+    → TouchesAgree w m (stages ++ stage ∷ [])
 told-push w m [] stage told counts quiet = (counts, quiet, tt)
-told-push w m (s ∷ stages) stage told counts quiet = (told.0, told.1, told-push s.event.world s.medium stages stage told.2 counts quiet)
+told-push w m (s ∷ stages) stage told counts quiet = (told.0, told.1, told-push s.event.state_after s.medium stages stage told.2 counts quiet)
 
 pub no_stages : (keeps : Type 0) (m : MachineView) → HasStages keeps m m [] []
 no_stages keeps m = record {
@@ -159,11 +159,11 @@ no_stages keeps m = record {
 
 pub more_stages : (keeps : Type 0) (old now new : MachineView) (asked : List Step) (came : List Outcome) (step : Step) (outcome : Outcome)
     → HasStages keeps old now asked came → IsMachineStep keeps now new step outcome
-    → (touches_device (world_of now.core) step ≡ false → new.core.medium ≡ now.core.medium)
+    → (touches_device (core_state_of now.core) step ≡ false → new.core.medium ≡ now.core.medium)
     → HasStages keeps old new (asked ++ step ∷ []) (came ++ outcome ∷ [])
 more_stages keeps old now new asked came step outcome h k quiet =
     let g = old.core.geometry in
-    let event : Event = record { step = step; outcome = outcome; rose = k.rose; world = machine_of new } in
+    let event : Event = record { step = step; outcome = outcome; rose = k.rose; state_after = machine_of new } in
     let stage : Stage = record { event = event; medium = new.core.medium } in
     let events = events_of h.stages in
     let device = device_after old.core.medium h.stages in
@@ -188,33 +188,33 @@ more_stages keeps old now new asked came step outcome h k quiet =
           (λ none. quiet (ap (λ (x : Hands). touches_device x.core step) (sym here) ∙ none) ∙ sym h.device);
       geometry = k.geometry ∙ h.geometry;
       any_moment = λ kept. safe-append g (machine_of old) old.core.medium h.stages (stage ∷ []) (h.any_moment kept) (
-        subst (λ (x : Hands). LeavesOnly device new.core.medium (HoldsSome g x.core.settled (in_doubt x.core (event ∷ [])))) (sym here)
-            (subst (λ (y : Geometry). LeavesOnly device new.core.medium (HoldsSome y (world_of now.core).settled (in_doubt (world_of now.core) (event ∷ []))))
+        subst (λ (x : Hands). CrashImagesAre device new.core.medium (HoldsSome g x.core.committed (in_doubt x.core (event ∷ [])))) (sym here)
+            (subst (λ (y : Geometry). CrashImagesAre device new.core.medium (HoldsSome y (core_state_of now.core).committed (in_doubt (core_state_of now.core) (event ∷ []))))
             h.geometry
-            (subst (λ (m : Medium). LeavesOnly m new.core.medium (HoldsSome now.core.geometry (world_of now.core).settled
-            (in_doubt (world_of now.core) (event ∷ [])))) (sym h.device) (k.any_moment kept))),
+            (subst (λ (m : Medium). CrashImagesAre m new.core.medium (HoldsSome now.core.geometry (core_state_of now.core).committed
+            (in_doubt (core_state_of now.core) (event ∷ [])))) (sym h.device) (k.any_moment kept))),
         tt,
       );
     }
 
 -- ---- the whole run
 
-worlds_apart : (g : Geometry) (events : List Event) → AllByRecursion (λ (event : Event). IsSoundWorld g event.world.core) events
-    → AllByRecursion (λ (w : Hands). AreApart g (held w.core)) (map (λ e. e.world) events)
+worlds_apart : (g : Geometry) (events : List Event) → AllByRecursion (λ (event : Event). IsSoundCoreState g event.state_after.core) events
+    → AllByRecursion (λ (w : Hands). AreApart g (held w.core)) (map (λ e. e.state_after) events)
 worlds_apart g [] sound = tt
 worlds_apart g (event ∷ events) sound = (sound.0.apart, worlds_apart g events sound.1)
 
 pub has_run : (keeps : Type 0) (old new : MachineView) (asked : List Step) (came : List Outcome)
-    → IsSoundWorld old.core.geometry (world_of old.core) → HasStages keeps old new asked came
-    → (new.core.failed ≡ false → new.core.doubt ≡ []) → (keeps → StandsNow new.core) → HasRun keeps old new asked came
-has_run keeps old new asked came sound h none stands =
+    → IsSoundCoreState old.core.geometry (core_state_of old.core) → HasStages keeps old new asked came
+    → (new.core.failed ≡ false → new.core.doubt ≡ []) → (keeps → RecoversNow new.core) → HasRun keeps old new asked came
+has_run keeps old new asked came sound h none recovers =
     let g = old.core.geometry in
     let w = machine_of old in
     let events = events_of h.stages in
     record {
       ran = h;
       crash = λ kept. left_since_event g w old.core.medium h.stages new h.run.legal sound (h.any_moment kept) h.run.ends h.geometry h.device none
-          (stands kept);
+          (recovers kept);
       apart = (sound.apart, worlds_apart g events (run_sound g w events h.run.legal sound));
       in_log_order = sym (run_follows g w events h.run.legal sound).told;
       in_ticket_order = λ idle reply is. contains_in _ reply
@@ -226,7 +226,7 @@ pub next_stages : (keeps : Type 0) (old : MachineView) (core : CoreView) (hands 
     (came : List Outcome) (outcome : Outcome) → lent ≡ hands → i < length asked → i < length came
     → HasStages keeps old (record { core = core; hands = hands }) (take i asked) (take i came)
     → IsMachineStep keeps (record { core = core; hands = lent }) new (get_or asked i d) outcome
-    → (touches_device (world_of core) (get_or asked i d) ≡ false → new.core.medium ≡ core.medium)
+    → (touches_device (core_state_of core) (get_or asked i d) ≡ false → new.core.medium ≡ core.medium)
     → HasStages keeps old new (take (i + 1) asked) (take (i + 1) (set came i outcome))
 next_stages keeps old core hands lent new asked i d came outcome same in_asked in_came h k quiet =
     let step = subst (λ (l : List Holding). IsMachineStep keeps (record { core = core; hands = l }) new (get_or asked i d) outcome) same k in

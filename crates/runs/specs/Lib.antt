@@ -3,4 +3,4 @@ pub mod Stages
 pub mod Hands
 pub mod Machine
 pub mod Steps
-pub mod Lives
+pub mod Incarnations

@@ -4,18 +4,18 @@ use Rattle.std.specs.List.{AllByRecursion, Contains}
 use Rattle.affinity.specs.declared.geometry.Geometry.{Geometry}
 use Rattle.disk.specs.Moments.{moment, left_since}
 use Rattle.legal_runs.specs.Events.{Event, Hand, Hands, Empty, Job, Result}
-use Rattle.legal_runs.specs.Laws.{AreApart, IsIdle, IsSoundWorld, ticket_replies}
+use Rattle.legal_runs.specs.Laws.{AreApart, IsIdle, IsSoundCoreState, ticket_replies}
 use Rattle.legal_runs.specs.Runs.{IsLegal, IsRun, answered, arrived, last, went}
-use Rattle.legal_runs.specs.World.{World, entries, held}
+use Rattle.legal_runs.specs.CoreState.{CoreState, entries, held}
 use Rattle.legal_runs.specs.declared.outcomes.Outcome.{Outcome}
 use Rattle.legal_runs.specs.declared.outcomes.Step.{Step}
-use Rattle.runs.specs.Stages.{Stage, AreSafe, StandsForRun, TouchAsTold, device_after, events_of}
+use Rattle.runs.specs.Stages.{Stage, AreSafe, RecoversForRun, TouchesAgree, device_after, events_of}
 use Rattle.runs.specs.declared.hands.Holding.{Holding}
 use Rattle.runs.specs.declared.hands.Holding.TheVariants as has
 use Rattle.messages.specs.declared.Reply.{Reply}
-use Rattle.meaning.specs.Order.{by_ticket, told}
+use Rattle.meaning.specs.Order.{by_ticket, serial_replies}
 use Rattle.scheduler.specs.Jobs.{IsJobOf, IsResultOf}
-use Rattle.scheduler.specs.Kept.{CoreView, StandsNow, world_of}
+use Rattle.scheduler.specs.CoreView.{CoreView, RecoversNow, core_state_of}
 
 pub record MachineView : Type 0 where
   pub core : CoreView
@@ -28,12 +28,12 @@ hand_of (has.Result done) = Result done.ticket
 
 -- the machine of the definitions
 abbrev pub machine_of : MachineView → Hands
-machine_of m = record { core = world_of m.core; hands = map hand_of m.hands }
+machine_of m = record { core = core_state_of m.core; hands = map hand_of m.hands }
 
 -- ---- what every machine keeps
 
 -- It has the job of a message that is out, or what came of it.
-abbrev pub IsHandOf : Geometry → World → Holding → Type 0
+abbrev pub IsHandOf : Geometry → CoreState → Holding → Type 0
 IsHandOf g w has.Empty = Unit {0}
 IsHandOf g w (has.Job job) = IsJobOf g w job
 IsHandOf g w (has.Result done) = IsResultOf g w done
@@ -47,8 +47,8 @@ ticket_in (has.Result done) = Some done.ticket
 abbrev pub hand_at : List Holding → ℕ → Holding
 hand_at hands i = slice_index_or hands i has.Empty
 
-pub record HoldsJobs (g : Geometry) (w : World) (hands : List Holding) : Type 0 where
-  pub sound : IsSoundWorld g w
+pub record HoldsJobs (g : Geometry) (w : CoreState) (hands : List Holding) : Type 0 where
+  pub sound : IsSoundCoreState g w
   pub each : (i : ℕ) → IsHandOf g w (hand_at hands i)
   -- no message is in two hands
   pub once : (i k ticket : ℕ) → ticket_in (hand_at hands i) ≡ Some ticket → ticket_in (hand_at hands k) ≡ Some ticket → i ≡ k
@@ -61,7 +61,7 @@ pub record HasStages (keeps : Type 0) (old new : MachineView) (asked : List Step
   pub run : IsRun old.core.geometry (machine_of old) (machine_of new) asked came (events_of stages)
   pub device : device_after old.core.medium stages ≡ new.core.medium
   -- which events touched the device, and in which it failed
-  pub told : TouchAsTold (machine_of old) old.core.medium stages
+  pub told : TouchesAgree (machine_of old) old.core.medium stages
   pub geometry : new.core.geometry ≡ old.core.geometry
   -- what a crash leaves at each moment of each event
   pub any_moment : keeps → AreSafe old.core.geometry (machine_of old) old.core.medium stages
@@ -69,19 +69,19 @@ pub record HasStages (keeps : Type 0) (old new : MachineView) (asked : List Step
 -- What a machine promises of a run of steps, sensible or not.
 pub record HasRun (keeps : Type 0) (old new : MachineView) (asked : List Step) (came : List Outcome) : Type 0 where
   pub ran : HasStages keeps old new asked came
-  -- For every k: a crash at any moment since event k ended leaves a device that stands for a state which the run may leave.
+  -- For every k: a crash at any moment since event k ended leaves a device that recovers to a state which the run may leave.
   pub crash : keeps → (k : ℕ) (c : List ℕ) → k ≤ length ran.stages
       → left_since new.core.medium (moment (device_after old.core.medium (take k ran.stages))) c
-      → StandsForRun old.core.geometry (machine_of old) (events_of ran.stages) k c
-  -- In each world, the first one too, no two of the messages that are held are at related places.
+      → RecoversForRun old.core.geometry (machine_of old) (events_of ran.stages) k c
+  -- In each core state, the first one too, no two of the messages that are held are at related places.
   pub apart : AllByRecursion (λ (w : Hands). AreApart old.core.geometry (held w.core))
-      (machine_of old ∷ map (λ e. e.world) (events_of ran.stages))
+      (machine_of old ∷ map (λ e. e.state_after) (events_of ran.stages))
   -- What was logged is replied what the serial server replies, in log order.
   pub in_log_order : ticket_replies (went (machine_of old) (events_of ran.stages))
-      ≡ told old.core.geometry (world_of old.core).settled (entries (went (machine_of old) (events_of ran.stages)))
+      ≡ serial_replies old.core.geometry (core_state_of old.core).committed (entries (went (machine_of old) (events_of ran.stages)))
   -- Where nothing waited or was held, each answer is also the one where all that arrived come by ticket.
-  pub in_ticket_order : IsIdle (world_of old.core) → (reply : ℕ × Reply) → Contains (answered (events_of ran.stages)) reply
-      → Contains (told old.core.geometry (world_of old.core).settled (by_ticket (arrived (events_of ran.stages)))) reply
+  pub in_ticket_order : IsIdle (core_state_of old.core) → (reply : ℕ × Reply) → Contains (answered (events_of ran.stages)) reply
+      → Contains (serial_replies old.core.geometry (core_state_of old.core).committed (by_ticket (arrived (events_of ran.stages)))) reply
 
 -- A run has ended: these events led from one machine to another, which has this core.
 pub record IsEndOfRun (start : MachineView) (events : List Event) (new : CoreView) : Type 0 where
@@ -89,6 +89,6 @@ pub record IsEndOfRun (start : MachineView) (events : List Event) (new : CoreVie
   pub hands : List Holding
   pub ends : last (machine_of start) events ≡ machine_of (record { core = new; hands = hands })
   pub geometry : new.geometry ≡ start.core.geometry
-  -- what `Core::stands` tells of it
+  -- what `Core::recovers` tells of it
   pub no_doubt : new.failed ≡ false → new.doubt ≡ []
-  pub stands : StandsNow new
+  pub recovers : RecoversNow new

@@ -3,7 +3,7 @@ use Rattle.std.specs.Prelude.{◌≡◌, ℕ, false, List, [], ◌∷◌, map, S
 use Rattle.affinity.specs.declared.geometry.Geometry.{Geometry}
 use Rattle.checkpoint.specs.Recovery.{holds}
 use Rattle.disk.specs.Device.{Medium}
-use Rattle.disk.specs.Moments.{LeavesOnly}
+use Rattle.disk.specs.Moments.{CrashImagesAre}
 use Rattle.journal.specs.Journal.{HoldsSome}
 use Rattle.legal_runs.specs.Crash.{IsLeftSince, in_doubt}
 use Rattle.legal_runs.specs.Events.{Event, Hands, touches_device}
@@ -22,24 +22,24 @@ abbrev pub device_after : Medium → List Stage → Medium
 device_after m [] = m
 device_after m (stage ∷ stages) = device_after stage.medium stages
 
--- A crash at any moment of an event leaves the state that was settled before it, with the first so many of the messages in
--- doubt: of those that the event is to append, or, in a failed world, of those that were to be appended when it failed.
+-- A crash at any moment of an event leaves the state that was committed before it, with the first so many of the messages in
+-- doubt: of those that the event is to append, or, in a failed core state, of those that were to be appended when it failed.
 abbrev pub AreSafe : Geometry → Hands → Medium → List Stage → Type 0
 AreSafe g w m [] = Unit {0}
 AreSafe g w m (stage ∷ stages) =
-    LeavesOnly m stage.medium (HoldsSome g w.core.settled (in_doubt w.core (stage.event ∷ [])))
-    × AreSafe g stage.event.world stage.medium stages
+    CrashImagesAre m stage.medium (HoldsSome g w.core.committed (in_doubt w.core (stage.event ∷ [])))
+    × AreSafe g stage.event.state_after stage.medium stages
 
 -- Each event tells whether the device failed in it, and left the device alone where its step touches none.
-abbrev pub TouchAsTold : Hands → Medium → List Stage → Type 0
-TouchAsTold w m [] = Unit {0}
-TouchAsTold w m (stage ∷ stages) =
+abbrev pub TouchesAgree : Hands → Medium → List Stage → Type 0
+TouchesAgree w m [] = Unit {0}
+TouchesAgree w m (stage ∷ stages) =
     CountsFailure stage.event.rose m.faults stage.medium.faults
     × (touches_device w.core stage.event.step ≡ false → stage.medium ≡ m)
-    × TouchAsTold stage.event.world stage.medium stages
+    × TouchesAgree stage.event.state_after stage.medium stages
 
--- These bytes stand for a state that a crash of a run may leave, if it comes when k events or more have ended.
-pub record StandsForRun (g : Geometry) (start : Hands) (events : List Event) (k : ℕ) (c : List ℕ) : Type 0 where
+-- These bytes recover to a state that a crash of a run may leave, if it comes when k events or more have ended.
+pub record RecoversForRun (g : Geometry) (start : Hands) (events : List Event) (k : ℕ) (c : List ℕ) : Type 0 where
   pub state : State
   pub is : holds g c ≡ Some state
   pub left : IsLeftSince g start events k state

@@ -1,6 +1,6 @@
 -- One step of a machine, and of its core alone.
 use Rattle.std.specs.Prelude.{◌≡◌, Bool, [], ◌∷◌}
-use Rattle.disk.specs.Moments.{LeavesOnly}
+use Rattle.disk.specs.Moments.{CrashImagesAre}
 use Rattle.journal.specs.Journal.{HoldsSome}
 use Rattle.legal_runs.specs.Crash.{in_doubt, to_append}
 use Rattle.legal_runs.specs.Events.{IsAllowed}
@@ -8,23 +8,23 @@ use Rattle.legal_runs.specs.declared.outcomes.Outcome.{Outcome}
 use Rattle.legal_runs.specs.declared.outcomes.Step.{Step}
 use Rattle.runs.specs.Machine.{MachineView, machine_of}
 use Rattle.scheduler.specs.Calls.{CountsFailure, IsCalled}
-use Rattle.scheduler.specs.Kept.{CoreView, StandsThroughout, world_of}
+use Rattle.scheduler.specs.CoreView.{CoreView, RecoversThroughout, core_state_of}
 
--- The step had this outcome: it was an event, at each moment of which a crash leaves what was settled, with the first so many
+-- The step had this outcome: it was an event, at each moment of which a crash leaves what was committed, with the first so many
 -- of the messages in doubt.
 pub record IsMachineStep (keeps : Type 0) (old new : MachineView) (step : Step) (outcome : Outcome) : Type 0 where
   pub rose : Bool
   pub allowed : IsAllowed old.core.geometry (machine_of old)
-      (record { step = step; outcome = outcome; rose = rose; world = machine_of new })
+      (record { step = step; outcome = outcome; rose = rose; state_after = machine_of new })
   pub geometry : new.core.geometry ≡ old.core.geometry
   pub failures : CountsFailure rose old.core.medium.faults new.core.medium.faults
-  pub any_moment : keeps → LeavesOnly old.core.medium new.core.medium (HoldsSome old.core.geometry (world_of old.core).settled
-      (in_doubt (world_of old.core) (record { step = step; outcome = outcome; rose = rose; world = machine_of new } ∷ [])))
+  pub any_moment : keeps → CrashImagesAre old.core.medium new.core.medium (HoldsSome old.core.geometry (core_state_of old.core).committed
+      (in_doubt (core_state_of old.core) (record { step = step; outcome = outcome; rose = rose; state_after = machine_of new } ∷ [])))
 
 -- The same of a core, whatever the hands have.
 pub record IsCoreStep (keeps : Type 0) (old new : CoreView) (step : Step) (outcome : Outcome) : Type 0 where
   pub rose : Bool
-  pub called : IsCalled old.geometry (world_of old) (world_of new) step outcome rose
+  pub called : IsCalled old.geometry (core_state_of old) (core_state_of new) step outcome rose
   pub geometry : new.geometry ≡ old.geometry
   pub failures : CountsFailure rose old.medium.faults new.medium.faults
-  pub any_moment : keeps → StandsThroughout (to_append (world_of old) step) old new
+  pub any_moment : keeps → RecoversThroughout (to_append (core_state_of old) step) old new

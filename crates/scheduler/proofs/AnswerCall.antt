@@ -15,10 +15,10 @@ use Rattle.messages.specs.declared.Reply.TheVariants.{Done}
 use Rattle.parcel.specs.Tree.{TreeView}
 use Rattle.scheduler.proofs.Answering.{answer_core, answer_front, with_answer}
 use Rattle.scheduler.proofs.Lines.{TakenLines, line_taken}
-use Rattle.scheduler.specs.Parts.{IsCore, Parts, parts, world_in}
+use Rattle.scheduler.specs.Parts.{IsCore, Parts, parts, core_state_in}
 use Rattle.scheduler.specs.Slots.{HasChains, SlotView, line, no_slot, place_at}
 use Rattle.scheduler.specs.declared.slot.Slot.{Slot}
-use Rattle.turns.specs.Turns.{Queuing, without_number}
+use Rattle.run_queue.specs.RunQueue.{RunQueueView, without_number}
 
 -- the first slot of a chain is one that there is
 pub front_low : {T : Type 0} (row : Row T) (c i : ℕ) → IsParted row → front_of row c ≡ Some i → i < capacity_of row
@@ -27,12 +27,12 @@ front_low row c i parted first =
     let all = times-append i row.free (concat row.chains) in
     parted.within i (omega (arith, some, all))
 
-module _ (keeps : Type 0) (row : Row Slot) (replies : List Reply) (tree : TreeView) (journal : JournalView) (turns : Queuing) (batch : List Msg) (next flight : ℕ)
+module _ (keeps : Type 0) (row : Row Slot) (replies : List Reply) (tree : TreeView) (journal : JournalView) (queue : RunQueueView) (batch : List Msg) (next flight : ℕ)
     (opened : TreeView) (since : List Msg) (is : HasChains row)
-    (k : IsCore keeps (parts row replies tree journal turns batch next flight opened since)) (slot : ℕ) (first : front_of row 3 ≡ Some slot)
+    (k : IsCore keeps (parts row replies tree journal queue batch next flight opened since)) (slot : ℕ) (first : front_of row 3 ≡ Some slot)
     (taken : Slot) (value : value_at row slot ≡ Some taken) where
   abbrev p : Parts
-  p = parts row replies tree journal turns batch next flight opened since
+  p = parts row replies tree journal queue batch next flight opened since
 
   abbrev x : SlotView
   x = (slot, taken, get_or replies slot Done)
@@ -47,8 +47,8 @@ module _ (keeps : Type 0) (row : Row Slot) (replies : List Reply) (tree : TreeVi
   lines : TakenLines row (after_take row slot) replies 3 behind
   lines = line_taken row replies is 3 x behind whole slot refl
 
-  abbrev turned : Queuing
-  turned = record turns { held = without_number taken.affinity.number turns.held }
+  abbrev turned : RunQueueView
+  turned = record queue { held = without_number taken.affinity.number queue.held }
 
   abbrev after : Parts
   after = parts (after_take row slot) replies tree journal turned batch next flight opened since
@@ -77,12 +77,12 @@ module _ (keeps : Type 0) (row : Row Slot) (replies : List Reply) (tree : TreeVi
   pub answer_call_ran : length (line (after_take row slot) replies 2) ≡ length (line row replies 2)
   answer_call_ran = ap length (lines.stays 2 (λ same. omega (arith, same)))
 
-  pub answer_call_world : (outcomes.Answered taken.ticket (get_or replies slot Done), world_in after) ≡ answer (world_in p) (world_in p).logged
-  answer_call_world =
-      (λ i. (outcomes.Answered taken.ticket (get_or replies slot Done), world_in (after_is i)))
-      ∙ ap (answer (world_in p)) (sym (answer_front keeps p k x behind whole (suc p.free) refl))
+  pub answer_call_state : (outcomes.Answered taken.ticket (get_or replies slot Done), core_state_in after) ≡ answer (core_state_in p) (core_state_in p).logged
+  answer_call_state =
+      (λ i. (outcomes.Answered taken.ticket (get_or replies slot Done), core_state_in (after_is i)))
+      ∙ ap (answer (core_state_in p)) (sym (answer_front keeps p k x behind whole (suc p.free) refl))
 
--- an item that there is, whatever stands for one that isn't
+-- an item that there is, whatever recovers to one that isn't
 pub get_or_any : {X : Type 0} (xs : List X) (i : ℕ) (d e : X) → i < length xs → get_or xs i d ≡ get_or xs i e
 get_or_any [] i d e low = absurd (omega (arith, low))
 get_or_any (x ∷ xs) zero d e low = refl

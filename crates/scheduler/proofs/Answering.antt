@@ -12,12 +12,12 @@ use Rattle.legal_runs.proofs.Lists.{all_back, all_front}
 use Rattle.legal_runs.proofs.Moves.{Answers}
 use Rattle.legal_runs.proofs.Sound.{move_sound}
 use Rattle.legal_runs.specs.Laws.{AreApart}
-use Rattle.legal_runs.specs.World.{Entry, entries, are_related_entries}
+use Rattle.legal_runs.specs.CoreState.{Entry, entries, are_related_entries}
 use Rattle.messages.specs.Messages.{place}
 use Rattle.scheduler.proofs.Tests.{any_answered, any_filter}
-use Rattle.scheduler.specs.Parts.{IsCore, IsPlaced, Parts, entry_of, replied_of, turn_of, world_in}
+use Rattle.scheduler.specs.Parts.{IsCore, IsPlaced, Parts, entry_of, replied_of, queued_of, core_state_in}
 use Rattle.scheduler.specs.Slots.{SlotView}
-use Rattle.turns.specs.Turns.{has_number, without_number}
+use Rattle.run_queue.specs.RunQueue.{has_number, without_number}
 
 -- Two places at one affinity are related.
 pub same_number : (g : Geometry) (x y : SlotView) → IsPlaced g x → IsPlaced g y → y.1.affinity.number ≡ x.1.affinity.number → are_related_entries g (entry_of x) (entry_of y) ≡ true
@@ -33,14 +33,14 @@ same_number g x y a b same =
     itself : contains x.1.affinity x.1.affinity.number ≡ true
     itself = turned _ (are_related-contains g (place g x.1.message) (place g x.1.message) x.1.affinity x.1.affinity a.affinity a.affinity ∙ are_related-refl (place g x.1.message))
 
-other_number : (g : Geometry) (x y : SlotView) → IsPlaced g x → IsPlaced g y → are_related_entries g (entry_of x) (entry_of y) ≡ false → not (has_number x.1.affinity.number (turn_of y)) ≡ true
+other_number : (g : Geometry) (x y : SlotView) → IsPlaced g x → IsPlaced g y → are_related_entries g (entry_of x) (entry_of y) ≡ false → not (has_number x.1.affinity.number (queued_of y)) ≡ true
 other_number g x y a b apart = elim (eqb_tells y.1.affinity.number x.1.affinity.number) [
   | inl e ↦ absurd (true≢false (sym (same_number g x y a b e.1) ∙ apart))
   | inr n ↦ ap not n.0
 ]
 
 pub other_numbers : (g : Geometry) (x : SlotView) → IsPlaced g x → (ys : List SlotView) → AllByRecursion (IsPlaced g) ys → AllByRecursion (λ d. are_related_entries g (entry_of x) d ≡ false) (map entry_of ys)
-    → AllByRecursion (λ y. not (has_number x.1.affinity.number (turn_of y)) ≡ true) ys
+    → AllByRecursion (λ y. not (has_number x.1.affinity.number (queued_of y)) ≡ true) ys
 other_numbers g x a [] all apart = tt
 other_numbers g x a (y ∷ ys) all apart = (other_number g x y a all.0 apart.0, other_numbers g x a ys all.1 apart.1)
 
@@ -53,7 +53,7 @@ abbrev pub with_answer : Parts → List SlotView → ℕ → ℕ → Parts
 with_answer p logged free number = record p {
   lines = record p.lines { logged = logged };
   free = free;
-  turns = record p.turns { held = without_number number p.turns.held };
+  queue = record p.queue { held = without_number number p.queue.held };
 }
 
 module _ (keeps : Type 0) (p : Parts) (k : IsCore keeps p) (x : SlotView) (behind : List SlotView) (whole : p.lines.logged ≡ x ∷ behind) (free : ℕ)
@@ -67,7 +67,7 @@ module _ (keeps : Type 0) (p : Parts) (k : IsCore keeps p) (x : SlotView) (behin
   all_logged : AllByRecursion (IsPlaced g) (x ∷ behind)
   all_logged = subst (AllByRecursion (IsPlaced g)) whole k.placed.logged
 
-  pub answer_front : (world_in p).logged ≡ replied_of x ∷ (world_in after).logged
+  pub answer_front : (core_state_in p).logged ≡ replied_of x ∷ (core_state_in after).logged
   answer_front = ap (map replied_of) whole
 
   apart_rest : AllByRecursion (λ d. are_related_entries g (entry_of x) d ≡ false) (entries (map replied_of behind) ++ (entries (map replied_of p.lines.ran) ++ map entry_of p.lines.out))
@@ -92,17 +92,17 @@ module _ (keeps : Type 0) (p : Parts) (k : IsCore keeps p) (x : SlotView) (behin
         turned = k.turned;
         seats = k.seats;
         waits = k.waits;
-        holds = λ test. any_filter test (λ t. not (has_number x.1.affinity.number t)) p.turns.held
+        holds = λ test. any_filter test (λ t. not (has_number x.1.affinity.number t)) p.queue.held
             ∙ k.holds (λ t. not (has_number x.1.affinity.number t) && test t)
             ∙ any_answered test (λ t. not (has_number x.1.affinity.number t)) p.lines x behind whole (ap not (eq-eqb x.1.affinity.number x.1.affinity.number refl))
             (other_numbers g x all_logged.0 behind all_logged.1 behinds)
             (other_numbers g x all_logged.0 p.lines.ran k.placed.ran rans)
             (other_numbers g x all_logged.0 p.lines.out k.placed.out outs);
         flies = k.flies;
-        sound = move_sound g (world_in p) (world_in after) _ (Answers (replied_of x) (map replied_of behind) answer_front refl refl) k.sound;
+        sound = move_sound g (core_state_in p) (core_state_in after) _ (Answers (replied_of x) (map replied_of behind) answer_front refl refl) k.sound;
         geometry = k.geometry;
         tree = k.tree;
-        is_settled = k.is_settled;
-        stands = k.stands;
+        is_committed = k.is_committed;
+        recovers = k.recovers;
         no_doubt = k.no_doubt;
       }

@@ -10,7 +10,7 @@ use Rattle.arena.specs.Row.{IsParted, Row, after_move, after_put, capacity_of, c
 use Rattle.journal.specs.Journal.{JournalView}
 use Rattle.legal_runs.proofs.Lists.{all_back}
 use Rattle.legal_runs.specs.Events.{arrive}
-use Rattle.legal_runs.specs.World.{Entry, held}
+use Rattle.legal_runs.specs.CoreState.{Entry, held}
 use Rattle.legal_runs.specs.declared.outcomes.ArriveRefusal.TheVariants as arrivals
 use Rattle.legal_runs.specs.declared.outcomes.Outcome.TheVariants as outcomes
 use Rattle.messages.specs.Messages.{is_in_range}
@@ -18,14 +18,14 @@ use Rattle.messages.specs.declared.Msg.{Msg}
 use Rattle.messages.specs.declared.Reply.{Reply}
 use Rattle.messages.specs.declared.Reply.TheVariants.{Done}
 use Rattle.parcel.specs.Tree.{TreeView}
-use Rattle.scheduler.proofs.Arriving.{arrival_core, arrival_world, has_slot, with_arrival}
+use Rattle.scheduler.proofs.Arriving.{arrival_core, arrival_state, has_slot, with_arrival}
 use Rattle.scheduler.proofs.Choosing.{any_map}
 use Rattle.scheduler.proofs.Counting.{count_of}
 use Rattle.scheduler.proofs.Lines.{JoinedLines, line_joined}
-use Rattle.scheduler.specs.Parts.{IsCore, IsPlaced, Parts, entry_of, parts, turn_of, world_in}
+use Rattle.scheduler.specs.Parts.{IsCore, IsPlaced, Parts, entry_of, parts, queued_of, core_state_in}
 use Rattle.scheduler.specs.Slots.{HasChains, SlotView, line, place_at}
 use Rattle.scheduler.specs.declared.slot.Slot.{Slot}
-use Rattle.turns.specs.Turns.{CameBefore, Queuing, has_slot as has_slot_of}
+use Rattle.run_queue.specs.RunQueue.{CameBefore, RunQueueView, has_slot as has_slot_of}
 
 none_free : (free : List ℕ) (value back : Slot) → slot_from free value ≡ Err back → free ≡ []
 none_free [] value back e = refl
@@ -46,42 +46,42 @@ off_line row replies i (x ∷ xs) none = elim (eqb_tells x i) [
 pub not_this : (n m : ℕ) → (n ≡ m → ⊥) → (n == m) ≡ false
 not_this n m other = elim (eqb_tells n m) [ inl e ↦ absurd (other e.1) | inr e ↦ e.0 ]
 
-came_before : (ticket : ℕ) (ys : List SlotView) → AllByRecursion (λ e. e.0 < ticket) (map entry_of ys) → CameBefore ticket (map turn_of ys)
+came_before : (ticket : ℕ) (ys : List SlotView) → AllByRecursion (λ e. e.0 < ticket) (map entry_of ys) → CameBefore ticket (map queued_of ys)
 came_before ticket [] all = tt
 came_before ticket (y ∷ ys) all = (all.0, came_before ticket ys all.1)
 
-module _ (keeps : Type 0) (row : Row Slot) (replies : List Reply) (tree : TreeView) (journal : JournalView) (turns : Queuing) (batch : List Msg) (next flight : ℕ)
+module _ (keeps : Type 0) (row : Row Slot) (replies : List Reply) (tree : TreeView) (journal : JournalView) (queue : RunQueueView) (batch : List Msg) (next flight : ℕ)
     (opened : TreeView) (since : List Msg) (is : HasChains row)
-    (k : IsCore keeps (parts row replies tree journal turns batch next flight opened since)) (value : Slot) where
+    (k : IsCore keeps (parts row replies tree journal queue batch next flight opened since)) (value : Slot) where
   abbrev p : Parts
-  p = parts row replies tree journal turns batch next flight opened since
+  p = parts row replies tree journal queue batch next flight opened since
 
   abbrev m : Msg
   m = value.message
 
   -- where it is neither refused for the device, nor for its numbers, nor for want of tickets
   tested : journal.failed ≡ false → is_in_range journal.geometry m ≡ true → (next == 2 ^ 64 - 1) ≡ false
-      → arrive journal.geometry (world_in p) m ≡ (if nat_le (capacity_of row) (length (world_in p).waiting + length (held (world_in p)))
-      then (outcomes.ArriveRefused arrivals.Full, world_in p)
-      else (outcomes.Ticket next, record (world_in p) { waiting = (world_in p).waiting ++ (next, m) ∷ []; next = next + 1 }))
+      → arrive journal.geometry (core_state_in p) m ≡ (if nat_le (capacity_of row) (length (core_state_in p).waiting + length (held (core_state_in p)))
+      then (outcomes.ArriveRefused arrivals.Full, core_state_in p)
+      else (outcomes.Ticket next, record (core_state_in p) { waiting = (core_state_in p).waiting ++ (next, m) ∷ []; next = next + 1 }))
   tested works range more = λ i.
-      if works i then (outcomes.ArriveRefused arrivals.Failed, world_in p)
-      else if not (range i) then (outcomes.ArriveRefused arrivals.Range, world_in p)
-      else if more i then (outcomes.ArriveRefused arrivals.Exhausted, world_in p)
-      else if nat_le (capacity_of row) (length (world_in p).waiting + length (held (world_in p))) then (outcomes.ArriveRefused arrivals.Full, world_in p)
-      else (outcomes.Ticket next, record (world_in p) { waiting = (world_in p).waiting ++ (next, m) ∷ []; next = next + 1 })
+      if works i then (outcomes.ArriveRefused arrivals.Failed, core_state_in p)
+      else if not (range i) then (outcomes.ArriveRefused arrivals.Range, core_state_in p)
+      else if more i then (outcomes.ArriveRefused arrivals.Exhausted, core_state_in p)
+      else if nat_le (capacity_of row) (length (core_state_in p).waiting + length (held (core_state_in p))) then (outcomes.ArriveRefused arrivals.Full, core_state_in p)
+      else (outcomes.Ticket next, record (core_state_in p) { waiting = (core_state_in p).waiting ++ (next, m) ∷ []; next = next + 1 })
 
   module _ (back : Slot) (full : put_answer row value ≡ Err back) where
     pub full_row : after_put row value ≡ row
     full_row = ap (λ fs. put_into row fs value) (none_free row.free value back full)
 
-    pub full_world : journal.failed ≡ false → is_in_range journal.geometry m ≡ true → (next == 2 ^ 64 - 1) ≡ false
-        → (outcomes.ArriveRefused arrivals.Full, world_in p) ≡ arrive journal.geometry (world_in p) m
-    full_world works range more = sym (tested works range more ∙ (λ i. if filled i then (outcomes.ArriveRefused arrivals.Full, world_in p)
-        else (outcomes.Ticket next, record (world_in p) { waiting = (world_in p).waiting ++ (next, m) ∷ []; next = next + 1 })))
+    pub full_state : journal.failed ≡ false → is_in_range journal.geometry m ≡ true → (next == 2 ^ 64 - 1) ≡ false
+        → (outcomes.ArriveRefused arrivals.Full, core_state_in p) ≡ arrive journal.geometry (core_state_in p) m
+    full_state works range more = sym (tested works range more ∙ (λ i. if filled i then (outcomes.ArriveRefused arrivals.Full, core_state_in p)
+        else (outcomes.Ticket next, record (core_state_in p) { waiting = (core_state_in p).waiting ++ (next, m) ∷ []; next = next + 1 })))
       where
-        filled : nat_le (capacity_of row) (length (world_in p).waiting + length (held (world_in p))) ≡ true
-        filled = elim (leb_tells (capacity_of row) (length (world_in p).waiting + length (held (world_in p)))) [
+        filled : nat_le (capacity_of row) (length (core_state_in p).waiting + length (held (core_state_in p))) ≡ true
+        filled = elim (leb_tells (capacity_of row) (length (core_state_in p).waiting + length (held (core_state_in p)))) [
           | inl e ↦ e.0
           | inr n ↦ absurd (let short = n.1 in let count = count_of p in let claimed = k.claimed in let none = ap length (none_free row.free value back full) in omega (arith, short, count, claimed, none))
         ]
@@ -93,27 +93,27 @@ module _ (keeps : Type 0) (row : Row Slot) (replies : List Reply) (tree : TreeVi
     lines : JoinedLines row (after_move (after_put row value) slot 0) replies slot 0 value
     lines = line_joined row replies is slot 0 (omega arith) split.0 value split.1
 
-    pub arrive_later : CameBefore next turns.waiting
+    pub arrive_later : CameBefore next queue.waiting
     arrive_later = subst (CameBefore next) (sym k.waits)
-        (came_before next p.lines.waiting (all_back (λ (e : Entry). e.0 < next) (world_in p).out (world_in p).waiting k.sound.given))
+        (came_before next p.lines.waiting (all_back (λ (e : Entry). e.0 < next) (core_state_in p).out (core_state_in p).waiting k.sound.given))
 
-    pub arrive_slot : slot < turns.slots
+    pub arrive_slot : slot < queue.slots
     arrive_slot = let low = lines.low in let seats = k.seats in omega (arith, low, seats)
 
     line_off : (c : ℕ) → list_any (λ (y : SlotView). y.0 == slot) (line row replies c) ≡ false
     line_off c = off_line row replies slot (chain_at row c) (lines.none_had c)
 
-    pub arrive_new : list_any (has_slot_of slot) (turns.waiting ++ turns.held) ≡ false
+    pub arrive_new : list_any (has_slot_of slot) (queue.waiting ++ queue.held) ≡ false
     arrive_new =
-        list_any-append (has_slot_of slot) turns.waiting turns.held
-        ∙ (λ i. (ap (list_any (has_slot_of slot)) k.waits ∙ any_map turn_of (has_slot_of slot) p.lines.waiting ∙ line_off 0) i || k.holds (has_slot_of slot) i)
+        list_any-append (has_slot_of slot) queue.waiting queue.held
+        ∙ (λ i. (ap (list_any (has_slot_of slot)) k.waits ∙ any_map queued_of (has_slot_of slot) p.lines.waiting ∙ line_off 0) i || k.holds (has_slot_of slot) i)
         ∙ (λ i. line_off 3 i || (line_off 2 i || line_off 1 i))
 
     abbrev x : SlotView
     x = (slot, value, get_or replies slot Done)
 
-    abbrev turned : Queuing
-    turned = record turns { waiting = turns.waiting ++ turn_of x ∷ [] }
+    abbrev turned : RunQueueView
+    turned = record queue { waiting = queue.waiting ++ queued_of x ∷ [] }
 
     abbrev after : Parts
     after = parts (after_move (after_put row value) slot 0) replies tree journal turned batch (next + 1) flight opened since
@@ -136,15 +136,15 @@ module _ (keeps : Type 0) (row : Row Slot) (replies : List Reply) (tree : TreeVi
       pub arrive_core : IsCore keeps after
       arrive_core = subst (IsCore keeps) (sym after_is) (arrival_core keeps p k x new_free ticket placed lines.free)
 
-      pub arrive_world : journal.failed ≡ false → is_in_range journal.geometry m ≡ true → (next == 2 ^ 64 - 1) ≡ false
-          → (outcomes.Ticket next, world_in after) ≡ arrive journal.geometry (world_in p) m
-      arrive_world works range more =
-          (λ i. (outcomes.Ticket next, (ap world_in after_is ∙ arrival_world keeps p k x new_free ticket placed lines.free) i))
-          ∙ sym (tested works range more ∙ (λ i. if fits i then (outcomes.ArriveRefused arrivals.Full, world_in p)
-          else (outcomes.Ticket next, record (world_in p) { waiting = (world_in p).waiting ++ (next, m) ∷ []; next = next + 1 })))
+      pub arrive_state : journal.failed ≡ false → is_in_range journal.geometry m ≡ true → (next == 2 ^ 64 - 1) ≡ false
+          → (outcomes.Ticket next, core_state_in after) ≡ arrive journal.geometry (core_state_in p) m
+      arrive_state works range more =
+          (λ i. (outcomes.Ticket next, (ap core_state_in after_is ∙ arrival_state keeps p k x new_free ticket placed lines.free) i))
+          ∙ sym (tested works range more ∙ (λ i. if fits i then (outcomes.ArriveRefused arrivals.Full, core_state_in p)
+          else (outcomes.Ticket next, record (core_state_in p) { waiting = (core_state_in p).waiting ++ (next, m) ∷ []; next = next + 1 })))
         where
-          fits : nat_le (capacity_of row) (length (world_in p).waiting + length (held (world_in p))) ≡ false
-          fits = elim (leb_tells (capacity_of row) (length (world_in p).waiting + length (held (world_in p)))) [
+          fits : nat_le (capacity_of row) (length (core_state_in p).waiting + length (held (core_state_in p))) ≡ false
+          fits = elim (leb_tells (capacity_of row) (length (core_state_in p).waiting + length (held (core_state_in p)))) [
             | inl e ↦ absurd (let some = has_slot keeps p k x new_free ticket placed lines.free in let few = e.1 in omega (arith, some, few))
             | inr n ↦ n.0
           ]

@@ -4,10 +4,10 @@ use Rattle.std.proofs.lemmas.List.{length-append, map-append}
 use Rattle.legal_runs.proofs.Lists.{all_join}
 use Rattle.legal_runs.proofs.Moves.{Arrives}
 use Rattle.legal_runs.proofs.Sound.{move_sound}
-use Rattle.legal_runs.specs.Laws.{IsSoundWorld}
-use Rattle.legal_runs.specs.World.{held}
+use Rattle.legal_runs.specs.Laws.{IsSoundCoreState}
+use Rattle.legal_runs.specs.CoreState.{held}
 use Rattle.scheduler.proofs.Counting.{count_of}
-use Rattle.scheduler.specs.Parts.{IsCore, IsPlaced, Parts, entry_of, turn_of, world_in}
+use Rattle.scheduler.specs.Parts.{IsCore, IsPlaced, Parts, entry_of, queued_of, core_state_in}
 use Rattle.scheduler.specs.Slots.{SlotView}
 
 abbrev pub with_arrival : Parts → SlotView → ℕ → Parts
@@ -15,18 +15,18 @@ with_arrival p x free = record p {
   lines = record p.lines { waiting = p.lines.waiting ++ x ∷ [] };
   free = free;
   next = p.next + 1;
-  turns = record p.turns { waiting = p.turns.waiting ++ turn_of x ∷ [] };
+  queue = record p.queue { waiting = p.queue.waiting ++ queued_of x ∷ [] };
 }
 
 module _ (keeps : Type 0) (p : Parts) (k : IsCore keeps p) (x : SlotView) (free : ℕ) (ticket : x.1.ticket ≡ p.next) (placed : IsPlaced p.journal.geometry x)
     (was_free : p.free ≡ suc free) where
-  pub arrival_world : world_in (with_arrival p x free)
-      ≡ record (world_in p) { waiting = (world_in p).waiting ++ (p.next, x.1.message) ∷ []; next = p.next + 1 }
-  arrival_world = λ i. record (world_in (with_arrival p x free)) {
+  pub arrival_state : core_state_in (with_arrival p x free)
+      ≡ record (core_state_in p) { waiting = (core_state_in p).waiting ++ (p.next, x.1.message) ∷ []; next = p.next + 1 }
+  arrival_state = λ i. record (core_state_in (with_arrival p x free)) {
     waiting = (map-append entry_of p.lines.waiting (x ∷ []) ∙ (λ j. map entry_of p.lines.waiting ++ (ticket j, x.1.message) ∷ [])) i;
   }
 
-  pub has_slot : length (world_in p).waiting + length (held (world_in p)) < p.capacity
+  pub has_slot : length (core_state_in p).waiting + length (held (core_state_in p)) < p.capacity
   has_slot = let count = count_of p in let claimed = k.claimed in omega (arith, count, claimed, was_free)
 
   pub arrival_core : IsCore keeps (with_arrival p x free)
@@ -43,14 +43,14 @@ module _ (keeps : Type 0) (p : Parts) (k : IsCore keeps p) (x : SlotView) (free 
         };
         turned = k.turned;
         seats = k.seats;
-        waits = ap (λ ts. ts ++ turn_of x ∷ []) k.waits ∙ sym (map-append turn_of p.lines.waiting (x ∷ []));
+        waits = ap (λ ts. ts ++ queued_of x ∷ []) k.waits ∙ sym (map-append queued_of p.lines.waiting (x ∷ []));
         holds = k.holds;
         flies = k.flies;
-        sound = subst (IsSoundWorld p.journal.geometry) (sym arrival_world)
-            (move_sound p.journal.geometry (world_in p) _ _ (Arrives x.1.message has_slot refl refl) k.sound);
+        sound = subst (IsSoundCoreState p.journal.geometry) (sym arrival_state)
+            (move_sound p.journal.geometry (core_state_in p) _ _ (Arrives x.1.message has_slot refl refl) k.sound);
         geometry = k.geometry;
         tree = k.tree;
-        is_settled = k.is_settled;
-        stands = k.stands;
+        is_committed = k.is_committed;
+        recovers = k.recovers;
         no_doubt = k.no_doubt;
       }

@@ -5,7 +5,7 @@ use Rattle.std.proofs.lemmas.Bool.{and_from, lt-ltb, not_from_false}
 use Rattle.affinity.specs.declared.geometry.Geometry.{Geometry}
 use Rattle.image.specs.Pieces.{piece_count}
 use Rattle.legal_runs.specs.Events.{Hand, Hands, answer, arrive, batch, fewer, flip_refusal, is_ended, log, piece_refusal, point_refusal, unless_refused}
-use Rattle.legal_runs.specs.World.{World}
+use Rattle.legal_runs.specs.CoreState.{CoreState}
 use Rattle.legal_runs.specs.declared.outcomes.ArriveRefusal.{ArriveRefusal}
 use Rattle.legal_runs.specs.declared.outcomes.CoreFault.{CoreFault}
 use Rattle.legal_runs.specs.declared.outcomes.CoreFault.TheVariants as faults
@@ -18,21 +18,21 @@ use Rattle.messages.specs.declared.Msg.{Msg}
 use Rattle.messages.specs.declared.Reply.{Reply}
 use Rattle.scheduler.specs.Calls.{IsCalled, IsLogStep, IsPieceStep, IsPointStep, answer_outcome, arrive_outcome, log_rose, log_outcome, point_rose, step_outcome}
 
-abbrev In : World → List Hand → Hands
+abbrev In : CoreState → List Hand → Hands
 In w hands = record { core = w; hands = hands }
 
-module _ (g : Geometry) (old new : World) where
+module _ (g : Geometry) (old new : CoreState) where
   pub arrive_called : (m : Msg) (r : Result ℕ ArriveRefusal) → (arrive_outcome r, new) ≡ arrive g old m
       → IsCalled g old new (steps.Arrive m) (arrive_outcome r) false
   arrive_called m r e hands =
-      record { to_write = 0; at_most = omega arith; does = ap (λ (x : Outcome × World). (x.0, In x.1 hands)) (sym e) }
+      record { to_write = 0; at_most = omega arith; does = ap (λ (x : Outcome × CoreState). (x.0, In x.1 hands)) (sym e) }
 
   pub answer_called : (r : Option (ℕ × Reply)) → (answer_outcome r, new) ≡ answer old old.logged → IsCalled g old new steps.Answer (answer_outcome r) false
   answer_called r e hands =
-      record { to_write = 0; at_most = omega arith; does = ap (λ (x : Outcome × World). (x.0, In x.1 hands)) (sym e) }
+      record { to_write = 0; at_most = omega arith; does = ap (λ (x : Outcome × CoreState). (x.0, In x.1 hands)) (sym e) }
 
   -- whether a log is refused
-  abbrev log_if : ℕ → Bool → Outcome × World
+  abbrev log_if : ℕ → Bool → Outcome × CoreState
   log_if n b = if b then (outcomes.LogFault faults.Failed, old) else (outcomes.Logged (length (take n old.ran)), log g old n)
 
   pub log_called : (n : ℕ) (r : Result ℕ CoreFault) → IsLogStep g old new n r → IsCalled g old new (steps.Log n) (log_outcome r) (log_rose r)
@@ -57,14 +57,14 @@ module _ (g : Geometry) (old new : World) where
   }
 
   -- the event of a step that is refused for a reason, if there is one
-  abbrev By : List Hand → Option PointRefusal → Outcome × World → Outcome × Hands
+  abbrev By : List Hand → Option PointRefusal → Outcome × CoreState → Outcome × Hands
   By hands why made = ((unless_refused old why made).0, In (unless_refused old why made).1 hands)
 
-  refused : (hands : List Hand) (why : Option PointRefusal) (made : Outcome × World) (refusal : PointRefusal) → why ≡ Some refusal
+  refused : (hands : List Hand) (why : Option PointRefusal) (made : Outcome × CoreState) (refusal : PointRefusal) → why ≡ Some refusal
       → new ≡ old → By hands why made ≡ (outcomes.PointRefused refusal, In new hands)
   refused hands why made refusal e same = ap (λ o. By hands o made) e ∙ (λ i. (outcomes.PointRefused refusal, In (sym same i) hands))
 
-  carried : (hands : List Hand) (why : Option PointRefusal) (outcome : Outcome) (made : World) → why ≡ None → new ≡ made
+  carried : (hands : List Hand) (why : Option PointRefusal) (outcome : Outcome) (made : CoreState) → why ≡ None → new ≡ made
       → By hands why (outcome, made) ≡ (outcome, In new hands)
   carried hands why outcome made e is = ap (λ o. By hands o (outcome, made)) e ∙ (λ i. (outcome, In (sym is i) hands))
 

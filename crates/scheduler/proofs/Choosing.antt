@@ -8,20 +8,20 @@ use Rattle.std.proofs.lemmas.List.Folds.{list_any-append}
 use Rattle.std.proofs.lemmas.Option.{none-some, same_Some}
 use Rattle.affinity.proofs.Preorder.{are_related-contains}
 use Rattle.affinity.specs.declared.geometry.Geometry.{Geometry}
-use Rattle.legal_runs.specs.Eligible.{has_room as has_room_for, is_clear as is_clear_in, is_eligible, lacks_room_alone, next_eligible, pick}
+use Rattle.legal_runs.specs.Eligible.{has_room as has_room_for, is_conflict_free as is_clear_in, is_eligible, lacks_room_alone, next_eligible, pick}
 use Rattle.legal_runs.specs.Events.{no_grant}
 use Rattle.legal_runs.specs.Laws.{AreAscending}
-use Rattle.legal_runs.specs.World.{Entry, World, entries, entry, are_related_entries}
+use Rattle.legal_runs.specs.CoreState.{Entry, CoreState, entries, entry, are_related_entries}
 use Rattle.legal_runs.specs.declared.outcomes.Outcome.TheVariants as outcomes
 use Rattle.messages.specs.Messages.{place}
 use Rattle.scheduler.specs.Calls.{IsGranted}
-use Rattle.scheduler.specs.Parts.{ArePlaced, IsCore, IsPlaced, Parts, entry_of, held_any, replied_of, turn_of, world_in}
+use Rattle.scheduler.specs.Parts.{ArePlaced, IsCore, IsPlaced, Parts, entry_of, held_any, replied_of, queued_of, core_state_in}
 use Rattle.scheduler.specs.Slots.{Lines, SlotView}
 use Rattle.scheduler.specs.declared.granted.Granted.{Granted}
 use Rattle.scheduler.specs.declared.granted.Granted.TheVariants as granted
-use Rattle.turns.proofs.ByTicket.{Ascend, comes_first, is_clear, next_is_first}
-use Rattle.turns.specs.Turns.{has_room, next_turn, are_related_intervals}
-use Rattle.turns.specs.declared.entries.Turn.{Turn}
+use Rattle.run_queue.proofs.ByTicket.{Ascend, comes_first, is_conflict_free, next_is_first}
+use Rattle.run_queue.specs.RunQueue.{has_room, next_queued, are_related_intervals}
+use Rattle.run_queue.specs.declared.queued_message.QueuedMessage.{QueuedMessage}
 
 -- ---- tests of lists
 
@@ -41,18 +41,18 @@ all_of P Q f (x ∷ xs) all = (f x all.0, all_of P Q f xs all.1)
 
 module _ (g : Geometry) where
   -- affinities overlap exactly where places are related
-  pub overlaps : (x y : SlotView) → IsPlaced g x → IsPlaced g y → are_related_intervals (turn_of x).affinity (turn_of y).affinity ≡ are_related_entries g (entry_of x) (entry_of y)
+  pub overlaps : (x y : SlotView) → IsPlaced g x → IsPlaced g y → are_related_intervals (queued_of x).affinity (queued_of y).affinity ≡ are_related_entries g (entry_of x) (entry_of y)
   overlaps x y a b = are_related-contains g (place g x.1.message) (place g y.1.message) x.1.affinity y.1.affinity a.affinity b.affinity
 
   line_touch : (x : SlotView) → IsPlaced g x → (ys : List SlotView) → AllByRecursion (IsPlaced g) ys
-      → list_any (λ y. are_related_intervals (turn_of x).affinity (turn_of y).affinity) ys ≡ list_any (λ y. are_related_entries g (entry_of x) (entry_of y)) ys
+      → list_any (λ y. are_related_intervals (queued_of x).affinity (queued_of y).affinity) ys ≡ list_any (λ y. are_related_entries g (entry_of x) (entry_of y)) ys
   line_touch x a ys all = any_same (IsPlaced g) _ _ (λ y b. overlaps x y a b) ys all
 
   entries_touch : (e : Entry) (ys : List SlotView) → list_any (are_related_entries g e) (entries (map replied_of ys)) ≡ list_any (λ y. are_related_entries g e (entry_of y)) ys
   entries_touch e ys = any_map entry (are_related_entries g e) (map replied_of ys) ∙ any_map replied_of (λ a. are_related_entries g e (entry a)) ys
 
   pub held_touch : (l : Lines) → ArePlaced g l → (x : SlotView) → IsPlaced g x
-      → held_any (λ o. are_related_intervals (turn_of x).affinity o.affinity) l
+      → held_any (λ o. are_related_intervals (queued_of x).affinity o.affinity) l
       ≡ list_any (are_related_entries g (entry_of x)) (entries (map replied_of l.logged) ++ (entries (map replied_of l.ran) ++ map entry_of l.out))
   held_touch l placed x a =
       let e = entry_of x in
@@ -63,47 +63,47 @@ module _ (g : Geometry) where
       ∙ sym (list_any-append (are_related_entries g e) (entries (map replied_of l.logged)) (entries (map replied_of l.ran) ++ map entry_of l.out))
 
   pub waits_touch : (ys : List SlotView) → AllByRecursion (IsPlaced g) ys → (x : SlotView) → IsPlaced g x
-      → list_any (comes_first (turn_of x)) (map turn_of ys) ≡ list_any (λ d. nat_lt d.0 (entry_of x).0 && are_related_entries g (entry_of x) d) (map entry_of ys)
+      → list_any (comes_first (queued_of x)) (map queued_of ys) ≡ list_any (λ d. nat_lt d.0 (entry_of x).0 && are_related_entries g (entry_of x) d) (map entry_of ys)
   waits_touch ys all x a =
-      any_map turn_of (comes_first (turn_of x)) ys
-      ∙ any_same (IsPlaced g) (λ y. comes_first (turn_of x) (turn_of y)) (λ y. nat_lt (entry_of y).0 (entry_of x).0 && are_related_entries g (entry_of x) (entry_of y))
-      (λ y b. ap (λ t. nat_lt (turn_of y).ticket (turn_of x).ticket && t) (overlaps x y a b)) ys all
+      any_map queued_of (comes_first (queued_of x)) ys
+      ∙ any_same (IsPlaced g) (λ y. comes_first (queued_of x) (queued_of y)) (λ y. nat_lt (entry_of y).0 (entry_of x).0 && are_related_entries g (entry_of x) (entry_of y))
+      (λ y b. ap (λ t. nat_lt (queued_of y).ticket (queued_of x).ticket && t) (overlaps x y a b)) ys all
       ∙ sym (any_map entry_of (λ d. nat_lt d.0 (entry_of x).0 && are_related_entries g (entry_of x) d) ys)
 
 -- ---- the one that is found
 
-pub ascend_from : (ys : List SlotView) → AreAscending (map entry_of ys) → Ascend (map turn_of ys)
+pub ascend_from : (ys : List SlotView) → AreAscending (map entry_of ys) → Ascend (map queued_of ys)
 ascend_from [] h = tt
 ascend_from (y ∷ ys) h = (later y ys h.0, ascend_from ys h.1)
   where
-    later : (y : SlotView) (ys : List SlotView) → AllByRecursion (λ d. (entry_of y).0 < d.0) (map entry_of ys) → AllByRecursion (λ t. (turn_of y).ticket < t.ticket) (map turn_of ys)
+    later : (y : SlotView) (ys : List SlotView) → AllByRecursion (λ d. (entry_of y).0 < d.0) (map entry_of ys) → AllByRecursion (λ t. (queued_of y).ticket < t.ticket) (map queued_of ys)
     later y [] h = tt
     later y (z ∷ ys) h = (h.0, later y ys h.1)
 
 -- A place among others, of which the message is the first that passes.
-pub record Chosen (q : Entry → Bool) (ys : List SlotView) (t : Turn) : Type 0 where
+pub record Chosen (q : Entry → Bool) (ys : List SlotView) (t : QueuedMessage) : Type 0 where
   pub before : List SlotView
   pub at : SlotView
   pub behind : List SlotView
   pub whole : ys ≡ before ++ at ∷ behind
-  pub turn : turn_of at ≡ t
+  pub queued : queued_of at ≡ t
   pub picked : pick q (map entry_of ys) ≡ Some (entry_of at, map entry_of (before ++ behind))
 
-abbrev Same : (Turn → Bool) → (Entry → Bool) → List SlotView → Type 0
-Same p q ys = AllByRecursion (λ y. p (turn_of y) ≡ q (entry_of y)) ys
+abbrev Same : (QueuedMessage → Bool) → (Entry → Bool) → List SlotView → Type 0
+Same p q ys = AllByRecursion (λ y. p (queued_of y) ≡ q (entry_of y)) ys
 
-pub chosen : (p : Turn → Bool) (q : Entry → Bool) (ys : List SlotView) → Same p q ys → (t : Turn) → find p (map turn_of ys) ≡ Some t → Chosen q ys t
+pub chosen : (p : QueuedMessage → Bool) (q : Entry → Bool) (ys : List SlotView) → Same p q ys → (t : QueuedMessage) → find p (map queued_of ys) ≡ Some t → Chosen q ys t
 chosen p q [] same t h = absurd (none-some t h)
-chosen p q (y ∷ ys) same t h = by (chosen p q ys same.1 t) (p (turn_of y)) refl h
+chosen p q (y ∷ ys) same t h = by (chosen p q ys same.1 t) (p (queued_of y)) refl h
   where
-    by : (find p (map turn_of ys) ≡ Some t → Chosen q ys t) → (b : Bool) → p (turn_of y) ≡ b
-        → cond b (Some (turn_of y)) (find p (map turn_of ys)) ≡ Some t → Chosen q (y ∷ ys) t
+    by : (find p (map queued_of ys) ≡ Some t → Chosen q ys t) → (b : Bool) → p (queued_of y) ≡ b
+        → cond b (Some (queued_of y)) (find p (map queued_of ys)) ≡ Some t → Chosen q (y ∷ ys) t
     by deeper true e h = record {
       before = [];
       at = y;
       behind = ys;
       whole = refl;
-      turn = same_Some (turn_of y) t h;
+      queued = same_Some (queued_of y) t h;
       picked = ap (λ b. if b then Some (entry_of y, map entry_of ys) else option_map (λ (found : Entry × List Entry). (found.0, entry_of y ∷ found.1)) (pick q (map entry_of ys)))
           (sym same.0 ∙ e);
     }
@@ -112,31 +112,31 @@ chosen p q (y ∷ ys) same t h = by (chosen p q ys same.1 t) (p (turn_of y)) ref
       at = k.at;
       behind = k.behind;
       whole = ap (λ l. y ∷ l) k.whole;
-      turn = k.turn;
+      queued = k.queued;
       picked = ap (λ b. if b then Some (entry_of y, map entry_of ys) else option_map (λ (found : Entry × List Entry). (found.0, entry_of y ∷ found.1)) (pick q (map entry_of ys)))
           (sym same.0 ∙ e)
           ∙ ap (λ o. option_map (λ (found : Entry × List Entry). (found.0, entry_of y ∷ found.1)) o) k.picked;
     }
 
-pub none_chosen : (p : Turn → Bool) (q : Entry → Bool) (ys : List SlotView) → Same p q ys → find p (map turn_of ys) ≡ None → list_any q (map entry_of ys) ≡ false
+pub none_chosen : (p : QueuedMessage → Bool) (q : Entry → Bool) (ys : List SlotView) → Same p q ys → find p (map queued_of ys) ≡ None → list_any q (map entry_of ys) ≡ false
 none_chosen p q [] same h = refl
-none_chosen p q (y ∷ ys) same h = by (none_chosen p q ys same.1) (p (turn_of y)) refl h
+none_chosen p q (y ∷ ys) same h = by (none_chosen p q ys same.1) (p (queued_of y)) refl h
   where
-    by : (find p (map turn_of ys) ≡ None → list_any q (map entry_of ys) ≡ false) → (b : Bool) → p (turn_of y) ≡ b
-        → cond b (Some (turn_of y)) (find p (map turn_of ys)) ≡ None → (q (entry_of y) || list_any q (map entry_of ys)) ≡ false
+    by : (find p (map queued_of ys) ≡ None → list_any q (map entry_of ys) ≡ false) → (b : Bool) → p (queued_of y) ≡ b
+        → cond b (Some (queued_of y)) (find p (map queued_of ys)) ≡ None → (q (entry_of y) || list_any q (map entry_of ys)) ≡ false
     by deeper true e h = absurd (true≢false (ap is_some h))
     by deeper false e h = (λ i. (sym same.0 ∙ e) i || list_any q (map entry_of ys)) ∙ deeper h
 
-pub some_chosen : (p : Turn → Bool) (q : Entry → Bool) (ys : List SlotView) → Same p q ys → (t : Turn) → find p (map turn_of ys) ≡ Some t → list_any q (map entry_of ys) ≡ true
+pub some_chosen : (p : QueuedMessage → Bool) (q : Entry → Bool) (ys : List SlotView) → Same p q ys → (t : QueuedMessage) → find p (map queued_of ys) ≡ Some t → list_any q (map entry_of ys) ≡ true
 some_chosen p q [] same t h = absurd (none-some t h)
-some_chosen p q (y ∷ ys) same t h = by (some_chosen p q ys same.1 t) (p (turn_of y)) refl h
+some_chosen p q (y ∷ ys) same t h = by (some_chosen p q ys same.1 t) (p (queued_of y)) refl h
   where
     or_true : (b : Bool) → (b || true) ≡ true
     or_true true = refl
     or_true false = refl
 
-    by : (find p (map turn_of ys) ≡ Some t → list_any q (map entry_of ys) ≡ true) → (b : Bool) → p (turn_of y) ≡ b
-        → cond b (Some (turn_of y)) (find p (map turn_of ys)) ≡ Some t → (q (entry_of y) || list_any q (map entry_of ys)) ≡ true
+    by : (find p (map queued_of ys) ≡ Some t → list_any q (map entry_of ys) ≡ true) → (b : Bool) → p (queued_of y) ≡ b
+        → cond b (Some (queued_of y)) (find p (map queued_of ys)) ≡ Some t → (q (entry_of y) || list_any q (map entry_of ys)) ≡ true
     by deeper true e h = λ i. (sym same.0 ∙ e) i || list_any q (map entry_of ys)
     by deeper false e h = (λ i. q (entry_of y) || deeper h i) ∙ or_true (q (entry_of y))
 
@@ -157,13 +157,13 @@ module _ (keeps : Type 0) (p : Parts) (k : IsCore keeps p) where
   abbrev geometry : Geometry
   geometry = p.journal.geometry
 
-  abbrev w : World
-  w = world_in p
+  abbrev w : CoreState
+  w = core_state_in p
 
-  clear_same : (x : SlotView) → IsPlaced geometry x → is_clear p.turns.held p.turns.waiting (turn_of x) ≡ is_clear_in geometry w (entry_of x)
+  clear_same : (x : SlotView) → IsPlaced geometry x → is_conflict_free p.queue.held p.queue.waiting (queued_of x) ≡ is_clear_in geometry w (entry_of x)
   clear_same x a = λ i.
-      not ((k.holds (λ o. are_related_intervals (turn_of x).affinity o.affinity) ∙ held_touch geometry p.lines k.placed x a) i)
-      && not ((ap (list_any (comes_first (turn_of x))) k.waits ∙ waits_touch geometry p.lines.waiting k.placed.waiting x a) i)
+      not ((k.holds (λ o. are_related_intervals (queued_of x).affinity o.affinity) ∙ held_touch geometry p.lines k.placed x a) i)
+      && not ((ap (list_any (comes_first (queued_of x))) k.waits ∙ waits_touch geometry p.lines.waiting k.placed.waiting x a) i)
 
   or_turned : (a b : Bool) → (a || not b) ≡ (not b || a)
   or_turned true true = refl
@@ -172,36 +172,36 @@ module _ (keeps : Type 0) (p : Parts) (k : IsCore keeps p) where
   or_turned false false = refl
 
   module _ (room : Bool) (is_room : room ≡ nat_lt p.flight p.journal.room) where
-    room_same : (x : SlotView) → has_room room (turn_of x) ≡ has_room_for w (entry_of x)
-    room_same x = or_turned room (turn_of x).changing
-        ∙ ap (λ b. not (turn_of x).changing || b) (is_room ∙ ap (λ n. nat_lt n p.journal.room) k.flies)
+    room_same : (x : SlotView) → has_room room (queued_of x) ≡ has_room_for w (entry_of x)
+    room_same x = or_turned room (queued_of x).changing
+        ∙ ap (λ b. not (queued_of x).changing || b) (is_room ∙ ap (λ n. nat_lt n p.journal.room) k.flies)
 
-    same_test : Same (λ t. has_room room t && is_clear p.turns.held p.turns.waiting t) (is_eligible geometry w) p.lines.waiting
+    same_test : Same (λ t. has_room room t && is_conflict_free p.queue.held p.queue.waiting t) (is_eligible geometry w) p.lines.waiting
     same_test = all_of (IsPlaced geometry) _
         (λ x a. (λ i. room_same x i && clear_same x a i) ∙ and_comm (has_room_for w (entry_of x)) (is_clear_in geometry w (entry_of x)))
         p.lines.waiting k.placed.waiting
 
-    found_first : next_turn room p.turns.held p.turns.waiting ≡ find (λ t. has_room room t && is_clear p.turns.held p.turns.waiting t) (map turn_of p.lines.waiting)
-    found_first = next_is_first room p.turns.held p.turns.waiting (subst Ascend (sym k.waits) (ascend_from p.lines.waiting k.sound.ascending))
-        ∙ ap (find (λ t. has_room room t && is_clear p.turns.held p.turns.waiting t)) k.waits
+    found_first : next_queued room p.queue.held p.queue.waiting ≡ find (λ t. has_room room t && is_conflict_free p.queue.held p.queue.waiting t) (map queued_of p.lines.waiting)
+    found_first = next_is_first room p.queue.held p.queue.waiting (subst Ascend (sym k.waits) (ascend_from p.lines.waiting k.sound.ascending))
+        ∙ ap (find (λ t. has_room room t && is_conflict_free p.queue.held p.queue.waiting t)) k.waits
 
-    pub goes_first : (t : Turn) → next_turn room p.turns.held p.turns.waiting ≡ Some t → Chosen (is_eligible geometry w) p.lines.waiting t
+    pub goes_first : (t : QueuedMessage) → next_queued room p.queue.held p.queue.waiting ≡ Some t → Chosen (is_eligible geometry w) p.lines.waiting t
     goes_first t h = chosen _ (is_eligible geometry w) p.lines.waiting same_test t (sym found_first ∙ h)
 
-    none_any : next_turn room p.turns.held p.turns.waiting ≡ None → list_any (is_eligible geometry w) w.waiting ≡ false
+    none_any : next_queued room p.queue.held p.queue.waiting ≡ None → list_any (is_eligible geometry w) w.waiting ≡ false
     none_any h = none_chosen _ (is_eligible geometry w) p.lines.waiting same_test (sym found_first ∙ h)
 
-    pub none_goes : next_turn room p.turns.held p.turns.waiting ≡ None → next_eligible geometry w ≡ None
+    pub none_goes : next_queued room p.queue.held p.queue.waiting ≡ None → next_eligible geometry w ≡ None
     none_goes h = none_picked (is_eligible geometry w) w.waiting (none_any h)
 
   -- ---- why none goes
 
-  clear_test : Same (λ t. has_room true t && is_clear p.turns.held p.turns.waiting t) (is_clear_in geometry w) p.lines.waiting
+  clear_test : Same (λ t. has_room true t && is_conflict_free p.queue.held p.queue.waiting t) (is_clear_in geometry w) p.lines.waiting
   clear_test = all_of (IsPlaced geometry) _ (λ x a. clear_same x a) p.lines.waiting k.placed.waiting
 
-  found_clear : next_turn true p.turns.held p.turns.waiting ≡ find (λ t. has_room true t && is_clear p.turns.held p.turns.waiting t) (map turn_of p.lines.waiting)
-  found_clear = next_is_first true p.turns.held p.turns.waiting (subst Ascend (sym k.waits) (ascend_from p.lines.waiting k.sound.ascending))
-      ∙ ap (find (λ t. has_room true t && is_clear p.turns.held p.turns.waiting t)) k.waits
+  found_clear : next_queued true p.queue.held p.queue.waiting ≡ find (λ t. has_room true t && is_conflict_free p.queue.held p.queue.waiting t) (map queued_of p.lines.waiting)
+  found_clear = next_is_first true p.queue.held p.queue.waiting (subst Ascend (sym k.waits) (ascend_from p.lines.waiting k.sound.ascending))
+      ∙ ap (find (λ t. has_room true t && is_conflict_free p.queue.held p.queue.waiting t)) k.waits
 
   lacking : (es : List Entry) → list_any (is_eligible geometry w) es ≡ false → list_any (lacks_room_alone geometry w) es ≡ list_any (is_clear_in geometry w) es
   lacking [] h = refl
@@ -213,21 +213,21 @@ module _ (keeps : Type 0) (p : Parts) (k : IsCore keeps p) where
       by true false rest h j = refl
       by false r rest h j = j h
 
-  module _ (room : Bool) (is_room : room ≡ nat_lt p.flight p.journal.room) (none : next_turn room p.turns.held p.turns.waiting ≡ None) where
-    pub lacks_room : (t : Turn) → next_turn true p.turns.held p.turns.waiting ≡ Some t → no_grant geometry w ≡ outcomes.NoRoom
+  module _ (room : Bool) (is_room : room ≡ nat_lt p.flight p.journal.room) (none : next_queued room p.queue.held p.queue.waiting ≡ None) where
+    pub lacks_room : (t : QueuedMessage) → next_queued true p.queue.held p.queue.waiting ≡ Some t → no_grant geometry w ≡ outcomes.NoRoom
     lacks_room t h = ap (λ b. if b then outcomes.NoRoom else outcomes.NoneEligible)
         (lacking w.waiting (none_any room is_room none) ∙ some_chosen _ (is_clear_in geometry w) p.lines.waiting clear_test t (sym found_clear ∙ h))
 
-    pub none_eligible : next_turn true p.turns.held p.turns.waiting ≡ None → no_grant geometry w ≡ outcomes.NoneEligible
+    pub none_eligible : next_queued true p.queue.held p.queue.waiting ≡ None → no_grant geometry w ≡ outcomes.NoneEligible
     none_eligible h = ap (λ b. if b then outcomes.NoRoom else outcomes.NoneEligible)
         (lacking w.waiting (none_any room is_room none) ∙ none_chosen _ (is_clear_in geometry w) p.lines.waiting clear_test (sym found_clear ∙ h))
 
     pub none_is_granted : w.failed ≡ false → (why : Granted)
-        → why ≡ (if is_some (next_turn true p.turns.held p.turns.waiting) then granted.NoRoom else granted.NoneEligible)
+        → why ≡ (if is_some (next_queued true p.queue.held p.queue.waiting) then granted.NoRoom else granted.NoneEligible)
         → IsGranted geometry w w why
-    none_is_granted works why is = subst (IsGranted geometry w w) (sym is) (by (next_turn true p.turns.held p.turns.waiting) refl)
+    none_is_granted works why is = subst (IsGranted geometry w w) (sym is) (by (next_queued true p.queue.held p.queue.waiting) refl)
       where
-        by : (o : Option Turn) → next_turn true p.turns.held p.turns.waiting ≡ o
+        by : (o : Option QueuedMessage) → next_queued true p.queue.held p.queue.waiting ≡ o
             → IsGranted geometry w w (if is_some o then granted.NoRoom else granted.NoneEligible)
         by (Some t) h = record { works = works; none = none_goes room is_room none; reason = lacks_room t h; same = refl }
         by None h = record { works = works; none = none_goes room is_room none; reason = none_eligible h; same = refl }

@@ -4,9 +4,9 @@ use Rattle.std.specs.Prelude.{cond, count_by}
 use Rattle.std.proofs.lemmas.List.{length-map}
 use Rattle.std.proofs.lemmas.List.Sums.{sum_by-append, sum_by-cons}
 use Rattle.legal_runs.specs.Eligible.{changes, in_flight}
-use Rattle.legal_runs.specs.World.{Entry, Replied, held}
+use Rattle.legal_runs.specs.CoreState.{Entry, Replied, held}
 use Rattle.legal_runs.proofs.Apart.{length_held}
-use Rattle.scheduler.specs.Parts.{Parts, entry_of, replied_of, world_in}
+use Rattle.scheduler.specs.Parts.{Parts, entry_of, replied_of, core_state_in}
 use Rattle.scheduler.specs.Slots.{SlotView}
 
 -- how many changing messages are at these places
@@ -32,15 +32,15 @@ ran_changing [] = refl
 ran_changing (x ∷ xs) = sum_by-cons (λ (a : Replied). cond (changes a.1) 1 0) (replied_of x) (map replied_of xs)
     ∙ ap (λ n. one_for x + n) (ran_changing xs) ∙ sym (changing-cons x xs)
 
-pub flight_of : (p : Parts) → in_flight (world_in p) ≡ changing p.lines.out + changing p.lines.ran
+pub flight_of : (p : Parts) → in_flight (core_state_in p) ≡ changing p.lines.out + changing p.lines.ran
 flight_of p = λ i. out_changing p.lines.out i + ran_changing p.lines.ran i
 
 -- how many messages wait or are held
-pub count_of : (p : Parts) → length (world_in p).waiting + length (held (world_in p))
+pub count_of : (p : Parts) → length (core_state_in p).waiting + length (held (core_state_in p))
     ≡ length p.lines.waiting + (length p.lines.logged + (length p.lines.ran + length p.lines.out))
-count_of p = λ i. length-map p.lines.waiting entry_of i + (length_held (world_in p)
+count_of p = λ i. length-map p.lines.waiting entry_of i + (length_held (core_state_in p)
     ∙ (λ j. length-map p.lines.logged replied_of j + (length-map p.lines.ran replied_of j + length-map p.lines.out entry_of j))) i
 
-pub held_count : (p : Parts) → length (held (world_in p)) ≡ length p.lines.logged + (length p.lines.ran + length p.lines.out)
-held_count p = length_held (world_in p)
+pub held_count : (p : Parts) → length (held (core_state_in p)) ≡ length p.lines.logged + (length p.lines.ran + length p.lines.out)
+held_count p = length_held (core_state_in p)
     ∙ (λ j. length-map p.lines.logged replied_of j + (length-map p.lines.ran replied_of j + length-map p.lines.out entry_of j))

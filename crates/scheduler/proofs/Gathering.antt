@@ -14,7 +14,7 @@ use Rattle.arena.proofs.RowLemmas.{chained-holds, length-parts}
 use Rattle.arena.proofs.Times.{times-append, times-at, times-cons_is, times-cons_other}
 use Rattle.legal_runs.specs.Eligible.{changes}
 use Rattle.legal_runs.specs.Events.{loggable}
-use Rattle.legal_runs.specs.World.{Replied}
+use Rattle.legal_runs.specs.CoreState.{Replied}
 use Rattle.messages.specs.declared.Msg.{Msg}
 use Rattle.messages.specs.declared.Reply.{Reply}
 use Rattle.messages.specs.declared.Reply.TheVariants.{Done}

@@ -16,7 +16,7 @@ use Rattle.journal.specs.Journal.{JournalView}
 use Rattle.legal_runs.proofs.Lists.{all_back, all_join}
 use Rattle.legal_runs.specs.Eligible.{is_eligible}
 use Rattle.legal_runs.specs.Events.{grant}
-use Rattle.legal_runs.specs.World.{Entry, World}
+use Rattle.legal_runs.specs.CoreState.{Entry, CoreState}
 use Rattle.messages.specs.Messages.{place}
 use Rattle.messages.specs.declared.Msg.{Msg}
 use Rattle.messages.specs.declared.Reply.{Reply}
@@ -28,16 +28,16 @@ use Rattle.parcel.specs.declared.parts.Parcels.{Parcels}
 use Rattle.parcel.specs.declared.parts.Standing.{Standing}
 use Rattle.scheduler.proofs.Choosing.{Chosen, goes_first}
 use Rattle.scheduler.proofs.Counting.{one_for}
-use Rattle.scheduler.proofs.Granting.{grant_core, grant_world, waits_without, with_grant}
+use Rattle.scheduler.proofs.Granting.{grant_core, grant_state, waits_without, with_grant}
 use Rattle.scheduler.proofs.Lines.{MovedLines, line_moved}
 use Rattle.scheduler.proofs.Splits.{MapSplit, map_split, times-split}
 use Rattle.scheduler.proofs.Trees.{grant_lends, grant_shows}
 use Rattle.scheduler.specs.Calls.{IsGrantOf}
-use Rattle.scheduler.specs.Parts.{IsCore, IsPlaced, Parts, entry_of, parts, turn_of, world_in}
+use Rattle.scheduler.specs.Parts.{IsCore, IsPlaced, Parts, entry_of, parts, queued_of, core_state_in}
 use Rattle.scheduler.specs.Slots.{HasChains, SlotView, line, no_slot, place_at}
 use Rattle.scheduler.specs.declared.slot.Slot.{Slot}
-use Rattle.turns.specs.Turns.{HasJoined, Queuing, next_turn, without_slot}
-use Rattle.turns.specs.declared.entries.Turn.{Turn}
+use Rattle.run_queue.specs.RunQueue.{HasJoined, RunQueueView, next_queued, without_slot}
+use Rattle.run_queue.specs.declared.queued_message.QueuedMessage.{QueuedMessage}
 
 -- places made of numbers among which this one isn't
 numbers_off : (row : Row Slot) (replies : List Reply) (i : ℕ) (xs : List ℕ) → times i xs ≡ 0 → AllByRecursion (λ y. (y.0 == i) ≡ false) (map (place_at row replies) xs)
@@ -52,49 +52,49 @@ pub some_value : (o : Option Slot) → is_some o ≡ true → o ≡ None → ⊥
 some_value None holds none = true≢false (sym holds)
 some_value (Some s) holds none = true≢false (sym holds ∙ ap is_some none)
 
-module _ (keeps : Type 0) (row : Row Slot) (replies : List Reply) (tree : TreeView) (journal : JournalView) (turns : Queuing) (batch : List Msg) (next flight : ℕ)
+module _ (keeps : Type 0) (row : Row Slot) (replies : List Reply) (tree : TreeView) (journal : JournalView) (queue : RunQueueView) (batch : List Msg) (next flight : ℕ)
     (opened : TreeView) (since : List Msg) (is : HasChains row)
-    (k : IsCore keeps (parts row replies tree journal turns batch next flight opened since)) (room : Bool) (is_room : room ≡ nat_lt flight journal.room)
-    (turn : Turn) (goes : next_turn room turns.held turns.waiting ≡ Some turn) where
+    (k : IsCore keeps (parts row replies tree journal queue batch next flight opened since)) (room : Bool) (is_room : room ≡ nat_lt flight journal.room)
+    (queued : QueuedMessage) (goes : next_queued room queue.held queue.waiting ≡ Some queued) where
   abbrev p : Parts
-  p = parts row replies tree journal turns batch next flight opened since
+  p = parts row replies tree journal queue batch next flight opened since
 
-  pub chosen : Chosen (is_eligible journal.geometry (world_in p)) p.lines.waiting turn
-  chosen = goes_first keeps p k room is_room turn goes
+  pub chosen : Chosen (is_eligible journal.geometry (core_state_in p)) p.lines.waiting queued
+  chosen = goes_first keeps p k room is_room queued goes
 
   abbrev x : SlotView
   x = chosen.at
 
-  pub number : x.0 ≡ turn.slot
-  number = ap (λ (t : Turn). t.slot) chosen.turn
+  pub number : x.0 ≡ queued.slot
+  number = ap (λ (t : QueuedMessage). t.slot) chosen.queued
 
   split : MapSplit (place_at row replies) (chain_at row 0) chosen.before x chosen.behind
   split = map_split (place_at row replies) (chain_at row 0) chosen.before x chosen.behind chosen.whole
 
-  at_turn : split.at ≡ turn.slot
-  at_turn = ap (λ (y : SlotView). y.0) split.at_is ∙ number
+  at_queued : split.at ≡ queued.slot
+  at_queued = ap (λ (y : SlotView). y.0) split.at_is ∙ number
 
-  stands : 0 < times split.at (chain_at row 0)
-  stands = subst (λ xs. 0 < times split.at xs) (sym split.whole) (times-split split.at split.front split.back)
+  recovers : 0 < times split.at (chain_at row 0)
+  recovers = subst (λ xs. 0 < times split.at xs) (sym split.whole) (times-split split.at split.front split.back)
 
-  pub grant_has_slot : value_at row turn.slot ≡ None → ⊥
-  grant_has_slot none = some_value (value_at row turn.slot) (subst (λ n. is_some (value_at row n) ≡ true) at_turn (chained-holds row split.at 0 is.parted stands)) none
+  pub grant_has_slot : value_at row queued.slot ≡ None → ⊥
+  grant_has_slot none = some_value (value_at row queued.slot) (subst (λ n. is_some (value_at row n) ≡ true) at_queued (chained-holds row split.at 0 is.parted recovers)) none
 
-  pub grant_slot : (slot : Slot) → Some slot ≡ value_at row turn.slot → x.1 ≡ slot
-  grant_slot slot value = sym (ap (λ (y : SlotView). y.1) split.at_is) ∙ ap (λ n. unwrap_or (value_at row n) no_slot) at_turn ∙ ap (λ o. unwrap_or o no_slot) (sym value)
+  pub grant_slot : (slot : Slot) → Some slot ≡ value_at row queued.slot → x.1 ≡ slot
+  grant_slot slot value = sym (ap (λ (y : SlotView). y.1) split.at_is) ∙ ap (λ n. unwrap_or (value_at row n) no_slot) at_queued ∙ ap (λ o. unwrap_or o no_slot) (sym value)
 
-  pub grant_lines : MovedLines row (after_move row turn.slot 1) replies replies 0 1 chosen.before x chosen.behind
-  grant_lines = line_moved row replies replies is 0 1 (omega arith) (λ same. omega (arith, same)) chosen.before x chosen.behind chosen.whole (λ j other. refl) turn.slot (sym number)
+  pub grant_lines : MovedLines row (after_move row queued.slot 1) replies replies 0 1 chosen.before x chosen.behind
+  grant_lines = line_moved row replies replies is 0 1 (omega arith) (λ same. omega (arith, same)) chosen.before x chosen.behind chosen.whole (λ j other. refl) queued.slot (sym number)
 
   pub grant_place : IsPlaced journal.geometry x
   grant_place = (all_back (IsPlaced journal.geometry) chosen.before (x ∷ chosen.behind) (subst (AllByRecursion (IsPlaced journal.geometry)) chosen.whole k.placed.waiting)).0
 
-  pub grant_affinity : IsAffinity tree.geometry turn.affinity
-  grant_affinity = subst (λ (a : Interval). IsAffinity tree.geometry a) (ap (λ (t : Turn). t.affinity) chosen.turn)
+  pub grant_affinity : IsAffinity tree.geometry queued.affinity
+  grant_affinity = subst (λ (a : Interval). IsAffinity tree.geometry a) (ap (λ (t : QueuedMessage). t.affinity) chosen.queued)
       (place journal.geometry x.1.message, subst (λ h. IsAffinityOf h (place journal.geometry x.1.message) x.1.affinity) (sym k.geometry) grant_place.affinity)
 
   pub grant_has_room : HasGap journal.geometry (place journal.geometry x.1.message) (in_tree tree) → ⊥
-  grant_has_room gap = grant_lends journal.geometry (world_in p) k.sound (entry_of x, map entry_of (chosen.before ++ chosen.behind)) chosen.picked (in_tree tree) k.tree gap
+  grant_has_room gap = grant_lends journal.geometry (core_state_in p) k.sound (entry_of x, map entry_of (chosen.before ++ chosen.behind)) chosen.picked (in_tree tree) k.tree gap
 
   once_there : times split.at (split.front ++ split.at ∷ split.back) ≤ 1
   once_there = subst (λ xs. times split.at xs ≤ 1) split.whole (chained-once row split.at 0 is.parted)
@@ -111,21 +111,21 @@ module _ (keeps : Type 0) (row : Row Slot) (replies : List Reply) (tree : TreeVi
 
   -- ---- what stands afterwards
 
-  grant_path : IsAffinityOf tree.geometry (place journal.geometry x.1.message) turn.affinity
-  grant_path = subst (λ (a : Interval). IsAffinityOf tree.geometry (place journal.geometry x.1.message) a) (ap (λ (t : Turn). t.affinity) chosen.turn)
+  grant_path : IsAffinityOf tree.geometry (place journal.geometry x.1.message) queued.affinity
+  grant_path = subst (λ (a : Interval). IsAffinityOf tree.geometry (place journal.geometry x.1.message) a) (ap (λ (t : QueuedMessage). t.affinity) chosen.queued)
       (subst (λ (h : Geometry). IsAffinityOf h (place journal.geometry x.1.message) x.1.affinity) (sym k.geometry) grant_place.affinity)
 
-  pub grant_chains : IsParted (after_move row turn.slot 1) → HasChains (after_move row turn.slot 1)
+  pub grant_chains : IsParted (after_move row queued.slot 1) → HasChains (after_move row queued.slot 1)
   grant_chains parted = record { parted = parted; four = grant_lines.four ∙ is.four }
 
-  pub grant_size : capacity_of (after_move row turn.slot 1) ≡ capacity_of row
+  pub grant_size : capacity_of (after_move row queued.slot 1) ≡ capacity_of row
   grant_size = ap (λ (vs : List (Option Slot)). length vs) grant_lines.values
 
-  pub grant_ran : length (line (after_move row turn.slot 1) replies 2) ≡ length (line row replies 2)
+  pub grant_ran : length (line (after_move row queued.slot 1) replies 2) ≡ length (line row replies 2)
   grant_ran = ap (λ (ps : List SlotView). length ps) (grant_lines.stays 2 (λ same. omega (arith, same)) (λ same. omega (arith, same)))
 
-  module _ (slot : Slot) (value : Some slot ≡ value_at row turn.slot) (lent : TreeView) (standing : Standing) (parcels : Parcels)
-      (lends : (q : Path) → IsAffinityOf tree.geometry q turn.affinity → LendsAt tree.geometry q standing parcels (in_tree tree) (in_tree lent)) where
+  module _ (slot : Slot) (value : Some slot ≡ value_at row queued.slot) (lent : TreeView) (standing : Standing) (parcels : Parcels)
+      (lends : (q : Path) → IsAffinityOf tree.geometry q queued.affinity → LendsAt tree.geometry q standing parcels (in_tree tree) (in_tree lent)) where
     lends_place : LendsAt journal.geometry (place journal.geometry x.1.message) standing parcels (in_tree tree) (in_tree lent)
     lends_place = subst (λ (h : Geometry). LendsAt h (place journal.geometry x.1.message) standing parcels (in_tree tree) (in_tree lent)) k.geometry
         (lends (place journal.geometry x.1.message) grant_path)
@@ -134,11 +134,11 @@ module _ (keeps : Type 0) (row : Row Slot) (replies : List Reply) (tree : TreeVi
     grant_suits = subst (λ (m : Msg). Suits journal.geometry m parcels) (ap (λ (s : Slot). s.message) (grant_slot slot value))
         (record { range = grant_place.range; fits = lends_place.fits })
 
-    module _ (same_geometry : lent.geometry ≡ tree.geometry) (went : Queuing)
-        (waits : went ≡ record turns { waiting = without_slot turn.slot turns.waiting; held = went.held }) (joined : HasJoined turn turns.held went.held)
-        (more : ℕ) (is_more : more ≡ cond turn.changing 1 0) where
+    module _ (same_geometry : lent.geometry ≡ tree.geometry) (went : RunQueueView)
+        (waits : went ≡ record queue { waiting = without_slot queued.slot queue.waiting; held = went.held }) (joined : HasJoined queued queue.held went.held)
+        (more : ℕ) (is_more : more ≡ cond queued.changing 1 0) where
       abbrev after : Parts
-      after = parts (after_move row turn.slot 1) replies lent journal went batch next (flight + more) opened since
+      after = parts (after_move row queued.slot 1) replies lent journal went batch next (flight + more) opened since
 
       abbrev found : Entry × List Entry
       found = (entry_of x, map entry_of (chosen.before ++ chosen.behind))
@@ -146,11 +146,11 @@ module _ (keeps : Type 0) (row : Row Slot) (replies : List Reply) (tree : TreeVi
       reply_there : get_or replies x.0 Done ≡ x.2
       reply_there = ap (λ n. get_or replies n Done) (sym (ap (λ (y : SlotView). y.0) split.at_is)) ∙ ap (λ (y : SlotView). y.2) split.at_is
 
-      goes_waits : without_slot turn.slot turns.waiting ≡ map turn_of (chosen.before ++ chosen.behind)
-      goes_waits = (λ i. without_slot (sym number i) ((k.waits ∙ ap (map turn_of) chosen.whole) i)) ∙ waits_without chosen.before x chosen.behind grant_others
+      goes_waits : without_slot queued.slot queue.waiting ≡ map queued_of (chosen.before ++ chosen.behind)
+      goes_waits = (λ i. without_slot (sym number i) ((k.waits ∙ ap (map queued_of) chosen.whole) i)) ∙ waits_without chosen.before x chosen.behind grant_others
 
       one_more : more ≡ one_for x
-      one_more = is_more ∙ ap (λ (t : Turn). cond t.changing 1 0) (sym chosen.turn)
+      one_more = is_more ∙ ap (λ (t : QueuedMessage). cond t.changing 1 0) (sym chosen.queued)
 
       after_is : after ≡ with_grant p (chosen.before ++ chosen.behind) x lent went.held
       after_is = λ i. record (with_grant p (chosen.before ++ chosen.behind) x lent went.held) {
@@ -162,20 +162,20 @@ module _ (keeps : Type 0) (row : Row Slot) (replies : List Reply) (tree : TreeVi
         };
         free = ap (λ (fs : List ℕ). length fs) grant_lines.free i;
         capacity = grant_size i;
-        turns = (waits ∙ (λ j. record turns { waiting = goes_waits j; held = went.held })) i;
+        queue = (waits ∙ (λ j. record queue { waiting = goes_waits j; held = went.held })) i;
         flight = flight + one_more i;
       }
 
-      joined_at : HasJoined (turn_of x) turns.held went.held
-      joined_at = subst (λ (t : Turn). HasJoined t turns.held went.held) (sym chosen.turn) joined
+      joined_at : HasJoined (queued_of x) queue.held went.held
+      joined_at = subst (λ (t : QueuedMessage). HasJoined t queue.held went.held) (sym chosen.queued) joined
 
       pub grant_call_core : IsCore keeps after
       grant_call_core = subst (IsCore keeps) (sym after_is)
           (grant_core keeps p k chosen.before x chosen.behind chosen.whole lent went.held chosen.picked joined_at (same_geometry ∙ k.geometry) standing parcels lends_place)
 
-      grant_call_world : world_in after ≡ grant (world_in p) found
-      grant_call_world = ap world_in after_is
-          ∙ grant_world keeps p k chosen.before x chosen.behind chosen.whole lent went.held chosen.picked joined_at (same_geometry ∙ k.geometry) standing parcels lends_place
+      grant_call_state : core_state_in after ≡ grant (core_state_in p) found
+      grant_call_state = ap core_state_in after_is
+          ∙ grant_state keeps p k chosen.before x chosen.behind chosen.whole lent went.held chosen.picked joined_at (same_geometry ∙ k.geometry) standing parcels lends_place
 
       abbrev job : JobView
       job = record { geometry = journal.geometry; ticket = slot.ticket; message = slot.message; standing = standing; parcels = parcels }
@@ -183,18 +183,18 @@ module _ (keeps : Type 0) (row : Row Slot) (replies : List Reply) (tree : TreeVi
       job_told : entry_of x ≡ (slot.ticket, slot.message)
       job_told = ap (λ (s : Slot). (s.ticket, s.message)) (grant_slot slot value)
 
-      pub grant_call_is : journal.failed ≡ false → IsGrantOf journal.geometry (world_in p) (world_in after) job
+      pub grant_call_is : journal.failed ≡ false → IsGrantOf journal.geometry (core_state_in p) (core_state_in after) job
       grant_call_is works = record {
         works = works;
         found = found;
         first = chosen.picked;
         told = job_told;
-        world = grant_call_world;
+        state_after = grant_call_state;
         is_job = record {
           geometry = refl;
-          is_out = subst (λ (w : World). Contains w.out (slot.ticket, slot.message)) (sym grant_call_world)
-              (Contains-append_right (world_in p).out (entry_of x ∷ []) (slot.ticket, slot.message) (0, omega arith, job_told));
-          lent = subst (λ (m : Msg). Shows journal.geometry (place journal.geometry m) standing parcels (world_in p).settled) (ap (λ (s : Slot). s.message) (grant_slot slot value))
-              (grant_shows journal.geometry (world_in p) k.sound found chosen.picked (in_tree tree) k.tree standing parcels (in_tree lent) lends_place);
+          is_out = subst (λ (w : CoreState). Contains w.out (slot.ticket, slot.message)) (sym grant_call_state)
+              (Contains-append_right (core_state_in p).out (entry_of x ∷ []) (slot.ticket, slot.message) (0, omega arith, job_told));
+          lent = subst (λ (m : Msg). Shows journal.geometry (place journal.geometry m) standing parcels (core_state_in p).committed) (ap (λ (s : Slot). s.message) (grant_slot slot value))
+              (grant_shows journal.geometry (core_state_in p) k.sound found chosen.picked (in_tree tree) k.tree standing parcels (in_tree lent) lends_place);
         };
       }

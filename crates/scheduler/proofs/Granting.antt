@@ -10,8 +10,8 @@ use Rattle.legal_runs.proofs.Moves.{Grants}
 use Rattle.legal_runs.proofs.Sound.{move_sound}
 use Rattle.legal_runs.specs.Eligible.{next_eligible}
 use Rattle.legal_runs.specs.Events.{grant}
-use Rattle.legal_runs.specs.Laws.{IsSoundWorld}
-use Rattle.legal_runs.specs.World.{Entry, held}
+use Rattle.legal_runs.specs.Laws.{IsSoundCoreState}
+use Rattle.legal_runs.specs.CoreState.{Entry, held}
 use Rattle.messages.specs.Messages.{place}
 use Rattle.parcel.specs.Holding.{TreeHolds}
 use Rattle.parcel.specs.Tree.{LendsAt, TreeView, in_tree}
@@ -20,39 +20,39 @@ use Rattle.parcel.specs.declared.parts.Standing.{Standing}
 use Rattle.scheduler.proofs.Counting.{changing, changing-append, changing-cons, flight_of, one_for}
 use Rattle.scheduler.proofs.Tests.{any_granted}
 use Rattle.scheduler.proofs.Trees.{grant_tree}
-use Rattle.scheduler.specs.Parts.{IsCore, IsPlaced, Parts, entry_of, is_below, reached, turn_of, world_in}
+use Rattle.scheduler.specs.Parts.{IsCore, IsPlaced, Parts, entry_of, is_below, reached, queued_of, core_state_in}
 use Rattle.scheduler.specs.Slots.{SlotView}
-use Rattle.turns.specs.Turns.{HasJoined, has_slot, without_slot}
-use Rattle.turns.specs.declared.entries.Turn.{Turn}
+use Rattle.run_queue.specs.RunQueue.{HasJoined, has_slot, without_slot}
+use Rattle.run_queue.specs.declared.queued_message.QueuedMessage.{QueuedMessage}
 
 -- those with other slots stay
-others_stay : (slot : ℕ) (ys : List SlotView) → AllByRecursion (λ y. (y.0 == slot) ≡ false) ys → without_slot slot (map turn_of ys) ≡ map turn_of ys
+others_stay : (slot : ℕ) (ys : List SlotView) → AllByRecursion (λ y. (y.0 == slot) ≡ false) ys → without_slot slot (map queued_of ys) ≡ map queued_of ys
 others_stay slot [] all = refl
-others_stay slot (y ∷ ys) all = (λ i. cond (not (all.0 i)) (turn_of y ∷ without_slot slot (map turn_of ys)) (without_slot slot (map turn_of ys)))
-    ∙ ap (λ ts. turn_of y ∷ ts) (others_stay slot ys all.1)
+others_stay slot (y ∷ ys) all = (λ i. cond (not (all.0 i)) (queued_of y ∷ without_slot slot (map queued_of ys)) (without_slot slot (map queued_of ys)))
+    ∙ ap (λ ts. queued_of y ∷ ts) (others_stay slot ys all.1)
 
 pub waits_without : (before : List SlotView) (x : SlotView) (behind : List SlotView) → AllByRecursion (λ y. (y.0 == x.0) ≡ false) (before ++ behind)
-    → without_slot x.0 (map turn_of (before ++ x ∷ behind)) ≡ map turn_of (before ++ behind)
+    → without_slot x.0 (map queued_of (before ++ x ∷ behind)) ≡ map queued_of (before ++ behind)
 waits_without before x behind all =
-    ap (without_slot x.0) (map-append turn_of before (x ∷ behind))
-    ∙ filter-append (λ (t : Turn). not (has_slot x.0 t)) (map turn_of before) (turn_of x ∷ map turn_of behind)
+    ap (without_slot x.0) (map-append queued_of before (x ∷ behind))
+    ∙ filter-append (λ (t : QueuedMessage). not (has_slot x.0 t)) (map queued_of before) (queued_of x ∷ map queued_of behind)
     ∙ (λ i. others_stay x.0 before (all_front (λ y. (y.0 == x.0) ≡ false) before behind all) i
-    ++ cond (not (eq-eqb x.0 x.0 refl i)) (turn_of x ∷ without_slot x.0 (map turn_of behind)) (without_slot x.0 (map turn_of behind)))
-    ∙ ap (λ ts. map turn_of before ++ ts) (others_stay x.0 behind (all_back (λ y. (y.0 == x.0) ≡ false) before behind all))
-    ∙ sym (map-append turn_of before behind)
+    ++ cond (not (eq-eqb x.0 x.0 refl i)) (queued_of x ∷ without_slot x.0 (map queued_of behind)) (without_slot x.0 (map queued_of behind)))
+    ∙ ap (λ ts. map queued_of before ++ ts) (others_stay x.0 behind (all_back (λ y. (y.0 == x.0) ≡ false) before behind all))
+    ∙ sym (map-append queued_of before behind)
 
-abbrev pub with_grant : Parts → List SlotView → SlotView → TreeView → List Turn → Parts
+abbrev pub with_grant : Parts → List SlotView → SlotView → TreeView → List QueuedMessage → Parts
 with_grant p waiting x tree held = record p {
   lines = record p.lines { waiting = waiting; out = p.lines.out ++ x ∷ [] };
   tree = tree;
-  turns = record p.turns { waiting = map turn_of waiting; held = held };
+  queue = record p.queue { waiting = map queued_of waiting; held = held };
   flight = p.flight + one_for x;
 }
 
 module _ (keeps : Type 0) (p : Parts) (k : IsCore keeps p) (before : List SlotView) (x : SlotView) (behind : List SlotView)
-    (whole : p.lines.waiting ≡ before ++ x ∷ behind) (tree : TreeView) (held : List Turn)
-    (first : next_eligible p.journal.geometry (world_in p) ≡ Some (entry_of x, map entry_of (before ++ behind)))
-    (joined : HasJoined (turn_of x) p.turns.held held) (geometry : tree.geometry ≡ p.journal.geometry)
+    (whole : p.lines.waiting ≡ before ++ x ∷ behind) (tree : TreeView) (held : List QueuedMessage)
+    (first : next_eligible p.journal.geometry (core_state_in p) ≡ Some (entry_of x, map entry_of (before ++ behind)))
+    (joined : HasJoined (queued_of x) p.queue.held held) (geometry : tree.geometry ≡ p.journal.geometry)
     (t : Standing) (l : Parcels) (lent : LendsAt p.journal.geometry (place p.journal.geometry x.1.message) t l (in_tree p.tree) (in_tree tree)) where
   abbrev after : Parts
   after = with_grant p (before ++ behind) x tree held
@@ -60,8 +60,8 @@ module _ (keeps : Type 0) (p : Parts) (k : IsCore keeps p) (before : List SlotVi
   abbrev found : Entry × List Entry
   found = (entry_of x, map entry_of (before ++ behind))
 
-  pub grant_world : world_in after ≡ grant (world_in p) found
-  grant_world = λ i. record (world_in after) { out = map-append entry_of p.lines.out (x ∷ []) i }
+  pub grant_state : core_state_in after ≡ grant (core_state_in p) found
+  grant_state = λ i. record (core_state_in after) { out = map-append entry_of p.lines.out (x ∷ []) i }
 
   all_waiting : AllByRecursion (IsPlaced p.journal.geometry) (before ++ x ∷ behind)
   all_waiting = subst (AllByRecursion (IsPlaced p.journal.geometry)) whole k.placed.waiting
@@ -90,15 +90,15 @@ module _ (keeps : Type 0) (p : Parts) (k : IsCore keeps p) (before : List SlotVi
         turned = k.turned;
         seats = k.seats;
         waits = refl;
-        holds = λ test. joined test ∙ ap (λ b. test (turn_of x) || b) (k.holds test) ∙ any_granted test p.lines (before ++ behind) x;
+        holds = λ test. joined test ∙ ap (λ b. test (queued_of x) || b) (k.holds test) ∙ any_granted test p.lines (before ++ behind) x;
         flies = omega (arith, flew, flies, out);
-        sound = subst (IsSoundWorld p.journal.geometry) (sym grant_world)
-            (move_sound p.journal.geometry (world_in p) _ _ (Grants found first refl refl) k.sound);
+        sound = subst (IsSoundCoreState p.journal.geometry) (sym grant_state)
+            (move_sound p.journal.geometry (core_state_in p) _ _ (Grants found first refl refl) k.sound);
         geometry = geometry;
-        tree = subst (λ es. TreeHolds p.journal.geometry (is_below p.journal.geometry es) (in_tree tree) (reached p.journal.geometry (world_in p)))
+        tree = subst (λ es. TreeHolds p.journal.geometry (is_below p.journal.geometry es) (in_tree tree) (reached p.journal.geometry (core_state_in p)))
             (sym (map-append entry_of p.lines.out (x ∷ [])))
-            (grant_tree p.journal.geometry (world_in p) k.sound found first (in_tree p.tree) k.tree t l (in_tree tree) lent);
-        is_settled = k.is_settled;
-        stands = k.stands;
+            (grant_tree p.journal.geometry (core_state_in p) k.sound found first (in_tree p.tree) k.tree t l (in_tree tree) lent);
+        is_committed = k.is_committed;
+        recovers = k.recovers;
         no_doubt = k.no_doubt;
       }

@@ -6,22 +6,22 @@ use Rattle.affinity.specs.declared.geometry.Geometry.{Geometry}
 use Rattle.checkpoint.specs.Recovery.{holds}
 use Rattle.disk.proofs.Moments.{leaves_now, started, weaker}
 use Rattle.disk.specs.Device.{Medium}
-use Rattle.disk.specs.Moments.{LeavesOnly}
-use Rattle.journal.specs.Journal.{HoldsSome, settled}
-use Rattle.journal.specs.Marks.{Marks}
+use Rattle.disk.specs.Moments.{CrashImagesAre}
+use Rattle.journal.specs.Journal.{HoldsSome, committed}
+use Rattle.journal.specs.DirtyPieces.{DirtyPieces}
 use Rattle.legal_runs.proofs.Sound.{event_sound}
-use Rattle.legal_runs.specs.Laws.{IsSoundWorld}
-use Rattle.legal_runs.specs.World.{World}
+use Rattle.legal_runs.specs.Laws.{IsSoundCoreState}
+use Rattle.legal_runs.specs.CoreState.{CoreState}
 use Rattle.legal_runs.specs.declared.outcomes.Outcome.{Outcome}
 use Rattle.legal_runs.specs.declared.outcomes.Step.{Step}
 use Rattle.messages.specs.declared.Msg.{Msg}
 use Rattle.meaning.specs.Serial.{fold}
 use Rattle.meaning.specs.State.{State}
 use Rattle.scheduler.specs.Calls.{IsCalled}
-use Rattle.scheduler.specs.Kept.{CoreView, StandsNow, StandsThroughout}
-use Rattle.scheduler.specs.Parts.{IsCore, Parts, kept_of, world_in}
+use Rattle.scheduler.specs.CoreView.{CoreView, RecoversNow, RecoversThroughout}
+use Rattle.scheduler.specs.Parts.{IsCore, Parts, kept_of, core_state_in}
 
--- bytes that stand for a state stand for it with none of these messages
+-- bytes that recover to a state recover to it with none of these messages
 pub with_none : (g : Geometry) (x : State) (ms : List Msg) (c : List ℕ) → holds g c ≡ Some x → HoldsSome g x ms c
 with_none g x ms c is = record { added = 0; at_most = omega arith; is = is }
 
@@ -33,51 +33,51 @@ from_none g x ms c h = record { added = 0; at_most = omega arith; is = h.is ∙ 
 
 -- the same bytes through a call that leaves the device alone
 pub still_standing : (keeps : Type 0) (p : Parts) → IsCore keeps p → keeps → (ms : List Msg) (new : CoreView) → new.medium ≡ p.journal.medium
-    → StandsThroughout ms (kept_of p) new
+    → RecoversThroughout ms (kept_of p) new
 still_standing keeps p k keep ms new same =
-    subst (λ (m : Medium). LeavesOnly p.journal.medium m (HoldsSome p.journal.geometry (world_in p).settled (if p.journal.failed then p.batch else ms))) (sym same)
-    (started p.journal.medium _ (λ c left. by p.journal.failed refl c (k.stands keep c left)))
+    subst (λ (m : Medium). CrashImagesAre p.journal.medium m (HoldsSome p.journal.geometry (core_state_in p).committed (if p.journal.failed then p.batch else ms))) (sym same)
+    (started p.journal.medium _ (λ c left. by p.journal.failed refl c (k.recovers keep c left)))
   where
-    by : (b : Bool) → p.journal.failed ≡ b → (c : List ℕ) → HoldsSome p.journal.geometry (world_in p).settled p.batch c
-        → HoldsSome p.journal.geometry (world_in p).settled (if p.journal.failed then p.batch else ms) c
-    by true e c h = subst (λ ds. HoldsSome p.journal.geometry (world_in p).settled ds c) (sym (cond-true p.journal.failed p.batch ms e)) h
-    by false e c h = subst (λ ds. HoldsSome p.journal.geometry (world_in p).settled ds c) (sym (cond-false p.journal.failed p.batch ms e))
-        (from_none p.journal.geometry (world_in p).settled ms c
-        (subst (λ ds. HoldsSome p.journal.geometry (world_in p).settled ds c) (k.no_doubt e) h))
+    by : (b : Bool) → p.journal.failed ≡ b → (c : List ℕ) → HoldsSome p.journal.geometry (core_state_in p).committed p.batch c
+        → HoldsSome p.journal.geometry (core_state_in p).committed (if p.journal.failed then p.batch else ms) c
+    by true e c h = subst (λ ds. HoldsSome p.journal.geometry (core_state_in p).committed ds c) (sym (cond-true p.journal.failed p.batch ms e)) h
+    by false e c h = subst (λ ds. HoldsSome p.journal.geometry (core_state_in p).committed ds c) (sym (cond-false p.journal.failed p.batch ms e))
+        (from_none p.journal.geometry (core_state_in p).committed ms c
+        (subst (λ ds. HoldsSome p.journal.geometry (core_state_in p).committed ds c) (k.no_doubt e) h))
 
--- an event leads to a sound world
-pub called_sound : (g : Geometry) (old new : World) (step : Step) (outcome : Outcome) (rose : Bool) → IsCalled g old new step outcome rose → IsSoundWorld g old → IsSoundWorld g new
+-- an event leads to a sound core state
+pub called_sound : (g : Geometry) (old new : CoreState) (step : Step) (outcome : Outcome) (rose : Bool) → IsCalled g old new step outcome rose → IsSoundCoreState g old → IsSoundCoreState g new
 called_sound g old new step outcome rose called sound = event_sound g (record { core = old; hands = [] }) _ (called []) sound
 
-abbrev pub with_journal : Parts → ℕ → Option ℕ → Bool → Marks → Medium → Parts
-with_journal p room left failed marks medium = record p { journal = record p.journal { room = room; left = left; failed = failed; marks = marks; medium = medium } }
+abbrev pub with_journal : Parts → ℕ → Option ℕ → Bool → DirtyPieces → Medium → Parts
+with_journal p room left failed dirty medium = record p { journal = record p.journal { room = room; left = left; failed = failed; dirty = dirty; medium = medium } }
 
 module _ (keeps : Type 0) (p : Parts) (k : IsCore keeps p) (works : p.journal.failed ≡ false) where
   abbrev g : Geometry
   g = p.journal.geometry
 
-  pub settled_now : keeps → settled p.journal ≡ Some (world_in p).settled
-  settled_now keep = k.is_settled keep works
+  pub committed_now : keeps → committed p.journal ≡ Some (core_state_in p).committed
+  committed_now keep = k.is_committed keep works
 
-  module _ (medium : Medium) (any : keeps → LeavesOnly p.journal.medium medium (λ c. holds g c ≡ settled p.journal)) where
-    pub step_moments : keeps → LeavesOnly p.journal.medium medium (HoldsSome g (world_in p).settled [])
-    step_moments keep = weaker p.journal.medium medium (λ c. holds g c ≡ settled p.journal) _ (any keep)
-        (λ c is. with_none g (world_in p).settled [] c (is ∙ settled_now keep))
+  module _ (medium : Medium) (any : keeps → CrashImagesAre p.journal.medium medium (λ c. holds g c ≡ committed p.journal)) where
+    pub step_moments : keeps → CrashImagesAre p.journal.medium medium (HoldsSome g (core_state_in p).committed [])
+    step_moments keep = weaker p.journal.medium medium (λ c. holds g c ≡ committed p.journal) _ (any keep)
+        (λ c is. with_none g (core_state_in p).committed [] c (is ∙ committed_now keep))
 
-    pub step_throughout : (new : CoreView) → new.medium ≡ medium → keeps → StandsThroughout [] (kept_of p) new
+    pub step_throughout : (new : CoreView) → new.medium ≡ medium → keeps → RecoversThroughout [] (kept_of p) new
     step_throughout new same keep =
-        subst (λ (m : Medium). LeavesOnly p.journal.medium m (HoldsSome g (world_in p).settled (if p.journal.failed then p.batch else []))) (sym same)
-        (subst (λ ds. LeavesOnly p.journal.medium medium (HoldsSome g (world_in p).settled ds)) (sym (cond-false p.journal.failed p.batch [] works)) (step_moments keep))
+        subst (λ (m : Medium). CrashImagesAre p.journal.medium m (HoldsSome g (core_state_in p).committed (if p.journal.failed then p.batch else []))) (sym same)
+        (subst (λ ds. CrashImagesAre p.journal.medium medium (HoldsSome g (core_state_in p).committed ds)) (sym (cond-false p.journal.failed p.batch [] works)) (step_moments keep))
 
-    pub step_stands : (room : ℕ) (left : Option ℕ) (failed : Bool) (marks : Marks) → keeps → StandsNow (kept_of (with_journal p room left failed marks medium))
-    step_stands room left failed marks keep c leaves = subst (λ ds. HoldsSome g (world_in p).settled ds c) (sym (k.no_doubt works))
+    pub step_recovers : (room : ℕ) (left : Option ℕ) (failed : Bool) (dirty : DirtyPieces) → keeps → RecoversNow (kept_of (with_journal p room left failed dirty medium))
+    step_recovers room left failed dirty keep c leaves = subst (λ ds. HoldsSome g (core_state_in p).committed ds c) (sym (k.no_doubt works))
         (leaves_now p.journal.medium medium _ (step_moments keep) c leaves)
 
     -- the step was made, or the device failed
-    pub step_core : (room : ℕ) (left : Option ℕ) (failed : Bool) (marks : Marks) → IsSoundWorld g (world_in (with_journal p room left failed marks medium))
-        → (keeps → failed ≡ false → settled (record p.journal { room = room; left = left; failed = failed; marks = marks; medium = medium }) ≡ settled p.journal)
-        → IsCore keeps (with_journal p room left failed marks medium)
-    step_core room left failed marks sound same = record {
+    pub step_core : (room : ℕ) (left : Option ℕ) (failed : Bool) (dirty : DirtyPieces) → IsSoundCoreState g (core_state_in (with_journal p room left failed dirty medium))
+        → (keeps → failed ≡ false → committed (record p.journal { room = room; left = left; failed = failed; dirty = dirty; medium = medium }) ≡ committed p.journal)
+        → IsCore keeps (with_journal p room left failed dirty medium)
+    step_core room left failed dirty sound same = record {
       claimed = k.claimed;
       placed = k.placed;
       turned = k.turned;
@@ -88,7 +88,7 @@ module _ (keeps : Type 0) (p : Parts) (k : IsCore keeps p) (works : p.journal.fa
       sound = sound;
       geometry = k.geometry;
       tree = k.tree;
-      is_settled = λ keep fine. same keep fine ∙ settled_now keep;
-      stands = step_stands room left failed marks;
+      is_committed = λ keep fine. same keep fine ∙ committed_now keep;
+      recovers = step_recovers room left failed dirty;
       no_doubt = λ fine. k.no_doubt works;
     }

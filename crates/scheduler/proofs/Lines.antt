@@ -18,11 +18,11 @@ use Rattle.scheduler.proofs.Splits.{MapSplit, map_same, map_split, times-split, 
 
 module _ {T : Type 0} (m : Row T) (parted : IsParted m) (i from to : ℕ) (there : to < length m.chains) (other : to ≢ from) (front back : List ℕ)
     (whole : chain_at m from ≡ front ++ i ∷ back) where
-  stands : 0 < times i (chain_at m from)
-  stands = subst (λ xs. 0 < times i xs) (sym whole) (times-split i front back)
+  recovers : 0 < times i (chain_at m from)
+  recovers = subst (λ xs. 0 < times i xs) (sym whole) (times-split i front back)
 
   may_move : can_move m i to ≡ true
-  may_move = and_from (holds_value m i) (nat_lt to (length m.chains)) (chained-holds m i from parted stands) (lt-ltb to (length m.chains) there)
+  may_move = and_from (holds_value m i) (nat_lt to (length m.chains)) (chained-holds m i from parted recovers) (lt-ltb to (length m.chains) there)
 
   pub row_moved : after_move m i to ≡ record m { chains = moved m.chains i to }
   row_moved = cond-true (can_move m i to) _ _ may_move
@@ -35,12 +35,12 @@ module _ {T : Type 0} (m : Row T) (parted : IsParted m) (i from to : ℕ) (there
   pub chain_joined : chain_at (after_move m i to) to ≡ chain_at m to ++ i ∷ []
   chain_joined =
       ap (λ (r : Row T). chain_at r to) row_moved ∙ chain-moved_same m.chains i to there
-      ∙ ap (λ xs. xs ++ i ∷ []) (without-absent i (chain_at m to) (chained-apart m i from to parted (λ same. other (sym same)) stands))
+      ∙ ap (λ xs. xs ++ i ∷ []) (without-absent i (chain_at m to) (chained-apart m i from to parted (λ same. other (sym same)) recovers))
 
   pub chain_stays : (d : ℕ) → d ≢ from → d ≢ to → chain_at (after_move m i to) d ≡ chain_at m d
   chain_stays d not_from not_to =
       ap (λ (r : Row T). chain_at r d) row_moved ∙ chain-moved_other m.chains i to d not_to
-      ∙ without-absent i (chain_at m d) (chained-apart m i from d parted (λ same. not_from (sym same)) stands)
+      ∙ without-absent i (chain_at m d) (chained-apart m i from d parted (λ same. not_from (sym same)) recovers)
 
   pub four_moved : length (after_move m i to).chains ≡ length m.chains
   four_moved = ap (λ (r : Row T). length r.chains) row_moved ∙ length-moved m.chains i to
@@ -149,10 +149,10 @@ pub record MovedLines (row new : Row Slot) (replies told : List Reply) (from to 
   pub four : length new.chains ≡ length row.chains
 
 module _ (row : Row Slot) (replies told : List Reply) (is : HasChains row) (from to : ℕ) (low : to < 4) (other : to ≢ from)
-    (before : List SlotView) (x : SlotView) (behind : List SlotView) (stands_at : line row replies from ≡ before ++ x ∷ behind)
+    (before : List SlotView) (x : SlotView) (behind : List SlotView) (recovers_at : line row replies from ≡ before ++ x ∷ behind)
     (agree : (j : ℕ) → j ≢ x.0 → get_or told j Done ≡ get_or replies j Done) where
   split : MapSplit (place_at row replies) (chain_at row from) before x behind
-  split = map_split (place_at row replies) (chain_at row from) before x behind stands_at
+  split = map_split (place_at row replies) (chain_at row from) before x behind recovers_at
 
   number : split.at ≡ x.0
   number = ap (λ (y : SlotView). y.0) split.at_is
@@ -188,7 +188,7 @@ module _ (row : Row Slot) (replies told : List Reply) (is : HasChains row) (from
 
   none_elsewhere : (d : ℕ) → d ≢ from → times split.at (chain_at row d) ≡ 0
   none_elsewhere d not_from = chained-apart row split.at from d is.parted (λ same. not_from (sym same))
-      (stands row is.parted split.at from to there other split.front split.back split.whole)
+      (recovers row is.parted split.at from to there other split.front split.back split.whole)
 
   moved_at : MovedLines row new replies told from to before x behind
   moved_at =
@@ -264,9 +264,9 @@ pub record TakenLines (row new : Row Slot) (replies : List Reply) (from : ℕ) (
   pub size : capacity_of new ≡ capacity_of row
   pub four : length new.chains ≡ length row.chains
 
-module _ (row : Row Slot) (replies : List Reply) (is : HasChains row) (from : ℕ) (x : SlotView) (behind : List SlotView) (stands_at : line row replies from ≡ x ∷ behind) where
+module _ (row : Row Slot) (replies : List Reply) (is : HasChains row) (from : ℕ) (x : SlotView) (behind : List SlotView) (recovers_at : line row replies from ≡ x ∷ behind) where
   first_split : MapSplit (place_at row replies) (chain_at row from) [] x behind
-  first_split = map_split (place_at row replies) (chain_at row from) [] x behind stands_at
+  first_split = map_split (place_at row replies) (chain_at row from) [] x behind recovers_at
 
   none_front : first_split.front ≡ []
   none_front = empty_map first_split.front first_split.before_is

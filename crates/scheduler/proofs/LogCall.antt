@@ -8,13 +8,13 @@ use Rattle.std.proofs.lemmas.List.Sums.{sum_by-cons}
 use Rattle.std.proofs.lemmas.Option.{same_Some}
 use Rattle.arena.specs.Row.{Row, capacity_of, chain_at, value_at}
 use Rattle.checkpoint.specs.Recovery.{holds}
-use Rattle.disk.specs.Device.{Leaves, Medium}
-use Rattle.disk.specs.Moments.{LeavesOnly, moment}
-use Rattle.journal.specs.Journal.{after_call, AreCarriedOut, JournalView, HoldsSome, IsSettled, settled}
-use Rattle.legal_runs.proofs.Told.{fold-joined}
+use Rattle.disk.specs.Device.{IsCrashImage, Medium}
+use Rattle.disk.specs.Moments.{CrashImagesAre, moment}
+use Rattle.journal.specs.Journal.{after_call, AreCarriedOut, JournalView, HoldsSome, IsCommitted, committed}
+use Rattle.legal_runs.proofs.SerialReplies.{fold-joined}
 use Rattle.legal_runs.specs.Eligible.{changes}
 use Rattle.legal_runs.specs.Events.{batch as batch_of, log, loggable, touches_device}
-use Rattle.legal_runs.specs.Laws.{IsSoundWorld}
+use Rattle.legal_runs.specs.Laws.{IsSoundCoreState}
 use Rattle.legal_runs.specs.declared.outcomes.Step.TheVariants as steps
 use Rattle.messages.specs.declared.Msg.{Msg}
 use Rattle.messages.specs.declared.Reply.{Reply}
@@ -27,13 +27,13 @@ use Rattle.meaning.specs.Serial.{fold}
 use Rattle.meaning.specs.State.{State}
 use Rattle.scheduler.proofs.Counting.{changing, changing-append, changing-cons, flight_of}
 use Rattle.scheduler.proofs.Lines.{same_line}
-use Rattle.scheduler.proofs.Logging.{batch_at, batch_carried, batch_fits, batch_logged, doubt_core, log_core, log_throughout, log_world, same_batch, with_doubt, with_log}
-use Rattle.scheduler.specs.Kept.{CoreView, StandsThroughout}
+use Rattle.scheduler.proofs.Logging.{batch_at, batch_carried, batch_fits, batch_logged, doubt_core, log_core, log_throughout, log_state, same_batch, with_doubt, with_log}
+use Rattle.scheduler.specs.CoreView.{CoreView, RecoversThroughout}
 use Rattle.scheduler.specs.Moving.{HasLogged, changing_in, gathered}
-use Rattle.scheduler.specs.Parts.{IsCore, Parts, kept_of, parts, replied_of, world_in}
+use Rattle.scheduler.specs.Parts.{IsCore, Parts, kept_of, parts, replied_of, core_state_in}
 use Rattle.scheduler.specs.Slots.{HasChains, SlotView, line, no_slot, place_at}
 use Rattle.scheduler.specs.declared.slot.Slot.{Slot}
-use Rattle.turns.specs.Turns.{Queuing}
+use Rattle.run_queue.specs.RunQueue.{RunQueueView}
 
 -- ---- the journal's answer
 
@@ -69,12 +69,12 @@ counted row replies (y ∷ ys) =
     ∙ ap (λ (m : ℕ). cond (changes (unwrap_or (value_at row y) no_slot).message) 1 0 + m) (counted row replies ys)
     ∙ sym (changing-cons (place_at row replies y) (map (place_at row replies) ys))
 
-module _ (keeps : Type 0) (row : Row Slot) (replies : List Reply) (tree : TreeView) (journal : JournalView) (turns : Queuing) (batch : List Msg) (next flight : ℕ)
+module _ (keeps : Type 0) (row : Row Slot) (replies : List Reply) (tree : TreeView) (journal : JournalView) (queue : RunQueueView) (batch : List Msg) (next flight : ℕ)
     (opened : TreeView) (since : List Msg) (is : HasChains row)
-    (k : IsCore keeps (parts row replies tree journal turns batch next flight opened since)) (works : journal.failed ≡ false)
+    (k : IsCore keeps (parts row replies tree journal queue batch next flight opened since)) (works : journal.failed ≡ false)
     (n count ran : ℕ) (ran_is : ran ≡ length (line row replies 2)) (count_is : count ≡ min n ran) where
   abbrev p : Parts
-  p = parts row replies tree journal turns batch next flight opened since
+  p = parts row replies tree journal queue batch next flight opened since
 
   abbrev slots : List ℕ
   slots = chain_at row 2
@@ -97,7 +97,7 @@ module _ (keeps : Type 0) (row : Row Slot) (replies : List Reply) (tree : TreeVi
   pub log_low : count ≤ length slots
   log_low = let few = min-le_right n (length ran_line) in let at = long in let same = min_is in omega (arith, few, at, same)
 
-  pub log_count : count ≡ length (take n (world_in p).ran)
+  pub log_count : count ≡ length (take n (core_state_in p).ran)
   log_count = min_is ∙ ap (λ (m : ℕ). min n m) (sym (length-map ran_line replied_of)) ∙ sym (length-take n (map replied_of ran_line))
 
   module _ (flew : ℕ) (flew_is : flew ≡ changing_in row (take count slots)) where
@@ -127,10 +127,10 @@ module _ (keeps : Type 0) (row : Row Slot) (replies : List Reply) (tree : TreeVi
       passed_at : passed ≡ batch_at p n
       passed_at = passed_is ∙ messages_are
 
-      pub log_length : length passed ≡ length (batch_of (world_in p) n)
+      pub log_length : length passed ≡ length (batch_of (core_state_in p) n)
       log_length = ap (λ (ms : List Msg). length ms) (passed_at ∙ same_batch keeps p k n)
 
-      none_passed : length (batch_of (world_in p) n) ≡ 0 → length passed ≡ 0
+      none_passed : length (batch_of (core_state_in p) n) ≡ 0 → length passed ≡ 0
       none_passed none = log_length ∙ none
 
       pub log_fits : length passed ≤ journal.room
@@ -139,32 +139,32 @@ module _ (keeps : Type 0) (row : Row Slot) (replies : List Reply) (tree : TreeVi
       pub log_logged : AreLogged journal.geometry passed
       log_logged = subst (AreLogged journal.geometry) (sym passed_at) (batch_logged keeps p k n)
 
-      pub log_carried : keeps → (x : State) → settled journal ≡ Some x → AreCarriedOut journal.geometry x passed
+      pub log_carried : keeps → (x : State) → committed journal ≡ Some x → AreCarriedOut journal.geometry x passed
       log_carried keep x at =
-          subst (λ (y : State). AreCarriedOut journal.geometry y passed) (same_Some (world_in p).settled x (sym (k.is_settled keep works) ∙ at))
-          (subst (AreCarriedOut journal.geometry (world_in p).settled) (sym passed_at) (batch_carried keeps p k n))
+          subst (λ (y : State). AreCarriedOut journal.geometry y passed) (same_Some (core_state_in p).committed x (sym (k.is_committed keep works) ∙ at))
+          (subst (AreCarriedOut journal.geometry (core_state_in p).committed) (sym passed_at) (batch_carried keeps p k n))
 
-      module _ (new : JournalView) (any : keeps → (x : State) → settled journal ≡ Some x → LeavesOnly journal.medium new.medium (HoldsSome journal.geometry x passed)) where
-        any_at : keeps → LeavesOnly journal.medium new.medium (HoldsSome journal.geometry (world_in p).settled (batch_at p n))
-        any_at keep = subst (λ (ms : List Msg). LeavesOnly journal.medium new.medium (HoldsSome journal.geometry (world_in p).settled ms)) passed_at
-            (any keep (world_in p).settled (k.is_settled keep works))
+      module _ (new : JournalView) (any : keeps → (x : State) → committed journal ≡ Some x → CrashImagesAre journal.medium new.medium (HoldsSome journal.geometry x passed)) where
+        any_at : keeps → CrashImagesAre journal.medium new.medium (HoldsSome journal.geometry (core_state_in p).committed (batch_at p n))
+        any_at keep = subst (λ (ms : List Msg). CrashImagesAre journal.medium new.medium (HoldsSome journal.geometry (core_state_in p).committed ms)) passed_at
+            (any keep (core_state_in p).committed (k.is_committed keep works))
 
-        pub log_call_throughout : (now : CoreView) → now.medium ≡ new.medium → keeps → StandsThroughout (batch_of (world_in p) n) (kept_of p) now
-        log_call_throughout now same keep = log_throughout keeps p k works n flight new.marks new.medium any_at now same keep
+        pub log_call_throughout : (now : CoreView) → now.medium ≡ new.medium → keeps → RecoversThroughout (batch_of (core_state_in p) n) (kept_of p) now
+        log_call_throughout now same keep = log_throughout keeps p k works n flight new.dirty new.medium any_at now same keep
 
-        pub log_untouched : (length passed ≡ 0 → new ≡ journal) → touches_device (world_in p) (steps.Log n) ≡ false → new.medium ≡ journal.medium
-        log_untouched same quiet = ap (λ (j : JournalView). j.medium) (same (none_passed (none_to_log journal.failed (length (batch_of (world_in p) n)) works quiet)))
+        pub log_untouched : (length passed ≡ 0 → new ≡ journal) → touches_device (core_state_in p) (steps.Log n) ≡ false → new.medium ≡ journal.medium
+        log_untouched same quiet = ap (λ (j : JournalView). j.medium) (same (none_passed (none_to_log journal.failed (length (batch_of (core_state_in p) n)) works quiet)))
 
         -- ---- the device failed
 
         module _ (broken : new ≡ record journal { failed = true; medium = new.medium }) where
           abbrev doubting : Parts
-          doubting = parts row replies tree new turns messages next flight opened since
+          doubting = parts row replies tree new queue messages next flight opened since
 
           doubting_is : doubting ≡ with_doubt p n new.medium
           doubting_is = λ i. record (with_doubt p n new.medium) { journal = broken i; batch = messages_are i }
 
-          doubt_sound : IsSoundWorld journal.geometry (world_in (with_doubt p n new.medium))
+          doubt_sound : IsSoundCoreState journal.geometry (core_state_in (with_doubt p n new.medium))
           doubt_sound = record {
             apart = k.sound.apart;
             replied = k.sound.replied;
@@ -176,23 +176,23 @@ module _ (keeps : Type 0) (row : Row Slot) (replies : List Reply) (tree : TreeVi
           }
 
           pub doubt_call_core : IsCore keeps doubting
-          doubt_call_core = subst (IsCore keeps) (sym doubting_is) (doubt_core keeps p k works n flight new.marks new.medium any_at doubt_sound)
+          doubt_call_core = subst (IsCore keeps) (sym doubting_is) (doubt_core keeps p k works n flight new.dirty new.medium any_at doubt_sound)
 
-          pub doubt_call_world : world_in doubting ≡ record (world_in p) { failed = true; doubt = batch_of (world_in p) n }
-          doubt_call_world = ap world_in doubting_is ∙ (λ i. record (world_in p) { failed = true; doubt = same_batch keeps p k n i })
+          pub doubt_call_state : core_state_in doubting ≡ record (core_state_in p) { failed = true; doubt = batch_of (core_state_in p) n }
+          doubt_call_state = ap core_state_in doubting_is ∙ (λ i. record (core_state_in p) { failed = true; doubt = same_batch keeps p k n i })
 
-          pub some_were_passed : (length passed ≡ 0 → new ≡ journal) → length (batch_of (world_in p) n) ≡ 0 → ⊥
+          pub some_were_passed : (length passed ≡ 0 → new ≡ journal) → length (batch_of (core_state_in p) n) ≡ 0 → ⊥
           some_were_passed same none = true≢false (sym (ap (λ (j : JournalView). j.failed) broken) ∙ ap (λ (j : JournalView). j.failed) (same (none_passed none)) ∙ works)
 
         -- ---- they are logged
 
-        module _ (made : new ≡ record journal { room = journal.room - length passed; marks = new.marks; medium = new.medium })
-            (settles : keeps → settled new ≡ option_map (λ x. fold journal.geometry x passed) (settled journal)) (stands : keeps → IsSettled new)
+        module _ (made : new ≡ record journal { room = journal.room - length passed; dirty = new.dirty; medium = new.medium })
+            (settles : keeps → committed new ≡ option_map (λ x. fold journal.geometry x passed) (committed journal)) (recovers : keeps → IsCommitted new)
             (moved : Row Slot) (has : HasLogged count row moved) (flew : ℕ) (flew_is : flew ≡ changing_in row (take count slots))
             (first : TreeView) (first_is : first ≡ opened) (after_since : List Msg) (since_is : after_since ≡ since ++ messages)
             (emptied : List Msg) (empty : emptied ≡ []) where
           abbrev after : Parts
-          after = parts moved replies tree new turns emptied next (flight - flew) first after_since
+          after = parts moved replies tree new queue emptied next (flight - flew) first after_since
 
           abbrev room : ℕ
           room = journal.room - length (batch_at p n)
@@ -218,8 +218,8 @@ module _ (keeps : Type 0) (row : Row Slot) (replies : List Reply) (tree : TreeVi
               let same = min_is in
               omega (arith, now, were, same)
 
-          after_is : after ≡ with_log p n (flight - flew) room new.marks new.medium
-          after_is = λ i. record (with_log p n (flight - flew) room new.marks new.medium) {
+          after_is : after ≡ with_log p n (flight - flew) room new.dirty new.medium
+          after_is = λ i. record (with_log p n (flight - flew) room new.dirty new.medium) {
             lines = record {
               waiting = same_line row moved replies 0 has.values has.waiting i;
               out = same_line row moved replies 1 has.values has.out i;
@@ -228,24 +228,24 @@ module _ (keeps : Type 0) (row : Row Slot) (replies : List Reply) (tree : TreeVi
             };
             free = ap (λ (fs : List ℕ). length fs) has.free i;
             capacity = log_size i;
-            journal = (made ∙ (λ j. record journal { room = journal.room - length (passed_at j); marks = new.marks; medium = new.medium })) i;
+            journal = (made ∙ (λ j. record journal { room = journal.room - length (passed_at j); dirty = new.dirty; medium = new.medium })) i;
             batch = empty i;
             opened = first_is i;
             since = (since_is ∙ ap (λ (ms : List Msg). since ++ ms) messages_are) i;
           }
 
-          settles_at : keeps → settled (record journal { room = room; marks = new.marks; medium = new.medium }) ≡ Some (world_in (with_log p n (flight - flew) room new.marks new.medium)).settled
+          settles_at : keeps → committed (record journal { room = room; dirty = new.dirty; medium = new.medium }) ≡ Some (core_state_in (with_log p n (flight - flew) room new.dirty new.medium)).committed
           settles_at keep =
-              sym (ap settled made) ∙ settles keep
-              ∙ ap (option_map (λ x. fold journal.geometry x passed)) (k.is_settled keep works)
-              ∙ ap (λ (ms : List Msg). Some (fold journal.geometry (world_in p).settled ms)) passed_at
+              sym (ap committed made) ∙ settles keep
+              ∙ ap (option_map (λ x. fold journal.geometry x passed)) (k.is_committed keep works)
+              ∙ ap (λ (ms : List Msg). Some (fold journal.geometry (core_state_in p).committed ms)) passed_at
               ∙ ap Some (sym (fold-joined journal.geometry (state_in opened) since (batch_at p n)))
 
-          stands_at : keeps → (c : List ℕ) → Leaves new.medium c → holds journal.geometry c ≡ settled (record journal { room = room; marks = new.marks; medium = new.medium })
-          stands_at keep c leaves = ap (λ (j : JournalView). holds j.geometry c) (sym made) ∙ (stands keep).each c leaves ∙ ap settled made
+          recovers_at : keeps → (c : List ℕ) → IsCrashImage new.medium c → holds journal.geometry c ≡ committed (record journal { room = room; dirty = new.dirty; medium = new.medium })
+          recovers_at keep c leaves = ap (λ (j : JournalView). holds j.geometry c) (sym made) ∙ (recovers keep).each c leaves ∙ ap committed made
 
           pub log_call_core : IsCore keeps after
-          log_call_core = subst (IsCore keeps) (sym after_is) (log_core keeps p k works n (flight - flew) new.marks new.medium (flies flew flew_is) settles_at stands_at)
+          log_call_core = subst (IsCore keeps) (sym after_is) (log_core keeps p k works n (flight - flew) new.dirty new.medium (flies flew flew_is) settles_at recovers_at)
 
-          pub log_call_world : world_in after ≡ log journal.geometry (world_in p) n
-          log_call_world = ap world_in after_is ∙ log_world keeps p k works n (flight - flew) new.marks new.medium
+          pub log_call_state : core_state_in after ≡ log journal.geometry (core_state_in p) n
+          log_call_state = ap core_state_in after_is ∙ log_state keeps p k works n (flight - flew) new.dirty new.medium

@@ -9,18 +9,18 @@ use Rattle.affinity.specs.Kind.{is_changing}
 use Rattle.affinity.specs.declared.geometry.Geometry.{Geometry}
 use Rattle.checkpoint.specs.Recovery.{holds}
 use Rattle.disk.proofs.Moments.{leaves_now}
-use Rattle.disk.specs.Device.{Leaves, Medium}
-use Rattle.disk.specs.Moments.{LeavesOnly}
-use Rattle.journal.specs.Journal.{AreCarriedOut, HoldsSome, settled}
-use Rattle.journal.specs.Marks.{Marks}
+use Rattle.disk.specs.Device.{IsCrashImage, Medium}
+use Rattle.disk.specs.Moments.{CrashImagesAre}
+use Rattle.journal.specs.Journal.{AreCarriedOut, HoldsSome, committed}
+use Rattle.journal.specs.DirtyPieces.{DirtyPieces}
 use Rattle.legal_runs.proofs.Lists.{all_back, all_front, all_join, before_back, before_front}
 use Rattle.legal_runs.proofs.Moves.{Logs}
 use Rattle.legal_runs.proofs.Room.{log_has_room}
 use Rattle.legal_runs.proofs.Sound.{move_sound}
-use Rattle.legal_runs.proofs.Told.{fold-joined, still_replied}
+use Rattle.legal_runs.proofs.SerialReplies.{fold-joined, still_replied}
 use Rattle.legal_runs.specs.Events.{batch, log, loggable}
-use Rattle.legal_runs.specs.Laws.{AreApart, AreReplied, IsSoundWorld}
-use Rattle.legal_runs.specs.World.{Replied, World, entries}
+use Rattle.legal_runs.specs.Laws.{AreApart, AreReplied, IsSoundCoreState}
+use Rattle.legal_runs.specs.CoreState.{Replied, CoreState, entries}
 use Rattle.messages.specs.Messages.{IsMessage, is_in_range, kind}
 use Rattle.messages.specs.declared.Msg.{Msg}
 use Rattle.oplog.specs.Logged.{AreLogged, IsLogged}
@@ -33,8 +33,8 @@ use Rattle.scheduler.proofs.Counting.{changing, changing-append, flight_of}
 use Rattle.scheduler.proofs.Journaling.{with_none}
 use Rattle.scheduler.proofs.Tests.{any_logged}
 use Rattle.scheduler.proofs.Trees.{log_reaches}
-use Rattle.scheduler.specs.Kept.{CoreView, StandsThroughout}
-use Rattle.scheduler.specs.Parts.{IsCore, IsPlaced, Parts, is_below, kept_of, entry_of, reached, replied_of, world_in}
+use Rattle.scheduler.specs.CoreView.{CoreView, RecoversThroughout}
+use Rattle.scheduler.specs.Parts.{IsCore, IsPlaced, Parts, is_below, kept_of, entry_of, reached, replied_of, core_state_in}
 use Rattle.scheduler.specs.Slots.{SlotView}
 
 -- ---- from what ran to what the journal asks for
@@ -79,8 +79,8 @@ module _ (keeps : Type 0) (p : Parts) (k : IsCore keeps p) (n : ℕ) where
   abbrev g : Geometry
   g = p.journal.geometry
 
-  abbrev w : World
-  w = world_in p
+  abbrev w : CoreState
+  w = core_state_in p
 
   pub same_batch : batch_at p n ≡ batch w n
   same_batch = ap loggable (sym (take-map replied_of n p.lines.ran))
@@ -93,22 +93,22 @@ module _ (keeps : Type 0) (p : Parts) (k : IsCore keeps p) (n : ℕ) where
   pub batch_logged : AreLogged g (batch_at p n)
   batch_logged = subst (AreLogged g) (sym same_batch) (All-from_recursion (λ m. IsLogged g m) (batch w n) (each_logged g (take n w.ran) known))
 
-  pub batch_carried : AreCarriedOut g w.settled (batch_at p n)
+  pub batch_carried : AreCarriedOut g w.committed (batch_at p n)
   batch_carried =
       let whole : take n w.ran ++ drop n w.ran ≡ w.ran = take-append-drop n w.ran in
-      subst (AreCarriedOut g w.settled) (sym same_batch) (carried_out g w.settled (take n w.ran) (drop n w.ran)
+      subst (AreCarriedOut g w.committed) (sym same_batch) (carried_out g w.committed (take n w.ran) (drop n w.ran)
       (subst (λ r. AreApart g (entries r)) (sym whole) (before_front _ (entries w.ran) w.out (before_back _ (entries w.logged) _ k.sound.apart)))
-      (subst (AreReplied g w.settled) (sym whole) k.sound.replied) known)
+      (subst (AreReplied g w.committed) (sym whole) k.sound.replied) known)
 
   pub batch_fits : length (batch_at p n) ≤ p.journal.room
   batch_fits = subst (λ ms. length ms ≤ p.journal.room) (sym same_batch) (log_has_room w n k.sound.room)
 
 -- ---- what stands afterwards
 
-abbrev pub with_log : Parts → ℕ → ℕ → ℕ → Marks → Medium → Parts
-with_log p n flight room marks medium = record p {
+abbrev pub with_log : Parts → ℕ → ℕ → ℕ → DirtyPieces → Medium → Parts
+with_log p n flight room dirty medium = record p {
   lines = record p.lines { ran = drop n p.lines.ran; logged = p.lines.logged ++ take n p.lines.ran };
-  journal = record p.journal { room = room; marks = marks; medium = medium };
+  journal = record p.journal { room = room; dirty = dirty; medium = medium };
   batch = [];
   flight = flight;
   since = p.since ++ batch_at p n;
@@ -117,25 +117,25 @@ with_log p n flight room marks medium = record p {
 abbrev pub with_doubt : Parts → ℕ → Medium → Parts
 with_doubt p n medium = record p { journal = record p.journal { failed = true; medium = medium }; batch = batch_at p n }
 
-module _ (keeps : Type 0) (p : Parts) (k : IsCore keeps p) (works : p.journal.failed ≡ false) (n flight : ℕ) (marks : Marks) (medium : Medium) where
+module _ (keeps : Type 0) (p : Parts) (k : IsCore keeps p) (works : p.journal.failed ≡ false) (n flight : ℕ) (dirty : DirtyPieces) (medium : Medium) where
   abbrev room : ℕ
   room = p.journal.room - length (batch_at p n)
 
   abbrev after : Parts
-  after = with_log p n flight room marks medium
+  after = with_log p n flight room dirty medium
 
-  pub log_world : world_in after ≡ log p.journal.geometry (world_in p) n
-  log_world = λ i. record (world_in after) {
+  pub log_state : core_state_in after ≡ log p.journal.geometry (core_state_in p) n
+  log_state = λ i. record (core_state_in after) {
     ran = sym (drop-map replied_of n p.lines.ran) i;
     logged = (map-append replied_of p.lines.logged (take n p.lines.ran) ∙ ap (λ as'. map replied_of p.lines.logged ++ as') (sym (take-map replied_of n p.lines.ran))) i;
-    settled = (fold-joined p.journal.geometry _ p.since (batch_at p n) ∙ ap (fold p.journal.geometry (world_in p).settled) (same_batch keeps p k n)) i;
+    committed = (fold-joined p.journal.geometry _ p.since (batch_at p n) ∙ ap (fold p.journal.geometry (core_state_in p).committed) (same_batch keeps p k n)) i;
     room = p.journal.room - length (same_batch keeps p k n i);
     doubt = sym (k.no_doubt works) i;
   }
 
   module _ (flies : flight + changing (take n p.lines.ran) ≡ p.flight)
-      (is_settled : keeps → settled (record p.journal { room = room; marks = marks; medium = medium }) ≡ Some (world_in after).settled)
-      (stands : keeps → (c : List ℕ) → Leaves medium c → holds p.journal.geometry c ≡ settled (record p.journal { room = room; marks = marks; medium = medium })) where
+      (is_committed : keeps → committed (record p.journal { room = room; dirty = dirty; medium = medium }) ≡ Some (core_state_in after).committed)
+      (recovers : keeps → (c : List ℕ) → IsCrashImage medium c → holds p.journal.geometry c ≡ committed (record p.journal { room = room; dirty = dirty; medium = medium })) where
     pub log_core : IsCore keeps after
     log_core =
         let whole = sym (take-append-drop n p.lines.ran) in
@@ -160,26 +160,26 @@ module _ (keeps : Type 0) (p : Parts) (k : IsCore keeps p) (works : p.journal.fa
           waits = k.waits;
           holds = λ test. k.holds test ∙ any_logged test p.lines (take n p.lines.ran) (drop n p.lines.ran) whole;
           flies = omega (arith, flew, fly, ran, flies);
-          sound = subst (IsSoundWorld p.journal.geometry) (sym log_world)
-              (move_sound p.journal.geometry (world_in p) _ _ (Logs n refl refl) k.sound);
+          sound = subst (IsSoundCoreState p.journal.geometry) (sym log_state)
+              (move_sound p.journal.geometry (core_state_in p) _ _ (Logs n refl refl) k.sound);
           geometry = k.geometry;
           tree = subst (λ s. TreeHolds p.journal.geometry (is_below p.journal.geometry (map entry_of p.lines.out)) (in_tree p.tree) s)
-              (sym (log_reaches p.journal.geometry (world_in p) n k.sound) ∙ ap (reached p.journal.geometry) (sym log_world)) k.tree;
-          is_settled = λ keep fine. is_settled keep;
-          stands = λ keep c leaves. with_none p.journal.geometry (world_in after).settled [] c (stands keep c leaves ∙ is_settled keep);
+              (sym (log_reaches p.journal.geometry (core_state_in p) n k.sound) ∙ ap (reached p.journal.geometry) (sym log_state)) k.tree;
+          is_committed = λ keep fine. is_committed keep;
+          recovers = λ keep c leaves. with_none p.journal.geometry (core_state_in after).committed [] c (recovers keep c leaves ∙ is_committed keep);
           no_doubt = λ fine. refl;
         }
 
-  module _ (any : keeps → LeavesOnly p.journal.medium medium (HoldsSome p.journal.geometry (world_in p).settled (batch_at p n))) where
+  module _ (any : keeps → CrashImagesAre p.journal.medium medium (HoldsSome p.journal.geometry (core_state_in p).committed (batch_at p n))) where
     -- at each moment of the call
-    pub log_throughout : (new : CoreView) → new.medium ≡ medium → keeps → StandsThroughout (batch (world_in p) n) (kept_of p) new
+    pub log_throughout : (new : CoreView) → new.medium ≡ medium → keeps → RecoversThroughout (batch (core_state_in p) n) (kept_of p) new
     log_throughout new same keep =
-        subst (λ (m : Medium). LeavesOnly p.journal.medium m (HoldsSome p.journal.geometry (world_in p).settled (if p.journal.failed then p.batch else batch (world_in p) n))) (sym same)
-        (subst (λ ds. LeavesOnly p.journal.medium medium (HoldsSome p.journal.geometry (world_in p).settled ds))
-        (same_batch keeps p k n ∙ sym (cond-false p.journal.failed p.batch (batch (world_in p) n) works)) (any keep))
+        subst (λ (m : Medium). CrashImagesAre p.journal.medium m (HoldsSome p.journal.geometry (core_state_in p).committed (if p.journal.failed then p.batch else batch (core_state_in p) n))) (sym same)
+        (subst (λ ds. CrashImagesAre p.journal.medium medium (HoldsSome p.journal.geometry (core_state_in p).committed ds))
+        (same_batch keeps p k n ∙ sym (cond-false p.journal.failed p.batch (batch (core_state_in p) n) works)) (any keep))
 
     -- the device failed
-    pub doubt_core : IsSoundWorld p.journal.geometry (world_in (with_doubt p n medium)) → IsCore keeps (with_doubt p n medium)
+    pub doubt_core : IsSoundCoreState p.journal.geometry (core_state_in (with_doubt p n medium)) → IsCore keeps (with_doubt p n medium)
     doubt_core sound = record {
       claimed = k.claimed;
       placed = k.placed;
@@ -191,7 +191,7 @@ module _ (keeps : Type 0) (p : Parts) (k : IsCore keeps p) (works : p.journal.fa
       sound = sound;
       geometry = k.geometry;
       tree = k.tree;
-      is_settled = λ keep fine. absurd (true≢false fine);
-      stands = λ keep c leaves. leaves_now p.journal.medium medium _ (any keep) c leaves;
+      is_committed = λ keep fine. absurd (true≢false fine);
+      recovers = λ keep c leaves. leaves_now p.journal.medium medium _ (any keep) c leaves;
       no_doubt = λ fine. absurd (true≢false fine);
     }

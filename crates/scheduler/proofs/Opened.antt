@@ -4,7 +4,7 @@ use Rattle.std.proofs.lemmas.List.{length-replicate}
 use Rattle.affinity.specs.declared.geometry.Geometry.{Geometry}
 use Rattle.arena.proofs.Times.{length-numbers}
 use Rattle.arena.specs.Row.{IsParted, Row, capacity_of, empty_row}
-use Rattle.journal.specs.Journal.{JournalView, IsSettled, settled}
+use Rattle.journal.specs.Journal.{JournalView, IsCommitted, committed}
 use Rattle.legal_runs.proofs.Idle.{idle_sound}
 use Rattle.messages.specs.declared.Msg.{Msg}
 use Rattle.messages.specs.declared.Reply.{Reply}
@@ -13,20 +13,20 @@ use Rattle.parcel.specs.Holding.{TreeHolds, nowhere}
 use Rattle.parcel.specs.Nodes.{tree_state}
 use Rattle.parcel.specs.Tree.{IsIn, IsWholeTree, TreeView, in_tree, state_in}
 use Rattle.meaning.specs.State.{IsState}
-use Rattle.scheduler.specs.Parts.{IsCore, Parts, is_below, parts, world_in}
+use Rattle.scheduler.specs.Parts.{IsCore, Parts, is_below, parts, core_state_in}
 use Rattle.scheduler.specs.Slots.{HasChains, line}
 use Rattle.scheduler.specs.declared.slot.Slot.{Slot}
-use Rattle.turns.specs.Turns.{Queuing, turns_at_start}
+use Rattle.run_queue.specs.RunQueue.{RunQueueView, queue_at_start}
 
 module _ (keeps : Type 0) (slots : ℕ) (replies : List Reply) (tree : TreeView) (journal : JournalView) where
   abbrev pub opened : Parts
-  opened = parts (empty_row slots 4) replies tree journal (turns_at_start journal.geometry slots) [] 0 0 tree []
+  opened = parts (empty_row slots 4) replies tree journal (queue_at_start journal.geometry slots) [] 0 0 tree []
 
   pub size : capacity_of {T = Slot} (empty_row slots 4) ≡ slots
   size = length-replicate slots _
 
   module _ (same : tree.geometry ≡ journal.geometry) (whole : IsWholeTree tree)
-      (holds : keeps → (settled journal ≡ Some (state_in tree)) × IsSettled journal) where
+      (holds : keeps → (committed journal ≡ Some (state_in tree)) × IsCommitted journal) where
     tree_holds : TreeHolds journal.geometry (is_below journal.geometry []) (in_tree tree) (state_in tree)
     tree_holds =
         holds_alike journal.geometry nowhere (is_below journal.geometry []) (in_tree tree) (state_in tree) (λ q. refl)
@@ -44,20 +44,20 @@ module _ (keeps : Type 0) (slots : ℕ) (replies : List Reply) (tree : TreeView)
       waits = refl;
       holds = λ test. refl;
       flies = refl;
-      sound = idle_sound (world_in opened) (record { none_waits = refl; none_held = refl }) journal.geometry;
+      sound = idle_sound (core_state_in opened) (record { none_waits = refl; none_held = refl }) journal.geometry;
       geometry = same;
       tree = tree_holds;
-      is_settled = λ k works. (holds k).0;
-      stands = λ k bytes leaves. record { added = 0; at_most = omega arith; is = (holds k).1.each bytes leaves ∙ (holds k).0 };
+      is_committed = λ k works. (holds k).0;
+      recovers = λ k bytes leaves. record { added = 0; at_most = omega arith; is = (holds k).1.each bytes leaves ∙ (holds k).0 };
       no_doubt = λ works. refl;
     }
 
     -- the same of parts that are these
     module _ (row : Row Slot) (row_is : row ≡ empty_row slots 4) where
-      pub opened_parts : (turns : Queuing) (batch : List Msg) (first : TreeView) (since : List Msg)
-          → turns ≡ turns_at_start journal.geometry slots → batch ≡ [] → first ≡ tree → since ≡ []
-          → IsCore keeps (parts row replies tree journal turns batch 0 0 first since)
-      opened_parts turns batch first since turns_are batch_is first_is since_is =
+      pub opened_parts : (queue : RunQueueView) (batch : List Msg) (first : TreeView) (since : List Msg)
+          → queue ≡ queue_at_start journal.geometry slots → batch ≡ [] → first ≡ tree → since ≡ []
+          → IsCore keeps (parts row replies tree journal queue batch 0 0 first since)
+      opened_parts queue batch first since turns_are batch_is first_is since_is =
           subst (IsCore keeps) (λ i. parts (sym row_is i) replies tree journal (sym turns_are i) (sym batch_is i) 0 0 (sym first_is i) (sym since_is i)) opened_core
 
       pub opened_chains : IsParted row → HasChains row

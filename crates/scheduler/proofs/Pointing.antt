@@ -4,13 +4,13 @@ use Rattle.std.specs.Prelude.{if◌then◌else◌, is_some, nat_lt, option_map, 
 use Rattle.std.proofs.lemmas.Bool.{ltb-false, true≢false}
 use Rattle.affinity.specs.declared.geometry.Geometry.{Geometry}
 use Rattle.checkpoint.specs.Recovery.{holds}
-use Rattle.disk.specs.Moments.{LeavesOnly}
+use Rattle.disk.specs.Moments.{CrashImagesAre}
 use Rattle.image.specs.Pieces.{piece_count}
-use Rattle.journal.specs.Journal.{JournalView, after_call, settled}
-use Rattle.journal.specs.Marks.{Marks, count_marked, cut_marks, flipped_marks, pointed_marks}
+use Rattle.journal.specs.Journal.{JournalView, after_call, committed}
+use Rattle.journal.specs.DirtyPieces.{DirtyPieces, count_dirty, cut_dirty, flipped_dirty, pointed_dirty}
 use Rattle.legal_runs.specs.Events.{point_refusal}
-use Rattle.legal_runs.specs.Laws.{IsSoundWorld}
-use Rattle.legal_runs.specs.World.{World, held}
+use Rattle.legal_runs.specs.Laws.{IsSoundCoreState}
+use Rattle.legal_runs.specs.CoreState.{CoreState, held}
 use Rattle.legal_runs.specs.declared.outcomes.Outcome.TheVariants as outcomes
 use Rattle.legal_runs.specs.declared.outcomes.PointRefusal.{PointRefusal}
 use Rattle.legal_runs.specs.declared.outcomes.PointRefusal.TheVariants as points
@@ -24,8 +24,8 @@ use Rattle.meaning.specs.State.{IsState}
 use Rattle.scheduler.proofs.Called.{cut_called, point_called}
 use Rattle.scheduler.proofs.Counting.{held_count}
 use Rattle.scheduler.proofs.Journaling.{called_sound, step_core, step_throughout, with_journal}
-use Rattle.scheduler.specs.Kept.{StandsThroughout}
-use Rattle.scheduler.specs.Parts.{IsCore, Parts, entry_of, is_below, kept_of, reached, world_in}
+use Rattle.scheduler.specs.CoreView.{RecoversThroughout}
+use Rattle.scheduler.specs.Parts.{IsCore, Parts, entry_of, is_below, kept_of, reached, core_state_in}
 
 -- ---- why a point may begin
 
@@ -37,17 +37,17 @@ no_items : {X : Type 0} (xs : List X) → length xs ≡ 0 → xs ≡ []
 no_items [] e = refl
 no_items (x ∷ xs) e = absurd (omega (arith, e))
 
-module _ (keeps : Type 0) (p : Parts) (k : IsCore keeps p) (why : point_refusal (world_in p) ≡ None) where
+module _ (keeps : Type 0) (p : Parts) (k : IsCore keeps p) (why : point_refusal (core_state_in p) ≡ None) where
   pub point_works : p.journal.failed ≡ false
   point_works = (past p.journal.failed points.Failed _ why).0
 
-  running : (if is_some p.journal.left then Some points.Running else (if nat_lt 0 (length (held (world_in p))) then Some points.Held else None)) ≡ None
+  running : (if is_some p.journal.left then Some points.Running else (if nat_lt 0 (length (held (core_state_in p))) then Some points.Held else None)) ≡ None
   running = (past p.journal.failed points.Failed _ why).1
 
   none_held : length p.lines.logged + (length p.lines.ran + length p.lines.out) ≡ 0
   none_held =
-      let none = (past (nat_lt 0 (length (held (world_in p)))) points.Held None (past (is_some p.journal.left) points.Running _ running).1).0 in
-      let few = ltb-false 0 (length (held (world_in p))) none in
+      let none = (past (nat_lt 0 (length (held (core_state_in p)))) points.Held None (past (is_some p.journal.left) points.Running _ running).1).0 in
+      let few = ltb-false 0 (length (held (core_state_in p))) none in
       let count = held_count p in
       omega (arith, few, count)
 
@@ -57,54 +57,54 @@ module _ (keeps : Type 0) (p : Parts) (k : IsCore keeps p) (why : point_refusal 
   none_ran : p.lines.ran ≡ []
   none_ran = no_items p.lines.ran (let none = none_held in omega (arith, none))
 
-  whole_tree : TreeHolds p.journal.geometry nowhere (in_tree p.tree) (world_in p).settled
+  whole_tree : TreeHolds p.journal.geometry nowhere (in_tree p.tree) (core_state_in p).committed
   whole_tree =
-      subst (λ os. TreeHolds p.journal.geometry (is_below p.journal.geometry (map entry_of os)) (in_tree p.tree) (world_in p).settled) none_out
+      subst (λ os. TreeHolds p.journal.geometry (is_below p.journal.geometry (map entry_of os)) (in_tree p.tree) (core_state_in p).committed) none_out
       (subst (λ rs. TreeHolds p.journal.geometry (is_below p.journal.geometry (map entry_of p.lines.out)) (in_tree p.tree)
-      (reached p.journal.geometry (world_in (record p { lines = record p.lines { ran = rs } })))) none_ran k.tree)
+      (reached p.journal.geometry (core_state_in (record p { lines = record p.lines { ran = rs } })))) none_ran k.tree)
 
   pub point_whole : IsWholeTree p.tree
   point_whole =
-      let whole = whole_holds p.journal.geometry (in_tree p.tree) (world_in p).settled whole_tree in
+      let whole = whole_holds p.journal.geometry (in_tree p.tree) (core_state_in p).committed whole_tree in
       record {
         all_in = subst (λ (g : Geometry). IsIn g [] (in_tree p.tree)) (sym k.geometry) whole.0;
         state = subst (λ (g : Geometry). IsState g (tree_state g (in_tree p.tree))) (sym k.geometry) (subst (IsState p.journal.geometry) (sym whole.1) whole_tree.state);
       }
 
-  pub point_state : keeps → settled p.journal ≡ Some (state_in p.tree)
+  pub point_state : keeps → committed p.journal ≡ Some (state_in p.tree)
   point_state keep =
-      k.is_settled keep point_works
-      ∙ ap Some (sym (whole_holds p.journal.geometry (in_tree p.tree) (world_in p).settled whole_tree).1)
+      k.is_committed keep point_works
+      ∙ ap Some (sym (whole_holds p.journal.geometry (in_tree p.tree) (core_state_in p).committed whole_tree).1)
       ∙ ap (λ (g : Geometry). Some (tree_state g (in_tree p.tree))) (sym k.geometry)
 
 -- ---- a step that was made, or at which the device failed
 
 module _ (keeps : Type 0) (p : Parts) (k : IsCore keeps p) (works : p.journal.failed ≡ false) (new : JournalView)
-    (any : keeps → LeavesOnly p.journal.medium new.medium (λ c. holds p.journal.geometry c ≡ settled p.journal)) where
-  pub made_core : (room : ℕ) (left : Option ℕ) (marks : Marks) → new ≡ record p.journal { room = room; left = left; marks = marks; medium = new.medium }
-      → (keeps → settled new ≡ settled p.journal) → IsSoundWorld p.journal.geometry (world_in (with_journal p room left p.journal.failed marks new.medium))
+    (any : keeps → CrashImagesAre p.journal.medium new.medium (λ c. holds p.journal.geometry c ≡ committed p.journal)) where
+  pub made_core : (room : ℕ) (left : Option ℕ) (dirty : DirtyPieces) → new ≡ record p.journal { room = room; left = left; dirty = dirty; medium = new.medium }
+      → (keeps → committed new ≡ committed p.journal) → IsSoundCoreState p.journal.geometry (core_state_in (with_journal p room left p.journal.failed dirty new.medium))
       → IsCore keeps (record p { journal = new })
-  made_core room left marks is same sound = subst (λ (j : JournalView). IsCore keeps (record p { journal = j })) (sym is)
-      (step_core keeps p k works new.medium any room left p.journal.failed marks sound (λ keep fine. sym (ap settled is) ∙ same keep))
+  made_core room left dirty is same sound = subst (λ (j : JournalView). IsCore keeps (record p { journal = j })) (sym is)
+      (step_core keeps p k works new.medium any room left p.journal.failed dirty sound (λ keep fine. sym (ap committed is) ∙ same keep))
 
   pub broken_core : new ≡ record p.journal { failed = true; medium = new.medium }
-      → IsSoundWorld p.journal.geometry (world_in (with_journal p p.journal.room p.journal.left true p.journal.marks new.medium)) → IsCore keeps (record p { journal = new })
+      → IsSoundCoreState p.journal.geometry (core_state_in (with_journal p p.journal.room p.journal.left true p.journal.dirty new.medium)) → IsCore keeps (record p { journal = new })
   broken_core is sound = subst (λ (j : JournalView). IsCore keeps (record p { journal = j })) (sym is)
-      (step_core keeps p k works new.medium any p.journal.room p.journal.left true p.journal.marks sound (λ keep fine. absurd (true≢false fine)))
+      (step_core keeps p k works new.medium any p.journal.room p.journal.left true p.journal.dirty sound (λ keep fine. absurd (true≢false fine)))
 
-  pub step_moment : keeps → StandsThroughout [] (kept_of p) (kept_of (record p { journal = new }))
+  pub step_moment : keeps → RecoversThroughout [] (kept_of p) (kept_of (record p { journal = new }))
   step_moment = step_throughout keeps p k works new.medium any (kept_of (record p { journal = new })) refl
 
 module _ (keeps : Type 0) (p : Parts) (k : IsCore keeps p) (new : JournalView)
-    (any : keeps → LeavesOnly p.journal.medium new.medium (λ c. holds p.journal.geometry c ≡ settled p.journal)) where
+    (any : keeps → CrashImagesAre p.journal.medium new.medium (λ c. holds p.journal.geometry c ≡ committed p.journal)) where
   abbrev g : Geometry
   g = p.journal.geometry
 
-  abbrev w : World
-  w = world_in p
+  abbrev w : CoreState
+  w = core_state_in p
 
-  -- failing leaves all that makes a world sound
-  failed_sound : IsSoundWorld g (world_in (with_journal p p.journal.room p.journal.left true p.journal.marks new.medium))
+  -- failing leaves all that makes a core state sound
+  failed_sound : IsSoundCoreState g (core_state_in (with_journal p p.journal.room p.journal.left true p.journal.dirty new.medium))
   failed_sound = record {
     apart = k.sound.apart;
     replied = k.sound.replied;
@@ -115,16 +115,16 @@ module _ (keeps : Type 0) (p : Parts) (k : IsCore keeps p) (new : JournalView)
     fits = k.sound.fits;
   }
 
-  pointed_sound : point_refusal (world_in p) ≡ None → IsSoundWorld g (world_in (with_journal p g.half p.journal.left p.journal.failed new.marks new.medium))
+  pointed_sound : point_refusal (core_state_in p) ≡ None → IsSoundCoreState g (core_state_in (with_journal p g.half p.journal.left p.journal.failed new.dirty new.medium))
   pointed_sound why = called_sound g w (record w { room = g.half }) steps.Point outcomes.Pointed false
       (point_called g w (record w { room = g.half }) (Ok tt) (why, refl)) k.sound
 
-  cut_sound : point_refusal (world_in p) ≡ None → (n : ℕ) → n ≤ piece_count g → IsSoundWorld g (world_in (with_journal p g.half (Some n) p.journal.failed new.marks new.medium))
+  cut_sound : point_refusal (core_state_in p) ≡ None → (n : ℕ) → n ≤ piece_count g → IsSoundCoreState g (core_state_in (with_journal p g.half (Some n) p.journal.failed new.dirty new.medium))
   cut_sound why n few = called_sound g w (record w { room = g.half; left = Some n }) steps.Cut outcomes.Cut false
       (cut_called g w (record w { room = g.half; left = Some n }) (Ok tt) (why, (n, few, refl))) k.sound
 
   -- whatever is left to write
-  left_sound : (left : Option ℕ) → IsSoundWorld g (world_in (with_journal p p.journal.room left p.journal.failed new.marks new.medium))
+  left_sound : (left : Option ℕ) → IsSoundCoreState g (core_state_in (with_journal p p.journal.room left p.journal.failed new.dirty new.medium))
   left_sound left = record {
     apart = k.sound.apart;
     replied = k.sound.replied;
@@ -135,47 +135,47 @@ module _ (keeps : Type 0) (p : Parts) (k : IsCore keeps p) (new : JournalView)
     fits = k.sound.fits;
   }
 
-  module _ (result : Result (Unit {0}) LogFault) (why : point_refusal (world_in p) ≡ None) (settles : OnOk result (keeps → settled new ≡ settled p.journal)) where
-    pub point_core : new ≡ after_call result (record p.journal { room = p.journal.geometry.half; marks = pointed_marks p.journal.marks; medium = new.medium }) p.journal
+  module _ (result : Result (Unit {0}) LogFault) (why : point_refusal (core_state_in p) ≡ None) (settles : OnOk result (keeps → committed new ≡ committed p.journal)) where
+    pub point_core : new ≡ after_call result (record p.journal { room = p.journal.geometry.half; dirty = pointed_dirty p.journal.dirty; medium = new.medium }) p.journal
         → IsCore keeps (record p { journal = new })
     point_core is = by result is settles
       where
-        by : (r : Result (Unit {0}) LogFault) → new ≡ after_call r (record p.journal { room = p.journal.geometry.half; marks = pointed_marks p.journal.marks; medium = new.medium }) p.journal
-            → OnOk r (keeps → settled new ≡ settled p.journal) → IsCore keeps (record p { journal = new })
-        by (Ok u) is same = made_core keeps p k (point_works keeps p k why) new any p.journal.geometry.half p.journal.left (pointed_marks p.journal.marks) is same (pointed_sound why)
+        by : (r : Result (Unit {0}) LogFault) → new ≡ after_call r (record p.journal { room = p.journal.geometry.half; dirty = pointed_dirty p.journal.dirty; medium = new.medium }) p.journal
+            → OnOk r (keeps → committed new ≡ committed p.journal) → IsCore keeps (record p { journal = new })
+        by (Ok u) is same = made_core keeps p k (point_works keeps p k why) new any p.journal.geometry.half p.journal.left (pointed_dirty p.journal.dirty) is same (pointed_sound why)
         by (Err e) is same = broken_core keeps p k (point_works keeps p k why) new any is failed_sound
 
     abbrev pub cut_journal : JournalView
-    cut_journal = record p.journal { room = g.half; left = Some (count_marked p.journal.marks.others); marks = cut_marks p.journal.marks; medium = new.medium }
+    cut_journal = record p.journal { room = g.half; left = Some (count_dirty p.journal.dirty.others); dirty = cut_dirty p.journal.dirty; medium = new.medium }
 
-    pub cut_core : OnOk result (new ≡ cut_journal) → OnOk result (count_marked p.journal.marks.others ≤ piece_count g)
+    pub cut_core : OnOk result (new ≡ cut_journal) → OnOk result (count_dirty p.journal.dirty.others ≤ piece_count g)
         → OnErr result (new ≡ record p.journal { failed = true; medium = new.medium }) → IsCore keeps (record p { journal = new })
     cut_core begun few broken = by result begun few broken settles
       where
-        by : (r : Result (Unit {0}) LogFault) → OnOk r (new ≡ cut_journal) → OnOk r (count_marked p.journal.marks.others ≤ piece_count g)
-            → OnErr r (new ≡ record p.journal { failed = true; medium = new.medium }) → OnOk r (keeps → settled new ≡ settled p.journal)
+        by : (r : Result (Unit {0}) LogFault) → OnOk r (new ≡ cut_journal) → OnOk r (count_dirty p.journal.dirty.others ≤ piece_count g)
+            → OnErr r (new ≡ record p.journal { failed = true; medium = new.medium }) → OnOk r (keeps → committed new ≡ committed p.journal)
             → IsCore keeps (record p { journal = new })
         by (Ok u) begun few broken same =
-            made_core keeps p k (point_works keeps p k why) new any g.half (Some (count_marked p.journal.marks.others)) (cut_marks p.journal.marks) begun same (cut_sound why (count_marked p.journal.marks.others) few)
+            made_core keeps p k (point_works keeps p k why) new any g.half (Some (count_dirty p.journal.dirty.others)) (cut_dirty p.journal.dirty) begun same (cut_sound why (count_dirty p.journal.dirty.others) few)
         by (Err e) begun few broken same = broken_core keeps p k (point_works keeps p k why) new any broken failed_sound
 
   module _ (result : Result ℕ LogFault) (works : p.journal.failed ≡ false)
-      (settles : OnOk result (keeps → settled new ≡ settled p.journal)) where
+      (settles : OnOk result (keeps → committed new ≡ committed p.journal)) where
     pub piece_core : new ≡ after_call result (record p.journal { left = option_map (λ l. l - 1) p.journal.left; medium = new.medium }) p.journal
         → IsCore keeps (record p { journal = new })
     piece_core is = by result is settles
       where
         by : (r : Result ℕ LogFault) → new ≡ after_call r (record p.journal { left = option_map (λ l. l - 1) p.journal.left; medium = new.medium }) p.journal
-            → OnOk r (keeps → settled new ≡ settled p.journal) → IsCore keeps (record p { journal = new })
-        by (Ok u) is same = made_core keeps p k works new any p.journal.room (option_map (λ l. l - 1) p.journal.left) p.journal.marks is same (left_sound (option_map (λ l. l - 1) p.journal.left))
+            → OnOk r (keeps → committed new ≡ committed p.journal) → IsCore keeps (record p { journal = new })
+        by (Ok u) is same = made_core keeps p k works new any p.journal.room (option_map (λ l. l - 1) p.journal.left) p.journal.dirty is same (left_sound (option_map (λ l. l - 1) p.journal.left))
         by (Err e) is same = broken_core keeps p k works new any is failed_sound
 
   module _ (result : Result (Unit {0}) LogFault) (works : p.journal.failed ≡ false)
-      (settles : OnOk result (keeps → settled new ≡ settled p.journal)) where
-    pub flip_core : new ≡ after_call result (record p.journal { left = None; marks = flipped_marks p.journal.marks; medium = new.medium }) p.journal → IsCore keeps (record p { journal = new })
+      (settles : OnOk result (keeps → committed new ≡ committed p.journal)) where
+    pub flip_core : new ≡ after_call result (record p.journal { left = None; dirty = flipped_dirty p.journal.dirty; medium = new.medium }) p.journal → IsCore keeps (record p { journal = new })
     flip_core is = by result is settles
       where
-        by : (r : Result (Unit {0}) LogFault) → new ≡ after_call r (record p.journal { left = None; marks = flipped_marks p.journal.marks; medium = new.medium }) p.journal
-            → OnOk r (keeps → settled new ≡ settled p.journal) → IsCore keeps (record p { journal = new })
-        by (Ok u) is same = made_core keeps p k works new any p.journal.room None (flipped_marks p.journal.marks) is same (left_sound None)
+        by : (r : Result (Unit {0}) LogFault) → new ≡ after_call r (record p.journal { left = None; dirty = flipped_dirty p.journal.dirty; medium = new.medium }) p.journal
+            → OnOk r (keeps → committed new ≡ committed p.journal) → IsCore keeps (record p { journal = new })
+        by (Ok u) is same = made_core keeps p k works new any p.journal.room None (flipped_dirty p.journal.dirty) is same (left_sound None)
         by (Err e) is same = broken_core keeps p k works new any is failed_sound

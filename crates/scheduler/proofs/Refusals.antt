@@ -24,8 +24,8 @@ data Found (c : List ℕ) (answer : Option OpenFault) : Type 0 where
   With : (g : Geometry) → 128 ≤ length c → HasHeader g c → refused g c ≡ answer → Found c answer
 
 module _ (c : List ℕ) where
-  marked : (g : Geometry) → HasHeader g c → take 8 c ≡ marks_of_format
-  marked g header = sym (take-take 8 64 c (omega arith)) ∙ ap (λ (l : List ℕ). take 8 l) header
+  dirty_at : (g : Geometry) → HasHeader g c → take 8 c ≡ marks_of_format
+  dirty_at g header = sym (take-take 8 64 c (omega arith)) ∙ ap (λ (l : List ℕ). take 8 l) header
 
   one_with : (g h : Geometry) → HasHeader g c → HasHeader h c → refused g c ≡ refused h c
   one_with g h this that = ap (λ (x : Geometry). refused x c) (same_geometry g h (sym this ∙ that))
@@ -38,13 +38,13 @@ module _ (c : List ℕ) where
   one a b (Unformatted u is) (Short few also) = absurd (let long = u.0 in omega (arith, few, long))
   one a b (Unformatted u is) (Unformatted _ also) = is ∙ sym also
   one a b (Unformatted u is) (Without w also) = absurd (u.1 w.1)
-  one a b (Unformatted u is) (With g long header also) = absurd (u.1 (marked g header))
+  one a b (Unformatted u is) (With g long header also) = absurd (u.1 (dirty_at g header))
   one a b (Without w is) (Short few also) = absurd (let long = w.0 in omega (arith, few, long))
   one a b (Without w is) (Unformatted u also) = absurd (u.1 w.1)
   one a b (Without w is) (Without _ also) = is ∙ sym also
   one a b (Without w is) (With g long header also) = absurd (w.2 g header)
   one a b (With g long header is) (Short few also) = absurd (omega (arith, few, long))
-  one a b (With g long header is) (Unformatted u also) = absurd (u.1 (marked g header))
+  one a b (With g long header is) (Unformatted u also) = absurd (u.1 (dirty_at g header))
   one a b (With g long header is) (Without w also) = absurd (w.2 g header)
   one a b (With g long header is) (With h _ this also) = sym is ∙ one_with g h header this ∙ also
 
@@ -83,5 +83,5 @@ module _ (c : List ℕ) where
       none_some : (fault : OpenFault) → ◌≡◌ {A = Option OpenFault} None (Some fault) → ⊥
       none_some fault is = cc
 
-  pub stands_or_refused : (g : Geometry) (x : State) (fault : OpenFault) → AreBytes c → holds g c ≡ Some x → IsOfBytes fault → IsRefused c fault → ⊥
-  stands_or_refused g x fault are stood = opened_or_refused g fault (head g c x are stood) (fine g c x are stood)
+  pub recovers_or_refused : (g : Geometry) (x : State) (fault : OpenFault) → AreBytes c → holds g c ≡ Some x → IsOfBytes fault → IsRefused c fault → ⊥
+  recovers_or_refused g x fault are stood = opened_or_refused g fault (head g c x are stood) (fine g c x are stood)

@@ -18,7 +18,7 @@ use Rattle.legal_runs.proofs.Apart.{apart_turned}
 use Rattle.legal_runs.proofs.Lists.{all_back, all_front, before_first}
 use Rattle.legal_runs.specs.Events.{give_back, out_with}
 use Rattle.legal_runs.specs.Laws.{AreApart}
-use Rattle.legal_runs.specs.World.{Entry, World, held, are_related_entries}
+use Rattle.legal_runs.specs.CoreState.{Entry, CoreState, held, are_related_entries}
 use Rattle.messages.specs.Messages.{place}
 use Rattle.messages.specs.declared.Msg.{Msg}
 use Rattle.messages.specs.declared.Reply.{Reply}
@@ -32,29 +32,29 @@ use Rattle.parcel.specs.declared.job.Done.{Done as Result}
 use Rattle.meaning.specs.Serial.{next_state, reply_to}
 use Rattle.scheduler.proofs.Answering.{entries_of, other_numbers}
 use Rattle.scheduler.proofs.Lines.{MovedLines, line_moved}
-use Rattle.scheduler.proofs.Returning.{out_is, return_core, return_world, returned_is_found, returned_is_placed, with_return}
+use Rattle.scheduler.proofs.Returning.{out_is, return_core, return_state, returned_is_found, returned_is_placed, with_return}
 use Rattle.scheduler.proofs.Splits.{MapSplit, map_split, times-split}
 use Rattle.scheduler.proofs.Trees.{back_is_out}
 use Rattle.scheduler.specs.Jobs.{IsResultOf}
-use Rattle.scheduler.specs.Parts.{IsCore, IsPlaced, Parts, entry_of, parts, turn_of, world_in}
+use Rattle.scheduler.specs.Parts.{IsCore, IsPlaced, Parts, entry_of, parts, queued_of, core_state_in}
 use Rattle.scheduler.specs.Slots.{HasChains, SlotView, line, place_at}
 use Rattle.scheduler.specs.declared.slot.Slot.{Slot}
-use Rattle.turns.specs.Turns.{Queuing, has_number, has_slot, holds_at}
+use Rattle.run_queue.specs.RunQueue.{RunQueueView, has_number, has_slot, holds_at}
 
 -- ---- the place of an entry
 
 -- a place among others, of which this is the entry
-pub record Stands (e : Entry) (ys : List SlotView) : Type 0 where
+pub record Recovers (e : Entry) (ys : List SlotView) : Type 0 where
   pub before : List SlotView
   pub at : SlotView
   pub behind : List SlotView
   pub whole : ys ≡ before ++ at ∷ behind
   pub is : entry_of at ≡ e
 
-stands_at : (e : Entry) (ys : List SlotView) (k : ℕ) → k < length (map entry_of ys) → get_or (map entry_of ys) k e ≡ e → Stands e ys
-stands_at e [] k low is = absurd (omega (arith, low))
-stands_at e (y ∷ ys) zero low is = record { before = []; at = y; behind = ys; whole = refl; is = is }
-stands_at e (y ∷ ys) (suc k) low is = let s = stands_at e ys k (omega (arith, low)) is in record {
+recovers_at : (e : Entry) (ys : List SlotView) (k : ℕ) → k < length (map entry_of ys) → get_or (map entry_of ys) k e ≡ e → Recovers e ys
+recovers_at e [] k low is = absurd (omega (arith, low))
+recovers_at e (y ∷ ys) zero low is = record { before = []; at = y; behind = ys; whole = refl; is = is }
+recovers_at e (y ∷ ys) (suc k) low is = let s = recovers_at e ys k (omega (arith, low)) is in record {
   before = y ∷ s.before;
   at = s.at;
   behind = s.behind;
@@ -62,8 +62,8 @@ stands_at e (y ∷ ys) (suc k) low is = let s = stands_at e ys k (omega (arith, 
   is = s.is;
 }
 
-pub stands_in : (e : Entry) (ys : List SlotView) → Contains (map entry_of ys) e → Stands e ys
-stands_in e ys h = stands_at e ys h.0 h.1 h.2
+pub recovers_in : (e : Entry) (ys : List SlotView) → Contains (map entry_of ys) e → Recovers e ys
+recovers_in e ys h = recovers_at e ys h.0 h.1 h.2
 
 -- ---- who holds a number
 
@@ -80,10 +80,10 @@ and_false true b e = e
 and_false false b e = refl
 
 -- none of those with other numbers stands at this slot with this number
-none_at : (n slot : ℕ) (ys : List SlotView) → AllByRecursion (λ y. not (has_number n (turn_of y)) ≡ true) ys → list_any (λ y. holds_at n slot (turn_of y)) ys ≡ false
+none_at : (n slot : ℕ) (ys : List SlotView) → AllByRecursion (λ y. not (has_number n (queued_of y)) ≡ true) ys → list_any (λ y. holds_at n slot (queued_of y)) ys ≡ false
 none_at n slot [] all = refl
 none_at n slot (y ∷ ys) all =
-    or_false (holds_at n slot (turn_of y)) (list_any (λ y. holds_at n slot (turn_of y)) ys) (and_false (has_slot slot (turn_of y)) (has_number n (turn_of y)) (not_false _ all.0))
+    or_false (holds_at n slot (queued_of y)) (list_any (λ y. holds_at n slot (queued_of y)) ys) (and_false (has_slot slot (queued_of y)) (has_number n (queued_of y)) (not_false _ all.0))
     ∙ none_at n slot ys all.1
 
 or_none : (b : Bool) → (b || false) ≡ b
@@ -95,8 +95,8 @@ module _ (keeps : Type 0) (p : Parts) (k : IsCore keeps p) (before : List SlotVi
   abbrev g : Geometry
   g = p.journal.geometry
 
-  abbrev w : World
-  w = world_in p
+  abbrev w : CoreState
+  w = core_state_in p
 
   abbrev us : List Entry
   us = map entry_of p.lines.logged ++ (map entry_of p.lines.ran ++ map entry_of before)
@@ -121,7 +121,7 @@ module _ (keeps : Type 0) (p : Parts) (k : IsCore keeps p) (before : List SlotVi
   n = x.1.affinity.number
 
   abbrev Other : SlotView → Type 0
-  Other y = not (has_number n (turn_of y)) ≡ true
+  Other y = not (has_number n (queued_of y)) ≡ true
 
   apart_us : AllByRecursion (λ d. are_related_entries g (entry_of x) d ≡ false) us
   apart_us = all_front (λ d. are_related_entries g (entry_of x) d ≡ false) us (map entry_of behind) alone
@@ -132,26 +132,26 @@ module _ (keeps : Type 0) (p : Parts) (k : IsCore keeps p) (before : List SlotVi
   x_placed : IsPlaced g x
   x_placed = (all_back (IsPlaced g) before (x ∷ behind) all_out).0
 
-  others_logged : AllByRecursion (λ y. not (has_number n (turn_of y)) ≡ true) p.lines.logged
+  others_logged : AllByRecursion (λ y. not (has_number n (queued_of y)) ≡ true) p.lines.logged
   others_logged = other_numbers g x x_placed p.lines.logged k.placed.logged
       (all_front (λ d. are_related_entries g (entry_of x) d ≡ false) (map entry_of p.lines.logged) (map entry_of p.lines.ran ++ map entry_of before) apart_us)
 
-  others_ran : AllByRecursion (λ y. not (has_number n (turn_of y)) ≡ true) p.lines.ran
+  others_ran : AllByRecursion (λ y. not (has_number n (queued_of y)) ≡ true) p.lines.ran
   others_ran = other_numbers g x x_placed p.lines.ran k.placed.ran
       (all_front (λ d. are_related_entries g (entry_of x) d ≡ false) (map entry_of p.lines.ran) (map entry_of before) apart_rest)
 
-  others_before : AllByRecursion (λ y. not (has_number n (turn_of y)) ≡ true) before
+  others_before : AllByRecursion (λ y. not (has_number n (queued_of y)) ≡ true) before
   others_before = other_numbers g x x_placed before (all_front (IsPlaced g) before (x ∷ behind) all_out)
       (all_back (λ d. are_related_entries g (entry_of x) d ≡ false) (map entry_of p.lines.ran) (map entry_of before) apart_rest)
 
-  others_behind : AllByRecursion (λ y. not (has_number n (turn_of y)) ≡ true) behind
+  others_behind : AllByRecursion (λ y. not (has_number n (queued_of y)) ≡ true) behind
   others_behind = other_numbers g x x_placed behind (all_back (IsPlaced g) before (x ∷ behind) all_out).1
       (all_back (λ d. are_related_entries g (entry_of x) d ≡ false) us (map entry_of behind) alone)
 
   -- who holds its number is the one that is out
-  pub holder_is : (slot : ℕ) → list_any (holds_at n slot) p.turns.held ≡ true → slot ≡ x.0
+  pub holder_is : (slot : ℕ) → list_any (holds_at n slot) p.queue.held ≡ true → slot ≡ x.0
   holder_is slot has =
-      let t : SlotView → Bool = λ (y : SlotView). holds_at n slot (turn_of y) in
+      let t : SlotView → Bool = λ (y : SlotView). holds_at n slot (queued_of y) in
       let here : t x ≡ true =
       sym (or_none (t x))
       ∙ ap (λ b. t x || b) (sym (none_at n slot behind others_behind))
@@ -166,9 +166,9 @@ module _ (keeps : Type 0) (p : Parts) (k : IsCore keeps p) (before : List SlotVi
         | inr e ↦ absurd (true≢false (sym (and_parts (x.0 == slot) (n == n) here).0 ∙ e.0))
       ]
 
-  pub number_is_held : list_any (has_number n) p.turns.held ≡ true
+  pub number_is_held : list_any (has_number n) p.queue.held ≡ true
   number_is_held =
-      let t : SlotView → Bool = λ (y : SlotView). has_number n (turn_of y) in
+      let t : SlotView → Bool = λ (y : SlotView). has_number n (queued_of y) in
       k.holds (has_number n)
       ∙ (λ i. list_any t p.lines.logged || (list_any t p.lines.ran || (ap (list_any t) whole ∙ list_any-append t before (x ∷ behind)) i))
       ∙ (λ i. list_any t p.lines.logged || (list_any t p.lines.ran || (list_any t before || (eq-eqb n n refl i || list_any t behind))))
@@ -182,32 +182,32 @@ module _ (keeps : Type 0) (p : Parts) (k : IsCore keeps p) (before : List SlotVi
 
 -- ---- the call
 
-module _ (keeps : Type 0) (row : Row Slot) (replies : List Reply) (tree : TreeView) (journal : JournalView) (turns : Queuing) (batch : List Msg) (next flight : ℕ)
+module _ (keeps : Type 0) (row : Row Slot) (replies : List Reply) (tree : TreeView) (journal : JournalView) (queue : RunQueueView) (batch : List Msg) (next flight : ℕ)
     (opened : TreeView) (since : List Msg) (is : HasChains row)
-    (k : IsCore keeps (parts row replies tree journal turns batch next flight opened since)) (done : Result)
-    (result : IsResultOf journal.geometry (world_in (parts row replies tree journal turns batch next flight opened since)) done) where
+    (k : IsCore keeps (parts row replies tree journal queue batch next flight opened since)) (done : Result)
+    (result : IsResultOf journal.geometry (core_state_in (parts row replies tree journal queue batch next flight opened since)) done) where
   abbrev p : Parts
-  p = parts row replies tree journal turns batch next flight opened since
+  p = parts row replies tree journal queue batch next flight opened since
 
-  stands : Stands (done.ticket, done.message) p.lines.out
-  stands = stands_in (done.ticket, done.message) p.lines.out result.is_out
+  recovers : Recovers (done.ticket, done.message) p.lines.out
+  recovers = recovers_in (done.ticket, done.message) p.lines.out result.is_out
 
   abbrev x : SlotView
-  x = stands.at
+  x = recovers.at
 
   abbrev message_is : x.1.message ≡ done.message
-  message_is = ap (λ (e : Entry). e.1) stands.is
+  message_is = ap (λ (e : Entry). e.1) recovers.is
 
   placed : IsPlaced journal.geometry x
-  placed = returned_is_placed keeps p k stands.before x stands.behind stands.whole
+  placed = returned_is_placed keeps p k recovers.before x recovers.behind recovers.whole
 
   module _ (a : Interval) (at : IsAffinityOf journal.geometry (place journal.geometry done.message) a) where
     number_same : a.number ≡ x.1.affinity.number
     number_same = ap (λ (i : Interval). i.number)
         (at.interval ∙ ap (λ (m : Msg). interval journal.geometry (place journal.geometry m)) (sym message_is) ∙ sym placed.affinity.interval)
 
-    pub back_is_held : list_any (has_number a.number) turns.held ≡ true
-    back_is_held = ap (λ (m : ℕ). list_any (has_number m) turns.held) number_same ∙ number_is_held keeps p k stands.before x stands.behind stands.whole
+    pub back_is_held : list_any (has_number a.number) queue.held ≡ true
+    back_is_held = ap (λ (m : ℕ). list_any (has_number m) queue.held) number_same ∙ number_is_held keeps p k recovers.before x recovers.behind recovers.whole
 
     pub back_fits : (q : Path) → IsAffinityOf tree.geometry q a → IsKindOf q done.parcels → Fits tree.geometry q done.parcels
     back_fits = subst (λ (h : Geometry). (q : Path) → IsAffinityOf h q a → IsKindOf q done.parcels → Fits h q done.parcels) (sym k.geometry)
@@ -219,16 +219,16 @@ module _ (keeps : Type 0) (row : Row Slot) (replies : List Reply) (tree : TreeVi
     pub back_goes_in : ((q : Path) → IsAffinityOf tree.geometry q a → IsOut q (in_tree tree) → IsKindOf q done.parcels → ⊥) → ⊥
     back_goes_in refused = refused (place journal.geometry done.message) at_tree
         (subst (λ (m : Msg). IsOut (place journal.geometry m) (in_tree tree)) message_is
-        (back_is_out journal.geometry (world_in p) k.sound (map entry_of stands.before) (entry_of x) (map entry_of stands.behind)
-        (out_is keeps p k stands.before x stands.behind stands.whole) (in_tree tree) k.tree placed.affinity.path))
+        (back_is_out journal.geometry (core_state_in p) k.sound (map entry_of recovers.before) (entry_of x) (map entry_of recovers.behind)
+        (out_is keeps p k recovers.before x recovers.behind recovers.whole) (in_tree tree) k.tree placed.affinity.path))
         (kind_of journal.geometry (place journal.geometry done.message) done.parcels result.suits.fits)
 
-    module _ (slot : ℕ) (has : list_any (holds_at a.number slot) turns.held ≡ true) where
+    module _ (slot : ℕ) (has : list_any (holds_at a.number slot) queue.held ≡ true) where
       slot_is : slot ≡ x.0
-      slot_is = holder_is keeps p k stands.before x stands.behind stands.whole slot (ap (λ (m : ℕ). list_any (holds_at m slot) turns.held) (sym number_same) ∙ has)
+      slot_is = holder_is keeps p k recovers.before x recovers.behind recovers.whole slot (ap (λ (m : ℕ). list_any (holds_at m slot) queue.held) (sym number_same) ∙ has)
 
-      split : MapSplit (place_at row replies) (chain_at row 1) stands.before x stands.behind
-      split = map_split (place_at row replies) (chain_at row 1) stands.before x stands.behind stands.whole
+      split : MapSplit (place_at row replies) (chain_at row 1) recovers.before x recovers.behind
+      split = map_split (place_at row replies) (chain_at row 1) recovers.before x recovers.behind recovers.whole
 
       at_slot : split.at ≡ slot
       at_slot = ap (λ (y : SlotView). y.0) split.at_is ∙ sym slot_is
@@ -247,8 +247,8 @@ module _ (keeps : Type 0) (row : Row Slot) (replies : List Reply) (tree : TreeVi
         abbrev y : SlotView
         y = (x.0, x.1, done.reply)
 
-        lines : MovedLines row (after_move row slot 2) replies told 1 2 stands.before x stands.behind
-        lines = line_moved row replies told is 1 2 (omega arith) (λ same. omega (arith, same)) stands.before x stands.behind stands.whole
+        lines : MovedLines row (after_move row slot 2) replies told 1 2 recovers.before x recovers.behind
+        lines = line_moved row replies told is 1 2 (omega arith) (λ same. omega (arith, same)) recovers.before x recovers.behind recovers.whole
             (λ j other. get_or-set_other replies slot j reply Done (λ same. other (same ∙ slot_is))) slot slot_is
 
         there : slot < length replies
@@ -258,7 +258,7 @@ module _ (keeps : Type 0) (row : Row Slot) (replies : List Reply) (tree : TreeVi
         told_here = ap (λ n. get_or told n Done) (sym slot_is) ∙ get_or-set_same replies slot reply Done there ∙ reply_is
 
         abbrev after : Parts
-        after = parts (after_move row slot 2) told now journal turns batch next flight opened since
+        after = parts (after_move row slot 2) told now journal queue batch next flight opened since
 
         joined : line (after_move row slot 2) told 2 ≡ p.lines.ran ++ y ∷ []
         joined = lines.joined ∙ (λ j. p.lines.ran ++ (x.0, x.1, told_here j) ∷ [])
@@ -275,8 +275,8 @@ module _ (keeps : Type 0) (row : Row Slot) (replies : List Reply) (tree : TreeVi
         pub back_chains : IsParted (after_move row slot 2) → HasChains (after_move row slot 2)
         back_chains parted = record { parted = parted; four = lines.four ∙ is.four }
 
-        after_is : after ≡ with_return p (stands.before ++ stands.behind) y now
-        after_is = λ i. record (with_return p (stands.before ++ stands.behind) y now) {
+        after_is : after ≡ with_return p (recovers.before ++ recovers.behind) y now
+        after_is = λ i. record (with_return p (recovers.before ++ recovers.behind) y now) {
           lines = record {
             waiting = lines.stays 0 (λ same. omega (arith, same)) (λ same. omega (arith, same)) i;
             out = lines.left i;
@@ -295,22 +295,22 @@ module _ (keeps : Type 0) (row : Row Slot) (replies : List Reply) (tree : TreeVi
         fits : Fits journal.geometry (place journal.geometry x.1.message) done.parcels
         fits = subst (λ (m : Msg). Fits journal.geometry (place journal.geometry m) done.parcels) (sym message_is) result.suits.fits
 
-        shows : Shows journal.geometry (place journal.geometry x.1.message) result.standing done.parcels (next_state journal.geometry (world_in p).settled x.1.message)
-        shows = subst (λ (m : Msg). Shows journal.geometry (place journal.geometry m) result.standing done.parcels (next_state journal.geometry (world_in p).settled m)) (sym message_is) result.shows
+        shows : Shows journal.geometry (place journal.geometry x.1.message) result.standing done.parcels (next_state journal.geometry (core_state_in p).committed x.1.message)
+        shows = subst (λ (m : Msg). Shows journal.geometry (place journal.geometry m) result.standing done.parcels (next_state journal.geometry (core_state_in p).committed m)) (sym message_is) result.shows
 
-        reply_told : done.reply ≡ reply_to journal.geometry (world_in p).settled x.1.message
-        reply_told = result.reply ∙ ap (reply_to journal.geometry (world_in p).settled) (sym message_is)
+        reply_told : done.reply ≡ reply_to journal.geometry (core_state_in p).committed x.1.message
+        reply_told = result.reply ∙ ap (reply_to journal.geometry (core_state_in p).committed) (sym message_is)
 
         pub back_core : IsCore keeps after
         back_core = subst (IsCore keeps) (sym after_is)
-            (return_core keeps p k stands.before x stands.behind stands.whole done.reply reply_told now (same_geometry ∙ k.geometry) result.standing done.parcels put fits shows)
+            (return_core keeps p k recovers.before x recovers.behind recovers.whole done.reply reply_told now (same_geometry ∙ k.geometry) result.standing done.parcels put fits shows)
 
-        pub back_world : (found : Entry × List Entry) × (out_with (world_in p) done.ticket ≡ Some found) × (found.0 ≡ (done.ticket, done.message))
-            × (world_in after ≡ give_back journal.geometry (world_in p) found)
-        back_world = (
-          (entry_of x, map entry_of (stands.before ++ stands.behind)),
-          ap (out_with (world_in p)) (sym (ap (λ (e : Entry). e.0) stands.is)) ∙ returned_is_found keeps p k stands.before x stands.behind stands.whole,
-          stands.is,
-          ap world_in after_is
-              ∙ return_world keeps p k stands.before x stands.behind stands.whole done.reply reply_told now (same_geometry ∙ k.geometry) result.standing done.parcels put fits shows,
+        pub back_state : (found : Entry × List Entry) × (out_with (core_state_in p) done.ticket ≡ Some found) × (found.0 ≡ (done.ticket, done.message))
+            × (core_state_in after ≡ give_back journal.geometry (core_state_in p) found)
+        back_state = (
+          (entry_of x, map entry_of (recovers.before ++ recovers.behind)),
+          ap (out_with (core_state_in p)) (sym (ap (λ (e : Entry). e.0) recovers.is)) ∙ returned_is_found keeps p k recovers.before x recovers.behind recovers.whole,
+          recovers.is,
+          ap core_state_in after_is
+              ∙ return_state keeps p k recovers.before x recovers.behind recovers.whole done.reply reply_told now (same_geometry ∙ k.geometry) result.standing done.parcels put fits shows,
         )

@@ -10,8 +10,8 @@ use Rattle.legal_runs.proofs.Moves.{Backs}
 use Rattle.legal_runs.proofs.Sound.{move_sound}
 use Rattle.legal_runs.specs.Eligible.{pick}
 use Rattle.legal_runs.specs.Events.{give_back, out_with}
-use Rattle.legal_runs.specs.Laws.{AreOnce, IsSoundWorld}
-use Rattle.legal_runs.specs.World.{Entry}
+use Rattle.legal_runs.specs.Laws.{AreOnce, IsSoundCoreState}
+use Rattle.legal_runs.specs.CoreState.{Entry}
 use Rattle.messages.specs.Messages.{place}
 use Rattle.messages.specs.declared.Reply.{Reply}
 use Rattle.parcel.specs.Fits.{Fits}
@@ -24,7 +24,7 @@ use Rattle.meaning.specs.Serial.{next_state, reply_to}
 use Rattle.scheduler.proofs.Counting.{changing, changing-append, changing-cons, flight_of}
 use Rattle.scheduler.proofs.Tests.{any_back}
 use Rattle.scheduler.proofs.Trees.{back_reaches, back_tree}
-use Rattle.scheduler.specs.Parts.{IsCore, IsPlaced, Parts, entry_of, is_below, reached, replied_of, world_in}
+use Rattle.scheduler.specs.Parts.{IsCore, IsPlaced, Parts, entry_of, is_below, reached, replied_of, core_state_in}
 use Rattle.scheduler.specs.Slots.{SlotView}
 
 -- the one with a ticket that no other one has is the one that is found
@@ -46,7 +46,7 @@ with_return p out y tree = record p { lines = record p.lines { out = out; ran = 
 
 module _ (keeps : Type 0) (p : Parts) (k : IsCore keeps p) (before : List SlotView) (x : SlotView) (behind : List SlotView)
     (whole : p.lines.out ≡ before ++ x ∷ behind) where
-  pub out_is : (world_in p).out ≡ map entry_of before ++ entry_of x ∷ map entry_of behind
+  pub out_is : (core_state_in p).out ≡ map entry_of before ++ entry_of x ∷ map entry_of behind
   out_is = ap (map entry_of) whole ∙ map-append entry_of before (x ∷ behind)
 
   all_out : AllByRecursion (IsPlaced p.journal.geometry) (before ++ x ∷ behind)
@@ -55,18 +55,18 @@ module _ (keeps : Type 0) (p : Parts) (k : IsCore keeps p) (before : List SlotVi
   pub returned_is_placed : IsPlaced p.journal.geometry x
   returned_is_placed = (all_back (IsPlaced p.journal.geometry) before (x ∷ behind) all_out).0
 
-  pub returned_is_found : out_with (world_in p) x.1.ticket ≡ Some (entry_of x, map entry_of (before ++ behind))
+  pub returned_is_found : out_with (core_state_in p) x.1.ticket ≡ Some (entry_of x, map entry_of (before ++ behind))
   returned_is_found =
       ap (pick (λ (e : Entry). e.0 == x.1.ticket)) out_is
       ∙ picked_at (map entry_of before) (entry_of x) (map entry_of behind)
       (before_one (λ (e d : Entry). e.0 ≡ d.0 → ⊥) (map entry_of before) (entry_of x) (map entry_of behind)
-      (subst AreOnce out_is (before_front (λ (e d : Entry). e.0 ≡ d.0 → ⊥) (world_in p).out (world_in p).waiting k.sound.once)))
+      (subst AreOnce out_is (before_front (λ (e d : Entry). e.0 ≡ d.0 → ⊥) (core_state_in p).out (core_state_in p).waiting k.sound.once)))
       ∙ ap (λ es. Some (entry_of x, es)) (sym (map-append entry_of before behind))
 
-  module _ (reply : Reply) (told : reply ≡ reply_to p.journal.geometry (world_in p).settled x.1.message) (tree : TreeView) (geometry : tree.geometry ≡ p.journal.geometry)
+  module _ (reply : Reply) (told : reply ≡ reply_to p.journal.geometry (core_state_in p).committed x.1.message) (tree : TreeView) (geometry : tree.geometry ≡ p.journal.geometry)
       (t : Standing) (l : Parcels) (put : RestoresAt p.journal.geometry (place p.journal.geometry x.1.message) l (in_tree p.tree) (in_tree tree))
       (fits : Fits p.journal.geometry (place p.journal.geometry x.1.message) l)
-      (shows : Shows p.journal.geometry (place p.journal.geometry x.1.message) t l (next_state p.journal.geometry (world_in p).settled x.1.message)) where
+      (shows : Shows p.journal.geometry (place p.journal.geometry x.1.message) t l (next_state p.journal.geometry (core_state_in p).committed x.1.message)) where
     abbrev y : SlotView
     y = (x.0, x.1, reply)
 
@@ -76,8 +76,8 @@ module _ (keeps : Type 0) (p : Parts) (k : IsCore keeps p) (before : List SlotVi
     abbrev found : Entry × List Entry
     found = (entry_of x, map entry_of (before ++ behind))
 
-    pub return_world : world_in after ≡ give_back p.journal.geometry (world_in p) found
-    return_world = λ i. record (world_in after) {
+    pub return_state : core_state_in after ≡ give_back p.journal.geometry (core_state_in p) found
+    return_state = λ i. record (core_state_in after) {
       ran = (map-append replied_of p.lines.ran (y ∷ []) ∙ (λ j. map replied_of p.lines.ran ++ (x.1.ticket, x.1.message, told j) ∷ [])) i;
     }
 
@@ -107,17 +107,17 @@ module _ (keeps : Type 0) (p : Parts) (k : IsCore keeps p) (before : List SlotVi
           waits = k.waits;
           holds = λ test. k.holds test ∙ any_back test p.lines before x y behind whole refl;
           flies = omega (arith, flew, flies, out_was, out_now, ran_now);
-          sound = subst (IsSoundWorld p.journal.geometry) (sym return_world)
-              (move_sound p.journal.geometry (world_in p) _ _ (Backs x.1.ticket found returned_is_found refl refl) k.sound);
+          sound = subst (IsSoundCoreState p.journal.geometry) (sym return_state)
+              (move_sound p.journal.geometry (core_state_in p) _ _ (Backs x.1.ticket found returned_is_found refl refl) k.sound);
           geometry = geometry;
           tree = subst (λ s. TreeHolds p.journal.geometry (is_below p.journal.geometry (map entry_of (before ++ behind))) (in_tree tree) s)
-              (sym (ap (λ as'. reached p.journal.geometry (record (world_in after) { ran = as' })) (map-append replied_of p.lines.ran (y ∷ []))
-              ∙ back_reaches p.journal.geometry (world_in p).settled (map replied_of p.lines.ran) (replied_of y)))
-              (subst (λ es. TreeHolds p.journal.geometry (is_below p.journal.geometry es) (in_tree tree) (next_state p.journal.geometry (reached p.journal.geometry (world_in p)) x.1.message))
+              (sym (ap (λ as'. reached p.journal.geometry (record (core_state_in after) { ran = as' })) (map-append replied_of p.lines.ran (y ∷ []))
+              ∙ back_reaches p.journal.geometry (core_state_in p).committed (map replied_of p.lines.ran) (replied_of y)))
+              (subst (λ es. TreeHolds p.journal.geometry (is_below p.journal.geometry es) (in_tree tree) (next_state p.journal.geometry (reached p.journal.geometry (core_state_in p)) x.1.message))
               (sym (map-append entry_of before behind))
-              (back_tree p.journal.geometry (world_in p) k.sound (map entry_of before) (entry_of x) (map entry_of behind) out_is (in_tree p.tree) k.tree
+              (back_tree p.journal.geometry (core_state_in p) k.sound (map entry_of before) (entry_of x) (map entry_of behind) out_is (in_tree p.tree) k.tree
               t l (in_tree tree) put fits shows returned_is_placed.message));
-          is_settled = k.is_settled;
-          stands = k.stands;
+          is_committed = k.is_committed;
+          recovers = k.recovers;
           no_doubt = k.no_doubt;
         }

@@ -1,4 +1,4 @@
--- What is out sees the settled state at its place as it was, whatever else comes.
+-- What is out sees the committed state at its place as it was, whatever else comes.
 use Rattle.std.proofs.Common.{◌≡◌, ap, sym, subst, ◌∙◌}
 use Rattle.std.specs.List.{Contains}
 use Rattle.affinity.specs.Path.{are_related}
@@ -6,8 +6,8 @@ use Rattle.affinity.specs.declared.geometry.Geometry.{Geometry}
 use Rattle.legal_runs.proofs.Elements.{in_contained}
 use Rattle.legal_runs.proofs.Outs.{event_sees}
 use Rattle.legal_runs.specs.Events.{Event, Hands, IsAllowed}
-use Rattle.legal_runs.specs.Laws.{IsSoundWorld}
-use Rattle.legal_runs.specs.World.{Entry, World}
+use Rattle.legal_runs.specs.Laws.{IsSoundCoreState}
+use Rattle.legal_runs.specs.CoreState.{Entry, CoreState}
 use Rattle.messages.specs.Messages.{place}
 use Rattle.parcel.proofs.SerialRuns.{serial_run}
 use Rattle.parcel.specs.Fits.{Suits}
@@ -20,35 +20,35 @@ use Rattle.meaning.specs.Serial.{next_state, reply_to}
 use Rattle.meaning.specs.Shares.{AgreeOn}
 use Rattle.scheduler.specs.Jobs.{IsJobOf, IsResultOf}
 
--- what a message that is out can read of the settled state stays
-event_leaves : (g : Geometry) (e : Entry) (old : Hands) (event : Event) → IsAllowed g old event → IsSoundWorld g old.core
-    → Contains old.core.out e → AgreeOn g (are_related (place g e.1)) event.world.core.settled old.core.settled
+-- what a message that is out can read of the committed state stays
+event_leaves : (g : Geometry) (e : Entry) (old : Hands) (event : Event) → IsAllowed g old event → IsSoundCoreState g old.core
+    → Contains old.core.out e → AgreeOn g (are_related (place g e.1)) event.state_after.core.committed old.core.committed
 event_leaves g e old event allowed sound there = event_sees g old event e allowed sound (in_contained old.core.out e there)
 
-pub ran_gives : (g : Geometry) (w : World) (job : JobView) (done : Done) → IsJobOf g w job → IsJobRun job done → IsResultOf g w done
+pub ran_gives : (g : Geometry) (w : CoreState) (job : JobView) (done : Done) → IsJobOf g w job → IsJobRun job done → IsResultOf g w done
 ran_gives g w job done is ran = subst (λ (h : Geometry). IsResultOf h w done) is.geometry (record {
   is_out = subst (λ e. Contains w.out e) (λ i. (sym ran.ticket i, sym ran.message i)) is.is_out;
   suits = subst (λ m. Suits job.geometry m done.parcels) (sym ran.message) ran.suits;
-  reply = serial.reply ∙ ap (reply_to job.geometry w.settled) (sym ran.message);
+  reply = serial.reply ∙ ap (reply_to job.geometry w.committed) (sym ran.message);
   standing = job.standing;
-  shows = subst (λ m. Shows job.geometry (place job.geometry m) job.standing done.parcels (next_state job.geometry w.settled m)) (sym ran.message) serial.shows;
+  shows = subst (λ m. Shows job.geometry (place job.geometry m) job.standing done.parcels (next_state job.geometry w.committed m)) (sym ran.message) serial.shows;
 })
   where
-    serial : IsSerialStepOf job done w.settled
-    serial = serial_run job done w.settled ran is.lent
+    serial : IsSerialStepOf job done w.committed
+    serial = serial_run job done w.committed ran is.lent
 
-pub job_stays : (g : Geometry) (old : Hands) (event : Event) (job : JobView) → IsAllowed g old event → IsSoundWorld g old.core → IsJobOf g old.core job
-    → Contains event.world.core.out (job.ticket, job.message) → IsJobOf g event.world.core job
+pub job_stays : (g : Geometry) (old : Hands) (event : Event) (job : JobView) → IsAllowed g old event → IsSoundCoreState g old.core → IsJobOf g old.core job
+    → Contains event.state_after.core.out (job.ticket, job.message) → IsJobOf g event.state_after.core job
 job_stays g old event job allowed sound is there = record {
   geometry = is.geometry;
   is_out = there;
   lent = agree-trans is.lent
-      (subst (λ (h : Geometry). AgreeOn h (are_related (place h job.message)) old.core.settled event.world.core.settled) (sym is.geometry)
+      (subst (λ (h : Geometry). AgreeOn h (are_related (place h job.message)) old.core.committed event.state_after.core.committed) (sym is.geometry)
       (agree-sym (event_leaves g (job.ticket, job.message) old event allowed sound is.is_out)));
 }
 
-pub result_stays : (g : Geometry) (old : Hands) (event : Event) (done : Done) → IsAllowed g old event → IsSoundWorld g old.core → IsResultOf g old.core done
-    → Contains event.world.core.out (done.ticket, done.message) → IsResultOf g event.world.core done
+pub result_stays : (g : Geometry) (old : Hands) (event : Event) (done : Done) → IsAllowed g old event → IsSoundCoreState g old.core → IsResultOf g old.core done
+    → Contains event.state_after.core.out (done.ticket, done.message) → IsResultOf g event.state_after.core done
 result_stays g old event done allowed sound is there = record {
   is_out = there;
   suits = is.suits;
@@ -57,7 +57,7 @@ result_stays g old event done allowed sound is there = record {
   shows = agree-trans is.shows same.1;
 }
   where
-    same : (reply_to g old.core.settled done.message ≡ reply_to g event.world.core.settled done.message)
-        × AgreeOn g (are_related (place g done.message)) (next_state g old.core.settled done.message) (next_state g event.world.core.settled done.message)
-    same = reads_only g (are_related (place g done.message)) old.core.settled event.world.core.settled done.message
+    same : (reply_to g old.core.committed done.message ≡ reply_to g event.state_after.core.committed done.message)
+        × AgreeOn g (are_related (place g done.message)) (next_state g old.core.committed done.message) (next_state g event.state_after.core.committed done.message)
+    same = reads_only g (are_related (place g done.message)) old.core.committed event.state_after.core.committed done.message
         (agree-sym (event_leaves g (done.ticket, done.message) old event allowed sound is.is_out)) (λ q r. r)

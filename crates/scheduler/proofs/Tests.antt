@@ -3,9 +3,9 @@ use Rattle.std.proofs.Common.{◌≡◌, Bool, true, false, List, [], ◌∷◌,
 use Rattle.std.specs.Prelude.{◌&&◌, ◌||◌, cond, filter}
 use Rattle.std.specs.List.{AllByRecursion, list_any}
 use Rattle.std.proofs.lemmas.List.Folds.{list_any-append}
-use Rattle.scheduler.specs.Parts.{held_any, turn_of}
+use Rattle.scheduler.specs.Parts.{held_any, queued_of}
 use Rattle.scheduler.specs.Slots.{Lines, SlotView}
-use Rattle.turns.specs.declared.entries.Turn.{Turn}
+use Rattle.run_queue.specs.declared.queued_message.QueuedMessage.{QueuedMessage}
 
 or_last : (t l r o : Bool) → (t || (l || (r || o))) ≡ (l || (r || (o || (t || false))))
 or_last true true r o = refl
@@ -30,17 +30,17 @@ or_logged true f s o = refl
 or_logged false true s o = refl
 or_logged false false s o = refl
 
-module _ (test : Turn → Bool) where
+module _ (test : QueuedMessage → Bool) where
   abbrev t : SlotView → Bool
-  t x = test (turn_of x)
+  t x = test (queued_of x)
 
   pub any_granted : (l : Lines) (waiting : List SlotView) (x : SlotView)
-      → (test (turn_of x) || held_any test l) ≡ held_any test (record l { waiting = waiting; out = l.out ++ x ∷ [] })
+      → (test (queued_of x) || held_any test l) ≡ held_any test (record l { waiting = waiting; out = l.out ++ x ∷ [] })
   any_granted l waiting x =
       or_last (t x) (list_any t l.logged) (list_any t l.ran) (list_any t l.out)
       ∙ ap (λ b. list_any t l.logged || (list_any t l.ran || b)) (sym (list_any-append t l.out (x ∷ [])))
 
-  pub any_back : (l : Lines) (before : List SlotView) (x y : SlotView) (behind : List SlotView) → l.out ≡ before ++ x ∷ behind → turn_of y ≡ turn_of x
+  pub any_back : (l : Lines) (before : List SlotView) (x y : SlotView) (behind : List SlotView) → l.out ≡ before ++ x ∷ behind → queued_of y ≡ queued_of x
       → held_any test l ≡ held_any test (record l { out = before ++ behind; ran = l.ran ++ y ∷ [] })
   any_back l before x y behind out same =
       ap (λ b. list_any t l.logged || (list_any t l.ran || b)) (ap (list_any t) out ∙ list_any-append t before (x ∷ behind))
@@ -57,7 +57,7 @@ module _ (test : Turn → Bool) where
 
 -- ---- those that are left of a row
 
-pub any_filter : (test q : Turn → Bool) (ts : List Turn) → list_any test (filter q ts) ≡ list_any (λ t. q t && test t) ts
+pub any_filter : (test q : QueuedMessage → Bool) (ts : List QueuedMessage) → list_any test (filter q ts) ≡ list_any (λ t. q t && test t) ts
 any_filter test q [] = refl
 any_filter test q (t ∷ ts) = by (q t) (any_filter test q ts)
   where
@@ -67,15 +67,15 @@ any_filter test q (t ∷ ts) = by (q t) (any_filter test q ts)
     by false rest = rest
 
 -- where all pass one test, it makes no difference to another
-pub any_passing : (test q : Turn → Bool) (xs : List SlotView) → AllByRecursion (λ x. q (turn_of x) ≡ true) xs
-    → list_any (λ x. q (turn_of x) && test (turn_of x)) xs ≡ list_any (λ x. test (turn_of x)) xs
+pub any_passing : (test q : QueuedMessage → Bool) (xs : List SlotView) → AllByRecursion (λ x. q (queued_of x) ≡ true) xs
+    → list_any (λ x. q (queued_of x) && test (queued_of x)) xs ≡ list_any (λ x. test (queued_of x)) xs
 any_passing test q [] all = refl
-any_passing test q (x ∷ xs) all = λ i. (all.0 i && test (turn_of x)) || any_passing test q xs all.1 i
+any_passing test q (x ∷ xs) all = λ i. (all.0 i && test (queued_of x)) || any_passing test q xs all.1 i
 
 -- the first of those that are logged is gone
-pub any_answered : (test q : Turn → Bool) (l : Lines) (x : SlotView) (behind : List SlotView) → l.logged ≡ x ∷ behind → q (turn_of x) ≡ false
-    → AllByRecursion (λ x. q (turn_of x) ≡ true) behind → AllByRecursion (λ x. q (turn_of x) ≡ true) l.ran → AllByRecursion (λ x. q (turn_of x) ≡ true) l.out
+pub any_answered : (test q : QueuedMessage → Bool) (l : Lines) (x : SlotView) (behind : List SlotView) → l.logged ≡ x ∷ behind → q (queued_of x) ≡ false
+    → AllByRecursion (λ x. q (queued_of x) ≡ true) behind → AllByRecursion (λ x. q (queued_of x) ≡ true) l.ran → AllByRecursion (λ x. q (queued_of x) ≡ true) l.out
     → held_any (λ t. q t && test t) l ≡ held_any test (record l { logged = behind })
 any_answered test q l x behind logged first behinds rans outs =
-    (λ i. list_any (λ x. q (turn_of x) && test (turn_of x)) (logged i) || (any_passing test q l.ran rans i || any_passing test q l.out outs i))
-    ∙ (λ i. ((first i && test (turn_of x)) || any_passing test q behind behinds i) || (list_any (λ x. test (turn_of x)) l.ran || list_any (λ x. test (turn_of x)) l.out))
+    (λ i. list_any (λ x. q (queued_of x) && test (queued_of x)) (logged i) || (any_passing test q l.ran rans i || any_passing test q l.out outs i))
+    ∙ (λ i. ((first i && test (queued_of x)) || any_passing test q behind behinds i) || (list_any (λ x. test (queued_of x)) l.ran || list_any (λ x. test (queued_of x)) l.out))

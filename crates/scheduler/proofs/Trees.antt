@@ -1,4 +1,4 @@
--- The tree of a core beside its world: what may be lent, what is taken back, and what logging leaves.
+-- The tree of a core beside its core state: what may be lent, what is taken back, and what logging leaves.
 use Rattle.std.proofs.Common.{◌≡◌, ℕ, append_assoc, Bool, true, false, List, [], ◌∷◌, ◌++◌, take, drop, Some, refl, ap, sym, subst, ◌∙◌, ⊎_elim}
 use Rattle.std.specs.Prelude.{◌||◌}
 use Rattle.std.specs.List.{AllByRecursion, list_any}
@@ -11,13 +11,13 @@ use Rattle.affinity.specs.Path.{Path, are_related, begins}
 use Rattle.affinity.specs.declared.geometry.Geometry.{Geometry}
 use Rattle.legal_runs.specs.Eligible.{next_eligible}
 use Rattle.legal_runs.specs.Events.{log}
-use Rattle.legal_runs.specs.Laws.{IsSoundWorld, AreApart}
-use Rattle.legal_runs.specs.World.{Entry, Replied, World, entries, held, are_related_entries}
+use Rattle.legal_runs.specs.Laws.{IsSoundCoreState, AreApart}
+use Rattle.legal_runs.specs.CoreState.{Entry, Replied, CoreState, entries, held, are_related_entries}
 use Rattle.legal_runs.proofs.Apart.{apart_turned, entries-append, granted_is_free}
 use Rattle.legal_runs.proofs.Lists.{all_back, all_front, all_weaker, before_back, before_first, before_one}
 use Rattle.legal_runs.proofs.Outs.{entries_leave}
 use Rattle.legal_runs.proofs.Sound.{row_of}
-use Rattle.legal_runs.proofs.Told.{fold-append}
+use Rattle.legal_runs.proofs.SerialReplies.{fold-append}
 use Rattle.messages.specs.Messages.{IsMessage, place}
 use Rattle.parcel.proofs.Holding.{can_be_lent, holds_alike, lent_holds, lent_shows, place_is_out, restored_holds}
 use Rattle.parcel.specs.Fits.{Fits}
@@ -76,7 +76,7 @@ below_cut g before e behind q =
 
 -- ---- a message that goes out
 
-module _ (g : Geometry) (w : World) (sound : IsSoundWorld g w) (found : Entry × List Entry) (first : next_eligible g w ≡ Some found) where
+module _ (g : Geometry) (w : CoreState) (sound : IsSoundCoreState g w) (found : Entry × List Entry) (first : next_eligible g w ≡ Some found) where
   free : AllByRecursion (λ d. are_related_entries g found.0 d ≡ false) (held w)
   free = granted_is_free g w found first
 
@@ -91,10 +91,10 @@ module _ (g : Geometry) (w : World) (sound : IsSoundWorld g w) (found : Entry ×
     grant_lends gap = can_be_lent g (is_below g w.out) (place g found.0.1) (apart_below g found.0 w.out free_of_out) n (reached g w) tree gap
 
     module _ (t : Standing) (l : Parcels) (lent : Nodes) (taken : LendsAt g (place g found.0.1) t l n lent) where
-      pub grant_shows : Shows g (place g found.0.1) t l w.settled
+      pub grant_shows : Shows g (place g found.0.1) t l w.committed
       grant_shows = agree-trans
           (lent_shows g (is_below g w.out) (place g found.0.1) (apart_below g found.0 w.out free_of_out) t l n lent (reached g w) tree taken)
-          (entries_leave g w.settled found.0 (entries w.ran) free_of_ran)
+          (entries_leave g w.committed found.0 (entries w.ran) free_of_ran)
 
       pub grant_tree : TreeHolds g (is_below g (w.out ++ found.0 ∷ [])) lent (reached g w)
       grant_tree = holds_alike g (with_place (place g found.0.1) (is_below g w.out)) (is_below g (w.out ++ found.0 ∷ [])) lent (reached g w)
@@ -103,7 +103,7 @@ module _ (g : Geometry) (w : World) (sound : IsSoundWorld g w) (found : Entry ×
 
 -- ---- a message that comes back
 
-module _ (g : Geometry) (w : World) (sound : IsSoundWorld g w) (before : List Entry) (e : Entry) (behind : List Entry) (out : w.out ≡ before ++ e ∷ behind)
+module _ (g : Geometry) (w : CoreState) (sound : IsSoundCoreState g w) (before : List Entry) (e : Entry) (behind : List Entry) (out : w.out ≡ before ++ e ∷ behind)
     (n : Nodes) (tree : TreeHolds g (is_below g w.out) n (reached g w)) where
   apart_out : AreApart g (before ++ e ∷ behind)
   apart_out = subst (AreApart g) out (before_back _ (entries w.ran) w.out (before_back _ (entries w.logged) _ sound.apart))
@@ -128,13 +128,13 @@ module _ (g : Geometry) (w : World) (sound : IsSoundWorld g w) (before : List En
   pub back_is_out : IsPath g (place g e.1) → IsOut (place g e.1) n
   back_is_out path = place_is_out g (is_below g (before ++ behind)) (place g e.1) (apart_below g e (before ++ behind) apart_others) n (reached g w) path held_out
 
-  -- what a run in the settled state leaves is what one leaves in the state that was reached
-  back_agrees : AgreeOn g (are_related (place g e.1)) (next_state g w.settled e.1) (next_state g (reached g w) e.1)
-  back_agrees = (reads_only g (are_related (place g e.1)) w.settled (reached g w) e.1
-      (agree-sym (entries_leave g w.settled e (entries w.ran) apart_ran)) (λ q r. r)).1
+  -- what a run in the committed state leaves is what one leaves in the state that was reached
+  back_agrees : AgreeOn g (are_related (place g e.1)) (next_state g w.committed e.1) (next_state g (reached g w) e.1)
+  back_agrees = (reads_only g (are_related (place g e.1)) w.committed (reached g w) e.1
+      (agree-sym (entries_leave g w.committed e (entries w.ran) apart_ran)) (λ q r. r)).1
 
   pub back_tree : (t : Standing) (l : Parcels) (new : Nodes) → RestoresAt g (place g e.1) l n new → Fits g (place g e.1) l
-      → Shows g (place g e.1) t l (next_state g w.settled e.1) → IsMessage e.1
+      → Shows g (place g e.1) t l (next_state g w.committed e.1) → IsMessage e.1
       → TreeHolds g (is_below g (before ++ behind)) new (next_state g (reached g w) e.1)
   back_tree t l new put fits shows message =
       restored_holds g (is_below g (before ++ behind)) (place g e.1) (apart_below g e (before ++ behind) apart_others) e.1 refl t l n new (reached g w)
@@ -142,11 +142,11 @@ module _ (g : Geometry) (w : World) (sound : IsSoundWorld g w) (before : List En
 
 -- ---- messages that are logged
 
-pub log_reaches : (g : Geometry) (w : World) (n : ℕ) → IsSoundWorld g w → reached g (log g w n) ≡ reached g w
+pub log_reaches : (g : Geometry) (w : CoreState) (n : ℕ) → IsSoundCoreState g w → reached g (log g w n) ≡ reached g w
 log_reaches g w n sound =
     ap (λ x. fold g x (messages (entries (drop n w.ran)))) (row_of g w n sound).logs
-    ∙ sym (fold-append g w.settled (entries (take n w.ran)) (entries (drop n w.ran)))
-    ∙ ap (λ es. fold g w.settled (messages es)) (sym (entries-append (take n w.ran) (drop n w.ran)) ∙ ap entries (take-append-drop n w.ran))
+    ∙ sym (fold-append g w.committed (entries (take n w.ran)) (entries (drop n w.ran)))
+    ∙ ap (λ es. fold g w.committed (messages es)) (sym (entries-append (take n w.ran) (drop n w.ran)) ∙ ap entries (take-append-drop n w.ran))
 
 -- a message that comes back leads on from what was reached
 pub back_reaches : (g : Geometry) (x : State) (ran : List Replied) (a : Replied)

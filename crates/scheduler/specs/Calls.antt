@@ -1,9 +1,9 @@
--- What the calls of a core answer and make of its world, and which events they are.
+-- What the calls of a core answer and make of its core state, and which events they are.
 use Rattle.std.specs.Prelude.{◌≡◌, ℕ, ◌+◌, Bool, true, false, List, take, length, Option, Some, None, Result, Ok, Err}
 use Rattle.affinity.specs.declared.geometry.Geometry.{Geometry}
 use Rattle.legal_runs.specs.Eligible.{next_eligible}
 use Rattle.legal_runs.specs.Events.{Hand, IsAllowed, arrive, batch, fails, fewer, grant, is_ended, log, no_grant, piece_refusal}
-use Rattle.legal_runs.specs.World.{Entry, World}
+use Rattle.legal_runs.specs.CoreState.{Entry, CoreState}
 use Rattle.legal_runs.specs.declared.outcomes.ArriveRefusal.{ArriveRefusal}
 use Rattle.legal_runs.specs.declared.outcomes.CoreFault.{CoreFault}
 use Rattle.legal_runs.specs.declared.outcomes.CoreFault.TheVariants as faults
@@ -15,7 +15,7 @@ use Rattle.legal_runs.specs.declared.outcomes.Step.{Step}
 use Rattle.messages.specs.declared.Msg.{Msg}
 use Rattle.messages.specs.declared.Reply.{Reply}
 use Rattle.scheduler.specs.Jobs.{IsJobOf}
-use Rattle.scheduler.specs.Kept.{CoreView, world_of}
+use Rattle.scheduler.specs.CoreView.{CoreView, core_state_of}
 use Rattle.scheduler.specs.declared.granted.Granted.{Granted}
 use Rattle.scheduler.specs.declared.granted.Granted.TheVariants as granted
 use Rattle.parcel.specs.Run.{JobView}
@@ -23,22 +23,22 @@ use Rattle.parcel.specs.Run.{JobView}
 -- ---- messages that go out
 
 -- The eligible message with the least ticket went out as this job.
-pub record IsGrantOf (g : Geometry) (old new : World) (job : JobView) : Type 0 where
+pub record IsGrantOf (g : Geometry) (old new : CoreState) (job : JobView) : Type 0 where
   pub works : old.failed ≡ false
   pub found : Entry × List Entry
   pub first : next_eligible g old ≡ Some found
   pub told : found.0 ≡ (job.ticket, job.message)
-  pub world : new ≡ grant old found
+  pub state_after : new ≡ grant old found
   pub is_job : IsJobOf g new job
 
 -- None is eligible, this is why none goes, and nothing has changed.
-pub record IsNoGrant (g : Geometry) (old new : World) (why : Outcome) : Type 0 where
+pub record IsNoGrant (g : Geometry) (old new : CoreState) (why : Outcome) : Type 0 where
   pub works : old.failed ≡ false
   pub none : next_eligible g old ≡ None
   pub reason : no_grant g old ≡ why
   pub same : new ≡ old
 
-abbrev pub IsGranted : Geometry → World → World → Granted → Type 0
+abbrev pub IsGranted : Geometry → CoreState → CoreState → Granted → Type 0
 IsGranted g old new (granted.Job job) = IsGrantOf g old new job
 IsGranted g old new granted.NoneEligible = IsNoGrant g old new outcomes.NoneEligible
 IsGranted g old new granted.NoRoom = IsNoGrant g old new outcomes.NoRoom
@@ -47,7 +47,7 @@ IsGranted g old new granted.Failed = (old.failed ≡ true) × (new ≡ old)
 -- ---- messages that are logged
 
 -- The first n that ran were logged; or the device failed, and none was.
-abbrev pub IsLogStep : Geometry → World → World → ℕ → Result ℕ CoreFault → Type 0
+abbrev pub IsLogStep : Geometry → CoreState → CoreState → ℕ → Result ℕ CoreFault → Type 0
 IsLogStep g old new n (Ok count) = (old.failed ≡ false) × (count ≡ length (take n old.ran)) × (new ≡ log g old n)
 IsLogStep g old new n (Err faults.Device) =
     (old.failed ≡ false) × (length (batch old n) ≡ 0 → ⊥) × (new ≡ record old { failed = true; doubt = batch old n })
@@ -57,13 +57,13 @@ IsLogStep g old new n (Err faults.Failed) = (old.failed ≡ true) × (new ≡ ol
 
 -- The step was made where there is no reason against it: so at `Ok`. Else it was refused for this reason, or the device
 -- failed.
-abbrev pub IsPointStep : World → World → Option PointRefusal → Type 0 → Result (Unit {0}) PointRefusal → Type 0
+abbrev pub IsPointStep : CoreState → CoreState → Option PointRefusal → Type 0 → Result (Unit {0}) PointRefusal → Type 0
 IsPointStep old new why made (Ok _) = (why ≡ None) × made
 IsPointStep old new why made (Err points.Device) = (why ≡ None) × (new ≡ fails old)
 IsPointStep old new why made (Err refusal) = (why ≡ Some refusal) × (new ≡ old)
 
 -- One more piece was written, if any was left, and this is how many are left now.
-abbrev pub IsPieceStep : World → World → Result ℕ PointRefusal → Type 0
+abbrev pub IsPieceStep : CoreState → CoreState → Result ℕ PointRefusal → Type 0
 IsPieceStep old new (Ok n) = (piece_refusal old ≡ None) × (n ≡ fewer old.left) × (new ≡ record old { left = Some n })
 IsPieceStep old new (Err points.Device) = (piece_refusal old ≡ None) × (is_ended old.left ≡ false) × (new ≡ fails old)
 IsPieceStep old new (Err refusal) = (piece_refusal old ≡ Some refusal) × (new ≡ old)
@@ -87,10 +87,10 @@ CountsFailure false old new = new ≡ old
 -- ---- a call as an event
 
 -- The call was this event: it may come whatever the hands hold, and leaves them so.
-abbrev pub IsCalled : Geometry → World → World → Step → Outcome → Bool → Type 0
+abbrev pub IsCalled : Geometry → CoreState → CoreState → Step → Outcome → Bool → Type 0
 IsCalled g old new step outcome rose = (hands : List Hand)
     → IsAllowed g (record { core = old; hands = hands })
-    (record { step = step; outcome = outcome; rose = rose; world = record { core = new; hands = hands } })
+    (record { step = step; outcome = outcome; rose = rose; state_after = record { core = new; hands = hands } })
 
 abbrev pub arrive_outcome : Result ℕ ArriveRefusal → Outcome
 arrive_outcome (Ok ticket) = outcomes.Ticket ticket
@@ -116,5 +116,5 @@ step_outcome made (Err why) = outcomes.PointRefused why
 abbrev pub ArrivesByLine : CoreView → CoreView → Option Msg → Result (Option ℕ) ArriveRefusal → Type 0
 ArrivesByLine old new None r = (r ≡ Ok None) × (new ≡ old)
 ArrivesByLine old new (Some m) (Ok None) = ⊥
-ArrivesByLine old new (Some m) (Ok (Some ticket)) = (arrive_outcome (Ok ticket), world_of new) ≡ arrive old.geometry (world_of old) m
-ArrivesByLine old new (Some m) (Err why) = (arrive_outcome (Err why), world_of new) ≡ arrive old.geometry (world_of old) m
+ArrivesByLine old new (Some m) (Ok (Some ticket)) = (arrive_outcome (Ok ticket), core_state_of new) ≡ arrive old.geometry (core_state_of old) m
+ArrivesByLine old new (Some m) (Err why) = (arrive_outcome (Err why), core_state_of new) ≡ arrive old.geometry (core_state_of old) m

@@ -2,7 +2,7 @@
 use Rattle.std.specs.Prelude.{◌≡◌}
 use Rattle.std.specs.List.{Contains}
 use Rattle.affinity.specs.declared.geometry.Geometry.{Geometry}
-use Rattle.legal_runs.specs.World.{World}
+use Rattle.legal_runs.specs.CoreState.{CoreState}
 use Rattle.messages.specs.Messages.{place}
 use Rattle.parcel.specs.Fits.{Suits}
 use Rattle.parcel.specs.Run.{JobView, Shows}
@@ -11,16 +11,16 @@ use Rattle.parcel.specs.declared.job.Done.{Done}
 use Rattle.parcel.specs.declared.parts.Standing.{Standing}
 use Rattle.meaning.specs.Serial.{next_state, reply_to}
 
--- The job is of a message that is out, and it shows what the settled state has at the message's place.
-pub record IsJobOf (g : Geometry) (w : World) (job : JobView) : Type 0 where
+-- The job is of a message that is out, and it shows what the committed state has at the message's place.
+pub record IsJobOf (g : Geometry) (w : CoreState) (job : JobView) : Type 0 where
   pub geometry : job.geometry ≡ g
   pub is_out : Contains w.out (job.ticket, job.message)
-  pub lent : IsLentOf job w.settled
+  pub lent : IsLentOf job w.committed
 
--- The message is out, and this is what comes of it where it runs in the settled state.
-pub record IsResultOf (g : Geometry) (w : World) (done : Done) : Type 0 where
+-- The message is out, and this is what comes of it where it runs in the committed state.
+pub record IsResultOf (g : Geometry) (w : CoreState) (done : Done) : Type 0 where
   pub is_out : Contains w.out (done.ticket, done.message)
   pub suits : Suits g done.message done.parcels
-  pub reply : done.reply ≡ reply_to g w.settled done.message
+  pub reply : done.reply ≡ reply_to g w.committed done.message
   pub standing : Standing
-  pub shows : Shows g (place g done.message) standing done.parcels (next_state g w.settled done.message)
+  pub shows : Shows g (place g done.message) standing done.parcels (next_state g w.committed done.message)

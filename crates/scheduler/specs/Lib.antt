@@ -1,5 +1,5 @@
--- The words of a core: its calls, its world and its jobs, and what a crash leaves of its device.
-pub mod Kept
+-- The words of a core: its calls, its core state and its jobs, and what a crash leaves of its device.
+pub mod CoreView
 pub mod Jobs
 pub mod Calls
 pub mod Opening

@@ -5,10 +5,10 @@ use Rattle.affinity.specs.Interval.{IsAffinityOf}
 use Rattle.affinity.specs.Path.{Path, begins}
 use Rattle.affinity.specs.declared.geometry.Geometry.{Geometry}
 use Rattle.arena.specs.Row.{Row, capacity_of}
-use Rattle.journal.specs.Journal.{JournalView, settled}
+use Rattle.journal.specs.Journal.{JournalView, committed}
 use Rattle.legal_runs.specs.Eligible.{changes, in_flight}
-use Rattle.legal_runs.specs.Laws.{IsSoundWorld}
-use Rattle.legal_runs.specs.World.{Entry, Replied, World, entries}
+use Rattle.legal_runs.specs.Laws.{IsSoundCoreState}
+use Rattle.legal_runs.specs.CoreState.{Entry, Replied, CoreState, entries}
 use Rattle.messages.specs.Messages.{IsMessage, is_in_range, place}
 use Rattle.messages.specs.declared.Msg.{Msg}
 use Rattle.messages.specs.declared.Reply.{Reply}
@@ -17,11 +17,11 @@ use Rattle.parcel.specs.Tree.{TreeView, in_tree}
 use Rattle.meaning.specs.Order.{messages}
 use Rattle.meaning.specs.Serial.{fold}
 use Rattle.meaning.specs.State.{State}
-use Rattle.scheduler.specs.Kept.{CoreView, StandsNow, world_of}
+use Rattle.scheduler.specs.CoreView.{CoreView, RecoversNow, core_state_of}
 use Rattle.scheduler.specs.Slots.{Lines, SlotView, stages_of}
 use Rattle.scheduler.specs.declared.slot.Slot.{Slot}
-use Rattle.turns.specs.Turns.{Queuing}
-use Rattle.turns.specs.declared.entries.Turn.{Turn}
+use Rattle.run_queue.specs.RunQueue.{RunQueueView}
+use Rattle.run_queue.specs.declared.queued_message.QueuedMessage.{QueuedMessage}
 
 abbrev pub entry_of : SlotView → Entry
 entry_of x = (x.1.ticket, x.1.message)
@@ -29,13 +29,13 @@ entry_of x = (x.1.ticket, x.1.message)
 abbrev pub replied_of : SlotView → Replied
 replied_of x = (x.1.ticket, x.1.message, x.2)
 
-abbrev pub turn_of : SlotView → Turn
-turn_of x = record { slot = x.0; affinity = x.1.affinity; changing = changes x.1.message; ticket = x.1.ticket }
+abbrev pub queued_of : SlotView → QueuedMessage
+queued_of x = record { slot = x.0; affinity = x.1.affinity; changing = changes x.1.message; ticket = x.1.ticket }
 
 -- whether one of the held ones passes a test
-abbrev pub held_any : (Turn → Bool) → Lines → Bool
+abbrev pub held_any : (QueuedMessage → Bool) → Lines → Bool
 held_any test l =
-    list_any (λ x. test (turn_of x)) l.logged || (list_any (λ x. test (turn_of x)) l.ran || list_any (λ x. test (turn_of x)) l.out)
+    list_any (λ x. test (queued_of x)) l.logged || (list_any (λ x. test (queued_of x)) l.ran || list_any (λ x. test (queued_of x)) l.out)
 
 pub record Parts : Type 0 where
   pub lines : Lines
@@ -44,7 +44,7 @@ pub record Parts : Type 0 where
   pub capacity : ℕ
   pub tree : TreeView
   pub journal : JournalView
-  pub turns : Queuing
+  pub queue : RunQueueView
   -- what is handed to the journal: after a fault of the device what was to be appended
   pub batch : List Msg
   pub next : ℕ
@@ -54,14 +54,14 @@ pub record Parts : Type 0 where
   pub since : List Msg
 
 -- the parts of a core with these fields
-abbrev pub parts : Row Slot → List Reply → TreeView → JournalView → Queuing → List Msg → ℕ → ℕ → TreeView → List Msg → Parts
-parts row replies tree journal turns batch next flight opened since = record {
+abbrev pub parts : Row Slot → List Reply → TreeView → JournalView → RunQueueView → List Msg → ℕ → ℕ → TreeView → List Msg → Parts
+parts row replies tree journal queue batch next flight opened since = record {
   lines = stages_of row replies;
   free = length row.free;
   capacity = capacity_of row;
   tree = tree;
   journal = journal;
-  turns = turns;
+  queue = queue;
   batch = batch;
   next = next;
   flight = flight;
@@ -87,8 +87,8 @@ kept_of p = record {
   medium = p.journal.medium;
 }
 
-abbrev pub world_in : Parts → World
-world_in p = world_of (kept_of p)
+abbrev pub core_state_in : Parts → CoreState
+core_state_in p = core_state_of (kept_of p)
 
 -- The message is one, in range, and its affinity is that of its place.
 pub record IsPlaced (g : Geometry) (x : SlotView) : Type 0 where
@@ -107,25 +107,25 @@ abbrev pub is_below : Geometry → List Entry → Path → Bool
 is_below g es q = list_any (λ e. begins (place g e.1) q) es
 
 -- the state that all messages which ran so far have led to, logged or not
-abbrev pub reached : Geometry → World → State
-reached g w = fold g w.settled (messages (entries w.ran))
+abbrev pub reached : Geometry → CoreState → State
+reached g w = fold g w.committed (messages (entries w.ran))
 
 pub record IsCore (keeps : Type 0) (p : Parts) : Type 0 where
   -- each slot is free or on a line
   pub claimed : p.free + (length p.lines.waiting + (length p.lines.logged + (length p.lines.ran + length p.lines.out))) ≡ p.capacity
   pub placed : ArePlaced p.journal.geometry p.lines
   -- whose turn it is
-  pub turned : p.turns.geometry ≡ p.journal.geometry
-  pub seats : p.turns.slots ≡ p.capacity
-  pub waits : p.turns.waiting ≡ map turn_of p.lines.waiting
-  pub holds : (test : Turn → Bool) → list_any test p.turns.held ≡ held_any test p.lines
-  pub flies : p.flight ≡ in_flight (world_in p)
-  pub sound : IsSoundWorld p.journal.geometry (world_in p)
+  pub turned : p.queue.geometry ≡ p.journal.geometry
+  pub seats : p.queue.slots ≡ p.capacity
+  pub waits : p.queue.waiting ≡ map queued_of p.lines.waiting
+  pub holds : (test : QueuedMessage → Bool) → list_any test p.queue.held ≡ held_any test p.lines
+  pub flies : p.flight ≡ in_flight (core_state_in p)
+  pub sound : IsSoundCoreState p.journal.geometry (core_state_in p)
   -- the tree holds what was reached, but for the places of the messages that are out
   pub geometry : p.tree.geometry ≡ p.journal.geometry
   pub tree : TreeHolds p.journal.geometry (is_below p.journal.geometry (map entry_of p.lines.out)) (in_tree p.tree)
-      (reached p.journal.geometry (world_in p))
+      (reached p.journal.geometry (core_state_in p))
   -- the device
-  pub is_settled : keeps → p.journal.failed ≡ false → settled p.journal ≡ Some (world_in p).settled
-  pub stands : keeps → StandsNow (kept_of p)
+  pub is_committed : keeps → p.journal.failed ≡ false → committed p.journal ≡ Some (core_state_in p).committed
+  pub recovers : keeps → RecoversNow (kept_of p)
   pub no_doubt : p.journal.failed ≡ false → p.batch ≡ []

@@ -1,10 +1,10 @@
 //! What comes of it where a message is to go out.
 ghost use Rattle.std.specs.Prelude.{◌≡◌, IfErr, MatchResult, None, Some, cond, is_some, true};
 ghost use Rattle.scheduler.specs.declared.granted.Granted.TheVariants as granted;
-ghost use Rattle.turns.specs.Turns.{next_turn};
+ghost use Rattle.run_queue.specs.RunQueue.{next_queued};
 
 use parcel::Job;
-use turns::{Turn, Turns};
+use run_queue::{QueuedMessage, RunQueue};
 
 /// What comes of it where a message is to go out.
 #[derive(Drop)]
@@ -20,17 +20,17 @@ pub enum Granted {
 }
 
 /// Whose turn it is, while the log has `room` or not; or why it is nobody's.
-pub(crate) fn choose(turns: &Turns, room: bool) -> Result<Turn, Granted>
+pub(crate) fn choose(queue: &RunQueue, room: bool) -> Result<QueuedMessage, Granted>
     ensures next { MatchResult result
-        (λ turn. next_turn room turns.now.held turns.now.waiting ≡ Some turn)
-        (λ why. next_turn room turns.now.held turns.now.waiting ≡ None) }
+        (λ queued. next_queued room queue.now.held queue.now.waiting ≡ Some queued)
+        (λ why. next_queued room queue.now.held queue.now.waiting ≡ None) }
     ensures why { IfErr result (λ why.
-        why ≡ cond (is_some (next_turn true turns.now.held turns.now.waiting)) granted.NoRoom granted.NoneEligible) }
+        why ≡ cond (is_some (next_queued true queue.now.held queue.now.waiting)) granted.NoRoom granted.NoneEligible) }
 {
-    if let Some(turn) = turns.next(room) {
-        return Ok(turn);
+    if let Some(queued) = queue.next(room) {
+        return Ok(queued);
     }
-    if !room && turns.next(true).is_some() {
+    if !room && queue.next(true).is_some() {
         Err(Granted::NoRoom)
     } else {
         Err(Granted::NoneEligible)

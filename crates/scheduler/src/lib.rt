@@ -1,17 +1,17 @@
 //! The core of a server: messages come in, go out as jobs in an order in which no two of them meet, come back, are
 //! logged on a device and answered.
 //!
-//! What each call does is stated over the worlds and events of `legal_runs`.
+//! What each call does is stated over the core states and events of `legal_runs`.
 #![tactic(auto)]
 
-mod arrival;
+mod arrive_line;
 mod granted;
 mod history;
-mod kernel;
+mod core;
 pub mod laws;
 mod memory;
-mod moving;
+mod log_batch;
 mod slot;
 
 pub use granted::Granted;
-pub use kernel::Core;
+pub use core::Core;

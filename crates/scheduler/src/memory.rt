@@ -2,14 +2,14 @@
 ghost use Rattle.std.specs.Prelude.{◌≡◌, ◌≤◌, [], IfOk, length, vec_capacity};
 ghost use Rattle.affinity.specs.Geometry.{standard};
 ghost use Rattle.arena.specs.Row.{IsParted, empty_row};
-ghost use Rattle.turns.specs.Turns.{turns_at_start};
+ghost use Rattle.run_queue.specs.RunQueue.{queue_at_start};
 
 use crate::slot::{CHAINS, Slot};
 use affinity::Geometry;
 use arena::Arena;
 use messages::{Msg, Reply};
 use std::alloc::{AllocError, Global};
-use turns::Turns;
+use run_queue::RunQueue;
 
 /// Where the messages of a core lie, and what tells whose turn it is.
 #[derive(Drop)]
@@ -18,7 +18,7 @@ pub(crate) struct Memory {
 
     /// By slot: what a message that ran is answered.
     pub(crate) replies: Vec<Reply>,
-    pub(crate) turns: Turns,
+    pub(crate) queue: RunQueue,
 
     /// Room for all that may be handed to the journal at once.
     pub(crate) batch: Vec<Msg>,
@@ -30,7 +30,7 @@ pub(crate) fn take_memory(alloc: Global, slots: usize) -> Result<Memory, AllocEr
     ensures row { IfOk result (λ m. m.slots ≡ empty_row slots 4) }
     ensures parted { IfOk result (λ m. IsParted m.slots) }
     ensures replies { IfOk result (λ m. length m.replies.items ≡ slots) }
-    ensures turns { IfOk result (λ m. m.turns ≡ turns_at_start standard slots) }
+    ensures queue { IfOk result (λ m. m.queue ≡ queue_at_start standard slots) }
     ensures batch { IfOk result (λ m. m.batch.items ≡ []) }
     ensures room { IfOk result (λ m. slots ≤ vec_capacity m.batch) }
 {
@@ -40,7 +40,7 @@ pub(crate) fn take_memory(alloc: Global, slots: usize) -> Result<Memory, AllocEr
     Ok(Memory {
         slots: Arena::with_capacity(alloc, slots, CHAINS)?,
         replies: vec![in alloc; Reply::Done; slots]?,
-        turns: Turns::new(alloc, &Geometry::default(), slots)?,
+        queue: RunQueue::new(alloc, &Geometry::default(), slots)?,
         batch: Vec::with_capacity(alloc, slots)?,
     })
 }

@@ -108,7 +108,7 @@ fn asked(alloc: Global, lines: &[(&str, &str)]) -> Result<String, AllocError> {
 }
 
 /// That the second life answers as the serial server does from a state with each acknowledged line, and without a gap.
-fn expect_lives<T: System>(rt: &T, row: &Row<'_>, n: u64, at: usize) -> Result<Found, Fail>
+fn expect_incarnations<T: System>(rt: &T, row: &Row<'_>, n: u64, at: usize) -> Result<Found, Fail>
     requires { 0 < n }
 {
     let (lines, questions, states) = row;
@@ -171,10 +171,10 @@ impl Seen {
 fn look<T: System>(rt: &T, row: &Row<'_>, n: u64) -> Result<Seen, Fail>
     requires { 0 < n }
 {
-    let first = expect_lives(rt, row, n, 0)?;
+    let first = expect_incarnations(rt, row, n, 0)?;
     let mut seen = Seen::default();
     for at in 1..KINDS {
-        let found = expect_lives(rt, row, n, at)?;
+        let found = expect_incarnations(rt, row, n, at)?;
         seen = seen.or(Seen {
             stopped: !found.well,
             halfway: !found.well && 0 < found.acknowledged,

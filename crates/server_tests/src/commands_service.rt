@@ -20,7 +20,7 @@ fn shown(alloc: Global, area: u8, records: u8, summary: &str) -> Result<String, 
 
 /// What is set in a device that was made, the call that serves it, the input and the output, and the area and the summary that `show` tells
 /// of it afterwards.
-type Life<'a> = (Changes<'a>, &'a str, &'a str, &'a str, u8, &'a str);
+type Incarnation<'a> = (Changes<'a>, &'a str, &'a str, &'a str, u8, &'a str);
 
 const THREE_CHANGES: &str = "makevol 0 0\ncreate 0 0 0\nwrite 0 0 0 0 61\n";
 
@@ -31,7 +31,7 @@ const TWO_WRITES: &str = "makevol 0 0\ncreate 0 0 0\nwrite 0 0 0 0 61\nwrite 0 0
 /// Behind the plain ones: a root byte that names no area 1; a torn gate in the log, behind which no record counts; a point that was
 /// cut short, whose other half has a record of its own; an image of the first version with a volume; and one of the second, whose
 /// volume has a label.
-const LIVES: [Life<'static>; 11] = [
+const INCARNATIONS: [Incarnation<'static>; 11] = [
     (&[], SERVE, "", "", 0, "0 0 0"),
     (
         &[],
@@ -146,9 +146,9 @@ fn expect_next<T: System>(
 }
 
 #[test]
-fn each_life_goes_on_from_the_last(rt: HostRuntime) -> Result<(), Fail> {
+fn each_incarnation_goes_on_from_the_last(rt: HostRuntime) -> Result<(), Fail> {
     let path = new_path(&rt, "life")?;
-    for (before, words, input, output, area, summary) in LIVES {
+    for (before, words, input, output, area, summary) in INCARNATIONS {
         write_made(&rt, path.as_str(), before)?;
         let call = Call::on(path.as_str(), words, input.as_bytes());
         expect(&rt, call, 0, Said::Is(output), NOTHING)?;

@@ -22,7 +22,7 @@ mod serving_drawing;
 #[cfg(test)]
 mod serving_faults;
 #[cfg(test)]
-mod serving_lives;
+mod serving_incarnations;
 #[cfg(test)]
 mod serving_noting;
 #[cfg(test)]

@@ -1,7 +1,7 @@
 //! A second call of a server, on the core that the first one gave back; and one behind a call for which memory was refused.
 ghost use Rattle.std.specs.Prelude.{◌≡◌, false, IfOk, IsTrue};
 ghost use Rattle.legal_runs.specs.Laws.{IsIdle};
-ghost use Rattle.scheduler.specs.Kept.{world_of};
+ghost use Rattle.scheduler.specs.CoreView.{core_state_of};
 
 use crate::serving_noting::{Notes, Pieces};
 use crate::serving_rows::leaves;
@@ -41,9 +41,9 @@ fn serve_first<T: Threads + Wait + Sync>(
     fails: bool,
     output: &mut Vec<u8>,
 ) -> Result<Core<MemDisk>, Wrong>
-    requires idle { IsIdle (world_of core) }
+    requires idle { IsIdle (core_state_of core) }
     requires works { core.failed ≡ false }
-    ensures idle { IfOk result (λ core. IsIdle (world_of core)) }
+    ensures idle { IfOk result (λ core. IsIdle (core_state_of core)) }
     ensures works { IfOk result (λ core. core.failed ≡ false) }
 {
     let notes = Notes::new();
@@ -76,9 +76,9 @@ fn serve_first<T: Threads + Wait + Sync>(
 
 /// Begins a cut, if one is wanted: whether all is well.
 fn begin_cut(core: &mut Core<MemDisk>, cuts: bool) -> bool
-    requires idle { IsIdle (world_of core.old) }
+    requires idle { IsIdle (core_state_of core.old) }
     requires works { core.old.failed ≡ false }
-    ensures idle { IsTrue result → IsIdle (world_of core.new) }
+    ensures idle { IsTrue result → IsIdle (core_state_of core.new) }
     ensures works { IsTrue result → core.new.failed ≡ false }
 {
     if !cuts {
@@ -142,7 +142,7 @@ fn serve_at_next_try<T: Threads + Wait + Sync>(
     core: Core<MemDisk>,
     output: &mut Vec<u8>,
 ) -> Result<Core<MemDisk>, Wrong>
-    requires idle { IsIdle (world_of core) }
+    requires idle { IsIdle (core_state_of core) }
     requires works { core.failed ≡ false }
 {
     let mut input = FIRST;

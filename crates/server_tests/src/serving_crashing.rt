@@ -1,7 +1,7 @@
 //! What a client sees that crashes the device each time it is told lines.
 ghost use Rattle.std.specs.Prelude.{◌≡◌, false, IfOk};
 ghost use Rattle.legal_runs.specs.Laws.{IsIdle};
-ghost use Rattle.scheduler.specs.Kept.{world_of};
+ghost use Rattle.scheduler.specs.CoreView.{core_state_of};
 
 use crate::serving_noting::{Notes, Pieces};
 use crate::serving_running::{SMALL, Way, holds, serve_lines, writes};
@@ -38,7 +38,7 @@ const FOUND: [&[u8]; 6] = [
 
 /// A new device, opened for two messages at once.
 fn opened(alloc: Global) -> Result<Core<MemDisk>, Wrong>
-    ensures idle { IfOk result (λ core. IsIdle (world_of core)) }
+    ensures idle { IfOk result (λ core. IsIdle (core_state_of core)) }
     ensures works { IfOk result (λ core. core.failed ≡ false) }
 {
     let device = device_with(alloc, SMALL, &[])?;
@@ -54,9 +54,9 @@ fn finds<T: Threads + Wait + Sync + Abort>(
     alloc: Global,
     sight: Sight,
 ) -> Result<(), Wrong> {
-    let Sight { told, left } = sight;
-    holds(rt, ANSWERS.starts_with(told.as_slice()));
-    let count = told.iter().filter(|byte| **byte == b'\n').count();
+    let Sight { sent, left } = sight;
+    holds(rt, ANSWERS.starts_with(sent.as_slice()));
+    let count = sent.iter().filter(|byte| **byte == b'\n').count();
     let Some(want) = FOUND.get(count.saturating_sub(1)) else {
         return Err(Wrong::Unfit);
     };
@@ -92,9 +92,9 @@ fn sights_of<T: Threads + Wait + Sync + Abort>(
         workers: workers.min(64),
         every: 2,
     };
-    let (ended, told, sights) = serve_watched(rt, alloc, torn, plan, core, &mut reader, &OpenGate);
+    let (ended, sent, sights) = serve_watched(rt, alloc, torn, plan, core, &mut reader, &OpenGate);
     holds(rt, ended.is_ok());
-    writes(rt, told.as_slice(), ANSWERS);
+    writes(rt, sent.as_slice(), ANSWERS);
     Ok(sights)
 }
 

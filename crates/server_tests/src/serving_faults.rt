@@ -39,14 +39,14 @@ const ORDERS: [[usize; 10]; 2] = [
 pub(crate) struct Known {
     /// The sum of 2 to the power of each one's place.
     changes: u32,
-    told: Vec<u8>,
+    sent: Vec<u8>,
 }
 
 impl Known {
     /// Whether that is found.
     pub(crate) fn is_told(&self, found: &OpenedDevice) -> bool {
         match found {
-            OpenedDevice::Tells(told) => self.told == *told,
+            OpenedDevice::Tells(sent) => self.sent == *sent,
             OpenedDevice::Refuses(_) => false,
         }
     }
@@ -79,8 +79,8 @@ fn behind(
         lines.push(*line)?;
         changes |= first(*place + 1) ^ first(*place);
     }
-    let told = expected(alloc, g, lines.as_slice(), questions)?;
-    Ok(Known { changes, told })
+    let sent = expected(alloc, g, lines.as_slice(), questions)?;
+    Ok(Known { changes, sent })
 }
 
 /// The sum of 2 to the power of each number below this one.
@@ -121,12 +121,12 @@ impl Play {
 
     /// Whether this may be found where so many lines were written.
     pub(crate) fn allows(&self, answered: usize, found: &OpenedDevice) -> bool {
-        let OpenedDevice::Tells(told) = found else {
+        let OpenedDevice::Tells(sent) = found else {
             return false;
         };
         let answered = first(self.there.saturating_add(answered));
         let mut known = self.known.iter();
-        known.any(|known| known.changes & answered == answered && known.told == *told)
+        known.any(|known| known.changes & answered == answered && known.sent == *sent)
     }
 
     /// Serves on a device that fails at this call, and gives what a crash leaves.

@@ -48,7 +48,7 @@ impl Flag {
 #[derive(Drop)]
 pub(crate) struct Notes {
     /// Gates of records that were written since the last sync.
-    loose: Count,
+    unsynced: Count,
     /// Records whose gates were synced.
     pub(crate) logged: Count,
     /// Chain bytes that became 1.
@@ -85,7 +85,7 @@ fn ends_in(bytes: &[u8]) -> u64 {
 impl Notes {
     pub(crate) fn new() -> Notes {
         Notes {
-            loose: Count::new(),
+            unsynced: Count::new(),
             logged: Count::new(),
             cuts: Count::new(),
             points: Count::new(),
@@ -165,7 +165,7 @@ impl<D: Disk> Disk for Noting<'_, D> {
     }
 
     fn write_at(&mut self, at: u64, bytes: &[u8]) -> Result<(), DiskFault> {
-        self.notes.loose.add(gates_in(at, bytes));
+        self.notes.unsynced.add(gates_in(at, bytes));
         self.notes.points.add(u64::from(at == ROOT));
         self.notes.pieces.add(u64::from(at >= IMAGES));
         self.notes.cuts.add(u64::from(opens_chain(at, bytes)));
@@ -176,9 +176,9 @@ impl<D: Disk> Disk for Noting<'_, D> {
         self.notes.syncs.add(1);
         let answer = self.device.sync();
         if answer.is_ok() {
-            self.notes.logged.add(self.notes.loose.get());
+            self.notes.logged.add(self.notes.unsynced.get());
         }
-        self.notes.loose.set(0);
+        self.notes.unsynced.set(0);
         answer
     }
 

@@ -173,17 +173,17 @@ fn unrelated_messages_run_at_once(rt: HostRuntime) -> Result<(), Fail> {
 
 /// Looks whether each job waits until all related ones with smaller tickets are answered.
 #[derive(Drop)]
-struct InTurn {
+struct InOrder {
     /// The places of the messages, by ticket.
     places: Vec<Affinity>,
     answered: Vec<AtomicBool>,
     is_amiss: AtomicBool,
 }
 
-impl InTurn {
+impl InOrder {
     /// A gate for the messages in range of these lines.
-    fn new(alloc: Global, g: &Geometry, lines: &[u8]) -> Result<InTurn, Wrong> {
-        let mut gate = InTurn {
+    fn new(alloc: Global, g: &Geometry, lines: &[u8]) -> Result<InOrder, Wrong> {
+        let mut gate = InOrder {
             places: Vec::new(alloc),
             answered: Vec::new(alloc),
             is_amiss: AtomicBool::new(false),
@@ -212,7 +212,7 @@ impl InTurn {
     }
 }
 
-impl Gate for InTurn {
+impl Gate for InOrder {
     fn before(&self, ticket: u64) {
         if self.is_early(ticket) {
             self.is_amiss.store(true, Ordering::SeqCst);
@@ -239,7 +239,7 @@ fn goes_in_turn<T: Threads + Wait + Sync + Abort>(
     let Ok(g) = Geometry::new(WIDE) else {
         return Err(Wrong::Unfit);
     };
-    let gate = InTurn::new(alloc, &g, lines)?;
+    let gate = InOrder::new(alloc, &g, lines)?;
     let device = device_with(alloc, WIDE, &[])?;
     let notes = Notes::new();
     let left = session(rt, alloc, device, way, lines, PIPED, &gate, &notes);

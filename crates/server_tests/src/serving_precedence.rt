@@ -46,7 +46,7 @@ fn end_of(failed: Failed, has_begun: bool) -> End {
 }
 
 /// Serves the lines, and looks at what is reported.
-fn told<T: Threads + Wait + Sync + Abort>(
+fn sent<T: Threads + Wait + Sync + Abort>(
     rt: &T,
     alloc: Global,
     way: Way,
@@ -86,7 +86,7 @@ fn tell_each<T: Threads + Wait + Sync + Abort>(
 ) -> Result<bool, Wrong> {
     let mut both = false;
     for device in 1..MOST_CALLS {
-        let failed = told(rt, alloc, way, Failing { device, writer })?;
+        let failed = sent(rt, alloc, way, Failing { device, writer })?;
         if !failed.device {
             return Ok(both);
         }

@@ -1,19 +1,19 @@
-//! A client that doesn't trust: each time it is told lines it crashes a copy of the device, and keeps what had been told with what the
-//! crash left. That this holds all that was told is the contract of `serve_watched`.
+//! A client that doesn't trust: each time it is told lines it crashes a copy of the device, and keeps what had been sent with what the
+//! crash left. That this holds all that was sent is the contract of `serve_watched`.
 
 ghost use Rattle.std.specs.Prelude.{◌≡◌, ◌≤◌, ◌++◌, All, List, ℕ, [], false, IfOk, OnOk, Some};
-ghost use Rattle.disk.specs.Device.{Leaves};
+ghost use Rattle.disk.specs.Device.{IsCrashImage};
 ghost use Rattle.disk.specs.Memory.{medium_of};
 ghost use Rattle.disk.specs.Torn.{HasBytes};
 ghost use Rattle.legal_runs.specs.Laws.{IsIdle};
-ghost use Rattle.scheduler.specs.Kept.{world_of};
+ghost use Rattle.scheduler.specs.CoreView.{core_state_of};
 ghost use Rattle.serving.specs.Serve.{ServesSo, handed_back};
-ghost use Rattle.server_tests.specs.Sights.{AreHeld, IsHeld, IsToldAt};
+ghost use Rattle.server_tests.specs.Sights.{AreHeld, IsHeld, IsSentAt};
 
 use disk::{MemDisk, Torn};
 use message::WriteFault;
 use scheduler::Core;
-use serving::{ServeError, Teller, serve_to};
+use serving::{ServeError, ReplySink, serve_to};
 use std::alloc::{AllocError, Global};
 use std::io::Read;
 use std::marker::{Brand, Model, PhantomData};
@@ -24,14 +24,14 @@ use workers::Gate;
 /// What had been told when a copy of the device was crashed, and what the crash left.
 #[derive(Drop)]
 pub struct Sight {
-    pub told: Vec<u8>,
+    pub sent: Vec<u8>,
     pub left: MemDisk,
 }
 
 /// Where the call of the server began.
 trait Beginning {
     ghost use Rattle.std.specs.Prelude.{Option};
-    ghost use Rattle.serving.specs.Telling.{Start};
+    ghost use Rattle.serving.specs.Output.{Start};
 
     /// The start, once the call has begun.
     ghost start: { Option Start };
@@ -48,7 +48,7 @@ impl Beginning for Brand {
 struct Watch<B: Beginning> {
     alloc: Global,
     torn: Torn,
-    told: Vec<u8>,
+    sent: Vec<u8>,
     sights: Vec<Sight>,
     of: PhantomData<B>,
 }
@@ -60,7 +60,7 @@ impl<B: Beginning> Model for Watch<B> {
 
     ghost Value = { List ℕ };
 
-    ghost view = { λ w. w.told.items };
+    ghost view = { λ w. w.sent.items };
 
     ghost invariant = { λ w. HasBytes w.torn × AreHeld B.start w.sights.items };
 }
@@ -83,36 +83,36 @@ fn see(
     torn: &Torn,
 ) -> Result<Sight, AllocError>
     requires { HasBytes torn.now }
-    ensures told { IfOk result (λ sight. sight.told.items ≡ before.now ++ lines.now) }
-    ensures left { IfOk result (λ sight. Leaves (medium_of disk.now) (medium_of sight.left).now) }
+    ensures sent { IfOk result (λ sight. sight.sent.items ≡ before.now ++ lines.now) }
+    ensures left { IfOk result (λ sight. IsCrashImage (medium_of disk.now) (medium_of sight.left).now) }
 {
-    let told = joined(alloc, before, lines)?;
+    let sent = joined(alloc, before, lines)?;
     let left = disk.crashed(alloc, torn)?;
-    Ok(Sight { told, left })
+    Ok(Sight { sent, left })
 }
 
 impl<B: Beginning> Watch<B> {
     /// Keeps what it sees of this device, where it is told these lines.
     fn look(&mut self, lines: &[u8], disk: &MemDisk) -> Result<(), AllocError>
-        requires held { (sight : List ℕ) → Leaves (medium_of disk.now) sight → IsToldAt B.start (self.old ++ lines.now) sight }
-        ensures told { OnOk result (self.new ≡ self.old ++ lines.now) }
+        requires held { (sight : List ℕ) → IsCrashImage (medium_of disk.now) sight → IsSentAt B.start (self.old ++ lines.now) sight }
+        ensures sent { OnOk result (self.new ≡ self.old ++ lines.now) }
     {
-        let told = joined(self.alloc, &self.told, lines)?;
-        let sight = see(self.alloc, &self.told, lines, disk, &self.torn)?;
+        let sent = joined(self.alloc, &self.sent, lines)?;
+        let sight = see(self.alloc, &self.sent, lines, disk, &self.torn)?;
         self.sights.push(sight)?;
-        self.told = told;
+        self.sent = sent;
         Ok(())
     }
 }
 
-impl<B: Beginning> Teller<MemDisk> for Watch<B> {
+impl<B: Beginning> ReplySink<MemDisk> for Watch<B> {
     ghost use Rattle.std.specs.Prelude.{Some};
 
     ghost start = { B.start };
 
-    ghost told = { λ w. Some w };
+    ghost sent = { λ w. Some w };
 
-    fn tell(&mut self, lines: &[u8], core: &Core<MemDisk>) -> Result<(), WriteFault> {
+    fn send(&mut self, lines: &[u8], core: &Core<MemDisk>) -> Result<(), WriteFault> {
         match self.look(lines, core.disk()) {
             Ok(()) => Ok(()),
             Err(_) => Err(WriteFault),
@@ -140,7 +140,7 @@ fn serve_client<T: Threads + Wait + Sync, R: Read, G: Gate + Sync, B: Beginning>
     Vec<Sight>,
 )
     requires start { B.start ≡ Some (record { core = core; places = plan.workers; input = R.remaining r.old; before = Some client }) }
-    requires idle { IsIdle (world_of core) }
+    requires idle { IsIdle (core_state_of core) }
     requires works { core.failed ≡ false }
     requires few { plan.workers ≤ 64 }
     ensures seen { AreHeld B.start result.2.items }
@@ -150,8 +150,8 @@ fn serve_client<T: Threads + Wait + Sync, R: Read, G: Gate + Sync, B: Beginning>
     let alloc = client.alloc;
     let Plan { workers, every } = plan;
     let (ended, client) = serve_to(rt, alloc, core, r, client, workers, every, gate);
-    let Watch { told, sights, .. } = client;
-    (ended, told, sights)
+    let Watch { sent, sights, .. } = client;
+    (ended, sent, sights)
 }
 
 fn start_watching<T: Threads + Wait + Sync, R: Read, G: Gate + Sync, B: Beginning>(
@@ -169,7 +169,7 @@ fn start_watching<T: Threads + Wait + Sync, R: Read, G: Gate + Sync, B: Beginnin
     Vec<Sight>,
 )
     requires start { B.start ≡ Some (record { core = core; places = plan.workers; input = R.remaining r.old; before = Some [] }) }
-    requires idle { IsIdle (world_of core) }
+    requires idle { IsIdle (core_state_of core) }
     requires works { core.failed ≡ false }
     requires few { plan.workers ≤ 64 }
     requires bytes { HasBytes torn }
@@ -180,7 +180,7 @@ fn start_watching<T: Threads + Wait + Sync, R: Read, G: Gate + Sync, B: Beginnin
     let client = Watch::<B> {
         alloc,
         torn,
-        told: Vec::new(alloc),
+        sent: Vec::new(alloc),
         sights: Vec::new(alloc),
         of,
     };
@@ -188,7 +188,7 @@ fn start_watching<T: Threads + Wait + Sync, R: Read, G: Gate + Sync, B: Beginnin
 }
 
 /// Serves the lines of a reader to a client that crashes a copy of the device each time it is told lines. Gives how the server ended,
-/// all that was told, and what the client saw: whatever the server has told when, and however it ends, what each crash left holds all
+/// all that was sent, and what the client saw: whatever the server has told when, and however it ends, what each crash left holds all
 /// that had been told, and is opened again.
 pub fn serve_watched<T: Threads + Wait + Sync, R: Read, G: Gate + Sync>(
     rt: &T,
@@ -203,7 +203,7 @@ pub fn serve_watched<T: Threads + Wait + Sync, R: Read, G: Gate + Sync>(
     Vec<u8>,
     Vec<Sight>,
 )
-    requires idle { IsIdle (world_of core) }
+    requires idle { IsIdle (core_state_of core) }
     requires works { core.failed ≡ false }
     requires few { plan.workers ≤ 64 }
     requires bytes { HasBytes torn }

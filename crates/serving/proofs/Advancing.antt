@@ -6,52 +6,52 @@ use Rattle.std.proofs.KnownBytes.{Appends-trans}
 use Rattle.std.specs.Io.KnownBytes.{Appends}
 use Rattle.std.specs.List.{AllByRecursion}
 use Rattle.runs.specs.Machine.{MachineView}
-use Rattle.serving.specs.Going.{Goes}
-use Rattle.serving.specs.Lines.{AreKnown, Line, is_answered, text}
+use Rattle.serving.specs.Progress.{ServingProgress}
+use Rattle.serving.specs.Lines.{AreKnown, Line, is_completed, text}
 use Rattle.meaning.specs.Output.{joined}
 use Rattle.legal_runs.proofs.Lists.{all_join}
 
 -- ---- what lines say
 
-pub texts_both : (said more : List Line) → joined (map text (said ++ more)) ≡ joined (map text said) ++ joined (map text more)
+pub texts_both : (retired more : List Line) → joined (map text (retired ++ more)) ≡ joined (map text retired) ++ joined (map text more)
 texts_both [] more = refl
-texts_both (x ∷ said) more = ap (λ z. text x ++ z) (texts_both said more) ∙ sym (append_assoc (text x) (joined (map text said)) (joined (map text more)))
+texts_both (x ∷ retired) more = ap (λ z. text x ++ z) (texts_both retired more) ∙ sym (append_assoc (text x) (joined (map text retired)) (joined (map text more)))
 
--- ---- fewer lines in the row
+-- ---- fewer lines in the reorder buffer
 
 -- The first lines of the old row, each of which is answered, were written behind what was written before, and the new row is left.
-pub record Says (old new : List Line) (before written : Option (List ℕ)) : Type 0 where
-  pub said : List Line
-  pub were : old ≡ said ++ new
-  pub are_answered : AllByRecursion (λ line. is_answered line ≡ true) said
-  pub output : Appends before written (joined (map text said))
+pub record Retires (old new : List Line) (before written : Option (List ℕ)) : Type 0 where
+  pub retired : List Line
+  pub were : old ≡ retired ++ new
+  pub are_completed : AllByRecursion (λ line. is_completed line ≡ true) retired
+  pub output : Appends before written (joined (map text retired))
 
 pub forgets : (keeps : Type 0) (start now : MachineView) (row : List Line) (input left : Option (List ℕ)) (ended : Bool) (before written : Option (List ℕ))
-    → Goes keeps start now row input left ended before written → Goes keeps start now row input left ended None None
+    → ServingProgress keeps start now row input left ended before written → ServingProgress keeps start now row input left ended None None
 forgets keeps start now row input left ended before written h =
-    record { taken = h.taken; said = h.said; takes = h.takes; serving = h.serving; output = tt }
+    record { taken = h.taken; retired = h.retired; takes = h.takes; serving = h.serving; output = tt }
 
 module _ (keeps : Type 0) where
-  -- Lines at the front of the row were written.
-  pub says_on : (start m : MachineView) (row rest : List Line) (old now : Option (List ℕ)) → Says row rest old now
-      → (input left : Option (List ℕ)) (ended : Bool) (before : Option (List ℕ)) → Goes keeps start m row input left ended before old
-      → Goes keeps start m rest input left ended before now
-  says_on start m row rest old now says input left ended before h =
+  -- Lines at the front of the reorder buffer were written.
+  pub retires_on : (start m : MachineView) (row rest : List Line) (old now : Option (List ℕ)) → Retires row rest old now
+      → (input left : Option (List ℕ)) (ended : Bool) (before : Option (List ℕ)) → ServingProgress keeps start m row input left ended before old
+      → ServingProgress keeps start m rest input left ended before now
+  retires_on start m row rest old now retires input left ended before h =
       let g = start.core.geometry in
       let s = h.serving in
       record {
         taken = h.taken;
-        said = h.said ++ says.said;
+        retired = h.retired ++ retires.retired;
         takes = h.takes;
         serving = record {
-          told = s.told;
+          reply_pairs = s.reply_pairs;
           passes = s.passes;
-          known = subst (λ (l : List Line). AreKnown g s.told start.core.next h.taken l) (sym (append_assoc h.said says.said rest))
-              (subst (λ (l : List Line). AreKnown g s.told start.core.next h.taken (h.said ++ l)) says.were s.known);
-          answered = all_join (λ line. is_answered line ≡ true) h.said says.said s.answered says.are_answered;
+          known = subst (λ (l : List Line). AreKnown g s.reply_pairs start.core.next h.taken l) (sym (append_assoc h.retired retires.retired rest))
+              (subst (λ (l : List Line). AreKnown g s.reply_pairs start.core.next h.taken (h.retired ++ l)) retires.were s.known);
+          answered = all_join (λ line. is_completed line ≡ true) h.retired retires.retired s.answered retires.are_completed;
         };
-        output = subst (λ (z : List ℕ). Appends before now z) (sym (texts_both h.said says.said))
-            (Appends-trans before old now (joined (map text h.said)) (joined (map text says.said)) h.output says.output);
+        output = subst (λ (z : List ℕ). Appends before now z) (sym (texts_both h.retired retires.retired))
+            (Appends-trans before old now (joined (map text h.retired)) (joined (map text retires.retired)) h.output retires.output);
       }
 
 -- Where the device works, all is logged.

@@ -5,7 +5,7 @@ use Rattle.affinity.specs.declared.geometry.Geometry.{Geometry}
 use Rattle.legal_runs.proofs.Elements.{in_contained}
 use Rattle.legal_runs.specs.Events.{Hands, arrive}
 use Rattle.legal_runs.specs.Laws.{IsIdle}
-use Rattle.legal_runs.specs.World.{Entry, World, held}
+use Rattle.legal_runs.specs.CoreState.{Entry, CoreState, held}
 use Rattle.legal_runs.specs.declared.outcomes.ArriveRefusal.{ArriveRefusal}
 use Rattle.legal_runs.specs.declared.outcomes.ArriveRefusal.TheVariants as arrivals
 use Rattle.legal_runs.specs.declared.outcomes.Outcome.{Outcome}
@@ -17,99 +17,99 @@ use Rattle.runs.specs.Steps.{IsCoreStep}
 use Rattle.runs.specs.declared.hands.Holding.{Holding}
 use Rattle.messages.specs.Messages.{is_in_range}
 use Rattle.scheduler.specs.Calls.{arrive_outcome as arrived_so}
-use Rattle.scheduler.specs.Kept.{CoreView, world_of}
+use Rattle.scheduler.specs.CoreView.{CoreView, core_state_of}
 use Rattle.runs.specs.Machine.{MachineView}
 use Rattle.messages.specs.Grammar.{message_of}
 use Rattle.messages.specs.declared.Msg.{Msg}
 use Rattle.messages.specs.declared.Reply.{Reply}
 use Rattle.meaning.specs.Order.{messages}
-use Rattle.serving.specs.Going.{IsServing}
-use Rattle.serving.specs.Lines.{AreKnown, IsKnown, Line, NoneIsTo, OutOfRange, Unanswered, asked, asked_in, next_ticket, ticketed, Answered, NoMessage}
+use Rattle.serving.specs.Progress.{IsServing}
+use Rattle.serving.specs.Lines.{AreKnown, IsKnown, Line, NoneIsTo, OutOfRange, Pending, admitted, admitted_in, next_ticket, ticketed, Completed, NoMessage}
 use Rattle.serving.specs.Reads.{IsRefusedLine, IsTaken}
-use Rattle.serving.specs.Runs.{Holds, Passes}
+use Rattle.serving.specs.Runs.{Holds, RunsBetween}
 use Rattle.serving.proofs.Chain.{passes_on}
-use Rattle.serving.proofs.Serial.{asked-append, messages-ticketed}
+use Rattle.serving.proofs.Serial.{admitted-append, messages-ticketed}
 use Rattle.serving.proofs.Served.{told_before}
-use Rattle.serving.proofs.Stretches.{core_is_quiet, step_passes}
+use Rattle.serving.proofs.Segments.{core_is_quiet, step_passes}
 use Rattle.serving.proofs.Tickets.{next-append, run_next, ticketed-append}
 
 -- ---- one line more
 
-pub known_push : (g : Geometry) (told : List (ℕ × Reply)) (n : ℕ) (ls : List (List ℕ)) (l : List ℕ) (row : List Line) (known : Line)
-    → AreKnown g told n ls row → IsKnown g told (next_ticket n (asked g ls)) (message_of l) known
-    → AreKnown g told n (ls ++ l ∷ []) (row ++ known ∷ [])
-known_push g told n [] l [] known k one = (one, tt)
-known_push g told n [] l (x ∷ row) known k one = absurd k
-known_push g told n (y ∷ ls) l [] known k one = absurd k
-known_push g told n (y ∷ ls) l (x ∷ row) known k one =
-    let m = next_ticket n (asked_in g (message_of y)) in (
+pub known_push : (g : Geometry) (reply_pairs : List (ℕ × Reply)) (n : ℕ) (ls : List (List ℕ)) (l : List ℕ) (row : List Line) (known : Line)
+    → AreKnown g reply_pairs n ls row → IsKnown g reply_pairs (next_ticket n (admitted g ls)) (message_of l) known
+    → AreKnown g reply_pairs n (ls ++ l ∷ []) (row ++ known ∷ [])
+known_push g reply_pairs n [] l [] known k one = (one, tt)
+known_push g reply_pairs n [] l (x ∷ row) known k one = absurd k
+known_push g reply_pairs n (y ∷ ls) l [] known k one = absurd k
+known_push g reply_pairs n (y ∷ ls) l (x ∷ row) known k one =
+    let m = next_ticket n (admitted_in g (message_of y)) in (
       k.0,
-      known_push g told m ls l row known k.1
-          (subst (λ (t : ℕ). IsKnown g told t (message_of l) known) (next-append n (asked_in g (message_of y)) (asked g ls)) one),
+      known_push g reply_pairs m ls l row known k.1
+          (subst (λ (t : ℕ). IsKnown g reply_pairs t (message_of l) known) (next-append n (admitted_in g (message_of y)) (admitted g ls)) one),
     )
 
-module _ (keeps : Type 0) (start old : MachineView) (taken : List (List ℕ)) (said row : List Line) (s : IsServing keeps start old taken said row) where
+module _ (keeps : Type 0) (start old : MachineView) (taken : List (List ℕ)) (retired row : List Line) (s : IsServing keeps start old taken retired row) where
   abbrev g : Geometry
   g = start.core.geometry
 
   -- the ticket that the core gives next
-  pub next_is : old.core.next ≡ next_ticket start.core.next (asked g taken)
+  pub next_is : old.core.next ≡ next_ticket start.core.next (admitted g taken)
   next_is = ap (λ (w : Hands). w.core.next) (sym s.passes.ends) ∙ run_next g _ (events_of s.passes.stages) s.passes.legal
       ∙ ap (λ (es : List Entry). next_ticket start.core.next (messages es)) s.passes.come_are
-      ∙ ap (next_ticket start.core.next) (messages-ticketed start.core.next (asked g taken))
+      ∙ ap (next_ticket start.core.next) (messages-ticketed start.core.next (admitted g taken))
 
   -- A line was read, and its message has arrived, if it takes a ticket.
-  takes_in : (new : MachineView) (line : List ℕ) (known : Line) → Passes keeps old new (ticketed old.core.next (asked_in g (message_of line))) []
-      → IsKnown g s.told old.core.next (message_of line) known → IsServing keeps start new (taken ++ line ∷ []) said (row ++ known ∷ [])
+  takes_in : (new : MachineView) (line : List ℕ) (known : Line) → RunsBetween keeps old new (ticketed old.core.next (admitted_in g (message_of line))) []
+      → IsKnown g s.reply_pairs old.core.next (message_of line) known → IsServing keeps start new (taken ++ line ∷ []) retired (row ++ known ∷ [])
   takes_in new line known p k =
-      let come = ticketed start.core.next (asked g taken) in
-      let one = asked_in g (message_of line) in
-      let all : come ++ ticketed old.core.next one ≡ ticketed start.core.next (asked g (taken ++ line ∷ [])) =
-      ap (λ (n : ℕ). come ++ ticketed n one) next_is ∙ sym (ticketed-append start.core.next (asked g taken) one)
-      ∙ ap (λ (ms : List Msg). ticketed start.core.next (asked g taken ++ ms)) (sym (append-nil one))
-      ∙ ap (ticketed start.core.next) (sym (asked-append g taken (line ∷ []))) in
+      let come = ticketed start.core.next (admitted g taken) in
+      let one = admitted_in g (message_of line) in
+      let all : come ++ ticketed old.core.next one ≡ ticketed start.core.next (admitted g (taken ++ line ∷ [])) =
+      ap (λ (n : ℕ). come ++ ticketed n one) next_is ∙ sym (ticketed-append start.core.next (admitted g taken) one)
+      ∙ ap (λ (ms : List Msg). ticketed start.core.next (admitted g taken ++ ms)) (sym (append-nil one))
+      ∙ ap (ticketed start.core.next) (sym (admitted-append g taken (line ∷ []))) in
       record {
-        told = s.told;
-        passes = subst (λ (es : List Entry). Passes keeps start new es s.told) all
-            (subst (λ (l : List (ℕ × Reply)). Passes keeps start new (come ++ ticketed old.core.next one) l) (append-nil s.told)
-            (passes_on keeps start old new come (ticketed old.core.next one) s.told [] s.passes p));
-        known = subst (λ (l : List Line). AreKnown g s.told start.core.next (taken ++ line ∷ []) l) (append_assoc said row (known ∷ []))
-            (known_push g s.told start.core.next taken line (said ++ row) known s.known
-            (subst (λ (n : ℕ). IsKnown g s.told n (message_of line) known) next_is k));
+        reply_pairs = s.reply_pairs;
+        passes = subst (λ (es : List Entry). RunsBetween keeps start new es s.reply_pairs) all
+            (subst (λ (l : List (ℕ × Reply)). RunsBetween keeps start new (come ++ ticketed old.core.next one) l) (append-nil s.reply_pairs)
+            (passes_on keeps start old new come (ticketed old.core.next one) s.reply_pairs [] s.passes p));
+        known = subst (λ (l : List Line). AreKnown g s.reply_pairs start.core.next (taken ++ line ∷ []) l) (append_assoc retired row (known ∷ []))
+            (known_push g s.reply_pairs start.core.next taken line (retired ++ row) known s.known
+            (subst (λ (n : ℕ). IsKnown g s.reply_pairs n (message_of line) known) next_is k));
         answered = s.answered;
       }
 
 -- What is known where nothing is answered is known whatever is, if none of it is to this ticket.
-known_anyway : (g : Geometry) (told : List (ℕ × Reply)) (n : ℕ) (o : Option Msg) (known : Line) → NoneIsTo told n → IsKnown g [] n o known
-    → IsKnown g told n o known
-known_anyway g told n None NoMessage fresh k = k
-known_anyway g told n None OutOfRange fresh k = absurd k
-known_anyway g told n None (Unanswered t) fresh k = absurd k
-known_anyway g told n None (Answered t r) fresh k = absurd k
-known_anyway g told n (Some m) NoMessage fresh k = absurd k
-known_anyway g told n (Some m) OutOfRange fresh k = k
-known_anyway g told n (Some m) (Unanswered t) fresh k = (k.0, k.1, subst (NoneIsTo told) (sym k.1) fresh)
-known_anyway g told n (Some m) (Answered t r) fresh k = let none = k.2.1 in absurd (omega (arith, none))
+known_anyway : (g : Geometry) (reply_pairs : List (ℕ × Reply)) (n : ℕ) (o : Option Msg) (known : Line) → NoneIsTo reply_pairs n → IsKnown g [] n o known
+    → IsKnown g reply_pairs n o known
+known_anyway g reply_pairs n None NoMessage fresh k = k
+known_anyway g reply_pairs n None OutOfRange fresh k = absurd k
+known_anyway g reply_pairs n None (Pending t) fresh k = absurd k
+known_anyway g reply_pairs n None (Completed t r) fresh k = absurd k
+known_anyway g reply_pairs n (Some m) NoMessage fresh k = absurd k
+known_anyway g reply_pairs n (Some m) OutOfRange fresh k = k
+known_anyway g reply_pairs n (Some m) (Pending t) fresh k = (k.0, k.1, subst (NoneIsTo reply_pairs) (sym k.1) fresh)
+known_anyway g reply_pairs n (Some m) (Completed t r) fresh k = let none = k.2.1 in absurd (omega (arith, none))
 
 -- A line is taken.
-pub serves_taken : (keeps : Type 0) (start old new : MachineView) (taken : List (List ℕ)) (said row : List Line) (line : List ℕ) (known : Line)
-    → IsIdle (world_of start.core) → IsTaken keeps old new (message_of line) known → IsServing keeps start old taken said row
-    → IsServing keeps start new (taken ++ line ∷ []) said (row ++ known ∷ [])
-serves_taken keeps start old new taken said row line known idle t s =
+pub serves_taken : (keeps : Type 0) (start old new : MachineView) (taken : List (List ℕ)) (retired row : List Line) (line : List ℕ) (known : Line)
+    → IsIdle (core_state_of start.core) → IsTaken keeps old new (message_of line) known → IsServing keeps start old taken retired row
+    → IsServing keeps start new (taken ++ line ∷ []) retired (row ++ known ∷ [])
+serves_taken keeps start old new taken retired row line known idle t s =
     let o = message_of line in
-    let is = next_is keeps start old taken said row s in
-    let fresh : NoneIsTo s.told old.core.next = λ reply there.
-    let before = told_before keeps start old idle taken said row s (old.core.next, reply) (in_contained s.told (old.core.next, reply) there) in
+    let is = next_is keeps start old taken retired row s in
+    let fresh : NoneIsTo s.reply_pairs old.core.next = λ reply there.
+    let before = told_before keeps start old idle taken retired row s (old.core.next, reply) (in_contained s.reply_pairs (old.core.next, reply) there) in
     absurd (omega (arith, before, is)) in
-    takes_in keeps start old taken said row s new line known
-    (subst (λ (y : Geometry). Passes keeps old new (ticketed old.core.next (asked_in y o)) []) s.passes.geometry t.passes)
-    (known_anyway start.core.geometry s.told old.core.next o known fresh
+    takes_in keeps start old taken retired row s new line known
+    (subst (λ (y : Geometry). RunsBetween keeps old new (ticketed old.core.next (admitted_in y o)) []) s.passes.geometry t.passes)
+    (known_anyway start.core.geometry s.reply_pairs old.core.next o known fresh
     (subst (λ (y : Geometry). IsKnown y [] old.core.next o known) s.passes.geometry t.is_known))
 
 -- ---- what a ticket and a refusal tell
 
-module _ (k : ℕ) (w x : World) where
-  abbrev result : Bool → Bool → Bool → Bool → Outcome × World
+module _ (k : ℕ) (w x : CoreState) where
+  abbrev result : Bool → Bool → Bool → Bool → Outcome × CoreState
   result failed fits none full =
       if failed then (outcomes.ArriveRefused arrivals.Failed, w)
       else if not fits then (outcomes.ArriveRefused arrivals.Range, w)
@@ -121,20 +121,20 @@ module _ (k : ℕ) (w x : World) where
   ticket_of (outcomes.Ticket t) d = t
   ticket_of _ d = d
 
-  pub gives_ticket : (failed fits none full : Bool) (t : ℕ) (new : World) → (outcomes.Ticket t, new) ≡ result failed fits none full
+  pub gives_ticket : (failed fits none full : Bool) (t : ℕ) (new : CoreState) → (outcomes.Ticket t, new) ≡ result failed fits none full
       → (fits ≡ true) × (t ≡ k)
-  gives_ticket true fits none full t new e = let o : outcomes.Ticket t ≡ outcomes.ArriveRefused arrivals.Failed = ap (λ (z : Outcome × World). z.0) e in cc
-  gives_ticket false false none full t new e = let o : outcomes.Ticket t ≡ outcomes.ArriveRefused arrivals.Range = ap (λ (z : Outcome × World). z.0) e in cc
-  gives_ticket false true true full t new e = let o : outcomes.Ticket t ≡ outcomes.ArriveRefused arrivals.Exhausted = ap (λ (z : Outcome × World). z.0) e in cc
-  gives_ticket false true false true t new e = let o : outcomes.Ticket t ≡ outcomes.ArriveRefused arrivals.Full = ap (λ (z : Outcome × World). z.0) e in cc
-  gives_ticket false true false false t new e = (refl, ap (λ (z : Outcome × World). ticket_of z.0 0) e)
+  gives_ticket true fits none full t new e = let o : outcomes.Ticket t ≡ outcomes.ArriveRefused arrivals.Failed = ap (λ (z : Outcome × CoreState). z.0) e in cc
+  gives_ticket false false none full t new e = let o : outcomes.Ticket t ≡ outcomes.ArriveRefused arrivals.Range = ap (λ (z : Outcome × CoreState). z.0) e in cc
+  gives_ticket false true true full t new e = let o : outcomes.Ticket t ≡ outcomes.ArriveRefused arrivals.Exhausted = ap (λ (z : Outcome × CoreState). z.0) e in cc
+  gives_ticket false true false true t new e = let o : outcomes.Ticket t ≡ outcomes.ArriveRefused arrivals.Full = ap (λ (z : Outcome × CoreState). z.0) e in cc
+  gives_ticket false true false false t new e = (refl, ap (λ (z : Outcome × CoreState). ticket_of z.0 0) e)
 
-  is_refused : (failed fits none full : Bool) (new : World) → (outcomes.ArriveRefused arrivals.Range, new) ≡ result failed fits none full → fits ≡ false
-  is_refused true fits none full new e = let o : outcomes.ArriveRefused arrivals.Range ≡ outcomes.ArriveRefused arrivals.Failed = ap (λ (z : Outcome × World). z.0) e in cc
+  is_refused : (failed fits none full : Bool) (new : CoreState) → (outcomes.ArriveRefused arrivals.Range, new) ≡ result failed fits none full → fits ≡ false
+  is_refused true fits none full new e = let o : outcomes.ArriveRefused arrivals.Range ≡ outcomes.ArriveRefused arrivals.Failed = ap (λ (z : Outcome × CoreState). z.0) e in cc
   is_refused false false none full new e = refl
-  is_refused false true true full new e = let o : outcomes.ArriveRefused arrivals.Range ≡ outcomes.ArriveRefused arrivals.Exhausted = ap (λ (z : Outcome × World). z.0) e in cc
-  is_refused false true false true new e = let o : outcomes.ArriveRefused arrivals.Range ≡ outcomes.ArriveRefused arrivals.Full = ap (λ (z : Outcome × World). z.0) e in cc
-  is_refused false true false false new e = let o : outcomes.ArriveRefused arrivals.Range ≡ outcomes.Ticket k = ap (λ (z : Outcome × World). z.0) e in cc
+  is_refused false true true full new e = let o : outcomes.ArriveRefused arrivals.Range ≡ outcomes.ArriveRefused arrivals.Exhausted = ap (λ (z : Outcome × CoreState). z.0) e in cc
+  is_refused false true false true new e = let o : outcomes.ArriveRefused arrivals.Range ≡ outcomes.ArriveRefused arrivals.Full = ap (λ (z : Outcome × CoreState). z.0) e in cc
+  is_refused false true false false new e = let o : outcomes.ArriveRefused arrivals.Range ≡ outcomes.Ticket k = ap (λ (z : Outcome × CoreState). z.0) e in cc
 
 module _ (keeps : Type 0) (old new : CoreView) (m : Msg) (hands : List Holding) (h : Holds (record { core = old; hands = hands })) where
   abbrev was : MachineView
@@ -144,14 +144,14 @@ module _ (keeps : Type 0) (old new : CoreView) (m : Msg) (hands : List Holding) 
   now = record { core = new; hands = hands }
 
   with_ticket : (t : ℕ) → IsCoreStep keeps old new (steps.Arrive m) (outcomes.Ticket t) → is_in_range old.geometry m ≡ true → t ≡ old.next
-      → IsTaken keeps was now (Some m) (Unanswered t)
+      → IsTaken keeps was now (Some m) (Pending t)
   with_ticket t step fits is_next =
-      let one : asked_in old.geometry (Some m) ≡ m ∷ [] = ap (λ (b : Bool). if b then m ∷ [] else []) fits in
-      let come : ◌≡◌ {A = List Entry} ((t, m) ∷ []) (ticketed old.next (asked_in old.geometry (Some m))) =
+      let one : admitted_in old.geometry (Some m) ≡ m ∷ [] = ap (λ (b : Bool). if b then m ∷ [] else []) fits in
+      let come : ◌≡◌ {A = List Entry} ((t, m) ∷ []) (ticketed old.next (admitted_in old.geometry (Some m))) =
       (λ i. (is_next i, m) ∷ []) ∙ ap (ticketed old.next) (sym one) in
       record {
         holds = core_holds keeps old new hands (steps.Arrive m) (outcomes.Ticket t) h step refl;
-        passes = subst (λ (es : List Entry). Passes keeps was now es []) come
+        passes = subst (λ (es : List Entry). RunsBetween keeps was now es []) come
             (step_passes keeps was now (steps.Arrive m) (outcomes.Ticket t)
             (core_step keeps old new hands (steps.Arrive m) (outcomes.Ticket t) h step));
         is_known = (fits, is_next, λ reply there. absurd (in_contained [] (t, reply) there));
@@ -161,43 +161,43 @@ module _ (keeps : Type 0) (old new : CoreView) (m : Msg) (hands : List Holding) 
       → IsTaken keeps was now (Some m) OutOfRange
   out_of_range step out =
       let outcome = outcomes.ArriveRefused arrivals.Range in
-      let none : asked_in old.geometry (Some m) ≡ [] = ap (λ (b : Bool). if b then m ∷ [] else []) out in
+      let none : admitted_in old.geometry (Some m) ≡ [] = ap (λ (b : Bool). if b then m ∷ [] else []) out in
       record {
         holds = core_holds keeps old new hands (steps.Arrive m) outcome h step refl;
-        passes = subst (λ (es : List Entry). Passes keeps was now es []) (ap (ticketed old.next) (sym none))
+        passes = subst (λ (es : List Entry). RunsBetween keeps was now es []) (ap (ticketed old.next) (sym none))
             (step_passes keeps was now (steps.Arrive m) outcome (core_step keeps old new hands (steps.Arrive m) outcome h step));
         is_known = out;
       }
 
   refused : (why : ArriveRefusal) → why ≢ arrivals.Range → IsCoreStep keeps old new (steps.Arrive m) (outcomes.ArriveRefused why)
-      → (outcomes.ArriveRefused why, world_of new) ≡ arrive old.geometry (world_of old) m → IsRefusedLine keeps was now m why
+      → (outcomes.ArriveRefused why, core_state_of new) ≡ arrive old.geometry (core_state_of old) m → IsRefusedLine keeps was now m why
   refused why not_range step e = record {
     quiet = core_is_quiet keeps old new (steps.Arrive m) (outcomes.ArriveRefused why) step refl refl refl hands h;
-    refused = sym (ap (λ (x : Outcome × World). x.0) e);
+    refused = sym (ap (λ (x : Outcome × CoreState). x.0) e);
     not_range = not_range;
   }
 
   -- Its line is taken, or it is refused.
   abbrev pub ArrivesSo : Result ℕ ArriveRefusal → Type 0
-  ArrivesSo (Ok t) = IsTaken keeps was now (Some m) (Unanswered t)
+  ArrivesSo (Ok t) = IsTaken keeps was now (Some m) (Pending t)
   ArrivesSo (Err arrivals.Range) = IsTaken keeps was now (Some m) OutOfRange
   ArrivesSo (Err why) = IsRefusedLine keeps was now m why
 
   pub arrives_so : (r : Result ℕ ArriveRefusal) → IsCoreStep keeps old new (steps.Arrive m) (arrived_so r)
-      → (arrived_so r, world_of new) ≡ arrive old.geometry (world_of old) m → ArrivesSo r
+      → (arrived_so r, core_state_of new) ≡ arrive old.geometry (core_state_of old) m → ArrivesSo r
   arrives_so (Ok t) step e =
-      let w = world_of old in
+      let w = core_state_of old in
       let k = gives_ticket w.next w (record w { waiting = w.waiting ++ (w.next, m) ∷ []; next = w.next + 1 }) w.failed (is_in_range old.geometry m)
-      (w.next == 2 ^ 64 - 1) (nat_le w.slots (length w.waiting + length (held w))) t (world_of new) e in
+      (w.next == 2 ^ 64 - 1) (nat_le w.slots (length w.waiting + length (held w))) t (core_state_of new) e in
       with_ticket t step k.0 k.1
   arrives_so (Err arrivals.Range) step e =
-      let w = world_of old in
+      let w = core_state_of old in
       out_of_range step (is_refused w.next w (record w { waiting = w.waiting ++ (w.next, m) ∷ []; next = w.next + 1 }) w.failed (is_in_range old.geometry m)
-      (w.next == 2 ^ 64 - 1) (nat_le w.slots (length w.waiting + length (held w))) (world_of new) e)
+      (w.next == 2 ^ 64 - 1) (nat_le w.slots (length w.waiting + length (held w))) (core_state_of new) e)
   arrives_so (Err arrivals.Full) step e = refused arrivals.Full (λ same. let o : arrivals.Full ≡ arrivals.Range = same in cc) step e
   arrives_so (Err arrivals.Exhausted) step e = refused arrivals.Exhausted (λ same. let o : arrivals.Exhausted ≡ arrivals.Range = same in cc) step e
   arrives_so (Err arrivals.Failed) step e = refused arrivals.Failed (λ same. let o : arrivals.Failed ≡ arrivals.Range = same in cc) step e
 
-pub ticket_is_next : (g : Geometry) (w new : World) (m : Msg) (t : ℕ) → (outcomes.Ticket t, new) ≡ arrive g w m → t ≡ w.next
+pub ticket_is_next : (g : Geometry) (w new : CoreState) (m : Msg) (t : ℕ) → (outcomes.Ticket t, new) ≡ arrive g w m → t ≡ w.next
 ticket_is_next g w new m t e = (gives_ticket w.next w (record w { waiting = w.waiting ++ (w.next, m) ∷ []; next = w.next + 1 }) w.failed
     (is_in_range g m) (w.next == 2 ^ 64 - 1) (nat_le w.slots (length w.waiting + length (held w))) t new e).1

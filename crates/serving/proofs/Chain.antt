@@ -8,12 +8,12 @@ use Rattle.disk.specs.Device.{Medium}
 use Rattle.legal_runs.proofs.Joining.{runs_join}
 use Rattle.legal_runs.specs.Events.{Event, Hands}
 use Rattle.legal_runs.specs.Runs.{IsLegal, answered, arrived, last}
-use Rattle.legal_runs.specs.World.{Entry}
+use Rattle.legal_runs.specs.CoreState.{Entry}
 use Rattle.messages.specs.declared.Reply.{Reply}
 use Rattle.runs.proofs.Running.{after-append, safe-append}
 use Rattle.runs.specs.Machine.{MachineView, machine_of}
 use Rattle.runs.specs.Stages.{AreSafe, Stage, device_after, events_of}
-use Rattle.serving.specs.Runs.{Passes}
+use Rattle.serving.specs.Runs.{RunsBetween}
 
 -- how many of the events tell that the device failed
 abbrev rises : List Event → ℕ
@@ -22,9 +22,9 @@ rises events = count_by (λ e. e.rose) events
 rises-append : (es fs : List Event) → rises (es ++ fs) ≡ rises es + rises fs
 rises-append es fs = sum_by-append (λ (e : Event). if e.rose then 1 else 0) es fs
 
-pub passes_on : (keeps : Type 0) (old mid new : MachineView) (come more : List Entry) (told others : List (ℕ × Reply))
-    → Passes keeps old mid come told → Passes keeps mid new more others → Passes keeps old new (come ++ more) (told ++ others)
-passes_on keeps old mid new come more told others h k =
+pub passes_on : (keeps : Type 0) (old mid new : MachineView) (come more : List Entry) (reply_pairs others : List (ℕ × Reply))
+    → RunsBetween keeps old mid come reply_pairs → RunsBetween keeps mid new more others → RunsBetween keeps old new (come ++ more) (reply_pairs ++ others)
+passes_on keeps old mid new come more reply_pairs others h k =
     let g = old.core.geometry in
     let w = machine_of old in
     let same : mid.core.geometry ≡ g = h.geometry in
@@ -39,7 +39,7 @@ passes_on keeps old mid new come more told others h k =
       ends = ap (λ (es : List Event). last w es) both ∙ j.last_is ∙ ap (λ (x : Hands). last x (events_of k.stages)) h.ends ∙ k.ends;
       geometry = k.geometry ∙ h.geometry;
       come_are = ap arrived both ∙ j.arrived_is ∙ (λ i. h.come_are i ++ k.come_are i);
-      told_are = ap answered both ∙ j.answered_is ∙ (λ i. h.told_are i ++ k.told_are i);
+      reply_pairs_are = ap answered both ∙ j.answered_is ∙ (λ i. h.reply_pairs_are i ++ k.reply_pairs_are i);
       device = after-append old.core.medium h.stages k.stages ∙ ap (λ (m : Medium). device_after m k.stages) h.device ∙ k.device;
       failures = k.failures ∙ ap (λ (n : ℕ). n + rises (events_of k.stages)) h.failures
           ∙ add_assoc old.core.medium.faults (rises (events_of h.stages)) (rises (events_of k.stages))

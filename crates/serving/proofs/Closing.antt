@@ -15,26 +15,26 @@ use Rattle.messages.specs.Messages.{is_in_range}
 use Rattle.messages.specs.FirstLine.{GivesLine}
 use Rattle.messages.specs.declared.Msg.{Msg}
 use Rattle.parcel.specs.Run.{JobView}
-use Rattle.scheduler.specs.Kept.{CoreView, StandsNow, world_of}
+use Rattle.scheduler.specs.CoreView.{CoreView, RecoversNow, core_state_of}
 use Rattle.serving.specs.Ends.{EndsSo, IsWoundUp}
-use Rattle.serving.specs.Going.{Goes}
-use Rattle.serving.specs.Lending.{IsHome}
+use Rattle.serving.specs.Progress.{ServingProgress}
+use Rattle.serving.specs.Lending.{NoneInFlight}
 use Rattle.serving.specs.Lines.{Line}
-use Rattle.line_row.specs.Rows.{RowView, comes_next}
+use Rattle.reorder_buffer.specs.ReorderBuffer.{ReorderBufferView, can_retire}
 use Rattle.serving.specs.Serve.{HasEmptyLog, HasRunSo, HasWorkers, RefusesNone, ServesSo}
 use Rattle.serving.specs.Runs.{Holds, lent_hand, with_lent}
-use Rattle.serving.specs.Session.{EndsBy, EndsOrDeclines, HasFinished, HasGone, HasHalted, HasStopped, CanBegin, IsServed, IsUnderWay, IsUnderWayFrom, SessionView, ReadsOrStops, machine, known_unless, end_of, reported}
-use Rattle.serving.specs.Telling.{Start, start_machine}
+use Rattle.serving.specs.Session.{EndsBy, EndsOrDeclines, HasFinished, SessionProgress, HasHalted, HasEndedReading, CanBegin, IsServed, SessionInvariant, SessionInvariantFrom, SessionView, ReadsOrHasEnded, machine, known_unless, end_of, reported}
+use Rattle.serving.specs.Output.{Start, start_machine}
 use Rattle.serving.specs.declared.session.Halted.{Halted}
-use Rattle.serving.specs.declared.session.Stop.{Stop}
-use Rattle.serving.specs.declared.session.Stop.TheVariants as stops
+use Rattle.serving.specs.declared.session.ReadEnd.{ReadEnd}
+use Rattle.serving.specs.declared.session.ReadEnd.TheVariants as ends_of_reading
 use Rattle.serving.specs.declared.server.ServeFault.{ServeFault}
 use Rattle.serving.specs.declared.server.ServeFault.TheVariants as faults
-use Rattle.workers.specs.Desk.{Desk}
+use Rattle.workers.specs.Seats.{DispatchSeatView}
 use Rattle.serving.proofs.Promises.{no_memory_ran, runs_to_device, runs_to_last_ticket, runs_to_read, runs_to_write, runs_whole}
 use Rattle.serving.proofs.Starting.{holds_at_start, starts}
 use Rattle.serving.proofs.Served.{ends_at_device, ends_at_read, ends_exhausted, ends_whole}
-use Rattle.serving.proofs.Under.{begins_at, begun, gone, to_row}
+use Rattle.serving.proofs.Invariant.{begins_at, begun, gone, to_row}
 
 -- ---- what it promises
 
@@ -45,7 +45,7 @@ so_far_none (Some bytes) = ap (λ (l : List ℕ). Some l) (append-nil bytes)
 -- Of the run behind it, where the core at the end is as it always is, and of its end.
 pub record PromisesAll (keeps : Type 0) (start : MachineView) (new : CoreView) (input behind before written : Option (List ℕ))
     (result : Result (Unit {0}) ServeFault) : Type 0 where
-  pub run : (new.failed ≡ false → new.doubt ≡ []) → (keeps → StandsNow new) → HasRunSo keeps start new input before written result
+  pub run : (new.failed ≡ false → new.doubt ≡ []) → (keeps → RecoversNow new) → HasRunSo keeps start new input before written result
   pub ends : EndsSo start.core new input behind before written result
 
 -- nothing is out once all is home
@@ -53,132 +53,132 @@ all_empty : (n : ℕ) → full (map hand_in (map lent_hand (replicate n None))) 
 all_empty zero = refl
 all_empty (suc n) = all_empty n
 
-module _ (keeps : Type 0) (s : Start) (p : SessionView) (u : IsUnderWay keeps s p) where
+module _ (keeps : Type 0) (s : Start) (p : SessionView) (u : SessionInvariant keeps s p) where
   abbrev start : MachineView
   start = start_machine s
 
   abbrev now : MachineView
   now = machine p
 
-  by_line : (left : Option (List ℕ)) (drained : Bool) (line : List ℕ) (m : Msg) → Goes keeps start now [] s.input left drained s.before p.told
+  by_line : (left : Option (List ℕ)) (drained : Bool) (line : List ℕ) (m : Msg) → ServingProgress keeps start now [] s.input left drained s.before p.sent
       → now.core.failed ≡ false → now.core.next ≡ 2 ^ 64 - 1 → IfSome left (λ bs. (rest : Option (List ℕ)) × GivesLine line bs rest)
       → message_of line ≡ Some m → is_in_range start.core.geometry m ≡ true
-      → EndsSo start.core now.core s.input p.behind s.before p.told (Err faults.Exhausted)
+      → EndsSo start.core now.core s.input p.behind s.before p.sent (Err faults.Exhausted)
   by_line None drained line m h works next found is fits =
-      ends_exhausted keeps start now u.idle s.input None p.behind drained s.before p.told line m h works next tt is fits
+      ends_exhausted keeps start now u.idle s.input None p.behind drained s.before p.sent line m h works next tt is fits
   by_line (Some bs) drained line m h works next found is fits =
-      ends_exhausted keeps start now u.idle s.input (Some bs) found.0 drained s.before p.told line m h works next found.1 is fits
+      ends_exhausted keeps start now u.idle s.input (Some bs) found.0 drained s.before p.sent line m h works next found.1 is fits
 
   -- what was written, where the output works and no answer waits
-  written : (row : List Line) (left : Option (List ℕ)) (drained : Bool) → HasGone keeps s p left drained → p.row.lines ≡ row → p.broken ≡ false → p.out ≡ []
-      → Goes keeps start now row s.input left drained s.before p.told
-  written row left drained h is whole sent =
-      subst (λ (w : Option (List ℕ)). Goes keeps start now row s.input left drained s.before w) (so_far_none p.told)
-      (subst (λ (o : List ℕ). Goes keeps start now row s.input left drained s.before (so_far p.told o)) sent
-      (subst (λ (b : Bool). Goes keeps start now row s.input left drained (known_unless b s.before) (known_unless b (so_far p.told p.out))) whole
-      (subst (λ (l : List Line). Goes keeps start now l s.input left drained (known_unless p.broken s.before) (known_unless p.broken (so_far p.told p.out)))
+  written : (row : List Line) (left : Option (List ℕ)) (drained : Bool) → SessionProgress keeps s p left drained → p.row.lines ≡ row → p.output_failed ≡ false → p.out ≡ []
+      → ServingProgress keeps start now row s.input left drained s.before p.sent
+  written row left drained h is whole flushed =
+      subst (λ (w : Option (List ℕ)). ServingProgress keeps start now row s.input left drained s.before w) (so_far_none p.sent)
+      (subst (λ (o : List ℕ). ServingProgress keeps start now row s.input left drained s.before (so_far p.sent o)) flushed
+      (subst (λ (b : Bool). ServingProgress keeps start now row s.input left drained (known_unless b s.before) (known_unless b (so_far p.sent p.out))) whole
+      (subst (λ (l : List Line). ServingProgress keeps start now l s.input left drained (known_unless p.output_failed s.before) (known_unless p.output_failed (so_far p.sent p.out)))
       is (to_row keeps s p left drained h))))
 
   module _ (k : IsServed p) where
-    all_said : (left : Option (List ℕ)) (drained : Bool) → HasGone keeps s p left drained → Goes keeps start now [] s.input left drained s.before p.told
-    all_said left drained h = written [] left drained h k.row k.whole k.sent
+    all_said : (left : Option (List ℕ)) (drained : Bool) → SessionProgress keeps s p left drained → ServingProgress keeps start now [] s.input left drained s.before p.sent
+    all_said left drained h = written [] left drained h k.row k.whole k.flushed
 
-    at_end : HasStopped keeps s p stops.End → PromisesAll keeps start p.core s.input p.behind s.before p.told (Ok tt)
+    at_end : HasEndedReading keeps s p ends_of_reading.EndOfInput → PromisesAll keeps start p.core s.input p.behind s.before p.sent (Ok tt)
     at_end h =
         let g = all_said h.left h.drained h.gone in
-        let e = ends_whole keeps start now u.idle s.input h.left h.drained s.before p.told g k.works h.why.0 in
+        let e = ends_whole keeps start now u.idle s.input h.left h.drained s.before p.sent g k.works h.why.0 in
         record {
-          run = λ no_doubt stands. runs_whole keeps start now u.idle s.input h.left h.drained s.before p.told no_doubt stands g h.why.0;
+          run = λ no_doubt recovers. runs_whole keeps start now u.idle s.input h.left h.drained s.before p.sent no_doubt recovers g h.why.0;
           ends = (e.0, e.1, h.why.1, e.3);
         }
 
-    at_fault : HasStopped keeps s p stops.Fault → PromisesAll keeps start p.core s.input p.behind s.before p.told (Err faults.Read)
+    at_fault : HasEndedReading keeps s p ends_of_reading.ReadFailed → PromisesAll keeps start p.core s.input p.behind s.before p.sent (Err faults.Read)
     at_fault h =
         let g = all_said h.left h.drained h.gone in
         record {
-          run = λ no_doubt stands. runs_to_read keeps start now u.idle s.input h.left h.drained s.before p.told no_doubt stands g;
-          ends = ends_at_read keeps start now u.idle s.input h.left p.behind s.before p.told
-              (subst (λ (b : Bool). Goes keeps start now [] s.input h.left b s.before p.told) h.why.0 g) k.works h.why.1;
+          run = λ no_doubt recovers. runs_to_read keeps start now u.idle s.input h.left h.drained s.before p.sent no_doubt recovers g;
+          ends = ends_at_read keeps start now u.idle s.input h.left p.behind s.before p.sent
+              (subst (λ (b : Bool). ServingProgress keeps start now [] s.input h.left b s.before p.sent) h.why.0 g) k.works h.why.1;
         }
 
-    exhausted : HasStopped keeps s p stops.Exhausted → PromisesAll keeps start p.core s.input p.behind s.before p.told (Err faults.Exhausted)
+    exhausted : HasEndedReading keeps s p ends_of_reading.TicketsExhausted → PromisesAll keeps start p.core s.input p.behind s.before p.sent (Err faults.Exhausted)
     exhausted h =
         let g = all_said h.left h.drained h.gone in
         record {
-          run = λ no_doubt stands. runs_to_last_ticket keeps start now u.idle s.input h.left h.drained s.before p.told no_doubt stands g;
+          run = λ no_doubt recovers. runs_to_last_ticket keeps start now u.idle s.input h.left h.drained s.before p.sent no_doubt recovers g;
           ends = by_line h.left h.drained h.why.1.0 h.why.1.1 g k.works h.why.0 h.why.1.2 h.why.1.3 h.why.1.4;
         }
 
   -- ---- where something has failed
 
-  module _ (home : IsHome p.desk.lent) (answered : p.core.logged ≡ []) where
-    wound_up : {row : List Line} {left before torn : Option (List ℕ)} {drained : Bool} → Goes keeps start now row s.input left drained before torn
+  module _ (home : NoneInFlight p.dispatch_seat.lent) (answered : p.core.logged ≡ []) where
+    wound_up : {row : List Line} {left before torn : Option (List ℕ)} {drained : Bool} → ServingProgress keeps start now row s.input left drained before torn
         → IsWoundUp p.core
     wound_up h =
         let r = h.serving.passes in
         let none : full (machine_of now).hands ≡ 0 =
-        ap (λ (l : List (Option JobView)). full (map hand_in (map lent_hand l))) home ∙ all_empty (length p.desk.lent) in
+        ap (λ (l : List (Option JobView)). full (map hand_in (map lent_hand l))) home ∙ all_empty (length p.dispatch_seat.lent) in
         record {
           none_out = ap (λ (w : Hands). w.core.out) (sym r.ends)
-              ∙ last_none_out start.core.geometry (machine_of start) (events_of r.stages) r.legal (none_out (world_of start.core) u.idle)
+              ∙ last_none_out start.core.geometry (machine_of start) (events_of r.stages) r.legal (none_out (core_state_of start.core) u.idle)
               (ap (λ (w : Hands). full w.hands) r.ends ∙ none);
           none_logged = answered;
         }
 
-    device_ends : p.core.failed ≡ true → p.broken ≡ false → p.out ≡ [] → comes_next p.row.lines ≡ false
-        → PromisesAll keeps start p.core s.input p.behind s.before p.told (Err faults.Device)
-    device_ends failed whole sent last =
+    device_ends : p.core.failed ≡ true → p.output_failed ≡ false → p.out ≡ [] → can_retire p.row.lines ≡ false
+        → PromisesAll keeps start p.core s.input p.behind s.before p.sent (Err faults.Device)
+    device_ends failed whole flushed last =
         let at = gone keeps s p p.stop u.reads in
-        let g = written p.row.lines at.0 at.1 at.2 refl whole sent in
+        let g = written p.row.lines at.0 at.1 at.2 refl whole flushed in
         record {
-          run = λ no_doubt stands. runs_to_device keeps start now u.idle s.input at.0 at.1 s.before p.told no_doubt stands p.row.lines g last;
-          ends = ends_at_device keeps start now u.idle p.row.lines s.input at.0 at.1 s.before p.told g failed (wound_up g);
+          run = λ no_doubt recovers. runs_to_device keeps start now u.idle s.input at.0 at.1 s.before p.sent no_doubt recovers p.row.lines g last;
+          ends = ends_at_device keeps start now u.idle p.row.lines s.input at.0 at.1 s.before p.sent g failed (wound_up g);
         }
 
-    write_ends : (p.core.failed ≡ false → p.core.ran ≡ []) → PromisesAll keeps start p.core s.input p.behind s.before p.told (Err faults.Write)
+    write_ends : (p.core.failed ≡ false → p.core.ran ≡ []) → PromisesAll keeps start p.core s.input p.behind s.before p.sent (Err faults.Write)
     write_ends ran =
         let at = gone keeps s p p.stop u.reads in
         record {
-          run = λ no_doubt stands. runs_to_write keeps start now u.idle s.input at.0 at.1 (known_unless p.broken s.before)
-              (known_unless p.broken p.told) no_doubt stands (at.2.waiting ++ p.row.lines) p.told at.2.goes;
+          run = λ no_doubt recovers. runs_to_write keeps start now u.idle s.input at.0 at.1 (known_unless p.output_failed s.before)
+              (known_unless p.output_failed p.sent) no_doubt recovers (at.2.waiting ++ p.row.lines) p.sent at.2.goes;
           ends = (wound_up at.2.goes, ran);
         }
 
-  stopped : (stop : _) → p.stop ≡ Some stop → HasStopped keeps s p stop
-  stopped stop is = subst (λ (o : Option _). ReadsOrStops keeps s p o) is u.reads
+  stopped : (stop : _) → p.stop ≡ Some stop → HasEndedReading keeps s p stop
+  stopped stop is = subst (λ (o : Option _). ReadsOrHasEnded keeps s p o) is u.reads
 
   -- By what has ended it, it promises all that a server does.
   pub promises_by : (result : Result (Unit {0}) ServeFault) → EndsBy p result
-      → PromisesAll keeps start p.core s.input p.behind s.before p.told result
-  promises_by (Ok tt) e = at_end e.0 (stopped stops.End e.1)
-  promises_by (Err faults.Read) e = at_fault e.0 (stopped stops.Fault e.1)
-  promises_by (Err faults.Exhausted) e = exhausted e.0 (stopped stops.Exhausted e.1)
+      → PromisesAll keeps start p.core s.input p.behind s.before p.sent result
+  promises_by (Ok tt) e = at_end e.0 (stopped ends_of_reading.EndOfInput e.1)
+  promises_by (Err faults.Read) e = at_fault e.0 (stopped ends_of_reading.ReadFailed e.1)
+  promises_by (Err faults.Exhausted) e = exhausted e.0 (stopped ends_of_reading.TicketsExhausted e.1)
   promises_by (Err faults.Device) e = device_ends e.0 e.1 e.2 e.3 e.4 e.5
   promises_by (Err faults.Write) e = write_ends e.0 e.1 e.2
   promises_by (Err faults.NoWorkers) e = absurd e
   promises_by (Err faults.OutOfMemory) e = absurd e
 
 -- Where nothing has moved since the start, it promises what a server does that had no memory.
-declined : (keeps : Type 0) (s : Start) (core : CoreView) (behind told : Option (List ℕ)) → IsIdle (world_of s.core) → core ≡ s.core → behind ≡ s.input
-    → told ≡ s.before → PromisesAll keeps (start_machine s) core s.input behind s.before told (Err faults.OutOfMemory)
-declined keeps s core behind told idle same unread untold =
+declined : (keeps : Type 0) (s : Start) (core : CoreView) (behind sent : Option (List ℕ)) → IsIdle (core_state_of s.core) → core ≡ s.core → behind ≡ s.input
+    → sent ≡ s.before → PromisesAll keeps (start_machine s) core s.input behind s.before sent (Err faults.OutOfMemory)
+declined keeps s core behind sent idle same unread untold =
     let Promised : CoreView → Option (List ℕ) → Option (List ℕ) → Type 0 =
     λ c b w. PromisesAll keeps (start_machine s) c s.input b s.before w (Err faults.OutOfMemory) in
-    subst (λ (c : CoreView). Promised c behind told) (sym same)
-    (subst (λ (b : Option (List ℕ)). Promised s.core b told) (sym unread)
+    subst (λ (c : CoreView). Promised c behind sent) (sym same)
+    (subst (λ (b : Option (List ℕ)). Promised s.core b sent) (sym unread)
     (subst (λ (w : Option (List ℕ)). Promised s.core s.input w) (sym untold) (record {
-      run = λ no_doubt stands. no_memory_ran keeps s.core s.places idle no_doubt stands s.input s.before;
+      run = λ no_doubt recovers. no_memory_ran keeps s.core s.places idle no_doubt recovers s.input s.before;
       ends = (refl, refl, refl);
     })))
 
 -- So it promises, whether it has ended or nothing has moved since the start.
-promises_or_declines : (keeps : Type 0) (s : Start) (old p : SessionView) → IsUnderWay keeps s p → old.core ≡ s.core → old.behind ≡ s.input
-    → old.told ≡ s.before → (result : Result (Unit {0}) ServeFault) → EndsOrDeclines old p result
-    → PromisesAll keeps (start_machine s) p.core s.input p.behind s.before p.told result
+promises_or_declines : (keeps : Type 0) (s : Start) (old p : SessionView) → SessionInvariant keeps s p → old.core ≡ s.core → old.behind ≡ s.input
+    → old.sent ≡ s.before → (result : Result (Unit {0}) ServeFault) → EndsOrDeclines old p result
+    → PromisesAll keeps (start_machine s) p.core s.input p.behind s.before p.sent result
 promises_or_declines keeps s old p u core input before (Ok tt) e = promises_by keeps s p u (Ok tt) e
 promises_or_declines keeps s old p u core input before (Err faults.OutOfMemory) e =
-    declined keeps s p.core p.behind p.told u.idle (ap (λ (q : SessionView). q.core) e ∙ core) (ap (λ (q : SessionView). q.behind) e ∙ input)
-    (ap (λ (q : SessionView). q.told) e ∙ before)
+    declined keeps s p.core p.behind p.sent u.idle (ap (λ (q : SessionView). q.core) e ∙ core) (ap (λ (q : SessionView). q.behind) e ∙ input)
+    (ap (λ (q : SessionView). q.sent) e ∙ before)
 promises_or_declines keeps s old p u core input before (Err faults.Read) e = promises_by keeps s p u (Err faults.Read) e
 promises_or_declines keeps s old p u core input before (Err faults.Exhausted) e = promises_by keeps s p u (Err faults.Exhausted) e
 promises_or_declines keeps s old p u core input before (Err faults.Device) e = promises_by keeps s p u (Err faults.Device) e
@@ -186,43 +186,43 @@ promises_or_declines keeps s old p u core input before (Err faults.Write) e = pr
 promises_or_declines keeps s old p u core input before (Err faults.NoWorkers) e = absurd e
 
 -- Where a session has served since a start, and this has ended it or nothing has moved, so much is promised of its parts.
-pub promises_from : (keeps : Type 0) (o : Option Start) (s : Start) (old p : SessionView) → o ≡ Some s → IsUnderWayFrom keeps o p
-    → old.core ≡ s.core → old.behind ≡ s.input → old.told ≡ s.before → (result : Result (Unit {0}) ServeFault) → EndsOrDeclines old p result
-    → (core : CoreView) (behind told : Option (List ℕ)) → core ≡ p.core → behind ≡ p.behind → told ≡ p.told
-    → PromisesAll keeps (start_machine s) core s.input behind s.before told result
-promises_from keeps o s old p is u at input before result e core behind told same unread untold =
+pub promises_from : (keeps : Type 0) (o : Option Start) (s : Start) (old p : SessionView) → o ≡ Some s → SessionInvariantFrom keeps o p
+    → old.core ≡ s.core → old.behind ≡ s.input → old.sent ≡ s.before → (result : Result (Unit {0}) ServeFault) → EndsOrDeclines old p result
+    → (core : CoreView) (behind sent : Option (List ℕ)) → core ≡ p.core → behind ≡ p.behind → sent ≡ p.sent
+    → PromisesAll keeps (start_machine s) core s.input behind s.before sent result
+promises_from keeps o s old p is u at input before result e core behind sent same unread untold =
     let Promised : CoreView → Option (List ℕ) → Option (List ℕ) → Type 0 =
     λ c b w. PromisesAll keeps (start_machine s) c s.input b s.before w result in
-    subst (λ (c : CoreView). Promised c behind told) (sym same)
-    (subst (λ (b : Option (List ℕ)). Promised p.core b told) (sym unread)
+    subst (λ (c : CoreView). Promised c behind sent) (sym same)
+    (subst (λ (b : Option (List ℕ)). Promised p.core b sent) (sym unread)
     (subst (λ (w : Option (List ℕ)). Promised p.core p.behind w) (sym untold)
     (promises_or_declines keeps s old p (begun keeps o s p is u) at input before result e)))
 
 -- Where each line that was read is answered and nothing has failed, the reason why no more was read has ended it.
-ended_for : (keeps : Type 0) (o : Option Start) (p : SessionView) → IsUnderWayFrom keeps o p → IsServed p → (stop : Stop) → p.stop ≡ Some stop
+ended_for : (keeps : Type 0) (o : Option Start) (p : SessionView) → SessionInvariantFrom keeps o p → IsServed p → (stop : ReadEnd) → p.stop ≡ Some stop
     → EndsBy p (end_of stop)
 ended_for keeps None p u served stop is = absurd u
-ended_for keeps (Some s) p u served stops.End is = (served, is)
-ended_for keeps (Some s) p u served stops.Fault is = (served, is)
-ended_for keeps (Some s) p u served stops.Exhausted is = (served, is)
-ended_for keeps (Some s) p u served stops.Failed is = absurd (true≢false (sym (stopped keeps s p u stops.Failed is).why ∙ served.works))
+ended_for keeps (Some s) p u served ends_of_reading.EndOfInput is = (served, is)
+ended_for keeps (Some s) p u served ends_of_reading.ReadFailed is = (served, is)
+ended_for keeps (Some s) p u served ends_of_reading.TicketsExhausted is = (served, is)
+ended_for keeps (Some s) p u served ends_of_reading.DeviceFailed is = absurd (true≢false (sym (stopped keeps s p u ends_of_reading.DeviceFailed is).why ∙ served.works))
 
-empties_for : (stop : Stop) (P : Type 0) → (stop ≡ stops.End → P) → OnOk (end_of stop) P
-empties_for stops.End P emptied = emptied refl
-empties_for stops.Fault P emptied = tt
-empties_for stops.Exhausted P emptied = tt
-empties_for stops.Failed P emptied = tt
+empties_for : (stop : ReadEnd) (P : Type 0) → (stop ≡ ends_of_reading.EndOfInput → P) → OnOk (end_of stop) P
+empties_for ends_of_reading.EndOfInput P emptied = emptied refl
+empties_for ends_of_reading.ReadFailed P emptied = tt
+empties_for ends_of_reading.TicketsExhausted P emptied = tt
+empties_for ends_of_reading.DeviceFailed P emptied = tt
 
 -- It has finished, or it has halted.
-pub finished : (keeps : Type 0) (p : SessionView) (stop : Stop) (r : Result (Unit {0}) Halted) (same : Type 0) → p.stop ≡ Some stop
-    → OnOk r ((p.row.lines ≡ []) × (p.out ≡ []) × (p.broken ≡ false)) → OnOk r (p.core.failed ≡ false)
-    → OnOk r (stop ≡ stops.End → keeps → HasEmptyLog p.core) → MatchResult r (λ _. same) (λ _. HasHalted p)
-    → MatchResult r (λ _. (x : Stop) × HasFinished keeps p x) (λ _. HasHalted p)
+pub finished : (keeps : Type 0) (p : SessionView) (stop : ReadEnd) (r : Result (Unit {0}) Halted) (same : Type 0) → p.stop ≡ Some stop
+    → OnOk r ((p.row.lines ≡ []) × (p.out ≡ []) × (p.output_failed ≡ false)) → OnOk r (p.core.failed ≡ false)
+    → OnOk r (stop ≡ ends_of_reading.EndOfInput → keeps → HasEmptyLog p.core) → MatchResult r (λ _. same) (λ _. HasHalted p)
+    → MatchResult r (λ _. (x : ReadEnd) × HasFinished keeps p x) (λ _. HasHalted p)
 finished keeps p stop (Ok x) same is all works emptied moves = (
   stop,
   record {
     is = is;
-    served = record { row = all.0; sent = all.1; works = works; whole = all.2 };
+    served = record { row = all.0; flushed = all.1; works = works; whole = all.2 };
     emptied = emptied;
   },
 )
@@ -232,11 +232,11 @@ so_if : {A : Type 0} (o : Option A) (x : A) (P : A → Type 0) → o ≡ Some x 
 so_if o x P is h = subst (λ (o : Option _). IfSome o P) is h
 
 -- Where it has finished, it ends as is reported for the reason why no more was read.
-pub ends_finished : (keeps : Type 0) (o : Option Start) (p : SessionView) → IsUnderWayFrom keeps o p → (stop : Stop) → HasFinished keeps p stop
+pub ends_finished : (keeps : Type 0) (o : Option Start) (p : SessionView) → SessionInvariantFrom keeps o p → (stop : ReadEnd) → HasFinished keeps p stop
     → (result : Result (Unit {0}) ServeFault) → IfSome p.stop (λ why. result ≡ end_of why)
     → EndsBy p result × OnOk result (keeps → HasEmptyLog p.core)
 ends_finished keeps o p u stop f result reported =
-    let is = so_if p.stop stop (λ (why : Stop). result ≡ end_of why) f.is reported in
+    let is = so_if p.stop stop (λ (why : ReadEnd). result ≡ end_of why) f.is reported in
     subst (λ (r : Result (Unit {0}) ServeFault). EndsBy p r × OnOk r (keeps → HasEmptyLog p.core)) (sym is)
     (ended_for keeps o p u f.served stop f.is, empties_for stop (keeps → HasEmptyLog p.core) f.emptied)
 
@@ -304,26 +304,26 @@ serves_as keeps core back input before written places workers left behind as_man
 pub not_drained : (ended none_held : Bool) → ended ≡ false → (ended && none_held) ≡ false
 not_drained ended none_held not_ended = ap (λ (b : Bool). b && none_held) not_ended
 
-pub holds_first : (core : CoreView) (lent : List (Option JobView)) (n : ℕ) → lent ≡ replicate n None → IsIdle (world_of core) → Holds (with_lent core lent)
+pub holds_first : (core : CoreView) (lent : List (Option JobView)) (n : ℕ) → lent ≡ replicate n None → IsIdle (core_state_of core) → Holds (with_lent core lent)
 holds_first core lent n none idle = subst (λ (l : List (Option JobView)). Holds (with_lent core l)) (sym none)
-    (holds_at_start core n (idle_sound (world_of core) idle core.geometry))
+    (holds_at_start core n (idle_sound (core_state_of core) idle core.geometry))
 
 pub places_first : (lent : List (Option JobView)) (n : ℕ) → lent ≡ replicate n None → length lent ≡ n
 places_first lent n none = ap (λ (l : List (Option JobView)). length l) none ∙ length-replicate n None
 
-module _ (keeps : Type 0) (s : Start) (desk : Desk) (row : RowView) (out : List ℕ) (left : Option (List ℕ)) (drained ended : Bool)
+module _ (keeps : Type 0) (s : Start) (dispatch_seat : DispatchSeatView) (row : ReorderBufferView) (out : List ℕ) (left : Option (List ℕ)) (drained ended : Bool)
     (behind : Option (List ℕ)) where
   -- Before its first read a server is under way.
-  pub first : IsIdle (world_of s.core) → s.core.doubt ≡ [] → row.lines ≡ [] → row.slots ≤ s.core.slots → out ≡ [] → left ≡ s.input
-      → drained ≡ false → ended ≡ false → desk.bench.slots ≡ s.places → desk.lent ≡ replicate s.places None
-      → IsUnderWay keeps s (record {
+  pub first : IsIdle (core_state_of s.core) → s.core.doubt ≡ [] → row.lines ≡ [] → row.slots ≤ s.core.slots → out ≡ [] → left ≡ s.input
+      → drained ≡ false → ended ≡ false → dispatch_seat.bench.slots ≡ s.places → dispatch_seat.lent ≡ replicate s.places None
+      → SessionInvariant keeps s (record {
         core = s.core;
-        desk = desk;
+        dispatch_seat = dispatch_seat;
         row = row;
         out = out;
-        told = s.before;
+        sent = s.before;
         open_lines = 0;
-        broken = false;
+        output_failed = false;
         stop = None;
         left = left;
         drained = drained;
@@ -336,42 +336,42 @@ module _ (keeps : Type 0) (s : Start) (desk : Desk) (row : RowView) (out : List 
         idle = idle;
         sure = sure;
         fits = fits;
-        holds = holds_first s.core desk.lent s.places lent idle;
-        places = places_first desk.lent s.places lent ∙ sym places;
+        holds = holds_first s.core dispatch_seat.lent s.places lent idle;
+        places = places_first dispatch_seat.lent s.places lent ∙ sym places;
         knows = λ e. absurd (true≢false (sym e ∙ not_ended));
         reads = record {
           waiting = [];
-          are_answered = tt;
+          are_completed = tt;
           out_is = none_waits;
           counted = omega (arith, ap length none);
           bounded = omega arith;
-          goes = subst (λ (l : List (Option JobView)). Goes keeps start (with_lent s.core l) row.lines s.input left drained s.before s.before) (sym lent)
-              (subst (λ (l : List Line). Goes keeps start start l s.input left drained s.before s.before) (sym none)
-              (subst (λ (d : Bool). Goes keeps start start [] s.input left d s.before s.before) (sym begun)
-              (subst (λ (l : Option (List ℕ)). Goes keeps start start [] s.input l false s.before s.before) (sym all)
+          goes = subst (λ (l : List (Option JobView)). ServingProgress keeps start (with_lent s.core l) row.lines s.input left drained s.before s.before) (sym lent)
+              (subst (λ (l : List Line). ServingProgress keeps start start l s.input left drained s.before s.before) (sym none)
+              (subst (λ (d : Bool). ServingProgress keeps start start [] s.input left d s.before s.before) (sym begun)
+              (subst (λ (l : Option (List ℕ)). ServingProgress keeps start start [] s.input l false s.before s.before) (sym all)
               (starts keeps start s.input s.before))));
         };
       }
 
 -- A call that may begin is under way.
-pub first_at : (keeps : Type 0) (o : Option Start) (core : CoreView) (desk : Desk) (row : RowView) (out : List ℕ) (left input told : Option (List ℕ))
-    (drained ended : Bool) (behind : Option (List ℕ)) (places : ℕ) → CanBegin o core places input told row
-    → out ≡ [] → left ≡ input → drained ≡ false → ended ≡ false → desk.bench.slots ≡ places → desk.lent ≡ replicate places None
-    → IsUnderWayFrom keeps o (record {
+pub first_at : (keeps : Type 0) (o : Option Start) (core : CoreView) (dispatch_seat : DispatchSeatView) (row : ReorderBufferView) (out : List ℕ) (left input sent : Option (List ℕ))
+    (drained ended : Bool) (behind : Option (List ℕ)) (places : ℕ) → CanBegin o core places input sent row
+    → out ≡ [] → left ≡ input → drained ≡ false → ended ≡ false → dispatch_seat.bench.slots ≡ places → dispatch_seat.lent ≡ replicate places None
+    → SessionInvariantFrom keeps o (record {
       core = core;
-      desk = desk;
+      dispatch_seat = dispatch_seat;
       row = row;
       out = out;
-      told = told;
+      sent = sent;
       open_lines = 0;
-      broken = false;
+      output_failed = false;
       stop = None;
       left = left;
       drained = drained;
       ended = ended;
       behind = behind;
     })
-first_at keeps o core desk row out left input told drained ended behind places r none_waits all begun not_ended slots lent =
-    let s : Start = record { core = core; places = places; input = input; before = told } in
+first_at keeps o core dispatch_seat row out left input sent drained ended behind places r none_waits all begun not_ended slots lent =
+    let s : Start = record { core = core; places = places; input = input; before = sent } in
     begins_at keeps o s _ r.is
-    (first keeps s desk row out left drained ended behind r.idle r.sure r.none r.fits none_waits all begun not_ended slots lent)
+    (first keeps s dispatch_seat row out left drained ended behind r.idle r.sure r.none r.fits none_waits all begun not_ended slots lent)

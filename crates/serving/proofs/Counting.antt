@@ -4,7 +4,7 @@ use Rattle.std.specs.Prelude.{◌==◌}
 use Rattle.std.proofs.lemmas.List.{length-append}
 use Rattle.affinity.specs.declared.geometry.Geometry.{Geometry}
 use Rattle.meaning.specs.Serial.{reply_to}
-use Rattle.legal_runs.specs.World.{Replied, World, entries, held}
+use Rattle.legal_runs.specs.CoreState.{Replied, CoreState, entries, held}
 use Rattle.legal_runs.specs.Eligible.{is_eligible}
 use Rattle.legal_runs.specs.Events.{Hands, Event, give_back}
 use Rattle.legal_runs.specs.Runs.{IsLegal, answered, answers, arrived, arrives, last}
@@ -13,10 +13,10 @@ use Rattle.legal_runs.proofs.Apart.{held_grant, length_held, log_held}
 use Rattle.legal_runs.proofs.Lists.{picked}
 use Rattle.legal_runs.proofs.Moves.{Passed, Move, Stays, Arrives, Grants, Backs, Logs, Answers, moves}
 
-abbrev Counts : World → World → Passed → Type 0
-Counts old new p = inside new + length p.told ≡ inside old + length p.come
+abbrev Counts : CoreState → CoreState → Passed → Type 0
+Counts old new p = inside new + length p.reply_pairs ≡ inside old + length p.come
 
-move_counts : (g : Geometry) (old new : World) (p : Passed) → Move g old new p → Counts old new p
+move_counts : (g : Geometry) (old new : CoreState) (p : Passed) → Move g old new p → Counts old new p
 move_counts g old new p (Stays s e) =
     let same : inside new ≡ inside old = λ i. length (s.waiting i) + length (entries (s.logged i) ++ (entries (s.ran i) ++ s.out i)) in
     subst (Counts old new) (sym e) (omega (arith, same))
@@ -31,7 +31,7 @@ move_counts g old new p (Grants found first is e) =
     subst (Counts old new) (sym e) (subst (λ w. inside w + 0 ≡ inside old + 0) (sym is) (omega (arith, was, now, holds)))
 move_counts g old new p (Backs ticket found one_out is e) =
     let k = picked (λ d. d.0 == ticket) old.out found one_out in
-    let a : Replied = (found.0.0, found.0.1, reply_to g old.settled found.0.1) in
+    let a : Replied = (found.0.0, found.0.1, reply_to g old.committed found.0.1) in
     let was = ap length k.whole ∙ length-append k.before (found.0 ∷ k.behind) in
     let now = ap length k.rest ∙ length-append k.before k.behind in
     let more = length-append old.ran (a ∷ []) in
@@ -50,8 +50,8 @@ pub run_counts : (g : Geometry) (old : Hands) (events : List Event) → IsLegal 
     → inside (last old events).core + length (answered events) ≡ inside old.core + length (arrived events)
 run_counts g old [] legal = omega arith
 run_counts g old (event ∷ events) legal =
-    let k = move_counts g old.core event.world.core _ (moves g old event legal.0) in
-    let j = run_counts g event.world events legal.1 in
-    let told = length-append (answers event.outcome) (answered events) in
+    let k = move_counts g old.core event.state_after.core _ (moves g old event legal.0) in
+    let j = run_counts g event.state_after events legal.1 in
+    let reply_pairs = length-append (answers event.outcome) (answered events) in
     let come = length-append (arrives event.step event.outcome) (arrived events) in
-    omega (arith, k, j, told, come)
+    omega (arith, k, j, reply_pairs, come)

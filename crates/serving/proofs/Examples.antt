@@ -10,7 +10,7 @@ use Rattle.messages.specs.declared.Reply.{Reply}
 use Rattle.messages.specs.declared.Reply.TheVariants.{Done, Summary}
 use Rattle.meaning.specs.Output.{joined, output_lines}
 use Rattle.meaning.specs.State.{empty}
-use Rattle.serving.specs.Lines.{Answered, AreKnown, NoMessage, NoneIsTo, OutOfRange, Unanswered, asked, next_ticket, text, ticketed}
+use Rattle.serving.specs.Lines.{Completed, AreKnown, NoMessage, NoneIsTo, OutOfRange, Pending, admitted, next_ticket, text, ticketed}
 
 -- ---- lines
 
@@ -18,7 +18,7 @@ use Rattle.serving.specs.Lines.{Answered, AreKnown, NoMessage, NoneIsTo, OutOfRa
 abbrev four_lines : List (List ℕ)
 four_lines = codes "makevol 0 0" ∷ codes "makevol 9 0" ∷ codes "hello" ∷ codes "summary" ∷ []
 
-messages_in_range_take_tickets : asked small four_lines ≡ MakeVol 0 0 ∷ AskSummary ∷ []
+messages_in_range_take_tickets : admitted small four_lines ≡ MakeVol 0 0 ∷ AskSummary ∷ []
 unfolding message_of kind_named number_in_word
 messages_in_range_take_tickets = refl
 
@@ -34,32 +34,32 @@ none_to_seven reply there = ⊎_elim
     (λ none. absurd none) (in_contained ((8, Summary 1 0 0) ∷ []) (7, reply) there)
 
 -- The second message was answered before the first: the first line waits for it.
-one_is_answered : AreKnown small ((8, Summary 1 0 0) ∷ []) 7 four_lines (Unanswered 7 ∷ OutOfRange ∷ NoMessage ∷ Answered 8 (Summary 1 0 0) ∷ [])
+one_is_answered : AreKnown small ((8, Summary 1 0 0) ∷ []) 7 four_lines (Pending 7 ∷ OutOfRange ∷ NoMessage ∷ Completed 8 (Summary 1 0 0) ∷ [])
 unfolding message_of kind_named number_in_word
 one_is_answered = ((refl, refl, none_to_seven), (refl, (tt, ((refl, refl, (0, lit≤ tt, refl)), tt))))
 
 -- No reply is known that was not given.
-not_answered_yet : AreKnown small [] 7 (codes "summary" ∷ []) (Answered 7 (Summary 1 0 0) ∷ []) → ⊥
+not_answered_yet : AreKnown small [] 7 (codes "summary" ∷ []) (Completed 7 (Summary 1 0 0) ∷ []) → ⊥
 unfolding message_of kind_named number_in_word
 not_answered_yet h = let none = h.0.2.1 in absurd (omega (arith, none))
 
 -- No line waits that was answered.
-answered_already : AreKnown small ((7, Summary 1 0 0) ∷ []) 7 (codes "summary" ∷ []) (Unanswered 7 ∷ []) → ⊥
+answered_already : AreKnown small ((7, Summary 1 0 0) ∷ []) 7 (codes "summary" ∷ []) (Pending 7 ∷ []) → ⊥
 unfolding message_of kind_named number_in_word
 answered_already h = h.0.2 (Summary 1 0 0) (0, lit≤ tt, refl)
 
 -- Nor is one known by the ticket of another message.
-not_by_another_ticket : AreKnown small ((8, Done) ∷ []) 7 (codes "makevol 0 0" ∷ []) (Answered 8 Done ∷ []) → ⊥
+not_by_another_ticket : AreKnown small ((8, Done) ∷ []) 7 (codes "makevol 0 0" ∷ []) (Completed 8 Done ∷ []) → ⊥
 unfolding message_of kind_named number_in_word
 not_by_another_ticket h = cc
 
 -- A line out of range takes no ticket.
-no_ticket_out_of_range : AreKnown small [] 7 (codes "makevol 9 0" ∷ []) (Unanswered 7 ∷ []) → ⊥
+no_ticket_out_of_range : AreKnown small [] 7 (codes "makevol 9 0" ∷ []) (Pending 7 ∷ []) → ⊥
 unfolding message_of kind_named number_in_word
 no_ticket_out_of_range h = cc
 
 -- What these lines say is what the serial server writes.
-what_they_say : joined (map text (Answered 7 Done ∷ OutOfRange ∷ NoMessage ∷ [])) ≡ codes "done\nerror range\nerror line\n"
+what_they_say : joined (map text (Completed 7 Done ∷ OutOfRange ∷ NoMessage ∷ [])) ≡ codes "done\nerror range\nerror line\n"
 what_they_say = refl
 
 the_same_as_the_serial_server : joined (output_lines small empty (codes "makevol 0 0" ∷ codes "makevol 9 0" ∷ codes "hello" ∷ [])) ≡ codes "done\nerror range\nerror line\n"

@@ -1,4 +1,4 @@
--- There are no more messages in the core than lines in the row, since each line that is said was answered.
+-- There are no more messages in the core than lines in the reorder buffer, since each line that is said was answered.
 use Rattle.std.proofs.Common.{◌≡◌, ℕ, ◌+◌, ◌<◌, ◌≤◌, Bool, true, false, List, [], ◌∷◌, ◌++◌, Option, Some, None, refl, ap, sym, ◌∙◌, subst, length, ⊎_elim, arith}
 use Rattle.std.specs.Prelude.{if◌then◌else◌, nat_le}
 use Rattle.std.specs.List.{AllByRecursion}
@@ -6,20 +6,20 @@ use Rattle.std.proofs.lemmas.Bool.{le-leb, leb-true, true≢false}
 use Rattle.std.proofs.lemmas.List.{length-append}
 use Rattle.affinity.specs.declared.geometry.Geometry.{Geometry}
 use Rattle.legal_runs.proofs.Elements.{in_contained}
-use Rattle.legal_runs.proofs.Told.{IsIn}
+use Rattle.legal_runs.proofs.SerialReplies.{IsIn}
 use Rattle.legal_runs.specs.Events.{Hands}
 use Rattle.legal_runs.specs.Laws.{IsIdle}
 use Rattle.legal_runs.specs.Runs.{answered, arrived, last}
-use Rattle.legal_runs.specs.World.{World, held}
+use Rattle.legal_runs.specs.CoreState.{CoreState, held}
 use Rattle.runs.specs.Machine.{MachineView, machine_of}
 use Rattle.runs.specs.Stages.{events_of}
 use Rattle.messages.specs.Grammar.{message_of}
 use Rattle.messages.specs.Messages.{is_in_range}
 use Rattle.messages.specs.declared.Msg.{Msg}
 use Rattle.messages.specs.declared.Reply.{Reply}
-use Rattle.scheduler.specs.Kept.{world_of}
-use Rattle.serving.specs.Going.{Goes, IsServing}
-use Rattle.serving.specs.Lines.{Answered, AreKnown, IsKnown, Line, NoMessage, OutOfRange, Unanswered, asked, asked_in, is_answered, next_ticket, ticketed}
+use Rattle.scheduler.specs.CoreView.{core_state_of}
+use Rattle.serving.specs.Progress.{ServingProgress, IsServing}
+use Rattle.serving.specs.Lines.{Completed, AreKnown, IsKnown, Line, NoMessage, OutOfRange, Pending, admitted, admitted_in, is_completed, next_ticket, ticketed}
 use Rattle.serving.specs.Runs.{inside}
 use Rattle.serving.proofs.Counting.{run_counts}
 
@@ -73,50 +73,50 @@ later_one n reply (p ∷ ps) is = ⊎_elim
 -- ---- the lines
 
 module _ (g : Geometry) (replies : List (ℕ × Reply)) where
-  few_asked : (o : Option Msg) → length (asked_in g o) ≤ 1
+  few_asked : (o : Option Msg) → length (admitted_in g o) ≤ 1
   few_asked None = omega arith
   few_asked (Some m) = elim (is_in_range g m) as (λ b. length (if b then m ∷ [] else []) ≤ 1) [ true ↦ omega arith | false ↦ omega arith ]
 
   -- Each line takes a ticket at most.
-  row_takes : (n : ℕ) (ls : List (List ℕ)) (row : List Line) → AreKnown g replies n ls row → length (asked g ls) ≤ length row
+  row_takes : (n : ℕ) (ls : List (List ℕ)) (row : List Line) → AreKnown g replies n ls row → length (admitted g ls) ≤ length row
   row_takes n [] [] k = omega arith
   row_takes n [] (known ∷ row) k = absurd k
   row_takes n (l ∷ ls) [] k = absurd k
   row_takes n (l ∷ ls) (known ∷ row) k =
       let o = message_of l in
-      let rest = row_takes (next_ticket n (asked_in g o)) ls row k.1 in
+      let rest = row_takes (next_ticket n (admitted_in g o)) ls row k.1 in
       let few = few_asked o in
-      let all = length-append (asked_in g o) (asked g ls) in
+      let all = length-append (admitted_in g o) (admitted g ls) in
       omega (arith, rest, few, all)
 
   -- A line that is answered takes no ticket, or one to which a reply was given.
-  answered_takes : (n : ℕ) (o : Option Msg) (known : Line) → IsKnown g replies n o known → is_answered known ≡ true
-      → length (asked_in g o) + later (next_ticket n (asked_in g o)) replies ≤ later n replies
+  answered_takes : (n : ℕ) (o : Option Msg) (known : Line) → IsKnown g replies n o known → is_completed known ≡ true
+      → length (admitted_in g o) + later (next_ticket n (admitted_in g o)) replies ≤ later n replies
   answered_takes n None NoMessage k done = omega arith
   answered_takes n None OutOfRange k done = absurd k
-  answered_takes n None (Unanswered ticket) k done = absurd k
-  answered_takes n None (Answered ticket reply) k done = absurd k
+  answered_takes n None (Pending ticket) k done = absurd k
+  answered_takes n None (Completed ticket reply) k done = absurd k
   answered_takes n (Some m) NoMessage k done = absurd k
   answered_takes n (Some m) OutOfRange k done =
-      let none : asked_in g (Some m) ≡ [] = ap (λ (b : Bool). if b then m ∷ [] else []) k in
+      let none : admitted_in g (Some m) ≡ [] = ap (λ (b : Bool). if b then m ∷ [] else []) k in
       subst (λ (l : List Msg). length l + later (next_ticket n l) replies ≤ later n replies) (sym none) (omega arith)
-  answered_takes n (Some m) (Unanswered ticket) k done = absurd (true≢false (sym done))
-  answered_takes n (Some m) (Answered ticket reply) k done =
-      let single : asked_in g (Some m) ≡ m ∷ [] = ap (λ (b : Bool). if b then m ∷ [] else []) k.0 in
+  answered_takes n (Some m) (Pending ticket) k done = absurd (true≢false (sym done))
+  answered_takes n (Some m) (Completed ticket reply) k done =
+      let single : admitted_in g (Some m) ≡ m ∷ [] = ap (λ (b : Bool). if b then m ∷ [] else []) k.0 in
       let is : IsIn (n, reply) replies = subst (λ (t : ℕ). IsIn (t, reply) replies) k.1 (in_contained replies (ticket, reply) k.2) in
       let l = later_one n reply replies is in
       subst (λ (l : List Msg). length l + later (next_ticket n l) replies ≤ later n replies) (sym single) (omega (arith, l))
 
-  -- The lines that take tickets are the said ones, each of which was answered, and at most those of the row.
-  lines_take : (n : ℕ) (ls : List (List ℕ)) (said row : List Line) → AreKnown g replies n ls (said ++ row)
-      → AllByRecursion (λ line. is_answered line ≡ true) said → length (asked g ls) ≤ later n replies + length row
+  -- The lines that take tickets are the said ones, each of which was answered, and at most those of the reorder buffer.
+  lines_take : (n : ℕ) (ls : List (List ℕ)) (retired row : List Line) → AreKnown g replies n ls (retired ++ row)
+      → AllByRecursion (λ line. is_completed line ≡ true) retired → length (admitted g ls) ≤ later n replies + length row
   lines_take n ls [] row k done = let l = row_takes n ls row k in omega (arith, l)
-  lines_take n [] (known ∷ said) row k done = absurd k
-  lines_take n (l ∷ ls) (known ∷ said) row k done =
+  lines_take n [] (known ∷ retired) row k done = absurd k
+  lines_take n (l ∷ ls) (known ∷ retired) row k done =
       let o = message_of l in
       let here = answered_takes n o known k.0 done.0 in
-      let rest = lines_take (next_ticket n (asked_in g o)) ls said row k.1 done.1 in
-      let all = length-append (asked_in g o) (asked g ls) in
+      let rest = lines_take (next_ticket n (admitted_in g o)) ls retired row k.1 done.1 in
+      let all = length-append (admitted_in g o) (admitted g ls) in
       omega (arith, here, rest, all)
 
 -- ---- the core
@@ -125,38 +125,38 @@ length-ticketed : (n : ℕ) (ms : List Msg) → length (ticketed n ms) ≡ lengt
 length-ticketed n [] = refl
 length-ticketed n (m ∷ ms) = let l = length-ticketed (n + 1) ms in omega (arith, l)
 
-pub idle_inside : (w : World) → IsIdle w → inside w ≡ 0
+pub idle_inside : (w : CoreState) → IsIdle w → inside w ≡ 0
 idle_inside w h = let waits = ap length h.none_waits in let holds = ap length h.none_held in omega (arith, waits, holds)
 
 none_long : {A : Type 0} (xs : List A) → length xs ≤ 0 → xs ≡ []
 none_long [] h = refl
 none_long (x ∷ xs) h = absurd (omega (arith, h))
 
-none_inside : (w : World) → inside w ≤ 0 → IsIdle w
+none_inside : (w : CoreState) → inside w ≤ 0 → IsIdle w
 none_inside w h = record { none_waits = none_long w.waiting (omega (arith, h)); none_held = none_long (held w) (omega (arith, h)) }
 
-module _ (keeps : Type 0) (start now : MachineView) (idle : IsIdle (world_of start.core)) where
-  serving_inside : (taken : List (List ℕ)) (said row : List Line) → IsServing keeps start now taken said row
-      → inside (world_of now.core) ≤ length row
-  serving_inside taken said row s =
+module _ (keeps : Type 0) (start now : MachineView) (idle : IsIdle (core_state_of start.core)) where
+  serving_inside : (taken : List (List ℕ)) (retired row : List Line) → IsServing keeps start now taken retired row
+      → inside (core_state_of now.core) ≤ length row
+  serving_inside taken retired row s =
       let p = s.passes in
       let g = start.core.geometry in
       let n = start.core.next in
       let counts = run_counts g (machine_of start) (events_of p.stages) p.legal in
-      let ends : inside (world_of now.core) ≡ inside (last (machine_of start) (events_of p.stages)).core = ap (λ (w : Hands). inside w.core) (sym p.ends) in
-      let come : length (arrived (events_of p.stages)) ≡ length (asked g taken) = ap length p.come_are ∙ length-ticketed n (asked g taken) in
-      let told : length (answered (events_of p.stages)) ≡ length s.told = ap length p.told_are in
-      let none = idle_inside (world_of start.core) idle in
-      let takes = lines_take g s.told n taken said row s.known s.answered in
-      let most = later_most n s.told in
-      omega (arith, counts, ends, come, told, none, takes, most)
+      let ends : inside (core_state_of now.core) ≡ inside (last (machine_of start) (events_of p.stages)).core = ap (λ (w : Hands). inside w.core) (sym p.ends) in
+      let come : length (arrived (events_of p.stages)) ≡ length (admitted g taken) = ap length p.come_are ∙ length-ticketed n (admitted g taken) in
+      let reply_pairs : length (answered (events_of p.stages)) ≡ length s.reply_pairs = ap length p.reply_pairs_are in
+      let none = idle_inside (core_state_of start.core) idle in
+      let takes = lines_take g s.reply_pairs n taken retired row s.known s.answered in
+      let most = later_most n s.reply_pairs in
+      omega (arith, counts, ends, come, reply_pairs, none, takes, most)
 
   -- No more messages wait or are held than there are lines that were read and aren't said.
   pub few_inside : (row : List Line) (input left : Option (List ℕ)) (ended : Bool) (before written : Option (List ℕ))
-      → Goes keeps start now row input left ended before written → inside (world_of now.core) ≤ length row
-  few_inside row input left ended before written h = serving_inside h.taken h.said row h.serving
+      → ServingProgress keeps start now row input left ended before written → inside (core_state_of now.core) ≤ length row
+  few_inside row input left ended before written h = serving_inside h.taken h.retired row h.serving
 
   -- Where all is said, nothing waits and nothing is held.
   pub idle_again : (input left : Option (List ℕ)) (ended : Bool) (before written : Option (List ℕ))
-      → Goes keeps start now [] input left ended before written → IsIdle (world_of now.core)
-  idle_again input left ended before written h = none_inside (world_of now.core) (few_inside [] input left ended before written h)
+      → ServingProgress keeps start now [] input left ended before written → IsIdle (core_state_of now.core)
+  idle_again input left ended before written h = none_inside (core_state_of now.core) (few_inside [] input left ended before written h)

@@ -1,11 +1,11 @@
--- ---- for the crates above: what was told, what a device holds of it, and what a restart goes on from
-pub mod Told
+-- ---- for the crates above: what was sent, what a device holds of it, and what a restart goes on from
+pub mod Logged
 pub mod Holding
 pub mod Recovering
 -- ---- this crate's own
 mod Chain
 mod Tickets
-mod Stretches
+mod Segments
 mod Returning
 mod Sending
 mod Answering
@@ -20,10 +20,10 @@ mod Counting
 mod Inside
 mod Slots
 mod Served
-mod Said
+mod Retired
 mod Advancing
 mod Stopping
-mod Under
+mod Invariant
 mod Promises
 mod Closing
 mod Silence

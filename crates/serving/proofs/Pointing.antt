@@ -4,7 +4,7 @@ use Rattle.std.specs.Prelude.{Bool, if◌then◌else◌, is_some, nat_lt, MatchR
 use Rattle.std.proofs.lemmas.Bool.{true≢false}
 use Rattle.std.proofs.lemmas.Option.{none-some}
 use Rattle.legal_runs.specs.Events.{fewer, point_refusal}
-use Rattle.legal_runs.specs.World.{Entry, World, held}
+use Rattle.legal_runs.specs.CoreState.{Entry, CoreState, held}
 use Rattle.legal_runs.specs.declared.outcomes.PointRefusal.{PointRefusal}
 use Rattle.legal_runs.specs.declared.outcomes.PointRefusal.TheVariants as points
 use Rattle.scheduler.specs.Calls.{IsPieceStep, IsPointStep}
@@ -23,14 +23,14 @@ works_so true o e = absurd (none-some points.Failed (sym e))
 works_so false o e = refl
 
 -- A step is refused where the device fails, or for its reason.
-refused_so : (old new : World) (why : Option PointRefusal) (made : Type 0) (refusal : PointRefusal) → IsPointStep old new why made (Err refusal)
+refused_so : (old new : CoreState) (why : Option PointRefusal) (made : Type 0) (refusal : PointRefusal) → IsPointStep old new why made (Err refusal)
     → (why ≡ Some refusal → old.failed ≡ true) → new.failed ≡ true
-refused_so old new why made points.Device h failed = ap (λ (w : World). w.failed) h.1
-refused_so old new why made points.Failed h failed = ap (λ (w : World). w.failed) h.1 ∙ failed h.0
-refused_so old new why made points.Held h failed = ap (λ (w : World). w.failed) h.1 ∙ failed h.0
-refused_so old new why made points.Running h failed = ap (λ (w : World). w.failed) h.1 ∙ failed h.0
-refused_so old new why made points.NotRunning h failed = ap (λ (w : World). w.failed) h.1 ∙ failed h.0
-refused_so old new why made points.Unfinished h failed = ap (λ (w : World). w.failed) h.1 ∙ failed h.0
+refused_so old new why made points.Device h failed = ap (λ (w : CoreState). w.failed) h.1
+refused_so old new why made points.Failed h failed = ap (λ (w : CoreState). w.failed) h.1 ∙ failed h.0
+refused_so old new why made points.Held h failed = ap (λ (w : CoreState). w.failed) h.1 ∙ failed h.0
+refused_so old new why made points.Running h failed = ap (λ (w : CoreState). w.failed) h.1 ∙ failed h.0
+refused_so old new why made points.NotRunning h failed = ap (λ (w : CoreState). w.failed) h.1 ∙ failed h.0
+refused_so old new why made points.Unfinished h failed = ap (λ (w : CoreState). w.failed) h.1 ∙ failed h.0
 
 -- ---- what a session makes of an answer of the core
 
@@ -44,7 +44,7 @@ halts_so (Err e) (Err y) same whole failed is h f = λ _. f
 
 -- ---- where a point is to begin and none is in progress
 
-module _ (old : World) (left : old.left ≡ None) where
+module _ (old : CoreState) (left : old.left ≡ None) where
   abbrev if_held : Bool → Option PointRefusal
   if_held b = if b then Some points.Held else None
 
@@ -59,7 +59,7 @@ module _ (old : World) (left : old.left ≡ None) where
     none_rests = ap (λ (l : List Entry). if_held (nat_lt 0 (length l))) (sym none_held) ∙ no_other
 
     -- Where none is held, only by the device.
-    pub point_fails : (new : World) (made : Type 0) (r : Result (Unit {0}) PointRefusal) → IsPointStep old new (point_refusal old) made r
+    pub point_fails : (new : CoreState) (made : Type 0) (r : Result (Unit {0}) PointRefusal) → IsPointStep old new (point_refusal old) made r
         → OnErr r (new.failed ≡ true)
     point_fails new made (Ok x) h = tt
     point_fails new made (Err refusal) h = refused_so old new (point_refusal old) made refusal h
@@ -74,7 +74,7 @@ module _ (old : World) (left : old.left ≡ None) where
   held_alone false refusal e = absurd (none-some refusal e)
 
   -- Where it is refused for another reason than that one is held, it is by the device.
-  begins_or_fails : (new : World) (made : Type 0) (refusal : PointRefusal) → refusal ≢ points.Held
+  begins_or_fails : (new : CoreState) (made : Type 0) (refusal : PointRefusal) → refusal ≢ points.Held
       → IsPointStep old new (point_refusal old) made (Err refusal) → new.failed ≡ true
   begins_or_fails new made refusal not_held h = refused_so old new (point_refusal old) made refusal h
       (λ e. failed_so old.failed rest refusal e (λ d. absurd (not_held (held_alone (nat_lt 0 (length (held old))) refusal (no_other ∙ d)))))
@@ -88,14 +88,14 @@ module _ (old : World) (left : old.left ≡ None) where
   none_waits none_held false e = none-some points.Held (none_rests none_held ∙ e)
 
   -- So a session halts only where the device has failed, and else it has begun, where none is held.
-  pub halts : (new : World) (made same whole : Type 0) (cut : Result (Unit {0}) PointRefusal) (result : Result (Unit {0}) Halted)
+  pub halts : (new : CoreState) (made same whole : Type 0) (cut : Result (Unit {0}) PointRefusal) (result : Result (Unit {0}) Halted)
       → IsPointStep old new (point_refusal old) made cut → BeginsOrWaits cut result → same
       → MatchResult result (λ _. same) (λ _. whole → new.failed ≡ true)
   halts new made same whole cut (Ok x) h b s = s
   halts new made same whole (Ok x) (Err y) h b s = absurd b
   halts new made same whole (Err why) (Err y) h b s = λ _. begins_or_fails new made why b h
 
-  pub begins : (new : World) (made begun : Type 0) → (made → begun) → (cut : Result (Unit {0}) PointRefusal) (result : Result (Unit {0}) Halted)
+  pub begins : (new : CoreState) (made begun : Type 0) → (made → begun) → (cut : Result (Unit {0}) PointRefusal) (result : Result (Unit {0}) Halted)
       → IsPointStep old new (point_refusal old) made cut → BeginsOrWaits cut result → OnOk result (held new ≡ [] → begun)
   begins new made begun so cut (Err y) h b = tt
   begins new made begun so (Ok x) (Ok y) h b = λ _. so h.1
@@ -105,16 +105,16 @@ module _ (old : World) (left : old.left ≡ None) where
 
 -- ---- a point at once
 
-pub point_works : (old new : World) (room : ℕ) (r : Result (Unit {0}) PointRefusal)
+pub point_works : (old new : CoreState) (room : ℕ) (r : Result (Unit {0}) PointRefusal)
     → IsPointStep old new (point_refusal old) (new ≡ record old { room = room }) r → OnOk r (new.failed ≡ false)
-point_works old new room (Ok x) h = ap (λ (w : World). w.failed) h.1
+point_works old new room (Ok x) h = ap (λ (w : CoreState). w.failed) h.1
     ∙ works_so old.failed (if is_some old.left then Some points.Running else if nat_lt 0 (length (held old)) then Some points.Held else None) h.0
 point_works old new room (Err why) h = tt
 
 -- ---- a piece
 
 -- one less is left
-pub piece_left : (old new : World) (r : Result ℕ PointRefusal) (n : ℕ) → IsPieceStep old new r → old.left ≡ Some n
+pub piece_left : (old new : CoreState) (r : Result ℕ PointRefusal) (n : ℕ) → IsPieceStep old new r → old.left ≡ Some n
     → OnOk r (new.left ≡ Some (n - 1))
-piece_left old new (Ok k) n h e = ap (λ (w : World). w.left) h.2 ∙ ap Some (h.1 ∙ ap fewer e)
+piece_left old new (Ok k) n h e = ap (λ (w : CoreState). w.left) h.2 ∙ ap Some (h.1 ∙ ap fewer e)
 piece_left old new (Err why) n h e = tt

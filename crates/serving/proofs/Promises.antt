@@ -7,11 +7,11 @@ use Rattle.legal_runs.specs.Laws.{IsIdle}
 use Rattle.runs.specs.Machine.{MachineView}
 use Rattle.messages.specs.Lines.{lines}
 use Rattle.meaning.specs.Progress.{TakesLines}
-use Rattle.scheduler.specs.Kept.{CoreView, StandsNow, world_of}
+use Rattle.scheduler.specs.CoreView.{CoreView, RecoversNow, core_state_of}
 use Rattle.serving.specs.Ends.{HasServed}
-use Rattle.serving.specs.Going.{Goes}
+use Rattle.serving.specs.Progress.{ServingProgress}
 use Rattle.serving.specs.Lines.{Line}
-use Rattle.line_row.specs.Rows.{comes_next}
+use Rattle.reorder_buffer.specs.ReorderBuffer.{can_retire}
 use Rattle.serving.specs.Runs.{with_lent}
 use Rattle.serving.specs.Serve.{AreAll, HasRunSo}
 use Rattle.serving.specs.declared.server.ServeFault.TheVariants as faults
@@ -28,43 +28,43 @@ all_taken (Some input) (Some bs) ended taken t at_end =
     t.2.to_come ∙ ap (λ l. taken ++ lines l) none ∙ append-nil taken
 
 -- where the core at the end is as it always is
-module _ (keeps : Type 0) (start now : MachineView) (idle : IsIdle (world_of start.core)) (input left : Option (List ℕ)) (ended : Bool)
-    (before written : Option (List ℕ)) (no_doubt : now.core.failed ≡ false → now.core.doubt ≡ []) (stands : keeps → StandsNow now.core) where
-  pub runs_whole : Goes keeps start now [] input left ended before written → IsAtEnd left
+module _ (keeps : Type 0) (start now : MachineView) (idle : IsIdle (core_state_of start.core)) (input left : Option (List ℕ)) (ended : Bool)
+    (before written : Option (List ℕ)) (no_doubt : now.core.failed ≡ false → now.core.doubt ≡ []) (recovers : keeps → RecoversNow now.core) where
+  pub runs_whole : ServingProgress keeps start now [] input left ended before written → IsAtEnd left
       → HasRunSo keeps start now.core input before written (Ok tt)
   unfolding has_served
   runs_whole h at_end = record {
-    served = has_served keeps start now idle [] input left ended before written h no_doubt stands;
+    served = has_served keeps start now idle [] input left ended before written h no_doubt recovers;
     all = all_taken input left ended h.taken h.takes at_end;
   }
 
-  pub runs_to_read : Goes keeps start now [] input left ended before written
+  pub runs_to_read : ServingProgress keeps start now [] input left ended before written
       → HasRunSo keeps start now.core input before written (Err faults.Read)
-  runs_to_read h = has_served keeps start now idle [] input left ended before written h no_doubt stands
+  runs_to_read h = has_served keeps start now idle [] input left ended before written h no_doubt recovers
 
-  pub runs_to_last_ticket : Goes keeps start now [] input left ended before written
+  pub runs_to_last_ticket : ServingProgress keeps start now [] input left ended before written
       → HasRunSo keeps start now.core input before written (Err faults.Exhausted)
-  runs_to_last_ticket h = has_served keeps start now idle [] input left ended before written h no_doubt stands
+  runs_to_last_ticket h = has_served keeps start now idle [] input left ended before written h no_doubt recovers
 
-  pub runs_to_device : (row : List Line) → Goes keeps start now row input left ended before written → comes_next row ≡ false
+  pub runs_to_device : (row : List Line) → ServingProgress keeps start now row input left ended before written → can_retire row ≡ false
       → HasRunSo keeps start now.core input before written (Err faults.Device)
-  runs_to_device row h last = (row, has_served keeps start now idle row input left ended before written h no_doubt stands, last)
+  runs_to_device row h last = (row, has_served keeps start now idle row input left ended before written h no_doubt recovers, last)
 
   -- whatever was written since
-  pub runs_to_write : (row : List Line) (torn : Option (List ℕ)) → Goes keeps start now row input left ended before written
+  pub runs_to_write : (row : List Line) (torn : Option (List ℕ)) → ServingProgress keeps start now row input left ended before written
       → HasRunSo keeps start now.core input before torn (Err faults.Write)
   runs_to_write row torn h =
-      let s = has_served keeps start now idle row input left ended before written h no_doubt stands in
+      let s = has_served keeps start now idle row input left ended before written h no_doubt recovers in
       (s.taken, s.stages, s.run)
 
 -- ---- a server that was refused
 
-module _ (keeps : Type 0) (core : CoreView) (places : ℕ) (idle : IsIdle (world_of core))
-    (no_doubt : core.failed ≡ false → core.doubt ≡ []) (stands : keeps → StandsNow core) (input before : Option (List ℕ)) where
+module _ (keeps : Type 0) (core : CoreView) (places : ℕ) (idle : IsIdle (core_state_of core))
+    (no_doubt : core.failed ≡ false → core.doubt ≡ []) (recovers : keeps → RecoversNow core) (input before : Option (List ℕ)) where
   not_run : HasServed keeps (with_lent core (replicate places None)) core [] input before before
   not_run =
       let start = with_lent core (replicate places None) in
-      has_served keeps start start idle [] input input false before before (starts keeps start input before) no_doubt stands
+      has_served keeps start start idle [] input input false before before (starts keeps start input before) no_doubt recovers
 
   pub no_workers_ran : HasRunSo keeps (with_lent core (replicate places None)) core input before before (Err faults.NoWorkers)
   no_workers_ran = not_run

@@ -14,19 +14,19 @@ use Rattle.messages.specs.declared.Msg.{Msg}
 use Rattle.messages.specs.declared.Refusal.TheVariants.{Range}
 use Rattle.messages.specs.declared.Reply.{Reply}
 use Rattle.messages.specs.declared.Reply.TheVariants.{Refused}
-use Rattle.meaning.specs.Order.{by_ticket, messages, told}
+use Rattle.meaning.specs.Order.{by_ticket, messages, serial_replies}
 use Rattle.meaning.specs.Output.{WritesOutput, answer_line, joined, output_lines, state_after_line, state_after_lines}
 use Rattle.meaning.specs.Serial.{fold, next_state, reply_to}
 use Rattle.meaning.specs.State.{State}
 use Rattle.legal_runs.specs.Events.{loggable}
 use Rattle.legal_runs.specs.Laws.{AreAscending, IsSerialLog, ticket_replies}
-use Rattle.legal_runs.specs.World.{Entry, Replied, are_related_entries, entries}
+use Rattle.legal_runs.specs.CoreState.{Entry, Replied, are_related_entries, entries}
 use Rattle.legal_runs.proofs.Elements.{in_contained}
-use Rattle.legal_runs.proofs.Told.{IsIn, in_left}
+use Rattle.legal_runs.proofs.SerialReplies.{IsIn, in_left}
 use Rattle.serving.specs.Ends.{AreFirst}
-use Rattle.serving.specs.Lines.{asked, asked_in, next_ticket, ticketed}
-use Rattle.serving.specs.Restart.{IsClosedPart, RecoversTo, StandsRecovered, are_related_lines}
-use Rattle.serving.specs.Told.{AreKept, HoldsLog, IsKept}
+use Rattle.serving.specs.Lines.{admitted, admitted_in, next_ticket, ticketed}
+use Rattle.serving.specs.Restart.{IsClosedPart, RecoversTo, BytesRecover, are_related_lines}
+use Rattle.serving.specs.Logged.{AreInLog, HoldsLog, IsInLog}
 use Rattle.serving.proofs.Serial.{out_of_range as refused_for_range}
 use Rattle.serving.proofs.SortedLogs.{HasNoGap, sorted_log}
 
@@ -44,10 +44,10 @@ ascending n (m ∷ ms) = (behind (ticketed (n + 1) ms) (all_from (n + 1) (n + 1)
     behind [] h = tt
     behind (e ∷ es) h = (let le = h.0 in omega (arith, le), behind es h.1)
 
-in_range : (g : Geometry) (m : Msg) → is_in_range g m ≡ true → asked_in g (Some m) ≡ m ∷ []
+in_range : (g : Geometry) (m : Msg) → is_in_range g m ≡ true → admitted_in g (Some m) ≡ m ∷ []
 in_range g m h = ap (λ (b : Bool). if b then m ∷ [] else []) h
 
-out_of_range : (g : Geometry) (m : Msg) → is_in_range g m ≡ false → asked_in g (Some m) ≡ []
+out_of_range : (g : Geometry) (m : Msg) → is_in_range g m ≡ false → admitted_in g (Some m) ≡ []
 out_of_range g m h = ap (λ (b : Bool). if b then m ∷ [] else []) h
 
 -- ---- a part of the messages is a part of the lines
@@ -81,18 +81,18 @@ none_last true false c h = refl
 none_last false b c h = refl
 
 -- a line that takes no ticket is not related to any
-not_in_range : (g : Geometry) (m : Msg) → asked_in g (Some m) ≡ [] → is_in_range g m ≡ false
+not_in_range : (g : Geometry) (m : Msg) → admitted_in g (Some m) ≡ [] → is_in_range g m ≡ false
 not_in_range g m h = elim (is_in_range g m) as (λ b. (if b then m ∷ [] else []) ≡ [] → b ≡ false) [
   | true ↦ λ e. cc
   | false ↦ λ e. refl
 ] h
 
-unrelated_none : (g : Geometry) (o : Option Msg) → asked_in g o ≡ [] → (p : Option Msg) → are_related_lines g o p ≡ false
+unrelated_none : (g : Geometry) (o : Option Msg) → admitted_in g o ≡ [] → (p : Option Msg) → are_related_lines g o p ≡ false
 unrelated_none g None h p = refl
 unrelated_none g (Some m) h None = refl
 unrelated_none g (Some m) h (Some n) = none_first (is_in_range g m) (is_in_range g n) (are_related (place g m) (place g n)) (not_in_range g m h)
 
-none_related : (g : Geometry) (o : Option Msg) → asked_in g o ≡ [] → (part : List (List ℕ))
+none_related : (g : Geometry) (o : Option Msg) → admitted_in g o ≡ [] → (part : List (List ℕ))
     → AllByRecursion (λ other. are_related_lines g o (message_of other) ≡ false) part
 none_related g o h [] = tt
 none_related g o h (line ∷ part) = (unrelated_none g o h (message_of line), none_related g o h part)
@@ -112,7 +112,7 @@ unrelated_too g n m (line ∷ part) (e ∷ es) s h = (
 
 -- whether a line takes a ticket
 abbrev TakesOne : Geometry → Option Msg → Type 0
-TakesOne g o = (asked_in g o ≡ []) ⊎ ((m : Msg) × (o ≡ Some m) × (asked_in g o ≡ m ∷ []))
+TakesOne g o = (admitted_in g o ≡ []) ⊎ ((m : Msg) × (o ≡ Some m) × (admitted_in g o ≡ m ∷ []))
 
 takes_one : (g : Geometry) (o : Option Msg) → TakesOne g o
 takes_one g None = inl refl
@@ -122,22 +122,22 @@ takes_one g (Some m) = elim (is_in_range g m) as (λ b. is_in_range g m ≡ b �
 ] refl
 
 module _ (g : Geometry) (n : ℕ) (line : List ℕ) (ls : List (List ℕ)) (es : List Entry)
-    (on : (k : ℕ) (fs : List Entry) → HasNoGap g fs (ticketed k (asked g ls)) → SpellsPart g fs ls) where
-  with_none : asked_in g (message_of line) ≡ [] → HasNoGap g es (ticketed n (asked g ls)) → SpellsPart g es (line ∷ ls)
+    (on : (k : ℕ) (fs : List Entry) → HasNoGap g fs (ticketed k (admitted g ls)) → SpellsPart g fs ls) where
+  with_none : admitted_in g (message_of line) ≡ [] → HasNoGap g es (ticketed n (admitted g ls)) → SpellsPart g es (line ∷ ls)
   with_none none h =
       let rest = on n es h in
       record { part = rest.part; spell = rest.spell; closed = inr (none_related g (message_of line) none rest.part, rest.closed) }
 
-  with_ticket : (m : Msg) → message_of line ≡ Some m → HasNoGap g es ((n, m) ∷ ticketed (n + 1) (asked g ls)) → SpellsPart g es (line ∷ ls)
+  with_ticket : (m : Msg) → message_of line ≡ Some m → HasNoGap g es ((n, m) ∷ ticketed (n + 1) (admitted g ls)) → SpellsPart g es (line ∷ ls)
   with_ticket m is h = ⊎_elim
-      (λ (k : (rest : List Entry) × (es ≡ (n, m) ∷ rest) × HasNoGap g rest (ticketed (n + 1) (asked g ls))).
+      (λ (k : (rest : List Entry) × (es ≡ (n, m) ∷ rest) × HasNoGap g rest (ticketed (n + 1) (admitted g ls))).
       let rest = on (n + 1) k.0 k.2 in
       record {
         part = line ∷ rest.part;
         spell = subst (Spell (line ∷ rest.part)) (sym k.1) (is, rest.spell);
         closed = inl (rest.part, refl, rest.closed);
       })
-      (λ (k : AllByRecursion (λ e. are_related_entries g (n, m) e ≡ false) es × HasNoGap g es (ticketed (n + 1) (asked g ls))).
+      (λ (k : AllByRecursion (λ e. are_related_entries g (n, m) e ≡ false) es × HasNoGap g es (ticketed (n + 1) (admitted g ls))).
       let rest = on (n + 1) es k.1 in
       record {
         part = rest.part;
@@ -149,22 +149,22 @@ module _ (g : Geometry) (n : ℕ) (line : List ℕ) (ls : List (List ℕ)) (es :
         );
       }) h
 
-pub spells_part : (g : Geometry) (n : ℕ) (ls : List (List ℕ)) (es : List Entry) → HasNoGap g es (ticketed n (asked g ls)) → SpellsPart g es ls
+pub spells_part : (g : Geometry) (n : ℕ) (ls : List (List ℕ)) (es : List Entry) → HasNoGap g es (ticketed n (admitted g ls)) → SpellsPart g es ls
 spells_part g n [] es h = record { part = []; spell = subst (Spell []) (sym h) tt; closed = refl }
 spells_part g n (line ∷ ls) es h =
-    let on = λ (k : ℕ) (fs : List Entry) (h : HasNoGap g fs (ticketed k (asked g ls))). spells_part g k ls fs h in
+    let on = λ (k : ℕ) (fs : List Entry) (h : HasNoGap g fs (ticketed k (admitted g ls))). spells_part g k ls fs h in
     ⊎_elim
-    (λ (none : asked_in g (message_of line) ≡ []).
-    with_none g n line ls es on none (subst (λ ms. HasNoGap g es (ticketed n (ms ++ asked g ls))) none h))
-    (λ (k : (m : Msg) × (message_of line ≡ Some m) × (asked_in g (message_of line) ≡ m ∷ [])).
-    with_ticket g n line ls es on k.0 k.1 (subst (λ ms. HasNoGap g es (ticketed n (ms ++ asked g ls))) k.2 h))
+    (λ (none : admitted_in g (message_of line) ≡ []).
+    with_none g n line ls es on none (subst (λ ms. HasNoGap g es (ticketed n (ms ++ admitted g ls))) none h))
+    (λ (k : (m : Msg) × (message_of line ≡ Some m) × (admitted_in g (message_of line) ≡ m ∷ [])).
+    with_ticket g n line ls es on k.0 k.1 (subst (λ ms. HasNoGap g es (ticketed n (ms ++ admitted g ls))) k.2 h))
     (takes_one g (message_of line))
 
 -- ---- the lines that were acknowledged
 
 -- a reply by a smaller ticket is none to these
-abbrev pub AreTold : Geometry → State → ℕ → List Replied → List Entry → Type 0
-AreTold g x n log es = (t : ℕ) (m : Msg) (reply : Reply) → IsIn (t, m, reply) log → (t < n) ⊎ IsIn (t, reply) (told g x es)
+abbrev pub HaveSerialReplies : Geometry → State → ℕ → List Replied → List Entry → Type 0
+HaveSerialReplies g x n log es = (t : ℕ) (m : Msg) (reply : Reply) → IsIn (t, m, reply) log → (t < n) ⊎ IsIn (t, reply) (serial_replies g x es)
 
 -- These lines answer the first of the others. The messages of the log are theirs, with a part of what is behind them.
 pub record AnswersFirst (g : Geometry) (x : State) (es : List Entry) (ls written : List (List ℕ)) : Type 0 where
@@ -176,12 +176,12 @@ pub record AnswersFirst (g : Geometry) (x : State) (es : List Entry) (ls written
   pub closed : IsClosedPart g part behind
   pub state : fold g x (messages es) ≡ state_after_lines g x (first ++ part)
 
-told_from : (g : Geometry) (x : State) (n : ℕ) (es : List Entry) → AllByRecursion (λ e. n ≤ e.0) es → (p : ℕ × Reply)
-    → IsIn p (told g x es) → n ≤ p.0
-told_from g x n [] h p is = absurd is
-told_from g x n (e ∷ es) h p is = ⊎_elim
+serial_from : (g : Geometry) (x : State) (n : ℕ) (es : List Entry) → AllByRecursion (λ e. n ≤ e.0) es → (p : ℕ × Reply)
+    → IsIn p (serial_replies g x es) → n ≤ p.0
+serial_from g x n [] h p is = absurd is
+serial_from g x n (e ∷ es) h p is = ⊎_elim
     (λ (same : p ≡ (e.0, reply_to g x e.1)). let at : p.0 ≡ e.0 = ap (λ (q : ℕ × Reply). q.0) same in let le = h.0 in omega (arith, at, le))
-    (λ later. told_from g (next_state g x e.1) n es h.1 p later) is
+    (λ later. serial_from g (next_state g x e.1) n es h.1 p later) is
 
 from_gap : (g : Geometry) (n : ℕ) (es all : List Entry) → AllByRecursion (λ e. n ≤ e.0) all → HasNoGap g es all
     → AllByRecursion (λ e. n ≤ e.0) es
@@ -192,12 +192,12 @@ from_gap g n es (a ∷ all) h k = ⊎_elim
     (λ (j : AllByRecursion (λ e. are_related_entries g a e ≡ false) es × HasNoGap g es all). from_gap g n es all h.1 j.1) k
 
 -- a line that takes no ticket leaves the state
-state_stays : (g : Geometry) (x : State) (o : Option Msg) → asked_in g o ≡ [] → state_after_line g x o ≡ x
+state_stays : (g : Geometry) (x : State) (o : Option Msg) → admitted_in g o ≡ [] → state_after_line g x o ≡ x
 state_stays g x None h = refl
 state_stays g x (Some m) h = ap (λ (q : Reply × State). q.1) (refused_for_range g x m (not_in_range g m h))
 
 -- The line that is kept for a line is the serial server's, if its reply is.
-kept_line : (g : Geometry) (x : State) (log : List Replied) (n : ℕ) (o : Option Msg) (line : List ℕ) → IsKept g log n o line
+kept_line : (g : Geometry) (x : State) (log : List Replied) (n : ℕ) (o : Option Msg) (line : List ℕ) → IsInLog g log n o line
     → ((m : Msg) (reply : Reply) → o ≡ Some m → is_in_range g m ≡ true → IsIn (n, m, reply) log → reply ≡ reply_to g x m) → line ≡ answer_line g x o
 kept_line g x log n None line k same = k
 kept_line g x log n (Some m) line k same = ⊎_elim
@@ -207,14 +207,14 @@ kept_line g x log n (Some m) line k same = ⊎_elim
     has.1.1 ∙ ap reply_line (same m has.1.0 refl has.0 (in_contained log (n, m, has.1.0) has.1.2))) k
 
 -- What is kept for a line with a ticket is in the log.
-kept_reply : (g : Geometry) (log : List Replied) (n : ℕ) (m : Msg) (line : List ℕ) → is_in_range g m ≡ true → IsKept g log n (Some m) line
+kept_reply : (g : Geometry) (log : List Replied) (n : ℕ) (m : Msg) (line : List ℕ) → is_in_range g m ≡ true → IsInLog g log n (Some m) line
     → (reply : Reply) × IsIn (n, m, reply) log
 kept_reply g log n m line is k = ⊎_elim
     (λ (out : (is_in_range g m ≡ false) × (line ≡ reply_line (Refused Range))). absurd (true≢false (sym is ∙ out.0)))
     (λ (has : (is_in_range g m ≡ true) × ((reply : Reply) × (line ≡ reply_line reply) × Contains log (n, m, reply))).
     (has.1.0, in_contained log (n, m, has.1.0) has.1.2)) k
 
-ranges_too : (g : Geometry) (m : Msg) → asked_in g (Some m) ≡ m ∷ [] → is_in_range g m ≡ true
+ranges_too : (g : Geometry) (m : Msg) → admitted_in g (Some m) ≡ m ∷ [] → is_in_range g m ≡ true
 ranges_too g m h = elim (is_in_range g m) as (λ b. (if b then m ∷ [] else []) ≡ m ∷ [] → b ≡ true) [
   | true ↦ λ e. refl
   | false ↦ λ e. cc
@@ -225,24 +225,24 @@ some_is m k h = cc
 
 -- The first message is told its own reply, and the replies to come are told behind it.
 its_reply : (g : Geometry) (x : State) (n : ℕ) (m : Msg) (log : List Replied) (es : List Entry) → AllByRecursion (λ e. n + 1 ≤ e.0) es
-    → AreTold g x n log ((n, m) ∷ es) → (k : Msg) (reply : Reply) → IsIn (n, k, reply) log → reply ≡ reply_to g x m
-its_reply g x n m log es h told_all k reply is = ⊎_elim
+    → HaveSerialReplies g x n log ((n, m) ∷ es) → (k : Msg) (reply : Reply) → IsIn (n, k, reply) log → reply ≡ reply_to g x m
+its_reply g x n m log es h serial_all k reply is = ⊎_elim
     (λ (less : n < n). absurd (omega (arith, less)))
     (λ here. ⊎_elim (λ (same : (n, reply) ≡ (n, reply_to g x m)). ap (λ (q : ℕ × Reply). q.1) same)
-    (λ later. let from : n + 1 ≤ n = told_from g (next_state g x m) (n + 1) es h (n, reply) later in absurd (omega (arith, from))) here)
-    (told_all n k reply is)
+    (λ later. let from : n + 1 ≤ n = serial_from g (next_state g x m) (n + 1) es h (n, reply) later in absurd (omega (arith, from))) here)
+    (serial_all n k reply is)
 
-told_on : (g : Geometry) (x : State) (n : ℕ) (m : Msg) (log : List Replied) (es : List Entry) → AreTold g x n log ((n, m) ∷ es)
-    → AreTold g (next_state g x m) (n + 1) log es
-told_on g x n m log es told_all t k reply is = ⊎_elim
+serial_on : (g : Geometry) (x : State) (n : ℕ) (m : Msg) (log : List Replied) (es : List Entry) → HaveSerialReplies g x n log ((n, m) ∷ es)
+    → HaveSerialReplies g (next_state g x m) (n + 1) log es
+serial_on g x n m log es serial_all t k reply is = ⊎_elim
     (λ (less : t < n). inl (omega (arith, less)))
     (λ here. ⊎_elim
     (λ (same : (t, reply) ≡ (n, reply_to g x m)). let at : t ≡ n = ap (λ (q : ℕ × Reply). q.0) same in inl (omega (arith, at)))
     (λ later. inr later) here)
-    (told_all t k reply is)
+    (serial_all t k reply is)
 
 module _ (g : Geometry) (log : List Replied) where
-  none_answered : (x : State) (n : ℕ) (ls : List (List ℕ)) (es : List Entry) → HasNoGap g es (ticketed n (asked g ls)) → AnswersFirst g x es ls []
+  none_answered : (x : State) (n : ℕ) (ls : List (List ℕ)) (es : List Entry) → HasNoGap g es (ticketed n (admitted g ls)) → AnswersFirst g x es ls []
   none_answered x n ls es h =
       let s = spells_part g n ls es h in
       record { first = []; behind = ls; parts = refl; answers = refl; part = s.part; closed = s.closed; state = leads g x s.part es s.spell }
@@ -250,66 +250,66 @@ module _ (g : Geometry) (log : List Replied) where
   one_more : (x : State) (es fs : List Entry) (line : List ℕ) (ls : List (List ℕ)) (w : List ℕ) (written : List (List ℕ))
       → w ≡ answer_line g x (message_of line) → fold g x (messages es) ≡ fold g (state_after_line g x (message_of line)) (messages fs)
       → AnswersFirst g (state_after_line g x (message_of line)) fs ls written → AnswersFirst g x es (line ∷ ls) (w ∷ written)
-  one_more x es fs line ls w written says goes rest = record {
+  one_more x es fs line ls w written retires goes rest = record {
     first = line ∷ rest.first;
     behind = rest.behind;
     parts = ap (λ l. line ∷ l) rest.parts;
-    answers = λ i. says i ∷ rest.answers i;
+    answers = λ i. retires i ∷ rest.answers i;
     part = rest.part;
     closed = rest.closed;
     state = goes ∙ rest.state;
   }
 
   module _ (x : State) (n : ℕ) (line : List ℕ) (ls : List (List ℕ)) (w : List ℕ) (written : List (List ℕ)) (es : List Entry)
-      (on : (y : State) (k : ℕ) (fs : List Entry) → HasNoGap g fs (ticketed k (asked g ls)) → AreTold g y k log fs → AreKept g log k ls written
+      (on : (y : State) (k : ℕ) (fs : List Entry) → HasNoGap g fs (ticketed k (admitted g ls)) → HaveSerialReplies g y k log fs → AreInLog g log k ls written
       → AnswersFirst g y fs ls written) where
-    answers_none : asked_in g (message_of line) ≡ [] → HasNoGap g es (ticketed n (asked g ls)) → AreTold g x n log es
-        → IsKept g log n (message_of line) w → AreKept g log n ls written → AnswersFirst g x es (line ∷ ls) (w ∷ written)
-    answers_none none h told_all k rest =
+    answers_none : admitted_in g (message_of line) ≡ [] → HasNoGap g es (ticketed n (admitted g ls)) → HaveSerialReplies g x n log es
+        → IsInLog g log n (message_of line) w → AreInLog g log n ls written → AnswersFirst g x es (line ∷ ls) (w ∷ written)
+    answers_none none h serial_all k rest =
         let stays = state_stays g x (message_of line) none in
-        let says = kept_line g x log n (message_of line) w k
-        (λ m reply is in_range its. absurd (true≢false (sym in_range ∙ not_in_range g m (ap (asked_in g) (sym is) ∙ none)))) in
-        one_more x es es line ls w written says (ap (λ y. fold g y (messages es)) (sym stays))
-        (subst (λ y. AnswersFirst g y es ls written) (sym stays) (on x n es h told_all rest))
+        let retires = kept_line g x log n (message_of line) w k
+        (λ m reply is in_range its. absurd (true≢false (sym in_range ∙ not_in_range g m (ap (admitted_in g) (sym is) ∙ none)))) in
+        one_more x es es line ls w written retires (ap (λ y. fold g y (messages es)) (sym stays))
+        (subst (λ y. AnswersFirst g y es ls written) (sym stays) (on x n es h serial_all rest))
 
-    answers_one : (m : Msg) → message_of line ≡ Some m → is_in_range g m ≡ true → HasNoGap g es ((n, m) ∷ ticketed (n + 1) (asked g ls))
-        → AreTold g x n log es → IsKept g log n (Some m) w → AreKept g log (n + 1) ls written → AnswersFirst g x es (line ∷ ls) (w ∷ written)
-    answers_one m is ranges h told_all k rest =
+    answers_one : (m : Msg) → message_of line ≡ Some m → is_in_range g m ≡ true → HasNoGap g es ((n, m) ∷ ticketed (n + 1) (admitted g ls))
+        → HaveSerialReplies g x n log es → IsInLog g log n (Some m) w → AreInLog g log (n + 1) ls written → AnswersFirst g x es (line ∷ ls) (w ∷ written)
+    answers_one m is ranges h serial_all k rest =
         let its = kept_reply g log n m w ranges k in
-        let late = all_from (n + 1) (n + 1) (asked g ls) (omega arith) in
+        let late = all_from (n + 1) (n + 1) (admitted g ls) (omega arith) in
         ⊎_elim
-        (λ (j : (fs : List Entry) × (es ≡ (n, m) ∷ fs) × HasNoGap g fs (ticketed (n + 1) (asked g ls))).
-        let told_here = subst (AreTold g x n log) j.1 told_all in
-        let behind = from_gap g (n + 1) j.0 (ticketed (n + 1) (asked g ls)) late j.2 in
-        let says = kept_line g x log n (Some m) w k
-        (λ m' reply same in_range its. its_reply g x n m log j.0 behind told_here m' reply its ∙ ap (reply_to g x) (some_is m m' same)) in
-        one_more x es j.0 line ls w written (says ∙ ap (answer_line g x) (sym is))
+        (λ (j : (fs : List Entry) × (es ≡ (n, m) ∷ fs) × HasNoGap g fs (ticketed (n + 1) (admitted g ls))).
+        let serial_here = subst (HaveSerialReplies g x n log) j.1 serial_all in
+        let behind = from_gap g (n + 1) j.0 (ticketed (n + 1) (admitted g ls)) late j.2 in
+        let retires = kept_line g x log n (Some m) w k
+        (λ m' reply same in_range its. its_reply g x n m log j.0 behind serial_here m' reply its ∙ ap (reply_to g x) (some_is m m' same)) in
+        one_more x es j.0 line ls w written (retires ∙ ap (answer_line g x) (sym is))
         (ap (λ l. fold g x (messages l)) j.1 ∙ ap (λ o. fold g (state_after_line g x o) (messages j.0)) (sym is))
         (subst (λ o. AnswersFirst g (state_after_line g x o) j.0 ls written) (sym is)
-        (on (next_state g x m) (n + 1) j.0 j.2 (told_on g x n m log j.0 told_here) rest)))
-        (λ (j : AllByRecursion (λ e. are_related_entries g (n, m) e ≡ false) es × HasNoGap g es (ticketed (n + 1) (asked g ls))).
-        let behind = from_gap g (n + 1) es (ticketed (n + 1) (asked g ls)) late j.1 in
+        (on (next_state g x m) (n + 1) j.0 j.2 (serial_on g x n m log j.0 serial_here) rest)))
+        (λ (j : AllByRecursion (λ e. are_related_entries g (n, m) e ≡ false) es × HasNoGap g es (ticketed (n + 1) (admitted g ls))).
+        let behind = from_gap g (n + 1) es (ticketed (n + 1) (admitted g ls)) late j.1 in
         ⊎_elim (λ (less : n < n). absurd (omega (arith, less)))
-        (λ here. let from : n + 1 ≤ n = told_from g x (n + 1) es behind (n, its.0) here in absurd (omega (arith, from)))
-        (told_all n m its.0 its.1)) h
+        (λ here. let from : n + 1 ≤ n = serial_from g x (n + 1) es behind (n, its.0) here in absurd (omega (arith, from)))
+        (serial_all n m its.0 its.1)) h
 
 pub answers_first : (g : Geometry) (log : List Replied) (x : State) (n : ℕ) (ls written : List (List ℕ)) (es : List Entry)
-    → HasNoGap g es (ticketed n (asked g ls)) → AreTold g x n log es → AreKept g log n ls written → AnswersFirst g x es ls written
-answers_first g log x n ls [] es h told_all k = none_answered g log x n ls es h
-answers_first g log x n [] (w ∷ written) es h told_all k = absurd k
-answers_first g log x n (line ∷ ls) (w ∷ written) es h told_all k =
-    let on = λ (y : State) (i : ℕ) (fs : List Entry) (h : HasNoGap g fs (ticketed i (asked g ls))) (t : AreTold g y i log fs)
-    (k : AreKept g log i ls written). answers_first g log y i ls written fs h t k in
+    → HasNoGap g es (ticketed n (admitted g ls)) → HaveSerialReplies g x n log es → AreInLog g log n ls written → AnswersFirst g x es ls written
+answers_first g log x n ls [] es h serial_all k = none_answered g log x n ls es h
+answers_first g log x n [] (w ∷ written) es h serial_all k = absurd k
+answers_first g log x n (line ∷ ls) (w ∷ written) es h serial_all k =
+    let on = λ (y : State) (i : ℕ) (fs : List Entry) (h : HasNoGap g fs (ticketed i (admitted g ls))) (t : HaveSerialReplies g y i log fs)
+    (k : AreInLog g log i ls written). answers_first g log y i ls written fs h t k in
     let o = message_of line in
     ⊎_elim
-    (λ (none : asked_in g o ≡ []).
+    (λ (none : admitted_in g o ≡ []).
     answers_none g log x n line ls w written es on none
-    (subst (λ ms. HasNoGap g es (ticketed n (ms ++ asked g ls))) none h) told_all k.0
-    (subst (λ ms. AreKept g log (next_ticket n ms) ls written) none k.1))
-    (λ (j : (m : Msg) × (o ≡ Some m) × (asked_in g o ≡ m ∷ [])).
-    answers_one g log x n line ls w written es on j.0 j.1 (ranges_too g j.0 (ap (asked_in g) (sym j.1) ∙ j.2))
-    (subst (λ ms. HasNoGap g es (ticketed n (ms ++ asked g ls))) j.2 h) told_all
-    (subst (λ o. IsKept g log n o w) j.1 k.0) (subst (λ ms. AreKept g log (next_ticket n ms) ls written) j.2 k.1))
+    (subst (λ ms. HasNoGap g es (ticketed n (ms ++ admitted g ls))) none h) serial_all k.0
+    (subst (λ ms. AreInLog g log (next_ticket n ms) ls written) none k.1))
+    (λ (j : (m : Msg) × (o ≡ Some m) × (admitted_in g o ≡ m ∷ [])).
+    answers_one g log x n line ls w written es on j.0 j.1 (ranges_too g j.0 (ap (admitted_in g) (sym j.1) ∙ j.2))
+    (subst (λ ms. HasNoGap g es (ticketed n (ms ++ admitted g ls))) j.2 h) serial_all
+    (subst (λ o. IsInLog g log n o w) j.1 k.0) (subst (λ ms. AreInLog g log (next_ticket n ms) ls written) j.2 k.1))
     (takes_one g o)
 
 -- ---- what a log leads to
@@ -333,11 +333,11 @@ longer g part (line ∷ ls) rest h = ⊎_elim
 
 -- Where the first lines of an input were taken, and a log has what was written for the first of these, it leads where a restart may go on.
 pub recovers_to : (g : Geometry) (x : State) (n : ℕ) (input : List ℕ) (taken rest written : List (List ℕ)) (log more : List Replied)
-    → lines input ≡ taken ++ rest → AreKept g log n taken written → IsSerialLog g x (ticketed n (asked g taken)) (log ++ more)
+    → lines input ≡ taken ++ rest → AreInLog g log n taken written → IsSerialLog g x (ticketed n (admitted g taken)) (log ++ more)
     → RecoversTo g x (fold g x (loggable (log ++ more))) input (joined written)
 recovers_to g x n input taken rest written log more first kept serial =
-    let arrivals = ticketed n (asked g taken) in
-    let sorted = sorted_log g x arrivals (log ++ more) (ascending n (asked g taken)) serial in
+    let arrivals = ticketed n (admitted g taken) in
+    let sorted = sorted_log g x arrivals (log ++ more) (ascending n (admitted g taken)) serial in
     let es = by_ticket (entries (log ++ more)) in
     let a = answers_first g log x n taken written es sorted.no_gap
     (λ t m reply is. inr (sorted.tells (t, reply) (said_so (log ++ more) t m reply (in_left (t, m, reply) log more is)))) kept in
@@ -352,12 +352,12 @@ recovers_to g x n input taken rest written log more first kept serial =
     }
 
 -- So it is where these bytes hold what was written.
-pub stands_recovered : (g : Geometry) (x : State) (n : ℕ) (input before written : Option (List ℕ)) (taken answers : List (List ℕ))
-    (log : List Replied) (bytes : List ℕ) → AreFirst input taken → Appends before written (joined answers) → AreKept g log n taken answers
-    → HoldsLog g x (ticketed n (asked g taken)) log bytes → StandsRecovered g x input before written bytes
-stands_recovered g x n input before written taken answers log bytes first output kept h = record {
+pub bytes_recover : (g : Geometry) (x : State) (n : ℕ) (input before written : Option (List ℕ)) (taken answers : List (List ℕ))
+    (log : List Replied) (bytes : List ℕ) → AreFirst input taken → Appends before written (joined answers) → AreInLog g log n taken answers
+    → HoldsLog g x (ticketed n (admitted g taken)) log bytes → BytesRecover g x input before written bytes
+bytes_recover g x n input before written taken answers log bytes first output kept h = record {
   now = fold g x (loggable (log ++ h.more));
-  stands = h.stands;
+  holds_now = h.recovers;
   recovers = so input first;
 }
   where

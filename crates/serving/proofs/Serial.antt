@@ -5,7 +5,7 @@ use Rattle.std.specs.List.{AllByRecursion}
 use Rattle.std.proofs.lemmas.Bool.{true≢false}
 use Rattle.affinity.specs.declared.geometry.Geometry.{Geometry}
 use Rattle.legal_runs.proofs.Elements.{in_contained}
-use Rattle.legal_runs.proofs.Told.{IsIn}
+use Rattle.legal_runs.proofs.SerialReplies.{IsIn}
 use Rattle.messages.specs.Grammar.{message_of}
 use Rattle.messages.specs.Messages.{is_in_range}
 use Rattle.messages.specs.Replies.{reply_line}
@@ -16,11 +16,11 @@ use Rattle.messages.specs.declared.Refusal.TheVariants.{Range}
 use Rattle.messages.specs.declared.Reply.{Reply}
 use Rattle.messages.specs.declared.Reply.TheVariants.{Refused}
 use Rattle.meaning.proofs.OutputLemmas.{take-output_lines}
-use Rattle.meaning.specs.Order.{messages, told}
+use Rattle.meaning.specs.Order.{messages, serial_replies}
 use Rattle.meaning.specs.Output.{answer_line, output_lines, state_after_line, state_after_lines}
 use Rattle.meaning.specs.Serial.{accepted_reply, effect, fold, next_state, outcome, passes, refusal, reply_to, step, tests}
 use Rattle.meaning.specs.State.{State}
-use Rattle.serving.specs.Lines.{Answered, AreKnown, IsKnown, Line, NoMessage, OutOfRange, Unanswered, asked, asked_in, is_answered, next_ticket, text, ticketed}
+use Rattle.serving.specs.Lines.{Completed, AreKnown, IsKnown, Line, NoMessage, OutOfRange, Pending, admitted, admitted_in, is_completed, next_ticket, text, ticketed}
 
 -- ---- a message that is out of range
 
@@ -53,7 +53,7 @@ pub messages-ticketed : (n : ℕ) (ms : List Msg) → messages (ticketed n ms) �
 messages-ticketed n [] = refl
 messages-ticketed n (m ∷ ms) = ap (λ l. m ∷ l) (messages-ticketed (n + 1) ms)
 
-told_later : (g : Geometry) (x : State) (n : ℕ) (ms : List Msg) (p : ℕ × Reply) → IsIn p (told g x (ticketed n ms)) → n ≤ p.0
+told_later : (g : Geometry) (x : State) (n : ℕ) (ms : List Msg) (p : ℕ × Reply) → IsIn p (serial_replies g x (ticketed n ms)) → n ≤ p.0
 told_later g x n [] p is = absurd is
 told_later g x n (m ∷ ms) p is = ⊎_elim
     (λ (e : p ≡ (n, reply_to g x m)). let same : p.0 ≡ n = ap (λ (q : ℕ × Reply). q.0) e in omega (arith, same))
@@ -63,44 +63,44 @@ pub next_from : (n : ℕ) (ms : List Msg) → n ≤ next_ticket n ms
 next_from n [] = omega arith
 next_from n (m ∷ ms) = let from = next_from (n + 1) ms in omega (arith, from)
 
-pub told_earlier : (g : Geometry) (x : State) (n : ℕ) (ms : List Msg) (p : ℕ × Reply) → IsIn p (told g x (ticketed n ms)) → p.0 < next_ticket n ms
+pub told_earlier : (g : Geometry) (x : State) (n : ℕ) (ms : List Msg) (p : ℕ × Reply) → IsIn p (serial_replies g x (ticketed n ms)) → p.0 < next_ticket n ms
 told_earlier g x n [] p is = absurd is
 told_earlier g x n (m ∷ ms) p is = ⊎_elim
     (λ (e : p ≡ (n, reply_to g x m)).
     let same : p.0 ≡ n = ap (λ (q : ℕ × Reply). q.0) e in let from = next_from (n + 1) ms in omega (arith, same, from))
     (λ later. told_earlier g (next_state g x m) (n + 1) ms p later) is
 
-pub asked-append : (g : Geometry) (ls ms : List (List ℕ)) → asked g (ls ++ ms) ≡ asked g ls ++ asked g ms
-asked-append g [] ms = refl
-asked-append g (l ∷ ls) ms =
-    ap (λ z. asked_in g (message_of l) ++ z) (asked-append g ls ms) ∙ sym (append_assoc (asked_in g (message_of l)) (asked g ls) (asked g ms))
+pub admitted-append : (g : Geometry) (ls ms : List (List ℕ)) → admitted g (ls ++ ms) ≡ admitted g ls ++ admitted g ms
+admitted-append g [] ms = refl
+admitted-append g (l ∷ ls) ms =
+    ap (λ z. admitted_in g (message_of l) ++ z) (admitted-append g ls ms) ∙ sym (append_assoc (admitted_in g (message_of l)) (admitted g ls) (admitted g ms))
 
 -- ---- the lines
 
 module _ (g : Geometry) (replies : List (ℕ × Reply)) where
   -- Each reply was given to a message before ticket n, or is told from here on.
-  abbrev pub AreTold : State → ℕ → List Msg → Type 0
-  AreTold x n ms = (p : ℕ × Reply) → IsIn p replies → (p.0 < n) ⊎ IsIn p (told g x (ticketed n ms))
+  abbrev pub HaveSerialReplies : State → ℕ → List Msg → Type 0
+  HaveSerialReplies x n ms = (p : ℕ × Reply) → IsIn p replies → (p.0 < n) ⊎ IsIn p (serial_replies g x (ticketed n ms))
 
   -- A line that is answered is answered as the serial server answers it, and the replies behind it go on.
   record IsServedBy (x : State) (n : ℕ) (ms : List Msg) (o : Option Msg) (known : Line) : Type 0 where
-    says : text known ≡ answer_line g x o
-    tells : AreTold (state_after_line g x o) (next_ticket n (asked_in g o)) ms
+    retires : text known ≡ answer_line g x o
+    tells : HaveSerialReplies (state_after_line g x o) (next_ticket n (admitted_in g o)) ms
 
-  in_range : (m : Msg) → is_in_range g m ≡ true → asked_in g (Some m) ≡ m ∷ []
+  in_range : (m : Msg) → is_in_range g m ≡ true → admitted_in g (Some m) ≡ m ∷ []
   in_range m h = ap (λ (b : Bool). if b then m ∷ [] else []) h
 
-  none_asked : (m : Msg) → is_in_range g m ≡ false → asked_in g (Some m) ≡ []
+  none_asked : (m : Msg) → is_in_range g m ≡ false → admitted_in g (Some m) ≡ []
   none_asked m h = ap (λ (b : Bool). if b then m ∷ [] else []) h
 
-  with_ticket : (x : State) (n : ℕ) (ms : List Msg) (m : Msg) → AreTold x n (m ∷ ms) → AreTold (next_state g x m) (n + 1) ms
+  with_ticket : (x : State) (n : ℕ) (ms : List Msg) (m : Msg) → HaveSerialReplies x n (m ∷ ms) → HaveSerialReplies (next_state g x m) (n + 1) ms
   with_ticket x n ms m h p is = ⊎_elim
       (λ (lt : p.0 < n). inl (omega (arith, lt)))
       (λ here. ⊎_elim (λ (e : p ≡ (n, reply_to g x m)). let same : p.0 ≡ n = ap (λ (q : ℕ × Reply). q.0) e in inl (omega (arith, same)))
       (λ later. inr later) here)
       (h p is)
 
-  its_reply : (x : State) (n : ℕ) (ms : List Msg) (m : Msg) (reply : Reply) → AreTold x n (m ∷ ms) → IsIn (n, reply) replies
+  its_reply : (x : State) (n : ℕ) (ms : List Msg) (m : Msg) (reply : Reply) → HaveSerialReplies x n (m ∷ ms) → IsIn (n, reply) replies
       → reply ≡ reply_to g x m
   its_reply x n ms m reply h is = ⊎_elim
       (λ (lt : n < n). absurd (omega (arith, lt)))
@@ -108,64 +108,64 @@ module _ (g : Geometry) (replies : List (ℕ × Reply)) where
       (λ later. let from : n + 1 ≤ n = told_later g (next_state g x m) (n + 1) ms (n, reply) later in absurd (omega (arith, from))) here)
       (h (n, reply) is)
 
-  served_line : (x : State) (n : ℕ) (ms : List Msg) (o : Option Msg) (known : Line) → AreTold x n (asked_in g o ++ ms)
-      → IsKnown g replies n o known → is_answered known ≡ true → IsServedBy x n ms o known
-  served_line x n ms None NoMessage h k done = record { says = refl; tells = h }
+  served_line : (x : State) (n : ℕ) (ms : List Msg) (o : Option Msg) (known : Line) → HaveSerialReplies x n (admitted_in g o ++ ms)
+      → IsKnown g replies n o known → is_completed known ≡ true → IsServedBy x n ms o known
+  served_line x n ms None NoMessage h k done = record { retires = refl; tells = h }
   served_line x n ms None OutOfRange h k done = absurd k
-  served_line x n ms None (Unanswered ticket) h k done = absurd k
-  served_line x n ms None (Answered ticket reply) h k done = absurd k
+  served_line x n ms None (Pending ticket) h k done = absurd k
+  served_line x n ms None (Completed ticket reply) h k done = absurd k
   served_line x n ms (Some m) NoMessage h k done = absurd k
   served_line x n ms (Some m) OutOfRange h k done =
       let none = none_asked m k in
       let same = out_of_range g x m k in
       record {
-        says = ap (λ (q : Reply × State). reply_line q.0) (sym same);
-        tells = subst (λ (l : List Msg). AreTold (next_state g x m) (next_ticket n l) ms) (sym none)
-            (subst (λ (q : Reply × State). AreTold q.1 n ms) (sym same) (subst (λ (l : List Msg). AreTold x n (l ++ ms)) none h));
+        retires = ap (λ (q : Reply × State). reply_line q.0) (sym same);
+        tells = subst (λ (l : List Msg). HaveSerialReplies (next_state g x m) (next_ticket n l) ms) (sym none)
+            (subst (λ (q : Reply × State). HaveSerialReplies q.1 n ms) (sym same) (subst (λ (l : List Msg). HaveSerialReplies x n (l ++ ms)) none h));
       }
-  served_line x n ms (Some m) (Unanswered ticket) h k done = absurd (true≢false (sym done))
-  served_line x n ms (Some m) (Answered ticket reply) h k done =
+  served_line x n ms (Some m) (Pending ticket) h k done = absurd (true≢false (sym done))
+  served_line x n ms (Some m) (Completed ticket reply) h k done =
       let one = in_range m k.0 in
-      let on : AreTold x n (m ∷ ms) = subst (λ (l : List Msg). AreTold x n (l ++ ms)) one h in
+      let on : HaveSerialReplies x n (m ∷ ms) = subst (λ (l : List Msg). HaveSerialReplies x n (l ++ ms)) one h in
       let is : IsIn (n, reply) replies = subst (λ (t : ℕ). IsIn (t, reply) replies) k.1 (in_contained replies (ticket, reply) k.2) in
       record {
-        says = ap reply_line (its_reply x n ms m reply on is);
-        tells = subst (λ (l : List Msg). AreTold (next_state g x m) (next_ticket n l) ms) (sym one) (with_ticket x n ms m on);
+        retires = ap reply_line (its_reply x n ms m reply on is);
+        tells = subst (λ (l : List Msg). HaveSerialReplies (next_state g x m) (next_ticket n l) ms) (sym one) (with_ticket x n ms m on);
       }
 
   -- The lines that are answered are the first lines of the serial server.
-  pub said_is_serial : (x : State) (n : ℕ) (ls more : List (List ℕ)) (said row : List Line) → AreTold x n (asked g ls)
-      → AreKnown g replies n ls (said ++ row) → AllByRecursion (λ line. is_answered line ≡ true) said
-      → map text said ≡ take (length said) (output_lines g x (ls ++ more))
+  pub said_is_serial : (x : State) (n : ℕ) (ls more : List (List ℕ)) (retired row : List Line) → HaveSerialReplies x n (admitted g ls)
+      → AreKnown g replies n ls (retired ++ row) → AllByRecursion (λ line. is_completed line ≡ true) retired
+      → map text retired ≡ take (length retired) (output_lines g x (ls ++ more))
   said_is_serial x n ls more [] row h k done = refl
-  said_is_serial x n [] more (known ∷ said) row h k done = absurd k
-  said_is_serial x n (l ∷ ls) more (known ∷ said) row h k done =
+  said_is_serial x n [] more (known ∷ retired) row h k done = absurd k
+  said_is_serial x n (l ∷ ls) more (known ∷ retired) row h k done =
       let o = message_of l in
-      let one = served_line x n (asked g ls) o known h k.0 done.0 in
-      let rest = said_is_serial (state_after_line g x o) (next_ticket n (asked_in g o)) ls more said row one.tells k.1 done.1 in
-      λ i. one.says i ∷ rest i
+      let one = served_line x n (admitted g ls) o known h k.0 done.0 in
+      let rest = said_is_serial (state_after_line g x o) (next_ticket n (admitted_in g o)) ls more retired row one.tells k.1 done.1 in
+      λ i. one.retires i ∷ rest i
 
   pub as_many : (n : ℕ) (ls : List (List ℕ)) (row : List Line) → AreKnown g replies n ls row → length row ≡ length ls
   as_many n [] [] k = refl
   as_many n [] (known ∷ row) k = absurd k
   as_many n (l ∷ ls) [] k = absurd k
-  as_many n (l ∷ ls) (known ∷ row) k = ap suc (as_many (next_ticket n (asked_in g (message_of l))) ls row k.1)
+  as_many n (l ∷ ls) (known ∷ row) k = ap suc (as_many (next_ticket n (admitted_in g (message_of l))) ls row k.1)
 
   -- Where none is left, they are all.
-  pub all_said : (x : State) (n : ℕ) (ls : List (List ℕ)) (said : List Line) → AreTold x n (asked g ls)
-      → AreKnown g replies n ls (said ++ []) → AllByRecursion (λ line. is_answered line ≡ true) said
-      → map text said ≡ output_lines g x ls
-  all_said x n ls said h k done =
-      said_is_serial x n ls [] said [] h k done
+  pub all_said : (x : State) (n : ℕ) (ls : List (List ℕ)) (retired : List Line) → HaveSerialReplies x n (admitted g ls)
+      → AreKnown g replies n ls (retired ++ []) → AllByRecursion (λ line. is_completed line ≡ true) retired
+      → map text retired ≡ output_lines g x ls
+  all_said x n ls retired h k done =
+      said_is_serial x n ls [] retired [] h k done
       ∙ (λ i. take (many i) (output_lines g x (ls ++ [])))
       ∙ take-output_lines g x ls []
     where
-      many : length said ≡ length ls
-      many = ap length (sym (append-nil said)) ∙ as_many n ls (said ++ []) k
+      many : length retired ≡ length ls
+      many = ap length (sym (append-nil retired)) ∙ as_many n ls (retired ++ []) k
 
 -- ---- the state
 
-asked_leads : (g : Geometry) (x : State) (o : Option Msg) (ms : List Msg) → fold g x (asked_in g o ++ ms) ≡ fold g (state_after_line g x o) ms
+asked_leads : (g : Geometry) (x : State) (o : Option Msg) (ms : List Msg) → fold g x (admitted_in g o ++ ms) ≡ fold g (state_after_line g x o) ms
 asked_leads g x None ms = refl
 asked_leads g x (Some m) ms = elim (is_in_range g m) as
     (λ b. is_in_range g m ≡ b → fold g x ((if b then m ∷ [] else []) ++ ms) ≡ fold g (next_state g x m) ms) [
@@ -173,6 +173,6 @@ asked_leads g x (Some m) ms = elim (is_in_range g m) as
       | false ↦ λ e. ap (λ (q : Reply × State). fold g q.1 ms) (sym (out_of_range g x m e))
     ] refl
 
-pub asked_leads_there : (g : Geometry) (x : State) (ls : List (List ℕ)) → fold g x (asked g ls) ≡ state_after_lines g x ls
+pub asked_leads_there : (g : Geometry) (x : State) (ls : List (List ℕ)) → fold g x (admitted g ls) ≡ state_after_lines g x ls
 asked_leads_there g x [] = refl
-asked_leads_there g x (l ∷ ls) = asked_leads g x (message_of l) (asked g ls) ∙ asked_leads_there g (state_after_line g x (message_of l)) ls
+asked_leads_there g x (l ∷ ls) = asked_leads g x (message_of l) (admitted g ls) ∙ asked_leads_there g (state_after_line g x (message_of l)) ls

@@ -7,12 +7,12 @@ use Rattle.std.proofs.lemmas.List.Elements.{recursion_from_All}
 use Rattle.std.proofs.lemmas.Option.{none-some, same_Some}
 use Rattle.affinity.specs.declared.geometry.Geometry.{Geometry}
 use Rattle.runs.proofs.Running.{left_since_event}
-use Rattle.legal_runs.proofs.Arrivals.{answered_by_ticket, arrived_by_ticket, settled_by_ticket}
+use Rattle.legal_runs.proofs.Arrivals.{answered_by_ticket, arrived_by_ticket, committed_by_ticket}
 use Rattle.legal_runs.proofs.Idle.{idle_sound}
-use Rattle.legal_runs.proofs.Told.{IsIn}
+use Rattle.legal_runs.proofs.SerialReplies.{IsIn}
 use Rattle.legal_runs.specs.Events.{Hands}
-use Rattle.legal_runs.specs.Laws.{IsIdle, IsSoundWorld}
-use Rattle.legal_runs.specs.World.{Entry}
+use Rattle.legal_runs.specs.Laws.{IsIdle, IsSoundCoreState}
+use Rattle.legal_runs.specs.CoreState.{Entry}
 use Rattle.legal_runs.specs.Runs.{arrived}
 use Rattle.messages.proofs.FirstLines.{lines-first}
 use Rattle.messages.specs.Grammar.{message_of}
@@ -21,72 +21,72 @@ use Rattle.messages.specs.Messages.{is_in_range}
 use Rattle.messages.specs.FirstLine.{GivesLine, LosesFront, behind_first_line}
 use Rattle.messages.specs.declared.Msg.{Msg}
 use Rattle.messages.specs.declared.Reply.{Reply}
-use Rattle.meaning.specs.Order.{by_ticket, messages, told}
+use Rattle.meaning.specs.Order.{by_ticket, messages, serial_replies}
 use Rattle.meaning.specs.Output.{AnswersWholeLines, joined, output_lines, state_after_lines, with_newlines}
 use Rattle.meaning.specs.Progress.{AreTaken, TakesLines}
 use Rattle.meaning.specs.Serial.{fold}
 use Rattle.meaning.specs.State.{State}
-use Rattle.scheduler.specs.Kept.{StandsNow, world_of}
-use Rattle.serving.specs.Ends.{AreFirst, AreServed, EndsSo, HasServed, IsWoundUp, settled_in}
-use Rattle.serving.specs.Going.{Goes, IsServing}
-use Rattle.serving.specs.Lines.{AreKnown, Line, asked, next_ticket, text, ticketed}
+use Rattle.scheduler.specs.CoreView.{RecoversNow, core_state_of}
+use Rattle.serving.specs.Ends.{AreFirst, AreServed, EndsSo, HasServed, IsWoundUp, committed_in}
+use Rattle.serving.specs.Progress.{ServingProgress, IsServing}
+use Rattle.serving.specs.Lines.{AreKnown, Line, admitted, next_ticket, text, ticketed}
 use Rattle.runs.specs.Machine.{MachineView, machine_of}
 use Rattle.runs.specs.Stages.{events_of}
 use Rattle.serving.specs.declared.server.ServeFault.TheVariants as faults
 use Rattle.serving.proofs.Inside.{idle_again}
-use Rattle.serving.proofs.Serial.{AreTold, all_said, asked_leads_there, messages-ticketed, next_from, said_is_serial, told_earlier}
+use Rattle.serving.proofs.Serial.{HaveSerialReplies, all_said, asked_leads_there, messages-ticketed, next_from, said_is_serial, told_earlier}
 
-module _ (keeps : Type 0) (start now : MachineView) (idle : IsIdle (world_of start.core)) where
+module _ (keeps : Type 0) (start now : MachineView) (idle : IsIdle (core_state_of start.core)) where
   abbrev g : Geometry
   g = start.core.geometry
 
   abbrev x : State
-  x = settled_in start.core
+  x = committed_in start.core
 
-  pub sound : IsSoundWorld g (world_of start.core)
-  sound = idle_sound (world_of start.core) idle g
+  pub sound : IsSoundCoreState g (core_state_of start.core)
+  sound = idle_sound (core_state_of start.core) idle g
 
   -- ---- of a run
 
-  module _ (taken : List (List ℕ)) (said row : List Line) (s : IsServing keeps start now taken said row) where
-    by_line : by_ticket (arrived (events_of s.passes.stages)) ≡ ticketed start.core.next (asked g taken)
+  module _ (taken : List (List ℕ)) (retired row : List Line) (s : IsServing keeps start now taken retired row) where
+    by_line : by_ticket (arrived (events_of s.passes.stages)) ≡ ticketed start.core.next (admitted g taken)
     by_line = arrived_by_ticket g (machine_of start) (events_of s.passes.stages) s.passes.legal ∙ s.passes.come_are
 
-    all_told : AreTold g s.told x start.core.next (asked g taken)
-    all_told p is = inr (subst (λ (es : List Entry). IsIn p (told g x es)) by_line
+    all_told : HaveSerialReplies g s.reply_pairs x start.core.next (admitted g taken)
+    all_told p is = inr (subst (λ (es : List Entry). IsIn p (serial_replies g x es)) by_line
         (answered_by_ticket g (machine_of start) (events_of s.passes.stages) s.passes.legal sound idle p
-        (subst (IsIn p) (sym s.passes.told_are) is)))
+        (subst (IsIn p) (sym s.passes.reply_pairs_are) is)))
 
     -- Each that was answered has a ticket before the next.
-    pub told_before : (p : ℕ × Reply) → IsIn p s.told → p.0 < next_ticket start.core.next (asked g taken)
+    pub told_before : (p : ℕ × Reply) → IsIn p s.reply_pairs → p.0 < next_ticket start.core.next (admitted g taken)
     told_before p is = ⊎_elim
-        (λ (lt : p.0 < start.core.next). let from = next_from start.core.next (asked g taken) in omega (arith, lt, from))
-        (λ here. told_earlier g x start.core.next (asked g taken) p here)
+        (λ (lt : p.0 < start.core.next). let from = next_from start.core.next (admitted g taken) in omega (arith, lt, from))
+        (λ here. told_earlier g x start.core.next (admitted g taken) p here)
         (all_told p is)
 
-    leads : IsIdle (world_of now.core) → settled_in now.core ≡ state_after_lines g x taken
+    leads : IsIdle (core_state_of now.core) → committed_in now.core ≡ state_after_lines g x taken
     leads ends =
         let e = s.passes.ends in
-        ap (λ (w : Hands). w.core.settled) (sym e)
-        ∙ settled_by_ticket g (machine_of start) (events_of s.passes.stages) s.passes.legal sound idle (subst (λ (w : Hands). IsIdle w.core) (sym e) ends)
+        ap (λ (w : Hands). w.core.committed) (sym e)
+        ∙ committed_by_ticket g (machine_of start) (events_of s.passes.stages) s.passes.legal sound idle (subst (λ (w : Hands). IsIdle w.core) (sym e) ends)
         ∙ ap (λ (es : List Entry). fold g x (messages es)) by_line
-        ∙ ap (fold g x) (messages-ticketed start.core.next (asked g taken))
+        ∙ ap (fold g x) (messages-ticketed start.core.next (admitted g taken))
         ∙ asked_leads_there g x taken
 
-    begins : (more : List (List ℕ)) → map text said ≡ take (length said) (output_lines g x (taken ++ more))
-    begins more = said_is_serial g s.told x start.core.next taken more said row all_told s.known s.answered
+    begins : (more : List (List ℕ)) → map text retired ≡ take (length retired) (output_lines g x (taken ++ more))
+    begins more = said_is_serial g s.reply_pairs x start.core.next taken more retired row all_told s.known s.answered
 
   -- all that was taken is answered
-  served : (taken : List (List ℕ)) (said : List Line) → IsServing keeps start now taken said [] → IsIdle (world_of now.core)
-      → AreServed g x (settled_in now.core) taken (joined (map text said))
-  served taken said s ends = record {
-    output = ap joined (all_said g s.told x start.core.next taken said (all_told taken said [] s) s.known s.answered);
-    state = leads taken said [] s ends;
+  served : (taken : List (List ℕ)) (retired : List Line) → IsServing keeps start now taken retired [] → IsIdle (core_state_of now.core)
+      → AreServed g x (committed_in now.core) taken (joined (map text retired))
+  served taken retired s ends = record {
+    output = ap joined (all_said g s.reply_pairs x start.core.next taken retired (all_told taken retired [] s) s.known s.answered);
+    state = leads taken retired [] s ends;
   }
 
   -- ---- the ends
 
-  pub ends_whole : (input left : Option (List ℕ)) (ended : Bool) (before written : Option (List ℕ)) → Goes keeps start now [] input left ended before written
+  pub ends_whole : (input left : Option (List ℕ)) (ended : Bool) (before written : Option (List ℕ)) → ServingProgress keeps start now [] input left ended before written
       → now.core.failed ≡ false → IsAtEnd left → EndsSo start.core now.core input left before written (Ok tt)
   ends_whole None left ended before written h works at_end = (idle_again keeps start now idle None left ended before written h, works, at_end, tt)
   ends_whole (Some input) None ended before written h works at_end = absurd (none-some h.takes.0 h.takes.1)
@@ -99,14 +99,14 @@ module _ (keeps : Type 0) (start now : MachineView) (idle : IsIdle (world_of sta
         works,
         at_end,
         (
-          joined (map text h.said),
+          joined (map text h.retired),
           h.output,
-          subst (λ (ls : List (List ℕ)). AreServed g x (settled_in now.core) ls (joined (map text h.said))) (sym all)
-              (served h.taken h.said h.serving ends),
+          subst (λ (ls : List (List ℕ)). AreServed g x (committed_in now.core) ls (joined (map text h.retired))) (sym all)
+              (served h.taken h.retired h.serving ends),
         ),
       )
 
-  pub ends_at_read : (input left behind before written : Option (List ℕ)) → Goes keeps start now [] input left false before written
+  pub ends_at_read : (input left behind before written : Option (List ℕ)) → ServingProgress keeps start now [] input left false before written
       → now.core.failed ≡ false → IfSome left (λ bs. LosesFront bs behind) → EndsSo start.core now.core input behind before written (Err faults.Read)
   ends_at_read None left behind before written h works lost = (idle_again keeps start now idle None left false before written h, works, tt)
   ends_at_read (Some input) None behind before written h works lost = absurd (none-some h.takes.0 h.takes.1)
@@ -117,8 +117,8 @@ module _ (keeps : Type 0) (start now : MachineView) (idle : IsIdle (world_of sta
       ⊎_elim (λ e. absurd (true≢false (sym e)))
       (λ whole. whole ∙ ap (λ z. with_newlines h.taken ++ z) (sym (same_Some bs h.takes.0 h.takes.1) ∙ lost.parts)
       ∙ sym (append_assoc (with_newlines h.taken) lost.got lost.rest)) t.whole in
-      let k = served h.taken h.said h.serving ends in
-      let output : AnswersWholeLines g x behind input (joined (map text h.said)) = record {
+      let k = served h.taken h.retired h.serving ends in
+      let output : AnswersWholeLines g x behind input (joined (map text h.retired)) = record {
         whole = h.taken;
         begun = lost.got;
         rest = lost.rest;
@@ -128,10 +128,10 @@ module _ (keeps : Type 0) (start now : MachineView) (idle : IsIdle (world_of sta
         no_line = recursion_from_All (λ b. b ≢ 10) lost.got lost.within_line;
         answered = k.output;
       } in
-      (ends, works, (joined (map text h.said), h.output, record { output = output; state = k.state }))
+      (ends, works, (joined (map text h.retired), h.output, record { output = output; state = k.state }))
 
   pub ends_exhausted : (input left behind : Option (List ℕ)) (ended : Bool) (before written : Option (List ℕ)) (line : List ℕ) (m : Msg)
-      → Goes keeps start now [] input left ended before written → now.core.failed ≡ false → now.core.next ≡ 2 ^ 64 - 1
+      → ServingProgress keeps start now [] input left ended before written → now.core.failed ≡ false → now.core.next ≡ 2 ^ 64 - 1
       → IfSome left (λ bs. GivesLine line bs behind) → message_of line ≡ Some m → is_in_range g m ≡ true
       → EndsSo start.core now.core input behind before written (Err faults.Exhausted)
   ends_exhausted None left behind ended before written line m h works next found is in_range =
@@ -147,7 +147,7 @@ module _ (keeps : Type 0) (start now : MachineView) (idle : IsIdle (world_of sta
         works,
         next,
         (
-          joined (map text h.said),
+          joined (map text h.retired),
           h.output,
           record {
             before = h.taken;
@@ -157,28 +157,28 @@ module _ (keeps : Type 0) (start now : MachineView) (idle : IsIdle (world_of sta
             message = m;
             is_message = is;
             in_range = in_range;
-            served = served h.taken h.said h.serving ends;
+            served = served h.taken h.retired h.serving ends;
           },
         ),
       )
 
   pub ends_at_device : (row : List Line) (input left : Option (List ℕ)) (ended : Bool) (before written : Option (List ℕ))
-      → Goes keeps start now row input left ended before written → now.core.failed ≡ true → IsWoundUp now.core
+      → ServingProgress keeps start now row input left ended before written → now.core.failed ≡ true → IsWoundUp now.core
       → EndsSo start.core now.core input left before written (Err faults.Device)
   ends_at_device row None left ended before written h failed wound_up = (failed, wound_up, tt)
   ends_at_device row (Some input) left ended before written h failed wound_up =
-      let all = begins h.taken h.said row h.serving (lines h.takes.0)
-      ∙ ap (λ ls. take (length h.said) (output_lines g x ls)) (sym h.takes.2.to_come) in
-      (failed, wound_up, (joined (map text h.said), h.output, (length h.said, ap joined all)))
+      let all = begins h.taken h.retired row h.serving (lines h.takes.0)
+      ∙ ap (λ ls. take (length h.retired) (output_lines g x ls)) (sym h.takes.2.to_come) in
+      (failed, wound_up, (joined (map text h.retired), h.output, (length h.retired, ap joined all)))
 
   pub first_taken : (input left : Option (List ℕ)) (ended : Bool) (taken : List (List ℕ)) → TakesLines input left ended taken → AreFirst input taken
   first_taken None left ended taken t = tt
   first_taken (Some input) left ended taken t = (lines t.0, t.2.to_come)
 
   unfoldable pub has_served : (row : List Line) (input left : Option (List ℕ)) (ended : Bool) (before written : Option (List ℕ))
-      → Goes keeps start now row input left ended before written → (now.core.failed ≡ false → now.core.doubt ≡ [])
-      → (keeps → StandsNow now.core) → HasServed keeps start now.core row input before written
-  has_served row input left ended before written h none stands =
+      → ServingProgress keeps start now row input left ended before written → (now.core.failed ≡ false → now.core.doubt ≡ [])
+      → (keeps → RecoversNow now.core) → HasServed keeps start now.core row input before written
+  has_served row input left ended before written h none recovers =
       let p = h.serving.passes in
       record {
         taken = h.taken;
@@ -194,10 +194,10 @@ module _ (keeps : Type 0) (start now : MachineView) (idle : IsIdle (world_of sta
           failures = p.failures;
           any_moment = p.any_moment;
           crash = λ kept. left_since_event g (machine_of start) start.core.medium p.stages now p.legal sound (p.any_moment kept) p.ends
-              p.geometry p.device none (stands kept);
+              p.geometry p.device none (recovers kept);
         };
-        said = h.said;
-        known = subst (λ (l : List (ℕ × Reply)). AreKnown g l start.core.next h.taken (h.said ++ row)) (sym p.told_are) h.serving.known;
-        are_answered = h.serving.answered;
+        retired = h.retired;
+        known = subst (λ (l : List (ℕ × Reply)). AreKnown g l start.core.next h.taken (h.retired ++ row)) (sym p.reply_pairs_are) h.serving.known;
+        are_completed = h.serving.answered;
         output = h.output;
       }

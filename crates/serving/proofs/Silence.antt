@@ -8,7 +8,7 @@ use Rattle.affinity.specs.declared.geometry.Geometry.{Geometry}
 use Rattle.legal_runs.proofs.Elements.{in_contained}
 use Rattle.legal_runs.specs.Events.{Hands}
 use Rattle.legal_runs.specs.Runs.{answered, arrived}
-use Rattle.legal_runs.specs.World.{Entry}
+use Rattle.legal_runs.specs.CoreState.{Entry}
 use Rattle.runs.specs.Machine.{machine_of}
 use Rattle.runs.specs.Stages.{events_of}
 use Rattle.messages.specs.Grammar.{message_of}
@@ -19,10 +19,10 @@ use Rattle.messages.specs.declared.Refusal.TheVariants.{Range}
 use Rattle.messages.specs.declared.Reply.TheVariants.{Done, Refused}
 use Rattle.meaning.specs.Order.{messages}
 use Rattle.meaning.specs.Output.{joined}
-use Rattle.scheduler.specs.Kept.{CoreView, world_of}
-use Rattle.serving.specs.Lines.{Answered, AreAnswered, AreKnown, IsKnown, Line, NoMessage, OutOfRange, Unanswered, asked_in, next_ticket, text}
+use Rattle.scheduler.specs.CoreView.{CoreView, core_state_of}
+use Rattle.serving.specs.Lines.{Completed, AreCompleted, AreKnown, IsKnown, Line, NoMessage, OutOfRange, Pending, admitted_in, next_ticket, text}
 use Rattle.serving.specs.Runs.{inside}
-use Rattle.serving.specs.Telling.{HasNoReply, MaySay, MayTell, Start, TellsNoReply, start_machine}
+use Rattle.serving.specs.Output.{HasNoReply, MaySendFrom, MaySend, Start, TellsNoReply, start_machine}
 use Rattle.serving.proofs.Counting.{run_counts}
 use Rattle.serving.proofs.Inside.{idle_inside}
 use Rattle.serving.proofs.Tickets.{run_next}
@@ -33,21 +33,21 @@ next_counts : (n : ℕ) (ms : List Msg) → next_ticket n ms ≡ n + length ms
 next_counts n [] = omega arith
 next_counts n (m ∷ ms) = let k = next_counts (n + 1) ms in omega (arith, k)
 
-one_silent : (g : Geometry) (n : ℕ) (o : Option Msg) (line : Line) → IsKnown g [] n o line → AreAnswered (line ∷ []) → HasNoReply line
+one_silent : (g : Geometry) (n : ℕ) (o : Option Msg) (line : Line) → IsKnown g [] n o line → AreCompleted (line ∷ []) → HasNoReply line
 one_silent g n o NoMessage k a = tt
 one_silent g n o OutOfRange k a = tt
-one_silent g n o (Unanswered t) k a = absurd (true≢false (sym a.0))
-one_silent g n None (Answered t reply) k a = absurd k
-one_silent g n (Some m) (Answered t reply) k a = absurd (in_contained [] (t, reply) k.2)
+one_silent g n o (Pending t) k a = absurd (true≢false (sym a.0))
+one_silent g n None (Completed t reply) k a = absurd k
+one_silent g n (Some m) (Completed t reply) k a = absurd (in_contained [] (t, reply) k.2)
 
-all_silent : (g : Geometry) (n : ℕ) (ls : List (List ℕ)) (said next row : List Line) → AreKnown g [] n ls (said ++ (next ++ row)) → AreAnswered next
+all_silent : (g : Geometry) (n : ℕ) (ls : List (List ℕ)) (retired next row : List Line) → AreKnown g [] n ls (retired ++ (next ++ row)) → AreCompleted next
     → AllByRecursion HasNoReply next
 all_silent g n ls [] [] row k a = tt
 all_silent g n [] [] (line ∷ next) row k a = absurd k
 all_silent g n (l ∷ ls) [] (line ∷ next) row k a =
-    (one_silent g n (message_of l) line k.0 (a.0, tt), all_silent g (next_ticket n (asked_in g (message_of l))) ls [] next row k.1 a.1)
-all_silent g n [] (line ∷ said) next row k a = absurd k
-all_silent g n (l ∷ ls) (line ∷ said) next row k a = all_silent g (next_ticket n (asked_in g (message_of l))) ls said next row k.1 a
+    (one_silent g n (message_of l) line k.0 (a.0, tt), all_silent g (next_ticket n (admitted_in g (message_of l))) ls [] next row k.1 a.1)
+all_silent g n [] (line ∷ retired) next row k a = absurd k
+all_silent g n (l ∷ ls) (line ∷ retired) next row k a = all_silent g (next_ticket n (admitted_in g (message_of l))) ls retired next row k.1 a
 
 -- ---- the answers so far
 
@@ -55,14 +55,14 @@ no_items : {A : Type 0} (xs : List A) → length xs ≡ 0 → xs ≡ []
 no_items [] none = λ i. []
 no_items (x ∷ xs) none = absurd (omega (arith, none))
 
-module _ (keeps : Type 0) (s : Start) (told : Option (List ℕ)) (now : CoreView) (bytes : List ℕ) (m : MaySay keeps s told now bytes)
-    (all_inside : inside (world_of now) + s.core.next ≡ now.next) where
+module _ (keeps : Type 0) (s : Start) (sent : Option (List ℕ)) (now : CoreView) (bytes : List ℕ) (m : MaySendFrom keeps s sent now bytes)
+    (all_inside : inside (core_state_of now) + s.core.next ≡ now.next) where
   none_answered : answered (events_of m.served.stages) ≡ []
   none_answered =
       let r = m.served.run in
       let events = events_of m.served.stages in
       let g = s.core.geometry in
-      let first = idle_inside (world_of s.core) m.idle in
+      let first = idle_inside (core_state_of s.core) m.idle in
       let count = run_counts g (machine_of (start_machine s)) events r.legal in
       let at_end = ap (λ (w : Hands). inside w.core) r.ends in
       let next_at_end = ap (λ (w : Hands). w.core.next) r.ends in
@@ -72,31 +72,31 @@ module _ (keeps : Type 0) (s : Start) (told : Option (List ℕ)) (now : CoreView
       no_items (answered events) (omega (arith, all_inside, first, count, at_end, next_at_end, next, tickets, many))
 
   pub is_silent : AllByRecursion HasNoReply m.next
-  is_silent = all_silent s.core.geometry s.core.next m.served.taken m.served.said m.next m.row
-      (subst (λ (l : List (ℕ × Reply)). AreKnown s.core.geometry l s.core.next m.served.taken (m.served.said ++ (m.next ++ m.row))) none_answered m.served.known)
-      m.are_answered
+  is_silent = all_silent s.core.geometry s.core.next m.served.taken m.served.retired m.next m.row
+      (subst (λ (l : List (ℕ × Reply)). AreKnown s.core.geometry l s.core.next m.served.taken (m.served.retired ++ (m.next ++ m.row))) none_answered m.served.known)
+      m.are_completed
 
 -- Each such line says that it has none.
 say_none : (ls : List Line) → AllByRecursion HasNoReply ls → AllByRecursion (λ line. (line ≡ no_message) ⊎ (line ≡ reply_line (Refused Range))) (map text ls)
 say_none [] all = tt
 say_none (NoMessage ∷ ls) all = (inl refl, say_none ls all.1)
 say_none (OutOfRange ∷ ls) all = (inr refl, say_none ls all.1)
-say_none (Unanswered t ∷ ls) all = absurd all.0
-say_none (Answered t reply ∷ ls) all = absurd all.0
+say_none (Pending t ∷ ls) all = absurd all.0
+say_none (Completed t reply ∷ ls) all = absurd all.0
 
-pub no_reply : (keeps : Type 0) (s : Start) (told : Option (List ℕ)) (now : CoreView) (bytes : List ℕ) → inside (world_of now) + s.core.next ≡ now.next
-    → MayTell keeps (Some s) told now bytes → TellsNoReply bytes
-no_reply keeps s told now bytes all_inside m = (map text m.next, m.bytes_are, say_none m.next (is_silent keeps s told now bytes m all_inside))
+pub no_reply : (keeps : Type 0) (s : Start) (sent : Option (List ℕ)) (now : CoreView) (bytes : List ℕ) → inside (core_state_of now) + s.core.next ≡ now.next
+    → MaySend keeps (Some s) sent now bytes → TellsNoReply bytes
+no_reply keeps s sent now bytes all_inside m = (map text m.next, m.bytes_are, say_none m.next (is_silent keeps s sent now bytes m all_inside))
 
 -- No such line tells that a message was carried out.
 not_done : (ls : List Line) → AllByRecursion HasNoReply ls → reply_line Done ≡ joined (map text ls) → ⊥
 not_done [] all is = let h = ap (λ (l : List ℕ). length l) is in absurd (omega (arith, h))
 not_done (NoMessage ∷ ls) all is = let h = ap (λ (l : List ℕ). slice_index_or l 0 0) is in absurd (omega (arith, h))
 not_done (OutOfRange ∷ ls) all is = let h = ap (λ (l : List ℕ). slice_index_or l 0 0) is in absurd (omega (arith, h))
-not_done (Unanswered t ∷ ls) all is = absurd all.0
-not_done (Answered t reply ∷ ls) all is = absurd all.0
+not_done (Pending t ∷ ls) all is = absurd all.0
+not_done (Completed t reply ∷ ls) all is = absurd all.0
 
-pub nothing_done : (keeps : Type 0) (s : Start) (told : Option (List ℕ)) (now : CoreView) → inside (world_of now) + s.core.next ≡ now.next
-    → MayTell keeps (Some s) told now (reply_line Done) → ⊥
-nothing_done keeps s told now all_inside m =
-    not_done m.next (is_silent keeps s told now (reply_line Done) m all_inside) m.bytes_are
+pub nothing_done : (keeps : Type 0) (s : Start) (sent : Option (List ℕ)) (now : CoreView) → inside (core_state_of now) + s.core.next ≡ now.next
+    → MaySend keeps (Some s) sent now (reply_line Done) → ⊥
+nothing_done keeps s sent now all_inside m =
+    not_done m.next (is_silent keeps s sent now (reply_line Done) m all_inside) m.bytes_are

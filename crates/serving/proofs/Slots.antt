@@ -7,7 +7,7 @@ use Rattle.legal_runs.proofs.Moves.{Answers, Arrives, Backs, Grants, Logs, Move,
 use Rattle.legal_runs.specs.Events.{Event, Hands, arrive}
 use Rattle.legal_runs.specs.Laws.{IsIdle}
 use Rattle.legal_runs.specs.Runs.{IsLegal, last}
-use Rattle.legal_runs.specs.World.{Entry, World}
+use Rattle.legal_runs.specs.CoreState.{Entry, CoreState}
 use Rattle.legal_runs.specs.declared.outcomes.ArriveRefusal.TheVariants as arrivals
 use Rattle.legal_runs.specs.declared.outcomes.Outcome.{Outcome}
 use Rattle.legal_runs.specs.declared.outcomes.Outcome.TheVariants as outcomes
@@ -16,49 +16,49 @@ use Rattle.runs.specs.Stages.{events_of}
 use Rattle.messages.specs.Messages.{is_in_range}
 use Rattle.messages.specs.declared.Msg.{Msg}
 use Rattle.messages.specs.declared.Reply.{Reply}
-use Rattle.scheduler.specs.Kept.{world_of}
+use Rattle.scheduler.specs.CoreView.{core_state_of}
 use Rattle.serving.proofs.Counting.{run_counts}
 use Rattle.serving.proofs.Inside.{few_inside}
-use Rattle.serving.specs.Going.{Goes}
+use Rattle.serving.specs.Progress.{ServingProgress}
 use Rattle.serving.specs.Lines.{Line}
-use Rattle.serving.specs.Runs.{Passes, inside}
+use Rattle.serving.specs.Runs.{RunsBetween, inside}
 
-pub passes_count : (keeps : Type 0) (old new : MachineView) (come : List Entry) (told : List (ℕ × Reply)) → Passes keeps old new come told
-    → inside (world_of new.core) + length told ≡ inside (world_of old.core) + length come
-passes_count keeps old new come told p =
+pub passes_count : (keeps : Type 0) (old new : MachineView) (come : List Entry) (reply_pairs : List (ℕ × Reply)) → RunsBetween keeps old new come reply_pairs
+    → inside (core_state_of new.core) + length reply_pairs ≡ inside (core_state_of old.core) + length come
+passes_count keeps old new come reply_pairs p =
     let run = run_counts old.core.geometry (machine_of old) (events_of p.stages) p.legal in
-    let ends : inside (last (machine_of old) (events_of p.stages)).core ≡ inside (world_of new.core) = ap (λ (w : Hands). inside w.core) p.ends in
+    let ends : inside (last (machine_of old) (events_of p.stages)).core ≡ inside (core_state_of new.core) = ap (λ (w : Hands). inside w.core) p.ends in
     let came = ap length p.come_are in
-    let tells = ap length p.told_are in
+    let tells = ap length p.reply_pairs_are in
     omega (arith, run, ends, came, tells)
 
 -- ---- how many fit in
 
-move_slots : (g : Geometry) (old new : World) (p : Passed) → Move g old new p → new.slots ≡ old.slots
+move_slots : (g : Geometry) (old new : CoreState) (p : Passed) → Move g old new p → new.slots ≡ old.slots
 move_slots g old new p (Stays s e) = s.slots
-move_slots g old new p (Arrives m fits is e) = ap (λ (w : World). w.slots) is
-move_slots g old new p (Grants found first is e) = ap (λ (w : World). w.slots) is
-move_slots g old new p (Backs ticket found one_out is e) = ap (λ (w : World). w.slots) is
-move_slots g old new p (Logs n is e) = ap (λ (w : World). w.slots) is
-move_slots g old new p (Answers a rest front is e) = ap (λ (w : World). w.slots) is
+move_slots g old new p (Arrives m fits is e) = ap (λ (w : CoreState). w.slots) is
+move_slots g old new p (Grants found first is e) = ap (λ (w : CoreState). w.slots) is
+move_slots g old new p (Backs ticket found one_out is e) = ap (λ (w : CoreState). w.slots) is
+move_slots g old new p (Logs n is e) = ap (λ (w : CoreState). w.slots) is
+move_slots g old new p (Answers a rest front is e) = ap (λ (w : CoreState). w.slots) is
 
 run_slots : (g : Geometry) (old : Hands) (events : List Event) → IsLegal g old events → (last old events).core.slots ≡ old.core.slots
 run_slots g old [] legal = refl
 run_slots g old (event ∷ events) legal =
-    run_slots g event.world events legal.1 ∙ move_slots g old.core event.world.core _ (moves g old event legal.0)
+    run_slots g event.state_after events legal.1 ∙ move_slots g old.core event.state_after.core _ (moves g old event legal.0)
 
-pub passes_slots : (keeps : Type 0) (old new : MachineView) (come : List Entry) (told : List (ℕ × Reply)) → Passes keeps old new come told
+pub passes_slots : (keeps : Type 0) (old new : MachineView) (come : List Entry) (reply_pairs : List (ℕ × Reply)) → RunsBetween keeps old new come reply_pairs
     → new.core.slots ≡ old.core.slots
-passes_slots keeps old new come told p =
+passes_slots keeps old new come reply_pairs p =
     ap (λ (w : Hands). w.core.slots) (sym p.ends) ∙ run_slots old.core.geometry (machine_of old) (events_of p.stages) p.legal
 
 -- ---- a slot for the next
 
-abbrev outcome_of : Outcome × World → Outcome
+abbrev outcome_of : Outcome × CoreState → Outcome
 outcome_of x = x.0
 
 -- A message that finds fewer inside than fit in isn't refused for want of a slot.
-isnt_full : (g : Geometry) (w : World) (m : Msg) → inside w < w.slots → (arrive g w m).0 ≢ outcomes.ArriveRefused arrivals.Full
+isnt_full : (g : Geometry) (w : CoreState) (m : Msg) → inside w < w.slots → (arrive g w m).0 ≢ outcomes.ArriveRefused arrivals.Full
 isnt_full g w m few = of w.failed (not (is_in_range g m)) (w.next == 2 ^ 64 - 1) (nat_le w.slots (inside w)) (λ e. leb-true w.slots (inside w) e)
   where
     of : (a b c d : Bool) → (d ≡ true → w.slots ≤ inside w) → outcome_of (if a then (outcomes.ArriveRefused arrivals.Failed, w)
@@ -72,11 +72,11 @@ isnt_full g w m few = of w.failed (not (is_in_range g m)) (w.next == 2 ^ 64 - 1)
     of false false false true le e = let full = le refl in omega (arith, few, full)
     of false false false false le e = cc
 
--- Where fewer lines are in the row than there are slots, a message finds one.
-pub finds_a_slot : (keeps : Type 0) (start now : MachineView) → IsIdle (world_of start.core) → (row : List Line) (input left : Option (List ℕ))
-    (ended : Bool) (before written : Option (List ℕ)) (m : Msg) → Goes keeps start now row input left ended before written
-    → length row < start.core.slots → (arrive now.core.geometry (world_of now.core) m).0 ≢ outcomes.ArriveRefused arrivals.Full
+-- Where fewer lines are in the reorder buffer than there are slots, a message finds one.
+pub finds_a_slot : (keeps : Type 0) (start now : MachineView) → IsIdle (core_state_of start.core) → (row : List Line) (input left : Option (List ℕ))
+    (ended : Bool) (before written : Option (List ℕ)) (m : Msg) → ServingProgress keeps start now row input left ended before written
+    → length row < start.core.slots → (arrive now.core.geometry (core_state_of now.core) m).0 ≢ outcomes.ArriveRefused arrivals.Full
 finds_a_slot keeps start now idle row input left ended before written m h few =
     let most = few_inside keeps start now idle row input left ended before written h in
     let same = passes_slots keeps start now _ _ h.serving.passes in
-    isnt_full now.core.geometry (world_of now.core) m (omega (arith, most, same, few))
+    isnt_full now.core.geometry (core_state_of now.core) m (omega (arith, most, same, few))

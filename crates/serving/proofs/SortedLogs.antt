@@ -10,18 +10,18 @@ use Rattle.std.proofs.lemmas.Map.Keys.{IsDistinct-IsPermutation}
 use Rattle.affinity.specs.declared.geometry.Geometry.{Geometry}
 use Rattle.messages.specs.declared.Reply.{Reply}
 use Rattle.meaning.specs.Laws.{AreInOrder}
-use Rattle.meaning.specs.Order.{by_ticket, messages, put, told, IsBefore, KeepsOrder}
+use Rattle.meaning.specs.Order.{by_ticket, messages, put, serial_replies, IsBefore, KeepsOrder}
 use Rattle.meaning.specs.Serial.{fold, is_loggable, next_state, reply_to}
 use Rattle.meaning.specs.State.{State}
-use Rattle.meaning.proofs.ByTicket.{all-by_ticket, fold-by_ticket, in_order-by_ticket, permutation-by_ticket, told-by_ticket}
+use Rattle.meaning.proofs.ByTicket.{all-by_ticket, fold-by_ticket, in_order-by_ticket, permutation-by_ticket, serial_replies-by_ticket}
 use Rattle.meaning.proofs.Unchanged.{unlogged_changes_nothing}
 use Rattle.legal_runs.specs.Events.{loggable}
 use Rattle.legal_runs.specs.Laws.{AreAscending, IsSerialLog, ticket_replies}
-use Rattle.legal_runs.specs.World.{Entry, Replied, are_related_entries, entries}
+use Rattle.legal_runs.specs.CoreState.{Entry, Replied, are_related_entries, entries}
 use Rattle.legal_runs.proofs.Apart.{apart_turned}
 use Rattle.legal_runs.proofs.Elements.{holds_of, in_contained}
 use Rattle.legal_runs.proofs.Lists.{all_back, all_front, all_permuted, all_weaker}
-use Rattle.legal_runs.proofs.Told.{IsIn}
+use Rattle.legal_runs.proofs.SerialReplies.{IsIn}
 
 -- ---- some of a list, in their order
 
@@ -172,11 +172,11 @@ both_parts : {A : Type 0} (a b : A) (as' bs : List A) → a ∷ as' ≡ b ∷ bs
 both_parts a b as' bs h = (cc, cc)
 
 -- What a log appends to the journal leads where all of it leads.
-pub log_leads : (g : Geometry) (x : State) (log : List Replied) → ticket_replies log ≡ told g x (entries log)
+pub log_leads : (g : Geometry) (x : State) (log : List Replied) → ticket_replies log ≡ serial_replies g x (entries log)
     → fold g x (loggable log) ≡ fold g x (messages (entries log))
 log_leads g x [] h = refl
 log_leads g x (a ∷ log) h =
-    let parts = both_parts (a.0, a.2) (a.0, reply_to g x a.1) (ticket_replies log) (told g (next_state g x a.1) (entries log)) h in
+    let parts = both_parts (a.0, a.2) (a.0, reply_to g x a.1) (ticket_replies log) (serial_replies g (next_state g x a.1) (entries log)) h in
     let reply : a.2 ≡ reply_to g x a.1 = ap (λ p. p.1) parts.0 in
     let rest = log_leads g (next_state g x a.1) log parts.1 in
     elim (is_loggable a.1 a.2) as
@@ -192,7 +192,7 @@ log_leads g x (a ∷ log) h =
 pub record IsSortedLog (g : Geometry) (x : State) (arrivals : List Entry) (log : List Replied) (sorted : List Entry) : Type 0 where
   pub no_gap : HasNoGap g sorted arrivals
   pub state : fold g x (loggable log) ≡ fold g x (messages sorted)
-  pub tells : (p : ℕ × Reply) → IsIn p (ticket_replies log) → IsIn p (told g x sorted)
+  pub tells : (p : ℕ × Reply) → IsIn p (ticket_replies log) → IsIn p (serial_replies g x sorted)
 
 pub sorted_log : (g : Geometry) (x : State) (arrivals : List Entry) (log : List Replied) → AreAscending arrivals
     → IsSerialLog g x arrivals log → IsSortedLog g x arrivals log (by_ticket (entries log))
@@ -206,8 +206,8 @@ sorted_log g x arrivals log ascending h =
           (sorted_among before es h.rest (all-by_ticket before h.rest (crossed es h.rest h.by_ticket)))
           (λ d out. all-by_ticket (λ e. IsBefore g e d) es out));
       state = log_leads g x log h.in_order ∙ sym (fold-by_ticket g x es order);
-      tells = λ p is. subst (IsIn p) (sym (told-by_ticket g x es order))
-          (sorted_in (told g x es) p (subst (IsIn p) h.in_order is));
+      tells = λ p is. subst (IsIn p) (sym (serial_replies-by_ticket g x es order))
+          (sorted_in (serial_replies g x es) p (subst (IsIn p) h.in_order is));
     }
   where
     before : Entry → Type 0

@@ -2,13 +2,13 @@
 use Rattle.std.proofs.Common.{◌≡◌, ℕ, zero, suc, false, List, [], Option, Some, None, refl, ap, sym, ◌∙◌, subst, map, inr, add-zero, append-nil, replicate}
 use Rattle.std.specs.Io.KnownBytes.{Appends}
 use Rattle.std.proofs.lemmas.Option.{none-some}
-use Rattle.legal_runs.specs.Laws.{IsSoundWorld}
+use Rattle.legal_runs.specs.Laws.{IsSoundCoreState}
 use Rattle.runs.specs.Machine.{MachineView, IsHandOf, hand_at, ticket_in}
 use Rattle.runs.specs.declared.hands.Holding.TheVariants as has
 use Rattle.meaning.specs.Progress.{TakesLines}
-use Rattle.scheduler.specs.Kept.{CoreView, world_of}
-use Rattle.serving.specs.Going.{Goes}
-use Rattle.serving.specs.Runs.{Holds, Passes, lent_hand, with_lent}
+use Rattle.scheduler.specs.CoreView.{CoreView, core_state_of}
+use Rattle.serving.specs.Progress.{ServingProgress}
+use Rattle.serving.specs.Runs.{Holds, RunsBetween, lent_hand, with_lent}
 
 -- ---- nothing is lent
 
@@ -28,25 +28,25 @@ adds_none None = tt
 adds_none (Some bytes) = sym (append-nil bytes)
 
 module _ (keeps : Type 0) (start : MachineView) where
-  pub stays : Passes keeps start start [] []
+  pub stays : RunsBetween keeps start start [] []
   stays = record {
     stages = [];
     legal = tt;
     ends = refl;
     geometry = refl;
     come_are = refl;
-    told_are = refl;
+    reply_pairs_are = refl;
     device = refl;
     failures = sym (add-zero start.core.medium.faults);
     any_moment = λ kept. tt;
   }
 
-  pub starts : (input before : Option (List ℕ)) → Goes keeps start start [] input input false before before
+  pub starts : (input before : Option (List ℕ)) → ServingProgress keeps start start [] input input false before before
   starts input before = record {
     taken = [];
-    said = [];
+    retired = [];
     takes = takes_none input;
-    serving = record { told = []; passes = stays; known = tt; answered = tt };
+    serving = record { reply_pairs = []; passes = stays; known = tt; answered = tt };
     output = adds_none before;
   }
 
@@ -55,9 +55,9 @@ module _ (keeps : Type 0) (start : MachineView) where
 none_in_hand : (n i ticket : ℕ) → ticket_in (hand_at (map lent_hand (replicate n None)) i) ≡ Some ticket → ⊥
 none_in_hand n i ticket at = none-some (ticket) (sym (ap ticket_in (all_empty n i)) ∙ at)
 
-pub holds_at_start : (core : CoreView) (n : ℕ) → IsSoundWorld core.geometry (world_of core) → Holds (with_lent core (replicate n None))
+pub holds_at_start : (core : CoreView) (n : ℕ) → IsSoundCoreState core.geometry (core_state_of core) → Holds (with_lent core (replicate n None))
 holds_at_start core n sound = record {
   sound = sound;
-  each = λ i. subst (IsHandOf core.geometry (world_of core)) (sym (all_empty n i)) tt;
+  each = λ i. subst (IsHandOf core.geometry (core_state_of core)) (sym (all_empty n i)) tt;
   once = λ i k ticket at others. absurd (none_in_hand n i ticket at);
 }

@@ -4,7 +4,7 @@ use Rattle.std.specs.Prelude.{IfSome, if◌then◌else◌, not, nat_le, ◌==◌
 use Rattle.std.proofs.lemmas.Bool.{eqb-true}
 use Rattle.affinity.specs.declared.geometry.Geometry.{Geometry}
 use Rattle.legal_runs.specs.Events.{arrive}
-use Rattle.legal_runs.specs.World.{World, held}
+use Rattle.legal_runs.specs.CoreState.{CoreState, held}
 use Rattle.legal_runs.specs.declared.outcomes.ArriveRefusal.{ArriveRefusal}
 use Rattle.legal_runs.specs.declared.outcomes.ArriveRefusal.TheVariants as arrivals
 use Rattle.legal_runs.specs.declared.outcomes.Outcome.{Outcome}
@@ -14,18 +14,18 @@ use Rattle.messages.specs.Grammar.{message_of}
 use Rattle.messages.specs.Messages.{is_in_range}
 use Rattle.messages.specs.FirstLine.{GivesLine}
 use Rattle.messages.specs.declared.Msg.{Msg}
-use Rattle.scheduler.specs.Kept.{world_of}
-use Rattle.serving.specs.Reads.{IsRefusedLine, stop_of}
-use Rattle.serving.specs.Session.{IsStop}
+use Rattle.scheduler.specs.CoreView.{core_state_of}
+use Rattle.serving.specs.Reads.{IsRefusedLine, read_end_of}
+use Rattle.serving.specs.Session.{IsReadEnd}
 use Rattle.serving.proofs.Tickets.{quiet_ticket}
-use Rattle.serving.proofs.Stretches.{still_failed}
+use Rattle.serving.proofs.Segments.{still_failed}
 
 -- ---- why a message is refused
 
-abbrev outcome_of : Outcome × World → Outcome
+abbrev outcome_of : Outcome × CoreState → Outcome
 outcome_of x = x.0
 
-module _ (g : Geometry) (w : World) (m : Msg) where
+module _ (g : Geometry) (w : CoreState) (m : Msg) where
   abbrev arrives : Bool → Bool → Bool → Bool → Outcome
   arrives failed fits none full =
       outcome_of (if failed then (outcomes.ArriveRefused arrivals.Failed, w)
@@ -68,12 +68,12 @@ gives line (Some bs) now_left found = (now_left, found)
 -- Where there is a slot for it, no more is read for the reason that this tells.
 pub stops_at_refusal : (keeps : Type 0) (old new : MachineView) (left now_left behind : Option (List ℕ)) (drained : Bool) (line : List ℕ) (m : Msg)
     (why : ArriveRefusal) → message_of line ≡ Some m → IfSome left (λ bs. GivesLine line bs now_left) → IsRefusedLine keeps old new m why
-    → ((arrive old.core.geometry (world_of old.core) m).0 ≢ outcomes.ArriveRefused arrivals.Full)
-    → IsStop old.core.geometry new.core left drained behind (stop_of why)
+    → ((arrive old.core.geometry (core_state_of old.core) m).0 ≢ outcomes.ArriveRefused arrivals.Full)
+    → IsReadEnd old.core.geometry new.core left drained behind (read_end_of why)
 stops_at_refusal keeps old new left now_left behind drained line m arrivals.Range is found r fits = absurd (r.not_range refl)
 stops_at_refusal keeps old new left now_left behind drained line m arrivals.Full is found r fits = absurd (fits r.refused)
 stops_at_refusal keeps old new left now_left behind drained line m arrivals.Exhausted is found r fits =
-    let so = exhausted_so old.core.geometry (world_of old.core) m r.refused in
+    let so = exhausted_so old.core.geometry (core_state_of old.core) m r.refused in
     (quiet_ticket keeps old new [] r.quiet.passes ∙ so.1, (line, m, gives line left now_left found, is, so.0))
 stops_at_refusal keeps old new left now_left behind drained line m arrivals.Failed is found r fits =
-    still_failed keeps old new [] [] r.quiet.passes (failed_so old.core.geometry (world_of old.core) m r.refused)
+    still_failed keeps old new [] [] r.quiet.passes (failed_so old.core.geometry (core_state_of old.core) m r.refused)

@@ -14,11 +14,11 @@ use Rattle.messages.specs.FirstLine.{GivesLine, IsAtEndOf, IsClosed, PassesLine}
 use Rattle.messages.specs.declared.Msg.{Msg}
 use Rattle.meaning.proofs.Taking.{takes_line, takes_long_line}
 use Rattle.scheduler.specs.Calls.{ArrivesByLine, arrive_outcome}
-use Rattle.scheduler.specs.Kept.{CoreView, StandsNow, world_of}
-use Rattle.serving.specs.Going.{Goes}
-use Rattle.serving.specs.Lines.{Line, NoMessage, OutOfRange, Unanswered}
+use Rattle.scheduler.specs.CoreView.{CoreView, RecoversNow, core_state_of}
+use Rattle.serving.specs.Progress.{ServingProgress}
+use Rattle.serving.specs.Lines.{Line, NoMessage, OutOfRange, Pending}
 use Rattle.serving.specs.Reads.{IsRefusedLine, IsTaken}
-use Rattle.serving.specs.Runs.{Holds, IsQuiet}
+use Rattle.serving.specs.Runs.{Holds, IsInternal}
 use Rattle.serving.proofs.Arriving.{ArrivesSo, arrives_so, serves_taken, ticket_is_next}
 use Rattle.serving.proofs.Starting.{stays}
 
@@ -28,7 +28,7 @@ takes_none keeps m h = record { holds = h; passes = stays keeps m; is_known = tt
 
 -- ---- a line that has come to the core
 
-module _ (keeps : Type 0) (old new : CoreView) (none : old.failed ≡ false → old.doubt ≡ []) (stands : keeps → StandsNow old)
+module _ (keeps : Type 0) (old new : CoreView) (none : old.failed ≡ false → old.doubt ≡ []) (recovers : keeps → RecoversNow old)
     (geometry : new.geometry ≡ old.geometry) (same : new.medium ≡ old.medium) (hands : List Holding) (h : Holds (record { core = old; hands = hands })) where
   abbrev was : MachineView
   was = record { core = old; hands = hands }
@@ -38,14 +38,14 @@ module _ (keeps : Type 0) (old new : CoreView) (none : old.failed ≡ false → 
 
   -- It is taken, and this is known of it; or its message is refused.
   abbrev pub ComesSo : Option Msg → Result (Option ℕ) ArriveRefusal → Type 0
-  ComesSo o (Ok (Some ticket)) = IsTaken keeps was now o (Unanswered ticket)
+  ComesSo o (Ok (Some ticket)) = IsTaken keeps was now o (Pending ticket)
   ComesSo o (Ok None) = IsTaken keeps was now o NoMessage
   ComesSo o (Err arrivals.Range) = IsTaken keeps was now o OutOfRange
   ComesSo o (Err why) = (m : Msg) × (o ≡ Some m) × IsRefusedLine keeps was now m why
 
-  so : (m : Msg) (r : Result ℕ ArriveRefusal) → (arrive_outcome r, world_of new) ≡ arrive old.geometry (world_of old) m
+  so : (m : Msg) (r : Result ℕ ArriveRefusal) → (arrive_outcome r, core_state_of new) ≡ arrive old.geometry (core_state_of old) m
       → ArrivesSo keeps old new m hands h r
-  so m r e = arrives_so keeps old new m hands h r (arrive_step keeps old new none stands geometry same m r e) e
+  so m r e = arrives_so keeps old new m hands h r (arrive_step keeps old new none recovers geometry same m r e) e
 
   comes_so : (o : Option Msg) (r : Result (Option ℕ) ArriveRefusal) → ArrivesByLine old new o r → ComesSo o r
   comes_so None r e =
@@ -64,39 +64,39 @@ module _ (keeps : Type 0) (old new : CoreView) (none : old.failed ≡ false → 
 -- The ticket of its message is the core's next.
 pub next_of_line : (old new : CoreView) (o : Option Msg) (ticket : ℕ) → ArrivesByLine old new o (Ok (Some ticket)) → ticket ≡ old.next
 next_of_line old new None ticket e = absurd (let other : ◌≡◌ {A = Result (Option ℕ) ArriveRefusal} (Ok (Some ticket)) (Ok None) = e.0 in cc)
-next_of_line old new (Some m) ticket e = ticket_is_next old.geometry (world_of old) (world_of new) m ticket e
+next_of_line old new (Some m) ticket e = ticket_is_next old.geometry (core_state_of old) (core_state_of new) m ticket e
 
 -- Where nothing happens, nothing arrives or is answered.
-pub still : (keeps : Type 0) (m : MachineView) → Holds m → IsQuiet keeps m m
+pub still : (keeps : Type 0) (m : MachineView) → Holds m → IsInternal keeps m m
 still keeps m h = record { holds = h; passes = stays keeps m }
 
 -- ---- the next line
 
 module _ (keeps : Type 0) (start old new : MachineView) (row : List Line) (known : Line) (input left now_left : Option (List ℕ)) (ended now_ended : Bool)
-    (before written : Option (List ℕ)) (idle : IsIdle (world_of start.core)) (going : ended ≡ false) (closes : IsClosed left now_ended) where
+    (before written : Option (List ℕ)) (idle : IsIdle (core_state_of start.core)) (going : ended ≡ false) (closes : IsClosed left now_ended) where
   -- It was given.
   pub line_goes_on : (line : List ℕ) → IsTaken keeps old new (message_of line) known → IfSome left (λ bs. GivesLine line bs now_left)
-      → Goes keeps start old row input left ended before written
-      → Goes keeps start new (row ++ known ∷ []) input now_left now_ended before written
+      → ServingProgress keeps start old row input left ended before written
+      → ServingProgress keeps start new (row ++ known ∷ []) input now_left now_ended before written
   line_goes_on line t found h = record {
     taken = h.taken ++ line ∷ [];
-    said = h.said;
+    retired = h.retired;
     takes = takes_line input left now_left ended now_ended h.taken line h.takes going found closes;
-    serving = serves_taken keeps start old new h.taken h.said row line known idle t h.serving;
+    serving = serves_taken keeps start old new h.taken h.retired row line known idle t h.serving;
     output = h.output;
   }
 
   -- It was too long, and passed over.
   pub long_line_goes_on : IsTaken keeps old new None known → IfSome left (λ bs. PassesLine bs now_left)
-      → Goes keeps start old row input left ended before written
-      → Goes keeps start new (row ++ known ∷ []) input now_left now_ended before written
+      → ServingProgress keeps start old row input left ended before written
+      → ServingProgress keeps start new (row ++ known ∷ []) input now_left now_ended before written
   long_line_goes_on t found h =
       let l = takes_long_line input left now_left ended now_ended h.taken h.takes going found closes in
       record {
         taken = h.taken ++ l.line ∷ [];
-        said = h.said;
+        retired = h.retired;
         takes = l.takes;
-        serving = serves_taken keeps start old new h.taken h.said row l.line known idle
+        serving = serves_taken keeps start old new h.taken h.retired row l.line known idle
             (subst (λ (o : Option Msg). IsTaken keeps old new o known) (sym l.no_message) t) h.serving;
         output = h.output;
       }
@@ -106,9 +106,9 @@ pub at_end : (left now_left : Option (List ℕ)) → IfSome left (λ bs. IsAtEnd
 at_end None now_left found = tt
 at_end (Some bs) now_left found = found.none
 
-pub has_told_end : (ended none_held : Bool) → (ended && none_held) ≡ true → ended ≡ true
-has_told_end true none_held e = refl
-has_told_end false none_held e = e
+pub has_sent_end : (ended none_held : Bool) → (ended && none_held) ≡ true → ended ≡ true
+has_sent_end true none_held e = refl
+has_sent_end false none_held e = e
 
 pub none_left : (left : Option (List ℕ)) → IfSome left (λ bs. bs ≡ []) → IsAtEnd left
 none_left None none = tt

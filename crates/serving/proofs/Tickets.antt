@@ -4,14 +4,14 @@ use Rattle.affinity.specs.declared.geometry.Geometry.{Geometry}
 use Rattle.legal_runs.proofs.Moves.{Answers, Arrives, Backs, Grants, Logs, Move, Passed, Stays, moves}
 use Rattle.legal_runs.specs.Events.{Event, Hands}
 use Rattle.legal_runs.specs.Runs.{IsLegal, arrived, arrives, last}
-use Rattle.legal_runs.specs.World.{Entry, World}
+use Rattle.legal_runs.specs.CoreState.{Entry, CoreState}
 use Rattle.runs.specs.Machine.{MachineView, machine_of}
 use Rattle.runs.specs.Stages.{events_of}
 use Rattle.messages.specs.declared.Msg.{Msg}
 use Rattle.messages.specs.declared.Reply.{Reply}
 use Rattle.meaning.specs.Order.{messages}
 use Rattle.serving.specs.Lines.{next_ticket, ticketed}
-use Rattle.serving.specs.Runs.{Passes}
+use Rattle.serving.specs.Runs.{RunsBetween}
 
 pub next-append : (n : ℕ) (ms more : List Msg) → next_ticket n (ms ++ more) ≡ next_ticket (next_ticket n ms) more
 next-append n [] more = refl
@@ -27,10 +27,10 @@ messages-append (e ∷ es) fs = ap (λ l. e.1 ∷ l) (messages-append es fs)
 
 -- ---- the next ticket after a run
 
-quiet_next : (old new : World) (p : Passed) → p.come ≡ [] → new.next ≡ old.next → new.next ≡ next_ticket old.next (messages p.come)
+quiet_next : (old new : CoreState) (p : Passed) → p.come ≡ [] → new.next ≡ old.next → new.next ≡ next_ticket old.next (messages p.come)
 quiet_next old new p none same = same ∙ ap (λ (es : List Entry). next_ticket old.next (messages es)) (sym none)
 
-move_next : (g : Geometry) (old new : World) (p : Passed) → Move g old new p → new.next ≡ next_ticket old.next (messages p.come)
+move_next : (g : Geometry) (old new : CoreState) (p : Passed) → Move g old new p → new.next ≡ next_ticket old.next (messages p.come)
 move_next g old new p (Stays s e) = quiet_next old new p (ap (λ p. p.come) e) s.next
 move_next g old new p (Arrives m fits is e) = ap (λ w. w.next) is ∙ ap (λ (q : Passed). next_ticket old.next (messages q.come)) (sym e)
 move_next g old new p (Grants found first is e) = quiet_next old new p (ap (λ p. p.come) e) (ap (λ w. w.next) is)
@@ -43,14 +43,14 @@ pub run_next : (g : Geometry) (old : Hands) (events : List Event) → IsLegal g 
 run_next g old [] legal = refl
 run_next g old (event ∷ events) legal =
     let come = arrives event.step event.outcome in
-    run_next g event.world events legal.1
-    ∙ ap (λ n. next_ticket n (messages (arrived events))) (move_next g old.core event.world.core _ (moves g old event legal.0))
+    run_next g event.state_after events legal.1
+    ∙ ap (λ n. next_ticket n (messages (arrived events))) (move_next g old.core event.state_after.core _ (moves g old event legal.0))
     ∙ sym (next-append old.core.next (messages come) (messages (arrived events)))
     ∙ ap (next_ticket old.core.next) (sym (messages-append come (arrived events)))
 
 -- Where nothing arrives, the next ticket stays.
-pub quiet_ticket : (keeps : Type 0) (old new : MachineView) (told : List (ℕ × Reply)) → Passes keeps old new [] told
+pub quiet_ticket : (keeps : Type 0) (old new : MachineView) (reply_pairs : List (ℕ × Reply)) → RunsBetween keeps old new [] reply_pairs
     → new.core.next ≡ old.core.next
-quiet_ticket keeps old new told p =
+quiet_ticket keeps old new reply_pairs p =
     ap (λ (w : Hands). w.core.next) (sym p.ends) ∙ run_next old.core.geometry (machine_of old) (events_of p.stages) p.legal
     ∙ ap (λ (es : List Entry). next_ticket old.core.next (messages es)) p.come_are

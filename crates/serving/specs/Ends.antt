@@ -7,7 +7,7 @@ use Rattle.disk.specs.Moments.{left_since, moment}
 use Rattle.legal_runs.specs.Laws.{IsIdle}
 use Rattle.legal_runs.specs.Runs.{IsLegal, answered, arrived, last}
 use Rattle.runs.specs.Machine.{MachineView, machine_of}
-use Rattle.runs.specs.Stages.{AreSafe, Stage, StandsForRun, device_after, events_of}
+use Rattle.runs.specs.Stages.{AreSafe, Stage, RecoversForRun, device_after, events_of}
 use Rattle.runs.specs.declared.hands.Holding.{Holding}
 use Rattle.messages.specs.Grammar.{message_of}
 use Rattle.messages.specs.Lines.{lines}
@@ -15,12 +15,12 @@ use Rattle.messages.specs.Messages.{is_in_range}
 use Rattle.messages.specs.declared.Msg.{Msg}
 use Rattle.meaning.specs.Output.{AnswersWholeLines, IsBeginning, WritesOutput, joined, output_lines, state_after_lines}
 use Rattle.meaning.specs.State.{State}
-use Rattle.scheduler.specs.Kept.{CoreView, world_of}
-use Rattle.serving.specs.Lines.{AreKnown, Line, asked, is_answered, text, ticketed}
+use Rattle.scheduler.specs.CoreView.{CoreView, core_state_of}
+use Rattle.serving.specs.Lines.{AreKnown, Line, admitted, is_completed, text, ticketed}
 use Rattle.serving.specs.declared.server.ServeFault.{ServeFault}
 use Rattle.serving.specs.declared.server.ServeFault.TheVariants as faults
 
--- ---- the serial server's output and state, for a server that began in one state and settled another
+-- ---- the serial server's output and state, for a server that began in one state and committed another
 
 -- These lines were answered as the serial server answers them, and lead where they lead there.
 pub record AreServed (g : Geometry) (start now : State) (ls : List (List ℕ)) (written : List ℕ) : Type 0 where
@@ -59,16 +59,16 @@ pub record HasRunLines (keeps : Type 0) (start : MachineView) (new : CoreView)
   pub hands : List Holding
   pub ends : last (machine_of start) (events_of stages) ≡ machine_of (record { core = new; hands = hands })
   pub geometry : new.geometry ≡ start.core.geometry
-  pub arrived_are : arrived (events_of stages) ≡ ticketed start.core.next (asked start.core.geometry taken)
+  pub arrived_are : arrived (events_of stages) ≡ ticketed start.core.next (admitted start.core.geometry taken)
   pub device : device_after start.core.medium stages ≡ new.medium
   -- the device failed as often as the events tell
   pub failures : new.medium.faults ≡ start.core.medium.faults + count_by (λ e. e.rose) (events_of stages)
   -- what a crash leaves at each moment of each event
   pub any_moment : keeps → AreSafe start.core.geometry (machine_of start) start.core.medium stages
-  -- For every k: a crash at any moment since event k ended leaves a device that stands for a state which the run may leave.
+  -- For every k: a crash at any moment since event k ended leaves a device that recovers to a state which the run may leave.
   pub crash : keeps → (k : ℕ) (c : List ℕ) → k ≤ length stages
       → left_since new.medium (moment (device_after start.core.medium (take k stages))) c
-      → StandsForRun start.core.geometry (machine_of start) (events_of stages) k c
+      → RecoversForRun start.core.geometry (machine_of start) (events_of stages) k c
 
 -- Behind what was written there is such a run: each line that was written is of a line that is no message or is out of range, or
 -- of one that was answered in the run. These lines that were read are not answered in the output.
@@ -77,15 +77,15 @@ pub record HasServed (keeps : Type 0) (start : MachineView) (new : CoreView) (ro
   pub taken : List (List ℕ)
   pub stages : List Stage
   pub run : HasRunLines keeps start new input taken stages
-  pub said : List Line
-  pub known : AreKnown start.core.geometry (answered (events_of stages)) start.core.next taken (said ++ row)
-  pub are_answered : AllByRecursion (λ line. is_answered line ≡ true) said
-  pub output : Appends before written (joined (map text said))
+  pub retired : List Line
+  pub known : AreKnown start.core.geometry (answered (events_of stages)) start.core.next taken (retired ++ row)
+  pub are_completed : AllByRecursion (λ line. is_completed line ≡ true) retired
+  pub output : Appends before written (joined (map text retired))
 
 -- ---- what each answer says of the core before and after, of the input and what is left of it, and of what was written
 
-abbrev pub settled_in : CoreView → State
-settled_in core = (world_of core).settled
+abbrev pub committed_in : CoreView → State
+committed_in core = (core_state_of core).committed
 
 -- No message is out with a worker, and each that was logged is answered.
 pub record IsWoundUp (core : CoreView) : Type 0 where
@@ -96,14 +96,14 @@ pub record IsWoundUp (core : CoreView) : Type 0 where
 -- the core is wound up; and where the output alone has, each message that ran is logged.
 abbrev pub EndsSo : CoreView → CoreView → Option (List ℕ) → Option (List ℕ) → Option (List ℕ)
     → Option (List ℕ) → Result (Unit {0}) ServeFault → Type 0
-EndsSo old new input left before written (Ok _) = IsIdle (world_of new) × (new.failed ≡ false) × IsAtEnd left
-    × WritesOutput input before written (λ bytes w. AreServed old.geometry (settled_in old) (settled_in new) (lines bytes) w)
-EndsSo old new input left before written (Err faults.Read) = IsIdle (world_of new) × (new.failed ≡ false)
-    × WritesOutput input before written (ServesWholeLines old.geometry (settled_in old) (settled_in new) left)
-EndsSo old new input left before written (Err faults.Exhausted) = IsIdle (world_of new) × (new.failed ≡ false) × (new.next ≡ 2 ^ 64 - 1)
-    × WritesOutput input before written (ServesLinesBefore old.geometry (settled_in old) (settled_in new))
+EndsSo old new input left before written (Ok _) = IsIdle (core_state_of new) × (new.failed ≡ false) × IsAtEnd left
+    × WritesOutput input before written (λ bytes w. AreServed old.geometry (committed_in old) (committed_in new) (lines bytes) w)
+EndsSo old new input left before written (Err faults.Read) = IsIdle (core_state_of new) × (new.failed ≡ false)
+    × WritesOutput input before written (ServesWholeLines old.geometry (committed_in old) (committed_in new) left)
+EndsSo old new input left before written (Err faults.Exhausted) = IsIdle (core_state_of new) × (new.failed ≡ false) × (new.next ≡ 2 ^ 64 - 1)
+    × WritesOutput input before written (ServesLinesBefore old.geometry (committed_in old) (committed_in new))
 EndsSo old new input left before written (Err faults.Device) = (new.failed ≡ true) × IsWoundUp new
-    × WritesOutput input before written (IsBeginning old.geometry (settled_in old))
+    × WritesOutput input before written (IsBeginning old.geometry (committed_in old))
 EndsSo old new input left before written (Err faults.Write) = IsWoundUp new × (new.failed ≡ false → new.ran ≡ [])
 EndsSo old new input left before written (Err faults.NoWorkers) = (new ≡ old) × (left ≡ input) × (written ≡ before)
 EndsSo old new input left before written (Err faults.OutOfMemory) = (new ≡ old) × (left ≡ input) × (written ≡ before)

@@ -2,25 +2,25 @@
 use Rattle.std.specs.Prelude.{◌≡◌, ℕ, ◌+◌, true, false, List, [], ◌∷◌, ◌++◌, if◌then◌else◌, Option, Some, None}
 use Rattle.std.specs.List.{Contains}
 use Rattle.affinity.specs.declared.geometry.Geometry.{Geometry}
-use Rattle.legal_runs.specs.World.{Entry}
+use Rattle.legal_runs.specs.CoreState.{Entry}
 use Rattle.messages.specs.declared.Msg.{Msg}
 use Rattle.messages.specs.declared.Reply.{Reply}
 use Rattle.messages.specs.Grammar.{message_of}
 use Rattle.messages.specs.Messages.{is_in_range}
-pub use Rattle.line_row.specs.Rows.{AreAnswered, answer_one, is_answered, text}
-pub use Rattle.line_row.specs.declared.row.Line.{Line}
-pub use Rattle.line_row.specs.declared.row.Line.TheVariants.{NoMessage, OutOfRange, Unanswered, Answered}
+pub use Rattle.reorder_buffer.specs.ReorderBuffer.{AreCompleted, complete_one, is_completed, text}
+pub use Rattle.reorder_buffer.specs.declared.reorder_buffer.Line.{Line}
+pub use Rattle.reorder_buffer.specs.declared.reorder_buffer.Line.TheVariants.{NoMessage, OutOfRange, Pending, Completed}
 
 -- ---- the messages that take tickets
 
 -- the message of a line, if it is one and is in range: no other line takes a ticket
-abbrev pub asked_in : Geometry → Option Msg → List Msg
-asked_in g None = []
-asked_in g (Some m) = if is_in_range g m then m ∷ [] else []
+abbrev pub admitted_in : Geometry → Option Msg → List Msg
+admitted_in g None = []
+admitted_in g (Some m) = if is_in_range g m then m ∷ [] else []
 
-abbrev pub asked : Geometry → List (List ℕ) → List Msg
-asked g [] = []
-asked g (line ∷ ls) = asked_in g (message_of line) ++ asked g ls
+abbrev pub admitted : Geometry → List (List ℕ) → List Msg
+admitted g [] = []
+admitted g (line ∷ ls) = admitted_in g (message_of line) ++ admitted g ls
 
 -- with the tickets from n on
 abbrev pub ticketed : ℕ → List Msg → List Entry
@@ -43,13 +43,13 @@ NoneIsTo replies ticket = (reply : Reply) → Contains replies (ticket, reply) �
 abbrev pub IsKnown : Geometry → List (ℕ × Reply) → ℕ → Option Msg → Line → Type 0
 IsKnown g replies n None NoMessage = Unit {0}
 IsKnown g replies n (Some m) OutOfRange = is_in_range g m ≡ false
-IsKnown g replies n (Some m) (Unanswered ticket) = (is_in_range g m ≡ true) × (ticket ≡ n) × NoneIsTo replies ticket
-IsKnown g replies n (Some m) (Answered ticket reply) = (is_in_range g m ≡ true) × (ticket ≡ n) × Contains replies (ticket, reply)
+IsKnown g replies n (Some m) (Pending ticket) = (is_in_range g m ≡ true) × (ticket ≡ n) × NoneIsTo replies ticket
+IsKnown g replies n (Some m) (Completed ticket reply) = (is_in_range g m ≡ true) × (ticket ≡ n) × Contains replies (ticket, reply)
 IsKnown g replies n _ _ = ⊥
 
 -- This is known of the lines. The first of them that takes a ticket takes n, and each further one the next.
 abbrev pub AreKnown : Geometry → List (ℕ × Reply) → ℕ → List (List ℕ) → List Line → Type 0
 AreKnown g replies n [] [] = Unit {0}
 AreKnown g replies n (line ∷ ls) (known ∷ row) =
-    IsKnown g replies n (message_of line) known × AreKnown g replies (next_ticket n (asked_in g (message_of line))) ls row
+    IsKnown g replies n (message_of line) known × AreKnown g replies (next_ticket n (admitted_in g (message_of line))) ls row
 AreKnown g replies n _ _ = ⊥

@@ -6,33 +6,33 @@ use Rattle.legal_runs.specs.declared.outcomes.ArriveRefusal.TheVariants as arriv
 use Rattle.legal_runs.specs.declared.outcomes.Outcome.TheVariants.{ArriveRefused}
 use Rattle.runs.specs.Machine.{MachineView}
 use Rattle.messages.specs.declared.Msg.{Msg}
-use Rattle.scheduler.specs.Kept.{world_of}
-use Rattle.serving.specs.Lines.{IsKnown, Line, asked_in, ticketed}
-use Rattle.serving.specs.Runs.{Holds, IsQuiet, Passes}
-use Rattle.serving.specs.declared.session.Stop.{Stop}
-use Rattle.serving.specs.declared.session.Stop.TheVariants as stops
+use Rattle.scheduler.specs.CoreView.{core_state_of}
+use Rattle.serving.specs.Lines.{IsKnown, Line, admitted_in, ticketed}
+use Rattle.serving.specs.Runs.{Holds, IsInternal, RunsBetween}
+use Rattle.serving.specs.declared.session.ReadEnd.{ReadEnd}
+use Rattle.serving.specs.declared.session.ReadEnd.TheVariants as ends_of_reading
 
 -- A line of this message, or of none, is taken: the message arrives, if it takes a ticket, and this is known of the line.
 pub record IsTaken (keeps : Type 0) (old new : MachineView) (m : Option Msg) (known : Line) : Type 0 where
   pub holds : Holds new
-  pub passes : Passes keeps old new (ticketed old.core.next (asked_in old.core.geometry m)) []
+  pub passes : RunsBetween keeps old new (ticketed old.core.next (admitted_in old.core.geometry m)) []
   pub is_known : IsKnown old.core.geometry [] old.core.next m known
 
 -- The message is refused for this reason. That it is out of range is none: it is known of its line.
 pub record IsRefusedLine (keeps : Type 0) (old new : MachineView) (m : Msg) (why : ArriveRefusal) : Type 0 where
-  pub quiet : IsQuiet keeps old new
-  pub refused : (arrive old.core.geometry (world_of old.core) m).0 ≡ ArriveRefused why
+  pub quiet : IsInternal keeps old new
+  pub refused : (arrive old.core.geometry (core_state_of old.core) m).0 ≡ ArriveRefused why
   pub not_range : why ≢ arrivals.Range
 
 -- why no more is read where a message is refused so
-abbrev pub stop_of : ArriveRefusal → Stop
-stop_of arrivals.Exhausted = stops.Exhausted
-stop_of _ = stops.Failed
+abbrev pub read_end_of : ArriveRefusal → ReadEnd
+read_end_of arrivals.Exhausted = ends_of_reading.TicketsExhausted
+read_end_of _ = ends_of_reading.DeviceFailed
 
 -- A line of this message, or of none, is taken, and is the last of the new row; or its message is refused, so that no more is read, and
--- the row is the same.
-abbrev pub TakesLine : Type 0 → MachineView → List Line → MachineView → List Line → Option Msg → Result (Unit {0}) Stop → Type 0
+-- the reorder buffer is the same.
+abbrev pub TakesLine : Type 0 → MachineView → List Line → MachineView → List Line → Option Msg → Result (Unit {0}) ReadEnd → Type 0
 TakesLine keeps old row new new_row m (Ok _) = (known : Line) × IsTaken keeps old new m known × (new_row ≡ row ++ known ∷ [])
 TakesLine keeps old row new new_row m (Err stop) =
-    (refused : Msg) × (why : ArriveRefusal) × (m ≡ Some refused) × IsRefusedLine keeps old new refused why × (stop ≡ stop_of why)
+    (refused : Msg) × (why : ArriveRefusal) × (m ≡ Some refused) × IsRefusedLine keeps old new refused why × (stop ≡ read_end_of why)
     × (new_row ≡ row)

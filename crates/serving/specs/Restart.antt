@@ -33,8 +33,8 @@ pub record RecoversTo (g : Geometry) (start now : State) (input written : List �
   pub closed : IsClosedPart g part behind
   pub state : now ≡ state_after_lines g start (acknowledged ++ part)
 
--- These bytes stand for a state to which a server recovers that began in this one.
-pub record StandsRecovered (g : Geometry) (start : State) (input before written : Option (List ℕ)) (bytes : List ℕ) : Type 0 where
+-- These bytes recover to a state to which a server recovers that began in this one.
+pub record BytesRecover (g : Geometry) (start : State) (input before written : Option (List ℕ)) (bytes : List ℕ) : Type 0 where
   pub now : State
-  pub stands : holds g bytes ≡ Some now
+  pub holds_now : holds g bytes ≡ Some now
   pub recovers : WritesOutput input before written (RecoversTo g start now)

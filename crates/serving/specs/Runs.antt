@@ -1,14 +1,14 @@
--- A stretch of a server's run: its machine, which is the core with what is lent, before and after, and what a crash meanwhile may leave.
+-- A segment of a server's run: its machine, which is the core with what is lent, before and after, and what a crash meanwhile may leave.
 use Rattle.std.specs.Prelude.{◌≡◌, ◌+◌, ℕ, List, [], map, length, count_by, Option, Some, None}
 use Rattle.legal_runs.specs.Runs.{IsLegal, answered, arrived, last}
-use Rattle.legal_runs.specs.World.{Entry, World, held}
+use Rattle.legal_runs.specs.CoreState.{Entry, CoreState, held}
 use Rattle.runs.specs.Machine.{MachineView, HoldsJobs, machine_of}
 use Rattle.runs.specs.Stages.{AreSafe, Stage, device_after, events_of}
 use Rattle.runs.specs.declared.hands.Holding.{Holding}
 use Rattle.runs.specs.declared.hands.Holding.TheVariants as has
 use Rattle.messages.specs.declared.Reply.{Reply}
 use Rattle.parcel.specs.Run.{JobView}
-use Rattle.scheduler.specs.Kept.{CoreView, world_of}
+use Rattle.scheduler.specs.CoreView.{CoreView, core_state_of}
 
 -- ---- the core and the places
 
@@ -20,21 +20,21 @@ lent_hand (Some job) = has.Job job
 abbrev pub with_lent : CoreView → List (Option JobView) → MachineView
 with_lent core lent = record { core = core; hands = map lent_hand lent }
 
--- ---- a stretch of a run
+-- ---- A segment of a run
 
 -- how many messages wait or are held
-abbrev pub inside : World → ℕ
+abbrev pub inside : CoreState → ℕ
 inside w = length w.waiting + length (held w)
 
 -- From one machine to the other there is a legal run, in which these messages arrive and these are answered: its events, each with
 -- the device as it left it.
-pub record Passes (keeps : Type 0) (old new : MachineView) (come : List Entry) (told : List (ℕ × Reply)) : Type 0 where
+pub record RunsBetween (keeps : Type 0) (old new : MachineView) (come : List Entry) (reply_pairs : List (ℕ × Reply)) : Type 0 where
   pub stages : List Stage
   pub legal : IsLegal old.core.geometry (machine_of old) (events_of stages)
   pub ends : last (machine_of old) (events_of stages) ≡ machine_of new
   pub geometry : new.core.geometry ≡ old.core.geometry
   pub come_are : arrived (events_of stages) ≡ come
-  pub told_are : answered (events_of stages) ≡ told
+  pub reply_pairs_are : answered (events_of stages) ≡ reply_pairs
   pub device : device_after old.core.medium stages ≡ new.core.medium
   -- the device failed as often as the events tell
   pub failures : new.core.medium.faults ≡ old.core.medium.faults + count_by (λ e. e.rose) (events_of stages)
@@ -45,9 +45,9 @@ pub record Passes (keeps : Type 0) (old new : MachineView) (come : List Entry) (
 
 -- Each hand that isn't empty has the job of a message that is out, or what came of it; each message in one hand.
 abbrev pub Holds : MachineView → Type 0
-Holds m = HoldsJobs m.core.geometry (world_of m.core) m.hands
+Holds m = HoldsJobs m.core.geometry (core_state_of m.core) m.hands
 
--- A stretch of a run in which no message arrives and none is answered, and at whose end the hands have what they should.
-pub record IsQuiet (keeps : Type 0) (old new : MachineView) : Type 0 where
+-- A segment of a run in which no message arrives and none is answered, and at whose end the hands have what they should.
+pub record IsInternal (keeps : Type 0) (old new : MachineView) : Type 0 where
   pub holds : Holds new
-  pub passes : Passes keeps old new [] []
+  pub passes : RunsBetween keeps old new [] []

@@ -4,12 +4,12 @@ use Rattle.runs.specs.Machine.{MachineView}
 use Rattle.runs.specs.Stages.{Stage}
 use Rattle.messages.specs.Lines.{lines}
 use Rattle.device_map.specs.Layout.{layout_of}
-use Rattle.oplog.specs.Stands.{in_force, named_area}
-use Rattle.scheduler.specs.Kept.{CoreView}
+use Rattle.oplog.specs.Recovery.{in_force, named_area}
+use Rattle.scheduler.specs.CoreView.{CoreView}
 use Rattle.serving.specs.Ends.{EndsSo, HasRunLines, HasServed}
 use Rattle.serving.specs.Lines.{Line}
 use Rattle.serving.specs.Runs.{with_lent}
-use Rattle.line_row.specs.Rows.{comes_next}
+use Rattle.reorder_buffer.specs.ReorderBuffer.{can_retire}
 use Rattle.serving.specs.declared.server.ServeError.{ServeError}
 use Rattle.serving.specs.declared.server.ServeFault.{ServeFault}
 use Rattle.serving.specs.declared.server.ServeFault.TheVariants as faults
@@ -30,7 +30,7 @@ abbrev pub HasRunSo : Type 0 → MachineView → CoreView → Option (List ℕ) 
     → Result (Unit {0}) ServeFault → Type 0
 HasRunSo keeps start new input before written (Ok _) = HasServedAll keeps start new input before written
 HasRunSo keeps start new input before written (Err faults.Device) =
-    (row : List Line) × HasServed keeps start new row input before written × (comes_next row ≡ false)
+    (row : List Line) × HasServed keeps start new row input before written × (can_retire row ≡ false)
 HasRunSo keeps start new input before written (Err faults.Write) =
     (taken : List (List ℕ)) × (stages : List Stage) × HasRunLines keeps start new input taken stages
 HasRunSo keeps start new input before written (Err _) = HasServed keeps start new [] input before written

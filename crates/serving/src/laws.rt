@@ -5,12 +5,12 @@ ghost use Rattle.std.specs.Prelude.{◌≡◌, ◌≢◌, ◌+◌, ◌<◌, ◌�
 ghost use Rattle.std.specs.Io.KnownBytes.{Appends, IsAtEnd};
 ghost use Rattle.std.specs.List.{AllByRecursion, Contains};
 ghost use Rattle.affinity.specs.declared.geometry.Geometry.{Geometry};
-ghost use Rattle.disk.specs.Device.{Leaves};
+ghost use Rattle.disk.specs.Device.{IsCrashImage};
 ghost use Rattle.disk.specs.Moments.{left_since, moment};
 ghost use Rattle.legal_runs.specs.Events.{arrive};
 ghost use Rattle.legal_runs.specs.Laws.{IsIdle};
 ghost use Rattle.legal_runs.specs.Runs.{went};
-ghost use Rattle.legal_runs.specs.World.{Entry};
+ghost use Rattle.legal_runs.specs.CoreState.{Entry};
 ghost use Rattle.legal_runs.specs.declared.outcomes.ArriveRefusal.TheVariants as arrivals;
 ghost use Rattle.legal_runs.specs.declared.outcomes.Outcome.TheVariants as outcomes;
 ghost use Rattle.messages.specs.Grammar.{message_of};
@@ -20,20 +20,20 @@ ghost use Rattle.messages.specs.declared.Msg.{Msg};
 ghost use Rattle.messages.specs.Replies.{reply_line};
 ghost use Rattle.messages.specs.declared.Reply.{Reply};
 ghost use Rattle.messages.specs.declared.Reply.TheVariants.{Done};
-ghost use Rattle.meaning.specs.Order.{told};
+ghost use Rattle.meaning.specs.Order.{serial_replies};
 ghost use Rattle.meaning.specs.Output.{output_lines, state_after_lines};
 ghost use Rattle.meaning.specs.Serial.{fold};
 ghost use Rattle.meaning.specs.State.{State};
-ghost use Rattle.scheduler.specs.Kept.{CoreView, StandsNow, world_of};
-ghost use Rattle.serving.specs.Ends.{EndsSo, HasRunLines, HasServed, IsWoundUp, settled_in};
-ghost use Rattle.serving.specs.Going.{Goes};
-ghost use Rattle.serving.specs.Restart.{StandsRecovered};
-ghost use Rattle.serving.specs.Told.{AreKept, HoldsLog};
-ghost use Rattle.serving.specs.Telling.{HoldsTold, MayTell, Start, TellsNoReply};
-ghost use Rattle.serving.specs.Lines.{AreKnown, Line, asked, is_answered, text, ticketed};
+ghost use Rattle.scheduler.specs.CoreView.{CoreView, RecoversNow, core_state_of};
+ghost use Rattle.serving.specs.Ends.{EndsSo, HasRunLines, HasServed, IsWoundUp, committed_in};
+ghost use Rattle.serving.specs.Progress.{ServingProgress};
+ghost use Rattle.serving.specs.Restart.{BytesRecover};
+ghost use Rattle.serving.specs.Logged.{AreInLog, HoldsLog};
+ghost use Rattle.serving.specs.Output.{HoldsSent, MaySend, Start, TellsNoReply};
+ghost use Rattle.serving.specs.Lines.{AreKnown, Line, admitted, is_completed, text, ticketed};
 ghost use Rattle.runs.specs.Machine.{MachineView, machine_of};
 ghost use Rattle.runs.specs.Stages.{Stage, device_after, events_of};
-ghost use Rattle.serving.specs.Runs.{Passes, inside};
+ghost use Rattle.serving.specs.Runs.{RunsBetween, inside};
 ghost use Rattle.serving.specs.declared.server.ServeFault.TheVariants as faults;
 
 use disk::Disk;
@@ -41,107 +41,107 @@ use disk::Disk;
 /// Lines whose messages got the serial server's replies by ticket are answered as the serial server answers them,
 /// as far as they are answered; and their messages lead where the lines lead there.
 pub fn known_lines_are_serial()
-    ensures output { (g : Geometry) (x : State) (n : ℕ) (ls : List (List ℕ)) (replies : List (ℕ × Reply)) (said row : List Line)
-        → ((reply : ℕ × Reply) → Contains replies reply → Contains (told g x (ticketed n (asked g ls))) reply)
-        → AreKnown g replies n ls (said ++ row) → AllByRecursion (λ line. is_answered line ≡ true) said
-        → map text said ≡ take (length said) (output_lines g x ls) }
-    ensures state { (g : Geometry) (x : State) (ls : List (List ℕ)) → fold g x (asked g ls) ≡ state_after_lines g x ls }
+    ensures output { (g : Geometry) (x : State) (n : ℕ) (ls : List (List ℕ)) (replies : List (ℕ × Reply)) (retired row : List Line)
+        → ((reply : ℕ × Reply) → Contains replies reply → Contains (serial_replies g x (ticketed n (admitted g ls))) reply)
+        → AreKnown g replies n ls (retired ++ row) → AllByRecursion (λ line. is_completed line ≡ true) retired
+        → map text retired ≡ take (length retired) (output_lines g x ls) }
+    ensures state { (g : Geometry) (x : State) (ls : List (List ℕ)) → fold g x (admitted g ls) ≡ state_after_lines g x ls }
 {}
 
-/// A stretch of a run that goes on where another ended makes one stretch with it.
-pub fn stretches_join<D: Disk>()
-    ensures { (old mid new : MachineView) (come more : List Entry) (replies others : List (ℕ × Reply)) → Passes D.keeps old mid come replies
-        → Passes D.keeps mid new more others → Passes D.keeps old new (come ++ more) (replies ++ others) }
+/// A segment of a run that goes on where another ended makes one stretch with it.
+pub fn segments_join<D: Disk>()
+    ensures { (old mid new : MachineView) (come more : List Entry) (replies others : List (ℕ × Reply)) → RunsBetween D.keeps old mid come replies
+        → RunsBetween D.keeps mid new more others → RunsBetween D.keeps old new (come ++ more) (replies ++ others) }
 {}
 
 /// How many messages wait or are held grows by the arrivals, less the answered ones, and always as many fit in. So a
 /// message isn't refused for want of a slot while fewer lines are read and not answered in the output than there are slots.
 pub fn what_is_inside_is_what_arrived_less_what_was_answered<D: Disk>()
-    ensures count { (old new : MachineView) (come : List Entry) (replies : List (ℕ × Reply)) → Passes D.keeps old new come replies
-        → inside (world_of new.core) + length replies ≡ inside (world_of old.core) + length come }
-    ensures slots { (old new : MachineView) (come : List Entry) (replies : List (ℕ × Reply)) → Passes D.keeps old new come replies
+    ensures count { (old new : MachineView) (come : List Entry) (replies : List (ℕ × Reply)) → RunsBetween D.keeps old new come replies
+        → inside (core_state_of new.core) + length replies ≡ inside (core_state_of old.core) + length come }
+    ensures slots { (old new : MachineView) (come : List Entry) (replies : List (ℕ × Reply)) → RunsBetween D.keeps old new come replies
         → new.core.slots ≡ old.core.slots }
     ensures a_slot { (start now : MachineView) (row : List Line) (input left : Option (List ℕ)) (ended : Bool)
         (before written : Option (List ℕ))
-        (m : Msg) → IsIdle (world_of start.core) → Goes D.keeps start now row input left ended before written
+        (m : Msg) → IsIdle (core_state_of start.core) → ServingProgress D.keeps start now row input left ended before written
         → length row < start.core.slots
-        → (arrive now.core.geometry (world_of now.core) m).0 ≢ outcomes.ArriveRefused arrivals.Full }
+        → (arrive now.core.geometry (core_state_of now.core) m).0 ≢ outcomes.ArriveRefused arrivals.Full }
 {}
 
 /// No more messages wait or are held than there are lines that were read and are not answered in the output.
 pub fn each_message_inside_has_its_line<D: Disk>()
     ensures { (start now : MachineView) (row : List Line) (input left : Option (List ℕ)) (ended : Bool) (before written : Option (List ℕ))
-        → IsIdle (world_of start.core) → Goes D.keeps start now row input left ended before written
-        → inside (world_of now.core) ≤ length row }
+        → IsIdle (core_state_of start.core) → ServingProgress D.keeps start now row input left ended before written
+        → inside (core_state_of now.core) ≤ length row }
 {}
 
 /// A server that began with nothing in it has written what the serial server writes, however many messages ran at once: all of
 /// it where it has come to the end, the answers to the whole lines that were read where a read failed, those to the lines
 /// before one that found no ticket, and at every moment a beginning of it in whole lines. Where each line that was read is
-/// answered, nothing waits or is held, and it has settled what the serial server reaches. For each line that was written
+/// answered, nothing waits or is held, and it has committed what the serial server reaches. For each line that was written
 /// there is a legal run.
 pub fn serving_ends_as_the_serial_server<D: Disk>()
     ensures whole { (start now : MachineView) (input left : Option (List ℕ)) (ended : Bool) (before written : Option (List ℕ))
-        → IsIdle (world_of start.core) → Goes D.keeps start now [] input left ended before written → now.core.failed ≡ false → IsAtEnd left
+        → IsIdle (core_state_of start.core) → ServingProgress D.keeps start now [] input left ended before written → now.core.failed ≡ false → IsAtEnd left
         → EndsSo start.core now.core input left before written (Ok tt) }
-    ensures read { (start now : MachineView) (input left behind before written : Option (List ℕ)) → IsIdle (world_of start.core)
-        → Goes D.keeps start now [] input left false before written → now.core.failed ≡ false → IfSome left (λ bs. LosesFront bs behind)
+    ensures read { (start now : MachineView) (input left behind before written : Option (List ℕ)) → IsIdle (core_state_of start.core)
+        → ServingProgress D.keeps start now [] input left false before written → now.core.failed ≡ false → IfSome left (λ bs. LosesFront bs behind)
         → EndsSo start.core now.core input behind before written (Err faults.Read) }
     ensures exhausted { (start now : MachineView) (input left behind : Option (List ℕ)) (ended : Bool) (before written : Option (List ℕ))
-        (line : List ℕ) (m : Msg) → IsIdle (world_of start.core) → Goes D.keeps start now [] input left ended before written
+        (line : List ℕ) (m : Msg) → IsIdle (core_state_of start.core) → ServingProgress D.keeps start now [] input left ended before written
         → now.core.failed ≡ false → now.core.next ≡ 2 ^ 64 - 1 → IfSome left (λ bs. GivesLine line bs behind)
         → message_of line ≡ Some m → is_in_range start.core.geometry m ≡ true
         → EndsSo start.core now.core input behind before written (Err faults.Exhausted) }
     ensures device { (start now : MachineView) (row : List Line) (input left : Option (List ℕ)) (ended : Bool)
         (before written : Option (List ℕ))
-        → IsIdle (world_of start.core) → Goes D.keeps start now row input left ended before written → now.core.failed ≡ true
+        → IsIdle (core_state_of start.core) → ServingProgress D.keeps start now row input left ended before written → now.core.failed ≡ true
         → IsWoundUp now.core → EndsSo start.core now.core input left before written (Err faults.Device) }
     ensures run { (start now : MachineView) (row : List Line) (input left : Option (List ℕ)) (ended : Bool)
         (before written : Option (List ℕ))
-        → IsIdle (world_of start.core) → Goes D.keeps start now row input left ended before written
-        → (now.core.failed ≡ false → now.core.doubt ≡ []) → (D.keeps → StandsNow now.core)
+        → IsIdle (core_state_of start.core) → ServingProgress D.keeps start now row input left ended before written
+        → (now.core.failed ≡ false → now.core.doubt ≡ []) → (D.keeps → RecoversNow now.core)
         → HasServed D.keeps start now.core row input before written }
 {}
 
 /// Where nothing was in doubt in the beginning, the device holds what was answered. Each line that was written for a message with a
 /// ticket is of a message logged in its run, with that ticket and that reply. A crash at any moment since event k ended
-/// leaves what stands for where all that was logged by then leads, perhaps with more of the messages that arrived; and so, when the
+/// leaves what recovers to where all that was logged by then leads, perhaps with more of the messages that arrived; and so, when the
 /// server has ended, for all that was logged in the run.
-pub fn what_was_told_is_on_the_device<D: Disk>()
+pub fn what_was_sent_is_on_the_device<D: Disk>()
     ensures logged { (start : MachineView) (new : CoreView) (input : Option (List ℕ)) (taken : List (List ℕ)) (stages : List Stage)
-        → IsIdle (world_of start.core) → start.core.doubt ≡ [] → HasRunLines D.keeps start new input taken stages → D.keeps
+        → IsIdle (core_state_of start.core) → start.core.doubt ≡ [] → HasRunLines D.keeps start new input taken stages → D.keeps
         → (k : ℕ) (c : List ℕ) → k ≤ length stages → left_since new.medium (moment (device_after start.core.medium (take k stages))) c
-        → HoldsLog start.core.geometry (settled_in start.core) (ticketed start.core.next (asked start.core.geometry taken))
+        → HoldsLog start.core.geometry (committed_in start.core) (ticketed start.core.next (admitted start.core.geometry taken))
         (went (machine_of start) (take k (events_of stages))) c }
     ensures left { (start : MachineView) (new : CoreView) (input : Option (List ℕ)) (taken : List (List ℕ)) (stages : List Stage)
-        → IsIdle (world_of start.core) → start.core.doubt ≡ [] → HasRunLines D.keeps start new input taken stages → D.keeps
-        → (c : List ℕ) → Leaves new.medium c
-        → HoldsLog start.core.geometry (settled_in start.core) (ticketed start.core.next (asked start.core.geometry taken))
+        → IsIdle (core_state_of start.core) → start.core.doubt ≡ [] → HasRunLines D.keeps start new input taken stages → D.keeps
+        → (c : List ℕ) → IsCrashImage new.medium c
+        → HoldsLog start.core.geometry (committed_in start.core) (ticketed start.core.next (admitted start.core.geometry taken))
         (went (machine_of start) (events_of stages)) c }
-    ensures told { (start : MachineView) (new : CoreView) (row : List Line) (input before written : Option (List ℕ))
-        → IsIdle (world_of start.core) → (h : HasServed D.keeps start new row input before written)
-        → AreKept start.core.geometry (went (machine_of start) (events_of h.stages)) start.core.next h.taken (map text h.said) }
+    ensures sent { (start : MachineView) (new : CoreView) (row : List Line) (input before written : Option (List ℕ))
+        → IsIdle (core_state_of start.core) → (h : HasServed D.keeps start new row input before written)
+        → AreInLog start.core.geometry (went (machine_of start) (events_of h.stages)) start.core.next h.taken (map text h.retired) }
 {}
 
-/// What may be told is on the device: once it is told, whatever a crash leaves of the device, as it was then, holds all that was told.
-pub fn what_may_be_told_is_on_the_device<D: Disk>()
-    ensures { (s : Start) (told later : Option (List ℕ)) (now : CoreView) (bytes : List ℕ) → MayTell D.keeps (Some s) told now bytes
-        → D.keeps → Appends told later bytes → (c : List ℕ) → Leaves now.medium c → HoldsTold s later c }
+/// What may be told is on the device: once it is told, whatever a crash leaves of the device, as it was then, holds all that was sent.
+pub fn what_may_be_sent_is_on_the_device<D: Disk>()
+    ensures { (s : Start) (sent later : Option (List ℕ)) (now : CoreView) (bytes : List ℕ) → MaySend D.keeps (Some s) sent now bytes
+        → D.keeps → Appends sent later bytes → (c : List ℕ) → IsCrashImage now.medium c → HoldsSent s later c }
 {}
 
-/// What may be told is recovered: once it is told, whatever a crash leaves of the device, as it was then, stands for a state with each line
+/// What may be told is recovered: once it is told, whatever a crash leaves of the device, as it was then, recovers to a state with each line
 /// that was told, and with a closed part of the lines behind them.
-pub fn what_may_be_told_is_recovered<D: Disk>()
-    ensures { (s : Start) (told later : Option (List ℕ)) (now : CoreView) (bytes : List ℕ) → MayTell D.keeps (Some s) told now bytes
-        → D.keeps → Appends told later bytes → (c : List ℕ) → Leaves now.medium c
-        → StandsRecovered s.core.geometry (settled_in s.core) s.input s.before later c }
+pub fn what_may_be_sent_is_recovered<D: Disk>()
+    ensures { (s : Start) (sent later : Option (List ℕ)) (now : CoreView) (bytes : List ℕ) → MaySend D.keeps (Some s) sent now bytes
+        → D.keeps → Appends sent later bytes → (c : List ℕ) → IsCrashImage now.medium c
+        → BytesRecover s.core.geometry (committed_in s.core) s.input s.before later c }
 {}
 
 /// Nothing may be told too early: as long as each message that has arrived is still inside, waiting or held, no call may tell a reply,
 /// among whatever other lines: it tells lines that are no message or out of range. So none tells that a message was carried out.
-pub fn nothing_is_told_before_it_is_answered<D: Disk>()
-    ensures none { (s : Start) (told : Option (List ℕ)) (now : CoreView) (bytes : List ℕ) → inside (world_of now) + s.core.next ≡ now.next
-        → MayTell D.keeps (Some s) told now bytes → TellsNoReply bytes }
-    ensures done { (s : Start) (told : Option (List ℕ)) (now : CoreView) → inside (world_of now) + s.core.next ≡ now.next
-        → MayTell D.keeps (Some s) told now (reply_line Done) → ⊥ }
+pub fn nothing_is_sent_before_it_is_answered<D: Disk>()
+    ensures none { (s : Start) (sent : Option (List ℕ)) (now : CoreView) (bytes : List ℕ) → inside (core_state_of now) + s.core.next ≡ now.next
+        → MaySend D.keeps (Some s) sent now bytes → TellsNoReply bytes }
+    ensures done { (s : Start) (sent : Option (List ℕ)) (now : CoreView) → inside (core_state_of now) + s.core.next ≡ now.next
+        → MaySend D.keeps (Some s) sent now (reply_line Done) → ⊥ }
 {}

@@ -8,15 +8,15 @@
 //! next in order. `points` has the consistency points, and `ending` the loop from line to line with its ends.
 #![tactic(auto)]
 
-mod ending;
-mod gated;
+mod event_loop;
+mod gated_runtime;
 pub mod laws;
-mod points;
-mod reading;
+mod checkpoints;
+mod input;
 mod server;
 mod session;
-mod telling;
-mod turn;
+mod output;
+mod dispatch;
 
 pub use server::{ServeError, ServeFault, serve, serve_to};
-pub use telling::Teller;
+pub use output::ReplySink;

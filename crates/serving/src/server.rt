@@ -2,15 +2,15 @@
 
 ghost use Rattle.std.specs.Prelude.{◌≡◌, ◌≢◌, ◌≤◌, All, false, [], None, IfOk, Some, replicate, vec_len};
 ghost use Rattle.legal_runs.specs.Laws.{IsIdle};
-ghost use Rattle.scheduler.specs.Kept.{StandsNow, world_of};
+ghost use Rattle.scheduler.specs.CoreView.{RecoversNow, core_state_of};
 ghost use Rattle.serving.specs.Serve.{ServesSo, handed_back};
 ghost use Rattle.serving.specs.Session.{CanBegin, reported};
 
-use crate::points::Course;
+use crate::checkpoints::CheckpointTrigger;
 use crate::session::Session;
-use crate::telling::Teller;
+use crate::output::ReplySink;
 use disk::Disk;
-use line_row::LineRow;
+use reorder_buffer::ReorderBuffer;
 use message::{LentReader, LineReader, Loan, ReplyBuffer, WriteFault};
 use scheduler::Core;
 use std::alloc::{AllocError, Global};
@@ -18,7 +18,7 @@ use std::io::{Read, Write};
 use std::marker::{Brand, PhantomData};
 use std::sync::Wait;
 use std::thread::Threads;
-use workers::{Bench, DispatchSeat, Gate, WorkSeat, come_back};
+use workers::{Bench, DispatchSeat, Gate, WorkSeat, know_returned};
 
 /// How many bytes are read at a time: some 240 lines with a full block. A line is taken in only where it is held already or nothing
 /// else can be done, so this bounds how many changes a write of the log finds.
@@ -54,16 +54,16 @@ pub struct ServeError<D: Disk> {
 // with its seats. Nothing lies there yet.
 struct Room {
     input: Vec<u8>,
-    row: LineRow,
+    row: ReorderBuffer,
     out: ReplyBuffer,
     bench: Bench,
-    desk: DispatchSeat,
+    dispatch_seat: DispatchSeat,
     seats: Vec<WorkSeat>,
     ghost holds_a_line: { 1101 ≤ vec_len input },
     ghost none_read: { row.lines ≡ [] },
     ghost none_waits: { out ≡ [] },
-    ghost at_bench: { (desk.bench ≡ bench) × All (λ w. w ≡ bench) seats.items },
-    ghost none_lent: { desk.lent ≡ replicate bench.slots None },
+    ghost at_bench: { (dispatch_seat.bench ≡ bench) × All (λ w. w ≡ bench) seats.items },
+    ghost none_lent: { dispatch_seat.lent ≡ replicate bench.slots None },
 }
 
 // Takes the memory for lines of which at most `slots` are open, and lays a bench with a place for each worker.
@@ -73,15 +73,15 @@ fn take_room(alloc: Global, slots: usize, workers: usize) -> Result<Room, AllocE
     ensures places { IfOk result (λ room. room.bench.slots ≡ workers) }
 {
     let input = vec![in alloc; 0; READ_SIZE]?;
-    let row = LineRow::new(alloc, slots)?;
+    let row = ReorderBuffer::new(alloc, slots)?;
     let out = ReplyBuffer::new(alloc)?;
-    let (bench, desk, seats) = Bench::open(alloc, workers, workers)?;
+    let (bench, dispatch_seat, seats) = Bench::open(alloc, workers, workers)?;
     Ok(Room {
         input,
         row,
         out,
         bench,
-        desk,
+        dispatch_seat,
         seats,
     })
 }
@@ -94,9 +94,9 @@ fn hand_back<D: Disk>(
 ) -> Result<Core<D>, ServeError<D>>
     ensures ended { handed_back result ≡ (core, reported ended) }
     ensures no_doubt { core.failed ≡ false → core.doubt ≡ [] }
-    ensures stands { D.keeps → StandsNow core }
+    ensures recovers { D.keeps → RecoversNow core }
 {
-    core.stands();
+    core.know_recovery();
     let fault = match ended {
         Ok(Ok(())) => return Ok(core),
         Ok(Err(fault)) => fault,
@@ -111,7 +111,7 @@ fn serve_lent<
     'c,
     T: Threads + Wait + Sync,
     R: Read,
-    L: Teller<D>,
+    L: ReplySink<D>,
     D: Disk,
     G: Gate + Sync,
     N: Loan,
@@ -119,61 +119,61 @@ fn serve_lent<
     with: (&'c T, &'c G),
     core: Core<D>,
     reader: &'a mut R,
-    teller: L,
+    sink: L,
     room: Room,
-    course: Course,
+    trigger: CheckpointTrigger,
     of: PhantomData<N>,
 ) -> (Result<Core<D>, ServeError<D>>, &'a mut R, L)
     requires reader { reader.ghost_name ≡ N.name }
-    requires can_begin { CanBegin L.start core room.bench.slots (R.remaining reader.now) (L.told teller) room.row }
+    requires can_begin { CanBegin L.start core room.bench.slots (R.remaining reader.now) (L.sent sink) room.row }
     requires workers { room.bench.slots ≢ 0 }
     ensures same { result.1.ghost_name ≡ reader.entry.ghost_name }
     ensures serves { ServesSo D.keeps room.bench.slots core (handed_back result.0) (R.remaining reader.entry.now)
-        (R.remaining result.1.now) (L.told teller) (L.told result.2) }
+        (R.remaining result.1.now) (L.sent sink) (L.sent result.2) }
 {
     let Room {
         input,
         row,
         out,
         bench,
-        desk,
+        dispatch_seat,
         seats,
     } = room;
     let mut session = Session {
         core,
-        desk,
+        dispatch_seat,
         row,
         out,
-        course,
+        trigger,
         lines: LineReader::new(LentReader { reader, of }, input),
         stop: None,
         open_lines: 0,
-        teller,
-        broken: false,
+        sink,
+        output_failed: false,
         bench: &bench,
     };
     let ended = bench.with_workers(with.0, with.1, seats, &mut session);
     let Session {
         core,
-        desk: _,
+        dispatch_seat: _,
         row: _,
         out: _,
-        course: _,
+        trigger: _,
         lines,
         stop: _,
         open_lines: _,
-        teller,
-        broken: _,
+        sink,
+        output_failed: _,
         bench: _,
     } = session;
     let LentReader { reader, of: _ } = lines.into_inner();
-    (hand_back(core, ended), reader, teller)
+    (hand_back(core, ended), reader, sink)
 }
 
 /// Answers each line that a reader has left with one line, which it tells, while so many workers, each a thread of its own, run
 /// the messages. The lines and the core are as the serial server would leave them, whatever the workers do when. A consistency
 /// point is made after `every` records, if that isn't 0, where the log has no room, and at the end. All memory is taken before
-/// the first read, and the threads have ended when it returns. Lines are told under the condition of `Teller::tell` and in no other
+/// the first read, and the threads have ended when it returns. Lines are sent under the condition of `ReplySink::send` and in no other
 /// way.
 ///
 /// # Errors
@@ -181,50 +181,50 @@ fn serve_lent<
 /// The core, as it is then, and a fault. `ServeFault::NoWorkers` where there are none, and `ServeFault::OutOfMemory` where there
 /// is no memory or a thread can't be started: nothing was read or told. Then `ServeFault::Read`, `ServeFault::Exhausted`,
 /// `ServeFault::Device` and `ServeFault::Write`, as they say.
-pub fn serve_to<T: Threads + Wait + Sync, R: Read, L: Teller<D>, D: Disk + Drop, G: Gate + Sync>(
+pub fn serve_to<T: Threads + Wait + Sync, R: Read, L: ReplySink<D>, D: Disk + Drop, G: Gate + Sync>(
     rt: &T,
     alloc: Global,
     core: Core<D>,
     r: &mut R,
-    teller: L,
+    sink: L,
     workers: usize,
     every: u64,
     gate: &G,
 ) -> (Result<Core<D>, ServeError<D>>, L)
-    requires start { L.start ≡ Some (record { core = core; places = workers; input = R.remaining r.old; before = L.told teller }) }
-    requires idle { IsIdle (world_of core) }
+    requires start { L.start ≡ Some (record { core = core; places = workers; input = R.remaining r.old; before = L.sent sink }) }
+    requires idle { IsIdle (core_state_of core) }
     requires works { core.failed ≡ false }
     requires few { workers ≤ 64 }
-    ensures { ServesSo D.keeps workers core (handed_back result.0) (R.remaining r.old) (R.remaining r.new) (L.told teller)
-        (L.told result.1) }
+    ensures { ServesSo D.keeps workers core (handed_back result.0) (R.remaining r.old) (R.remaining r.new) (L.sent sink)
+        (L.sent result.1) }
 {
-    core.stands();
+    core.know_recovery();
     if workers == 0 {
         let fault = ServeFault::NoWorkers;
-        return (Err(ServeError { core, fault }), teller);
+        return (Err(ServeError { core, fault }), sink);
     }
     let Ok(room) = take_room(alloc, core.slots(), workers) else {
         let fault = ServeFault::OutOfMemory;
-        return (Err(ServeError { core, fault }), teller);
+        return (Err(ServeError { core, fault }), sink);
     };
-    let (ended, reader, teller) = serve_lent::<T, R, L, D, G, Brand>(
+    let (ended, reader, sink) = serve_lent::<T, R, L, D, G, Brand>(
         (rt, gate),
         core,
         r,
-        teller,
+        sink,
         room,
-        Course::new(every),
+        CheckpointTrigger::new(every),
         PhantomData,
     );
-    come_back(reader);
-    (ended, teller)
+    know_returned(reader);
+    (ended, sink)
 }
 
 /// Where the call of a server for a writer began, and the loan of the writer.
 trait Beginning {
     ghost use Rattle.std.specs.Prelude.{Option};
     ghost use Rattle.std.specs.Borrow.{GName};
-    ghost use Rattle.serving.specs.Telling.{Start};
+    ghost use Rattle.serving.specs.Output.{Start};
 
     /// The start, once the call has begun.
     ghost start: { Option Start };
@@ -248,12 +248,12 @@ struct Output<'w, W, B: Beginning> {
     ghost same: { w.ghost_name ≡ B.name },
 }
 
-impl<'w, D: Disk, W: Write, B: Beginning> Teller<D> for Output<'w, W, B> {
+impl<'w, D: Disk, W: Write, B: Beginning> ReplySink<D> for Output<'w, W, B> {
     ghost start = { B.start };
 
-    ghost told = { λ o. W.contents o.w.now };
+    ghost sent = { λ o. W.contents o.w.now };
 
-    fn tell(&mut self, lines: &[u8], _core: &Core<D>) -> Result<(), WriteFault> {
+    fn send(&mut self, lines: &[u8], _core: &Core<D>) -> Result<(), WriteFault> {
         if self.w.write_all(lines).is_err() || self.w.flush().is_err() {
             return Err(WriteFault);
         }
@@ -294,7 +294,7 @@ fn serve_writer<
       input = R.remaining r.old;
       before = W.contents w.now;
     }) }
-    requires idle { IsIdle (world_of core) }
+    requires idle { IsIdle (core_state_of core) }
     requires works { core.failed ≡ false }
     requires few { setting.workers ≤ 64 }
     ensures same { result.1.ghost_name ≡ w.entry.ghost_name }
@@ -334,7 +334,7 @@ pub fn serve<T: Threads + Wait + Sync, R: Read, W: Write, D: Disk + Drop, G: Gat
     every: u64,
     gate: &G,
 ) -> Result<Core<D>, ServeError<D>>
-    requires idle { IsIdle (world_of core) }
+    requires idle { IsIdle (core_state_of core) }
     requires works { core.failed ≡ false }
     requires few { workers ≤ 64 }
     ensures { ServesSo D.keeps workers core (handed_back result) (R.remaining r.old) (R.remaining r.new) (W.contents w.old)
@@ -348,6 +348,6 @@ pub fn serve<T: Threads + Wait + Sync, R: Read, W: Write, D: Disk + Drop, G: Gat
         gate,
     };
     let (ended, w) = serve_writer::<T, R, W, D, G, Brand>(setting, core, r, w, PhantomData);
-    come_back(w);
+    know_returned(w);
     ended
 }

@@ -3,10 +3,10 @@
 
 ghost use Rattle.std.specs.Prelude.{◌≡◌, MatchResult, OnOk, Ok};
 
-use crate::points::Course;
-use crate::telling::Teller;
+use crate::checkpoints::CheckpointTrigger;
+use crate::output::ReplySink;
 use disk::Disk;
-use line_row::LineRow;
+use reorder_buffer::ReorderBuffer;
 use message::{LineReader, ReplyBuffer};
 use scheduler::Core;
 use std::io::Read;
@@ -15,18 +15,18 @@ use workers::{Bench, DispatchSeat};
 
 /// Why a session reads no more.
 #[derive(Clone, Copy)]
-pub(crate) enum Stop {
+pub(crate) enum ReadEnd {
     /// The input has ended.
-    End,
+    EndOfInput,
     /// The input could not be read.
-    Fault,
+    ReadFailed,
     /// A message found no ticket.
-    Exhausted,
+    TicketsExhausted,
     /// The device has failed.
-    Failed,
+    DeviceFailed,
 }
 
-/// A session ends before it has answered what it has read: the device has failed, or lines could not be told, as the session says.
+/// A session ends before it has answered what it has read: the device has failed, or lines could not be sent, as the session says.
 #[derive(Clone, Copy)]
 pub(crate) struct Halted;
 
@@ -41,46 +41,46 @@ pub(crate) fn or_halt<T, E: Copy>(answer: Result<T, E>) -> Result<T, Halted>
 }
 
 /// What a server has while it serves.
-pub(crate) struct Session<'c, R: Read, D: Disk, L: Teller<D>> {
+pub(crate) struct Session<'c, R: Read, D: Disk, L: ReplySink<D>> {
     /// The core.
     pub(crate) core: Core<D>,
     /// The dispatcher's seat at the bench.
-    pub(crate) desk: DispatchSeat,
+    pub(crate) dispatch_seat: DispatchSeat,
     /// The lines that were read and not said yet.
-    pub(crate) row: LineRow,
+    pub(crate) row: ReorderBuffer,
     /// The answers that wait to be told.
     pub(crate) out: ReplyBuffer,
     /// When consistency points are due.
-    pub(crate) course: Course,
+    pub(crate) trigger: CheckpointTrigger,
     /// The input.
     pub(crate) lines: LineReader<R>,
     /// Why no more of it is read, once that is so.
-    pub(crate) stop: Option<Stop>,
-    /// How many lines are open: read, and not answered in the output. They are in the row, or their answers wait.
+    pub(crate) stop: Option<ReadEnd>,
+    /// How many lines are open: read, and not answered in the output. They are in the reorder buffer, or their answers wait.
     pub(crate) open_lines: usize,
     /// Whom it tells the lines.
-    pub(crate) teller: L,
+    pub(crate) sink: L,
     /// Whether that has failed. Nothing more is told then.
-    pub(crate) broken: bool,
+    pub(crate) output_failed: bool,
     /// The bench where its jobs are lent.
     pub(crate) bench: &'c Bench,
 }
 
-impl<'c, R: Read, D: Disk, L: Teller<D>> Model for Session<'c, R, D, L> {
+impl<'c, R: Read, D: Disk, L: ReplySink<D>> Model for Session<'c, R, D, L> {
     ghost use Rattle.std.specs.Prelude.{◌≡◌, Option};
     ghost use Rattle.message.specs.Reader.{has_ended, is_drained, source, unread};
-    ghost use Rattle.serving.specs.Session.{IsUnderWayFrom, SessionView};
+    ghost use Rattle.serving.specs.Session.{SessionInvariantFrom, SessionView};
 
     ghost Value = { SessionView };
 
     ghost view = { λ s. record {
       core = s.core;
-      desk = s.desk;
+      dispatch_seat = s.dispatch_seat;
       row = s.row;
       out = s.out;
-      told = L.told s.teller;
+      sent = L.sent s.sink;
       open_lines = s.open_lines;
-      broken = s.broken;
+      output_failed = s.output_failed;
       stop = s.stop;
       left = unread R.remaining s.lines;
       drained = is_drained s.lines;
@@ -88,18 +88,18 @@ impl<'c, R: Read, D: Disk, L: Teller<D>> Model for Session<'c, R, D, L> {
       behind = R.remaining (source s.lines);
     } };
 
-    ghost invariant = { λ s. IsUnderWayFrom D.keeps L.start (record {
+    ghost invariant = { λ s. SessionInvariantFrom D.keeps L.start (record {
       core = s.core;
-      desk = s.desk;
+      dispatch_seat = s.dispatch_seat;
       row = s.row;
       out = s.out;
-      told = L.told s.teller;
+      sent = L.sent s.sink;
       open_lines = s.open_lines;
-      broken = s.broken;
+      output_failed = s.output_failed;
       stop = s.stop;
       left = unread R.remaining s.lines;
       drained = is_drained s.lines;
       ended = has_ended s.lines;
       behind = R.remaining (source s.lines);
-    }) × (s.desk.bench ≡ s.bench.now) };
+    }) × (s.dispatch_seat.bench ≡ s.bench.now) };
 }

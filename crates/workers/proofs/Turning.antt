@@ -4,10 +4,10 @@ use Rattle.std.proofs.lemmas.List.{take-set, drop-set-lt, get_or-set_same, lengt
 use Rattle.atomic_table.specs.Table.{turned}
 use Rattle.parcel.specs.Run.{JobView}
 use Rattle.workers.specs.Rule.{LentRow, lent_at}
-use Rattle.workers.specs.Desk.{spare, spare_from}
-use Rattle.workers.specs.declared.tray.Load.{Load}
+use Rattle.workers.specs.Seats.{spare, spare_from}
+use Rattle.workers.specs.declared.job_cell.CellContent.{CellContent}
 
-append_none : (xs : List (ℕ × Option Load)) → xs ++ [] ≡ xs
+append_none : (xs : List (ℕ × Option CellContent)) → xs ++ [] ≡ xs
 append_none [] = refl
 append_none (x ∷ xs) = ap (λ ys. x ∷ ys) (append_none xs)
 
@@ -44,7 +44,7 @@ spare_before : (k : ℕ) (ls : LentRow) → k < length ls → spare 0 (take (suc
 spare_before k ls h = let e : 0 + k ≡ k = omega arith in spare_take 0 k ls h ∙ ap (λ m. spare 0 (take k ls) ++ spare m (get_or ls k None ∷ [])) e
 
 -- the slots of all other places where nothing is lent, from the next place on
-abbrev pub others : ℕ → LentRow → List (ℕ × Option Load)
+abbrev pub others : ℕ → LentRow → List (ℕ × Option CellContent)
 others k ls = spare (suc k) (drop (suc k) ls) ++ spare 0 (take k ls)
 
 -- the row begins with the slot of a place where nothing is lent

@@ -1,5 +1,5 @@
 -- The words of a bench: its one rule, the steps that keep it, and the seats that clauses see.
-pub mod Tray
+pub mod JobCell
 pub mod Rule
 pub mod Steps
-pub mod Desk
+pub mod Seats

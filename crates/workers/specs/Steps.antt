@@ -4,18 +4,18 @@ use Rattle.atomic_table.specs.Table.{Me, Step, rest}
 use Rattle.parcel.specs.Run.{JobView, IsJobRun}
 use Rattle.parcel.specs.declared.job.Done.{Done}
 use Rattle.workers.specs.Rule.{lent_at, word_of}
-use Rattle.workers.specs.Desk.{lent_of}
-use Rattle.workers.specs.declared.tray.Load.{Load}
-use Rattle.workers.specs.declared.tray.Load.TheVariants.{Offered, Answered}
+use Rattle.workers.specs.Seats.{lent_of}
+use Rattle.workers.specs.declared.job_cell.CellContent.{CellContent}
+use Rattle.workers.specs.declared.job_cell.CellContent.TheVariants.{Offered, Delivered}
 use Rattle.workers.specs.declared.seats.View.{View}
 use Rattle.workers.specs.declared.seats.View.TheVariants.{Dispatcher, Idle, Claimed}
 
 -- what a seat knows, and the slots that it has
 abbrev pub Sat : Type 0
-Sat = Me (Option Load) View
+Sat = Me (Option CellContent) View
 
 -- the job in the slot that a seat took last
-abbrev pub job_on : List (ℕ × Option Load) → Option JobView
+abbrev pub job_on : List (ℕ × Option CellContent) → Option JobView
 job_on ((k, Some (Offered job)) ∷ _) = Some job
 job_on _ = None
 
@@ -41,7 +41,7 @@ Delivers m w = w ≡ (Idle, rest m.1)
 abbrev pub Collects : ℕ → Sat → ℕ → Sat → Type 0
 Collects k m found w =
     (found ≡ 3 → (job : JobView) × (done : Done) × (lent_at (lent_of m.0) k ≡ Some job) × IsJobRun job done
-    × (w ≡ (Dispatcher 0 (slice_set (lent_of m.0) k None), (k, Some (Answered done)) ∷ m.1)))
+    × (w ≡ (Dispatcher 0 (slice_set (lent_of m.0) k None), (k, Some (Delivered done)) ∷ m.1)))
     × (found ≢ 3 → w ≡ m)
 
 -- a step on the word of a place tells what its kind tells of that place

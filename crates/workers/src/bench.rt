@@ -3,15 +3,15 @@ ghost use Rattle.std.specs.Prelude.{◌≡◌, ◌+◌, ◌<◌, ◌≤◌, [], 
 ghost use Rattle.atomic_table.specs.Table.{rest};
 ghost use Rattle.parcel.specs.Run.{JobView, IsJobRun};
 ghost use Rattle.workers.specs.Rule.{LentRow, lent_at};
-ghost use Rattle.workers.specs.Desk.{IsAtBench, IsBench, IsDesk, IsWon, lent_of, spare};
-ghost use Rattle.workers.specs.declared.tray.Load.TheVariants.{Answered};
+ghost use Rattle.workers.specs.Seats.{IsAtBench, IsBench, IsDispatchSeat, HasCollected, lent_of, spare};
+ghost use Rattle.workers.specs.declared.job_cell.CellContent.TheVariants.{Delivered};
 ghost use Rattle.workers.specs.declared.seats.View.TheVariants.{Dispatcher};
 
 use crate::seats::{DispatchSeat, Seat, View, WorkSeat, turn_to};
 use crate::steps::{self, Handoff, Words};
-use crate::tray::Tray;
-use crate::waiting::wake;
-use crate::words::{ANSWERED, FIRST_PLACE, MOST_PLACES, OFFERS};
+use crate::job_cell::JobCell;
+use crate::event_counts::wake_worker;
+use crate::words::{DELIVERED, FIRST_PLACE, MOST_PLACES, OFFER_EVENT};
 use atomic_table::Table;
 use parcel::{Done, Job};
 use std::alloc::{AllocError, Global};
@@ -20,7 +20,7 @@ use std::marker::Model;
 /// The table at which one dispatcher and its workers meet. A clause sees which table it is, as whose
 /// `slots` the places are counted.
 pub struct Bench {
-    pub(crate) table: Table<Tray, View, usize, Handoff, Global>,
+    pub(crate) table: Table<JobCell, View, usize, Handoff, Global>,
 }
 
 // By hand, as a derived one is proved anew in each crate that drops a bench, with all that a job may hold.
@@ -32,7 +32,7 @@ impl Drop for Bench {
 
 impl Model for Bench {
     ghost use Rattle.atomic_table.specs.Seated.{TableId};
-    ghost use Rattle.workers.specs.Desk.{IsBench};
+    ghost use Rattle.workers.specs.Seats.{IsBench};
 
     ghost Value = { TableId };
 
@@ -59,12 +59,12 @@ impl Bench {
         let (table, mut seat) = lay(alloc, &words, places)?;
         ready_all(&table.shared, &mut seat, places);
         let seats = seat_workers(alloc, &table.shared, &mut seat, workers)?;
-        let desk = DispatchSeat {
+        let dispatch_seat = DispatchSeat {
             seat,
             lent,
-            heard: 0,
+            seen: 0,
         };
-        Ok((Bench { table }, desk, seats))
+        Ok((Bench { table }, dispatch_seat, seats))
     }
 
     /// Lends a job to the workers at place k, and wakes one that sleeps where none looks on. Hands it back
@@ -80,9 +80,9 @@ impl Bench {
             return Err(job);
         }
         let words = &self.table.shared;
-        lend(words, &mut seat.seat, &mut seat.lent, k, job);
-        steps::ring(words, &mut seat.seat, OFFERS);
-        wake(words);
+        put_offer(words, &mut seat.seat, &mut seat.lent, k, job);
+        steps::ring(words, &mut seat.seat, OFFER_EVENT);
+        wake_worker(words);
         Ok(())
     }
 
@@ -96,13 +96,13 @@ impl Bench {
         ensures none { IfNone result (seat.new ≡ seat.old) }
     {
         let words = &self.table.shared;
-        if !seat.lent[k] || words.peek(k + FIRST_PLACE) != ANSWERED {
+        if !seat.lent[k] || words.peek(k + FIRST_PLACE) != DELIVERED {
             return None;
         }
-        if !win(words, &mut seat.seat, &seat.lent, k) {
+        if !try_collect(words, &mut seat.seat, &seat.lent, k) {
             return None;
         }
-        Some(take_back(words, &mut seat.seat, &mut seat.lent, k))
+        Some(take_delivered(words, &mut seat.seat, &mut seat.lent, k))
     }
 
     /// Tells the workers to end, each once it has delivered what it has claimed.
@@ -112,8 +112,8 @@ impl Bench {
     {
         let words = &self.table.shared;
         steps::close(words, &mut seat.seat);
-        steps::ring(words, &mut seat.seat, OFFERS);
-        words.wake_all(OFFERS);
+        steps::ring(words, &mut seat.seat, OFFER_EVENT);
+        words.wake_all(OFFER_EVENT);
     }
 }
 
@@ -122,28 +122,28 @@ fn lay(
     alloc: Global,
     words: &[u64],
     places: usize,
-) -> Result<(Table<Tray, View, usize, Handoff, Global>, Seat), AllocError>
+) -> Result<(Table<JobCell, View, usize, Handoff, Global>, Seat), AllocError>
     requires places { places ≤ MOST_PLACES }
     requires words { words.now ≡ replicate (places + FIRST_PLACE) 0 }
     ensures table { IfOk result (λ r. IsBench r.0.shared.table_id × (r.0.shared.table_id.slots ≡ places)) }
     ensures seat { IfOk result (λ r. (r.1.table_id ≡ r.0.shared.table_id) × (r.1.me ≡ (Dispatcher places (replicate places None), []))) }
 {
-    let trays = empty_trays(alloc, places)?;
-    match Table::new(alloc, words, trays, &places) {
+    let cells = empty_cells(alloc, places)?;
+    match Table::new(alloc, words, cells, &places) {
         Ok(laid) => Ok(laid),
         Err(_refused) => Err(AllocError),
     }
 }
 
 // `places` empty trays.
-fn empty_trays(alloc: Global, places: usize) -> Result<Vec<Tray>, AllocError>
-    ensures { IfOk result (λ trays. trays.items ≡ replicate places None) }
+fn empty_cells(alloc: Global, places: usize) -> Result<Vec<JobCell>, AllocError>
+    ensures { IfOk result (λ cells. cells.items ≡ replicate places None) }
 {
-    let mut trays = Vec::with_capacity(alloc, places)?;
+    let mut cells = Vec::with_capacity(alloc, places)?;
     for _place in 0..places {
-        trays.push(Tray::new(alloc)?)?;
+        cells.push(JobCell::new(alloc)?)?;
     }
-    Ok(trays)
+    Ok(cells)
 }
 
 // Splits off a seat for each worker.
@@ -154,7 +154,7 @@ fn seat_workers(
     workers: usize,
 ) -> Result<Vec<WorkSeat>, AllocError>
     requires { IsAtBench words.now.table_id seat.old.table_id }
-    ensures desk { (seat.new.table_id ≡ seat.old.table_id) × (seat.new.me ≡ seat.old.me) }
+    ensures dispatch_seat { (seat.new.table_id ≡ seat.old.table_id) × (seat.new.me ≡ seat.old.me) }
     ensures workers { IfOk result (λ seats. (vec_len seats ≡ workers) × All (λ w. w ≡ words.now.table_id) seats.items) }
 {
     let mut seats = Vec::with_capacity(alloc, workers)?;
@@ -182,12 +182,12 @@ fn ready_all(words: &Words, seat: &mut Seat, places: usize)
 
 // Offers a job at a place where nothing is lent.
 #[inline(always)]
-fn lend(words: &Words, seat: &mut Seat, lent: &mut [bool], k: usize, job: Job)
+fn put_offer(words: &Words, seat: &mut Seat, lent: &mut [bool], k: usize, job: Job)
     requires bench { (seat.old.table_id ≡ words.now.table_id) × (k < words.now.table_id.slots) }
-    requires desk { IsDesk words.now.table_id seat.old.me lent.old }
+    requires dispatch_seat { IsDispatchSeat words.now.table_id seat.old.me lent.old }
     requires empty { lent_at (lent_of seat.old.me.0) k ≡ None }
     ensures bench { seat.new.table_id ≡ seat.old.table_id }
-    ensures desk { IsDesk words.now.table_id seat.new.me lent.new }
+    ensures dispatch_seat { IsDispatchSeat words.now.table_id seat.new.me lent.new }
     ensures lent { lent_of seat.new.me.0 ≡ slice_set (lent_of seat.old.me.0) k (Some job) }
 {
     turn_to(seat, lent, 0, k);
@@ -198,11 +198,11 @@ fn lend(words: &Words, seat: &mut Seat, lent: &mut [bool], k: usize, job: Job)
 }
 
 // Takes the slot of a place where something is lent, if its result was delivered. Else all stays.
-fn win(words: &Words, seat: &mut Seat, lent: &[bool], k: usize) -> bool
+fn try_collect(words: &Words, seat: &mut Seat, lent: &[bool], k: usize) -> bool
     requires bench { (seat.old.table_id ≡ words.now.table_id) × (k < words.now.table_id.slots) }
-    requires desk { IsDesk words.now.table_id seat.old.me lent.now }
+    requires dispatch_seat { IsDispatchSeat words.now.table_id seat.old.me lent.now }
     ensures bench { seat.new.table_id ≡ seat.old.table_id }
-    ensures won { IsTrue result → IsWon k (lent_of seat.old.me.0) seat.new.me }
+    ensures won { IsTrue result → HasCollected k (lent_of seat.old.me.0) seat.new.me }
     ensures lost { IsFalse result → seat.new.me ≡ seat.old.me }
 {
     turn_to(seat, lent, 0, k);
@@ -214,13 +214,13 @@ fn win(words: &Words, seat: &mut Seat, lent: &[bool], k: usize) -> bool
 }
 
 // Takes the result out of the slot of a place that was won.
-fn take_back(words: &Words, seat: &mut Seat, lent: &mut [bool], k: usize) -> Done
+fn take_delivered(words: &Words, seat: &mut Seat, lent: &mut [bool], k: usize) -> Done
     requires bench { (seat.old.table_id ≡ words.now.table_id) × (k < words.now.table_id.slots) × IsBench words.now.table_id }
-    requires won { (row : LentRow) × IsWon k row seat.old.me × (lent.old ≡ map is_some row) × (length lent.old ≡ words.now.table_id.slots) }
+    requires won { (row : LentRow) × HasCollected k row seat.old.me × (lent.old ≡ map is_some row) × (length lent.old ≡ words.now.table_id.slots) }
     ensures bench { seat.new.table_id ≡ seat.old.table_id }
-    ensures desk { IsDesk words.now.table_id seat.new.me lent.new }
+    ensures dispatch_seat { IsDispatchSeat words.now.table_id seat.new.me lent.new }
     ensures lent { lent_of seat.new.me.0 ≡ lent_of seat.old.me.0 }
-    ensures result { seat.old.me.1 ≡ (k, Some (Answered result)) ∷ rest seat.old.me.1 }
+    ensures result { seat.old.me.1 ≡ (k, Some (Delivered result)) ∷ rest seat.old.me.1 }
 {
     lent[k] = false;
     let done = steps::take_result(words, seat, k);

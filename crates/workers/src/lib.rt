@@ -3,16 +3,16 @@
 #![tactic(auto)]
 
 mod bench;
-mod duty;
-mod pace;
+mod dispatcher_task;
+mod gate;
 mod seats;
 mod steps;
-mod tray;
-mod waiting;
+mod job_cell;
+mod event_counts;
 mod words;
 mod work;
 
 pub use bench::Bench;
-pub use duty::{Duty, come_back};
-pub use pace::{Gate, OpenGate};
+pub use dispatcher_task::{DispatcherTask, know_returned};
+pub use gate::{Gate, OpenGate};
 pub use seats::{DispatchSeat, WorkSeat};

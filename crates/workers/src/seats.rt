@@ -2,9 +2,9 @@
 ghost use Rattle.std.specs.Prelude.{◌≡◌, ◌+◌, ◌<◌, ◌≤◌, length, map, position, replicate, Option, None, is_some, is_none, not, IsFalse, ◌↔◌};
 ghost use Rattle.std.specs.List.{list_any};
 ghost use Rattle.workers.specs.Rule.{lent_at};
-ghost use Rattle.workers.specs.Desk.{lent_of, spare_from};
+ghost use Rattle.workers.specs.Seats.{lent_of, spare_from};
 
-use crate::tray::Tray;
+use crate::job_cell::JobCell;
 use parcel::Job;
 use std::collections::LinkedList;
 use std::marker::Model;
@@ -20,7 +20,7 @@ pub enum View {
 }
 
 /// A seat at the table, whoever has it.
-pub type Seat = atomic_table::Seat<Tray, View>;
+pub type Seat = atomic_table::Seat<JobCell, View>;
 
 /// The seat of the thread that offers jobs and collects their results. A clause sees which bench it
 /// belongs to and the job that is lent at each place.
@@ -28,8 +28,8 @@ pub struct DispatchSeat {
     pub(crate) seat: Seat,
     // Whether something is lent at each place.
     pub(crate) lent: Vec<bool>,
-    // The number of the bell of the deliveries when the last wait returned.
-    pub(crate) heard: u64,
+    // The number of the event count of the deliveries when the last wait returned.
+    pub(crate) seen: u64,
 }
 
 // By hand, as a bench's.
@@ -38,20 +38,20 @@ impl Drop for DispatchSeat {
         let DispatchSeat {
             seat: _,
             lent: _,
-            heard: _,
+            seen: _,
         } = self;
     }
 }
 
 impl Model for DispatchSeat {
     ghost use Rattle.std.specs.Prelude.{List};
-    ghost use Rattle.workers.specs.Desk.{Desk, IsDesk, lent_of};
+    ghost use Rattle.workers.specs.Seats.{DispatchSeatView, IsDispatchSeat, lent_of};
 
-    ghost Value = { Desk };
+    ghost Value = { DispatchSeatView };
 
     ghost view = { λ d. record { bench = d.seat.table_id; lent = lent_of d.seat.me.0 } };
 
-    ghost invariant = { λ d. IsDesk d.seat.table_id d.seat.me d.lent.items };
+    ghost invariant = { λ d. IsDispatchSeat d.seat.table_id d.seat.me d.lent.items };
 }
 
 impl DispatchSeat {
@@ -105,7 +105,7 @@ impl Drop for WorkSeat {
 impl Model for WorkSeat {
     ghost use Rattle.atomic_table.specs.Seated.{TableId};
     ghost use Rattle.std.specs.Prelude.{◌≡◌};
-    ghost use Rattle.workers.specs.Desk.{idle};
+    ghost use Rattle.workers.specs.Seats.{idle};
 
     ghost Value = { TableId };
 
@@ -116,7 +116,7 @@ impl Model for WorkSeat {
 
 impl WorkSeat {
     ghost use Rattle.std.specs.Prelude.{◌≡◌};
-    ghost use Rattle.workers.specs.Desk.{idle};
+    ghost use Rattle.workers.specs.Seats.{idle};
 
     // The seat as the table knows it.
     pub(crate) fn into_inner(self) -> Seat
@@ -128,7 +128,7 @@ impl WorkSeat {
     }
 }
 
-// Brings the slots of a desk round, from those of the places from `from` on to those from `to` on.
+// Brings the slots of a dispatcher's seat round, from those of the places from `from` on to those from `to` on.
 // A seat reaches the slot at the head of its row alone.
 pub fn turn_to(seat: &mut Seat, lent: &[bool], from: usize, to: usize)
     requires places { (from ≤ to) × (to ≤ length lent.now) }

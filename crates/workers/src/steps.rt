@@ -5,24 +5,24 @@ ghost use Rattle.atomic_table.specs.Table.{rest};
 ghost use Rattle.parcel.specs.Run.{JobView, IsJobRun};
 ghost use Rattle.parcel.specs.declared.job.Done.{Done as TheDone};
 ghost use Rattle.workers.specs.Rule.{LentRow, BenchRule, lent_at};
-ghost use Rattle.workers.specs.Desk.{IsAtBench, lent_of, idle};
+ghost use Rattle.workers.specs.Seats.{IsAtBench, lent_of, idle};
 ghost use Rattle.workers.specs.Steps.{Readies, Offers, Claims, Delivers, Collects, OfPlace};
-ghost use Rattle.workers.specs.declared.tray.Load.TheVariants.{Offered, Answered};
+ghost use Rattle.workers.specs.declared.job_cell.CellContent.TheVariants.{Offered, Delivered};
 ghost use Rattle.workers.specs.declared.seats.View.TheVariants.{Dispatcher, Idle, Claimed};
 
 use crate::seats::{Seat, View};
-use crate::tray::Tray;
-use crate::words::{ANSWERED, CLAIMED, EMPTY, FIRST_PLACE, OFFERED, SLEPT_AT, STOP};
+use crate::job_cell::JobCell;
+use crate::words::{DELIVERED, CLAIMED, EMPTY, FIRST_PLACE, OFFERED, SLEPT_AT, STOP};
 use atomic_table::{Play, Shared, Split, TableRule};
 use parcel::{Done, Job};
 
 /// The shared part of the table.
-pub type Words = Shared<Tray, View, usize, Handoff>;
+pub type Words = Shared<JobCell, View, usize, Handoff>;
 
 /// The rule of the table. It gets the number of places when it is made.
 pub struct Handoff;
 
-impl TableRule<Tray, View, usize> for Handoff {
+impl TableRule<JobCell, View, usize> for Handoff {
     ghost holds = { λ _. BenchRule };
 
     ghost first = { λ places. Dispatcher places (replicate places None) };
@@ -49,27 +49,27 @@ impl Split<View> for Joining {
     ghost right = { λ _. Idle };
 }
 
-impl Play<Tray, View> for Readying {
+impl Play<JobCell, View> for Readying {
     ghost then = { OfPlace (λ k m _. Readies k m) };
 }
 
-impl Play<Tray, View> for Offering {
+impl Play<JobCell, View> for Offering {
     ghost then = { OfPlace (λ k m _. Offers k m) };
 }
 
-impl Play<Tray, View> for Claiming {
+impl Play<JobCell, View> for Claiming {
     ghost then = { OfPlace Claims };
 }
 
-impl Play<Tray, View> for Delivering {
+impl Play<JobCell, View> for Delivering {
     ghost then = { OfPlace (λ _ m _. Delivers m) };
 }
 
-impl Play<Tray, View> for Collecting {
+impl Play<JobCell, View> for Collecting {
     ghost then = { OfPlace Collects };
 }
 
-impl Play<Tray, View> for Aside {
+impl Play<JobCell, View> for Aside {
     ghost then = { λ _ m _ w. w ≡ m };
 }
 
@@ -121,34 +121,34 @@ pub fn claim(words: &Words, seat: &mut Seat, k: usize) -> bool
 pub fn deliver(words: &Words, seat: &mut Seat, k: usize)
     requires bench { IsAtBench words.now.table_id seat.old.table_id }
     requires place { k < words.now.table_id.slots }
-    requires result { (job : JobView) × (done : TheDone) × (seat.old.me ≡ (Claimed k job, (k, Some (Answered done)) ∷ []))
+    requires result { (job : JobView) × (done : TheDone) × (seat.old.me ≡ (Claimed k job, (k, Some (Delivered done)) ∷ []))
         × IsJobRun job done }
     ensures bench { seat.new.table_id ≡ seat.old.table_id }
     ensures idle { seat.new.me ≡ idle }
 {
-    words.store::<Delivering>(seat, k + FIRST_PLACE, ANSWERED);
+    words.store::<Delivering>(seat, k + FIRST_PLACE, DELIVERED);
 }
 
 /// Takes the result of a place if it was delivered. One try.
 pub fn collect(words: &Words, seat: &mut Seat, k: usize) -> bool
     requires bench { IsAtBench words.now.table_id seat.old.table_id }
     requires place { k < words.now.table_id.slots }
-    requires desk { (lent : LentRow) × (held : _) × (seat.old.me ≡ (Dispatcher 0 lent, held)) }
+    requires dispatch_seat { (lent : LentRow) × (held : _) × (seat.old.me ≡ (Dispatcher 0 lent, held)) }
     ensures bench { seat.new.table_id ≡ seat.old.table_id }
     ensures won { IsTrue result → (job : JobView) × (done : TheDone) × (lent_at (lent_of seat.old.me.0) k ≡ Some job) × IsJobRun job done
-        × (seat.new.me ≡ (Dispatcher 0 (slice_set (lent_of seat.old.me.0) k None), (k, Some (Answered done)) ∷ seat.old.me.1)) }
+        × (seat.new.me ≡ (Dispatcher 0 (slice_set (lent_of seat.old.me.0) k None), (k, Some (Delivered done)) ∷ seat.old.me.1)) }
     ensures lost { IsFalse result → seat.new.me ≡ seat.old.me }
 {
-    words.compare_exchange::<Collecting>(seat, k + FIRST_PLACE, ANSWERED, EMPTY) == ANSWERED
+    words.compare_exchange::<Collecting>(seat, k + FIRST_PLACE, DELIVERED, EMPTY) == DELIVERED
 }
 
-/// Rings a bell, and gives the number that it had.
-pub fn ring(words: &Words, seat: &mut Seat, bell: usize) -> u64
+/// Rings a event count, and gives the number that it had.
+pub fn ring(words: &Words, seat: &mut Seat, event: usize) -> u64
     requires bench { IsAtBench words.now.table_id seat.old.table_id }
-    requires bell { bell < FIRST_PLACE }
+    requires event { event < FIRST_PLACE }
     ensures { (seat.new.table_id ≡ seat.old.table_id) × (seat.new.me ≡ seat.old.me) }
 {
-    words.fetch_add::<Aside>(seat, bell, 1)
+    words.fetch_add::<Aside>(seat, event, 1)
 }
 
 /// Says by the stop word that the bench is stopped.
@@ -177,8 +177,8 @@ pub fn count_out(words: &Words, seat: &mut Seat, who: usize)
     words.fetch_sub::<Aside>(seat, who, 1);
 }
 
-/// Says at which number of the bell of the deliveries the dispatcher goes to sleep.
-pub fn lie_down(words: &Words, seat: &mut Seat, number: u64)
+/// Says at which number of the event count of the deliveries the dispatcher goes to sleep.
+pub fn announce_sleep(words: &Words, seat: &mut Seat, number: u64)
     requires { IsAtBench words.now.table_id seat.old.table_id }
     ensures { (seat.new.table_id ≡ seat.old.table_id) × (seat.new.me ≡ seat.old.me) }
 {
@@ -192,8 +192,8 @@ pub fn lay_job(words: &Words, seat: &mut Seat, k: usize, job: Job)
     ensures bench { seat.new.table_id ≡ seat.old.table_id }
     ensures slot { seat.new.me ≡ (seat.old.me.0, (k, Some (Offered job)) ∷ rest seat.old.me.1) }
 {
-    let tray = seat.slot_mut(words, k);
-    tray.lay_job(job);
+    let cell = seat.slot_mut(words, k);
+    cell.lay_job(job);
 }
 
 /// Takes the job out of the slot that the seat took last.
@@ -205,8 +205,8 @@ pub fn take_job(words: &Words, seat: &mut Seat, k: usize) -> Job
     ensures job { seat.old.me.1 ≡ (k, Some (Offered result)) ∷ rest seat.old.me.1 }
     ensures slot { seat.new.me ≡ (seat.old.me.0, (k, None) ∷ rest seat.old.me.1) }
 {
-    let tray = seat.slot_mut(words, k);
-    tray.take_job()
+    let cell = seat.slot_mut(words, k);
+    cell.take_job()
 }
 
 /// Lays a result into the slot that the seat took last.
@@ -214,21 +214,21 @@ pub fn take_job(words: &Words, seat: &mut Seat, k: usize) -> Job
 pub fn lay_result(words: &Words, seat: &mut Seat, k: usize, done: Done)
     requires { (seat.old.table_id ≡ words.now.table_id) × (seat.old.me.1 ≡ (k, None) ∷ rest seat.old.me.1) }
     ensures bench { seat.new.table_id ≡ seat.old.table_id }
-    ensures slot { seat.new.me ≡ (seat.old.me.0, (k, Some (Answered done)) ∷ rest seat.old.me.1) }
+    ensures slot { seat.new.me ≡ (seat.old.me.0, (k, Some (Delivered done)) ∷ rest seat.old.me.1) }
 {
-    let tray = seat.slot_mut(words, k);
-    tray.lay_result(done);
+    let cell = seat.slot_mut(words, k);
+    cell.lay_result(done);
 }
 
 /// Takes the result out of the slot that the seat took last.
 #[inline(always)]
 pub fn take_result(words: &Words, seat: &mut Seat, k: usize) -> Done
     requires { (seat.old.table_id ≡ words.now.table_id)
-        × ((done : TheDone) × (seat.old.me.1 ≡ (k, Some (Answered done)) ∷ rest seat.old.me.1)) }
+        × ((done : TheDone) × (seat.old.me.1 ≡ (k, Some (Delivered done)) ∷ rest seat.old.me.1)) }
     ensures bench { seat.new.table_id ≡ seat.old.table_id }
-    ensures result { seat.old.me.1 ≡ (k, Some (Answered result)) ∷ rest seat.old.me.1 }
+    ensures result { seat.old.me.1 ≡ (k, Some (Delivered result)) ∷ rest seat.old.me.1 }
     ensures slot { seat.new.me ≡ (seat.old.me.0, (k, None) ∷ rest seat.old.me.1) }
 {
-    let tray = seat.slot_mut(words, k);
-    tray.take_result()
+    let cell = seat.slot_mut(words, k);
+    cell.take_result()
 }

@@ -1,16 +1,16 @@
 //! What a worker does.
 ghost use Rattle.std.specs.Prelude.{◌≡◌, ◌<◌, [], ◌∷◌, Some, All};
 ghost use Rattle.parcel.specs.Run.{JobView};
-ghost use Rattle.workers.specs.Desk.{IsAtBench, IsBench, idle};
-ghost use Rattle.workers.specs.declared.tray.Load.TheVariants.{Offered};
+ghost use Rattle.workers.specs.Seats.{IsAtBench, IsBench, idle};
+ghost use Rattle.workers.specs.declared.job_cell.CellContent.TheVariants.{Offered};
 ghost use Rattle.workers.specs.declared.seats.View.TheVariants.{Claimed};
 
 use crate::bench::Bench;
-use crate::pace::Gate;
+use crate::gate::Gate;
 use crate::seats::{DispatchSeat, Seat, WorkSeat};
 use crate::steps::{self, Words};
-use crate::waiting::{hear, look_on, sleep, tell, wake};
-use crate::words::{FIRST_PLACE, OFFERED, OFFERS, STOP};
+use crate::event_counts::{wait_delivery, spin_then_sleep, sleep, signal_delivery, wake_worker};
+use crate::words::{FIRST_PLACE, OFFERED, OFFER_EVENT, STOP};
 use parcel::run;
 use std::alloc::AllocError;
 use std::sync::Wait;
@@ -38,16 +38,16 @@ impl Bench {
         let mut pass = seat.into_inner();
         let mut last = Round::Idle;
         for _ in rt.forever() {
-            let heard = words.peek(OFFERS);
+            let seen = words.peek(OFFER_EVENT);
             if words.peek(STOP) != 0 {
                 break;
             }
             match serve_round(words, &mut pass, places, gate) {
                 Round::Idle if last == Round::Woke => {
-                    sleep(words, &mut pass, rt, heard);
+                    sleep(words, &mut pass, rt, seen);
                     last = Round::Idle;
                 }
-                Round::Idle => look_on(words, &mut pass, rt, heard),
+                Round::Idle => spin_then_sleep(words, &mut pass, rt, seen),
                 round => last = round,
             }
         }
@@ -84,17 +84,17 @@ impl Bench {
         &'s self,
         rt: &'s R,
         scope: &Scope<'s, E>,
-        desk: &mut DispatchSeat,
+        dispatch_seat: &mut DispatchSeat,
         seats: Vec<WorkSeat>,
         gate: &'s G,
     ) -> Result<(), AllocError>
-        requires desk { desk.old.bench ≡ self.now }
+        requires dispatch_seat { dispatch_seat.old.bench ≡ self.now }
         requires seats { All (λ w. w ≡ self.now) seats.items }
-        ensures { desk.new ≡ desk.old }
+        ensures { dispatch_seat.new ≡ dispatch_seat.old }
     {
         let started = self.start_all(rt, scope, seats, gate);
         if started.is_err() {
-            self.stop(desk);
+            self.stop(dispatch_seat);
         }
         started
     }
@@ -104,19 +104,19 @@ impl Bench {
         requires { seat.old.bench ≡ self.now }
         ensures { seat.new ≡ seat.old }
     {
-        seat.heard = hear(&self.table.shared, &mut seat.seat, rt, seat.heard);
+        seat.seen = wait_delivery(&self.table.shared, &mut seat.seat, rt, seat.seen);
     }
 }
 
 // Wakes another worker where a place after k has a job too. An offer wakes none while one looks on, and that
 // one may be held up by the job that it has claimed.
-fn call_another(words: &Words, k: usize, places: usize)
+fn wake_another(words: &Words, k: usize, places: usize)
     requires bench { IsBench words.now.table_id }
     requires places { (k < places) × (places ≡ words.now.table_id.slots) }
 {
     for other in k + 1..places {
         if words.peek(other + FIRST_PLACE) == OFFERED {
-            wake(words);
+            wake_worker(words);
             return;
         }
     }
@@ -158,13 +158,13 @@ fn serve_place<G: Gate>(
     if !steps::claim(words, seat, k) {
         return None;
     }
-    call_another(words, k, places);
-    Some(answer(words, seat, k, gate))
+    wake_another(words, k, places);
+    Some(run_claimed(words, seat, k, gate))
 }
 
 // Runs the job of the place that the seat has claimed, and delivers its result. Says whether the
 // dispatcher slept.
-fn answer<G: Gate>(words: &Words, seat: &mut Seat, k: usize, gate: &G) -> bool
+fn run_claimed<G: Gate>(words: &Words, seat: &mut Seat, k: usize, gate: &G) -> bool
     requires bench { IsAtBench words.now.table_id seat.old.table_id }
     requires place { k < words.now.table_id.slots }
     requires claimed { (job : JobView) × (seat.old.me ≡ (Claimed k job, (k, Some (Offered job)) ∷ [])) }
@@ -175,5 +175,5 @@ fn answer<G: Gate>(words: &Words, seat: &mut Seat, k: usize, gate: &G) -> bool
     let done = run(job);
     steps::lay_result(words, seat, k, done);
     steps::deliver(words, seat, k);
-    tell(words, seat)
+    signal_delivery(words, seat)
 }

@@ -1,7 +1,7 @@
 //! A volume's piece of an image: its marks, its files and its label, in 64 bytes.
 ghost use Rattle.std.specs.Prelude.{◌≡◌, ◌↔◌, ◌^◌, ◌-◌, length, unwrap_or, if◌then◌else◌, Some, None, IsTrue, IsFalse};
 ghost use Rattle.meaning.specs.Serial.{no_label};
-ghost use Rattle.parcel.specs.Pieces.{volume_piece_of, said_label, said_piece, spelled, volume_with};
+ghost use Rattle.parcel.specs.Pieces.{volume_piece_of, decoded_label, decoded_piece, spelled, volume_with};
 ghost use Rattle.parcel.specs.Shown.{shown_label};
 
 use crate::parts::files_of;
@@ -46,9 +46,9 @@ fn all_files(g: &Geometry) -> u64
 }
 
 /// The label in the bytes of a volume's piece. Before version 2 there is none, and zeros stand for it.
-fn label_said(version: u8, bytes: &[u8]) -> [u8; 32]
+fn label_decoded(version: u8, bytes: &[u8]) -> [u8; 32]
     requires size { length bytes.now ≡ 64 }
-    ensures { result ≡ said_label version bytes.now }
+    ensures { result ≡ decoded_label version bytes.now }
 {
     let mut label = [0; 32];
     if version == VERSION {
@@ -72,15 +72,15 @@ impl VolumePiece {
 
     /// What bytes say as a volume's piece, whatever else they spell. Of the files those of the
     /// geometry are looked at.
-    fn said(g: &Geometry, version: u8, bytes: &[u8]) -> VolumePiece
+    fn decoded(g: &Geometry, version: u8, bytes: &[u8]) -> VolumePiece
         requires size { length bytes.now ≡ 64 }
-        ensures { result ≡ said_piece version g.now bytes.now }
+        ensures { result ≡ decoded_piece version g.now bytes.now }
     {
         VolumePiece {
             made: bytes[0] == 1,
             sealed: bytes[1] == 1,
             files: LittleEndian::read_u64(&bytes[FILES_AT..LABEL_AT]) & all_files(g),
-            label: label_said(version, bytes),
+            label: label_decoded(version, bytes),
         }
     }
 
@@ -133,16 +133,16 @@ pub(super) fn write_volume(volume: &Vol, out: &mut [u8])
 /// volume stays.
 pub(super) fn read_volume(volume: &mut Vol, g: &Geometry, version: u8, bytes: &[u8]) -> bool
     requires size { length bytes.now ≡ 64 }
-    ensures good { IsTrue result ↔ (bytes.now ≡ spelled (said_piece version g.now bytes.now)) }
-    ensures taken { IsTrue result → volume.new ≡ volume_with (said_piece version g.now bytes.now) volume.old }
+    ensures good { IsTrue result ↔ (bytes.now ≡ spelled (decoded_piece version g.now bytes.now)) }
+    ensures taken { IsTrue result → volume.new ≡ volume_with (decoded_piece version g.now bytes.now) volume.old }
     ensures kept { IsFalse result → volume.new ≡ volume.old }
 {
-    let said = VolumePiece::said(g, version, bytes);
+    let decoded = VolumePiece::decoded(g, version, bytes);
     let mut written = [0; VOLUME_PIECE_SIZE];
-    said.write(&mut written);
+    decoded.write(&mut written);
     if bytes != written.as_slice() {
         return false;
     }
-    said.put_into(volume);
+    decoded.put_into(volume);
     true
 }

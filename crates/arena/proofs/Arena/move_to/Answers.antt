@@ -1,6 +1,6 @@
 -- The slot leaves its list, and becomes the last of the chain.
 use Rattle.std.proofs.Common.{◌≡◌, ◌<◌, true, is_some, None, sym, ◌∙◌, slice_index_or, arith, length}
-use Rattle.arena.specs.Kept.{chains_in}
+use Rattle.arena.specs.Invariant.{chains_in}
 use Rattle.arena.proofs.Keeping.{move-kept, move-row}
 use Rattle.arena.proofs.Arena.move_to.Goals as goal
 

@@ -1,6 +1,6 @@
 -- While the header is written its gate is shut; once that is open, the device recovers to the empty state.
 use Rattle.std.proofs.Common.{length, take, drop, ap, arith, List, ℕ}
-use Rattle.checkpoint.proofs.Opened.{numbers_moments, gate_moments, stands, version}
+use Rattle.checkpoint.proofs.Opened.{numbers_moments, gate_moments, recovers, version}
 use Rattle.device_map.specs.Layout.{layout_of}
 use Rattle.oplog.proofs.Beyond.{beyond_then, beyond_write}
 use Rattle.checkpoint.proofs.formatting.open_gate.Goals as goal
@@ -19,9 +19,9 @@ returns-clause-any_moment g c = λ k.
     gate_moments c.args.g.now _ _ _ (ap (λ (l : List ℕ). take 63 (drop 1 l)) c.header_of-header.ensures) c.requires.whole (c.requires.shut k) (c.requires.laid k) (c.store.ensures.any_moment k)
     (c.in_ok-store.ensures.stored k) _ (c.store-2.ensures.any_moment k)
 
-pub returns-clause-stands : goal.returns-clause-stands
-returns-clause-stands g c = λ k.
-    stands c.args.g.now _ _ _ (ap (λ (l : List ℕ). take 63 (drop 1 l)) c.header_of-header.ensures) c.requires.whole (c.requires.shut k) (c.requires.laid k) (c.store.ensures.any_moment k)
+pub returns-clause-recovers : goal.returns-clause-recovers
+returns-clause-recovers g c = λ k.
+    recovers c.args.g.now _ _ _ (ap (λ (l : List ℕ). take 63 (drop 1 l)) c.header_of-header.ensures) c.requires.whole (c.requires.shut k) (c.requires.laid k) (c.store.ensures.any_moment k)
     (c.in_ok-store.ensures.stored k) _ (c.in_ok-store-2.ensures.stored k)
 
 pub returns-clause-version : goal.returns-clause-version

@@ -6,7 +6,7 @@ use Rattle.image.specs.Pieces.{piece_count}
 use Rattle.device_map.specs.Layout.{image, layout_of, part_bytes, part_at}
 use Rattle.parcel.specs.Tree.{state_in}
 use Rattle.checkpoint.proofs.Replays.{same_bytes}
-use Rattle.checkpoint.proofs.Walked.{all_read, bad_turn, free_at_first, free_turn, good_turn, next_place, no_bad_piece, read_there, room_left, said_turn}
+use Rattle.checkpoint.proofs.Walked.{all_read, bad_queued, free_at_first, free_queued, good_queued, next_place, no_bad_piece, read_there, room_left, decoded_turn}
 use Rattle.checkpoint.proofs.imaging.read_pieces.Goals as goal
 
 pub loop-n-init : goal.loop-n-init
@@ -18,7 +18,7 @@ loop-n-init g c = record {
   len = refl;
   faults = refl;
   untouched = λ k. refl;
-  said = λ k. c.requires.empty;
+  decoded = λ k. c.requires.empty;
   good = λ k i few. absurd (omega (arith, few));
 }
 
@@ -52,8 +52,8 @@ returns-in_err-take_piece-clause-refused g c =
     read_there c.args.tree.now.geometry c.geometry-g.result c.geometry-g.ensures c.args.number c.loop-n.n c.loop-n.at c.piece_size.result c.loop-n.buffer c.requires.number below
     c.loop-n.invariant.at c.piece_size.ensures.size few now (g.D.Disk.medium c.loop-n.disk).now c.read.new.out
     (same_bytes (g.D.Disk.medium c.args.disk.now) (g.D.Disk.medium c.loop-n.disk) (c.loop-n.invariant.untouched k)) (c.in_ok-read.ensures.bytes k) in
-    bad_turn c.args.tree.now.geometry c.loop-n.tree.geometry c.loop-n.invariant.geometry (part_bytes (layout_of c.args.tree.now.geometry) (image c.args.number) now) c.args.version c.loop-n.n
-    (c.requires.version k) below (state_in c.loop-n.tree) (c.loop-n.invariant.said k) c.read.new.out there c.in_err-take_piece.ensures.good.1 (c.loop-n.invariant.good k) _ c.in_err-take_piece.ensures.bad)
+    bad_queued c.args.tree.now.geometry c.loop-n.tree.geometry c.loop-n.invariant.geometry (part_bytes (layout_of c.args.tree.now.geometry) (image c.args.number) now) c.args.version c.loop-n.n
+    (c.requires.version k) below (state_in c.loop-n.tree) (c.loop-n.invariant.decoded k) c.read.new.out there c.in_err-take_piece.ensures.good.1 (c.loop-n.invariant.good k) _ c.in_err-take_piece.ensures.bad)
 
 pub loop-n-preserved : goal.loop-n-preserved
 loop-n-preserved g c =
@@ -66,21 +66,21 @@ loop-n-preserved g c =
       geometry = c.take_piece.ensures.geometry ∙ c.loop-n.invariant.geometry;
       at = next_place c.args.tree.now.geometry c.geometry-g.result c.geometry-g.ensures c.args.number c.loop-n.n c.loop-n.at c.piece_size.result c.loop-n.buffer c.requires.number below
           c.loop-n.invariant.at c.piece_size.ensures.size (length c.read.new.out) few c.read.auto.out;
-      free = free_turn c.args.version c.args.tree.now.geometry c.loop-n.tree.geometry c.loop-n.invariant.geometry c.loop-n.n (state_in c.loop-n.tree) (state_in c.take_piece.new.tree)
+      free = free_queued c.args.version c.args.tree.now.geometry c.loop-n.tree.geometry c.loop-n.invariant.geometry c.loop-n.n (state_in c.loop-n.tree) (state_in c.take_piece.new.tree)
           c.read.new.out c.in_ok-take_piece.ensures.taken c.loop-n.invariant.free;
       len = c.read.ensures.call.1 ∙ c.loop-n.invariant.len;
       faults = c.in_ok-read.ensures.call.0 ∙ c.loop-n.invariant.faults;
       untouched = λ k. c.read.ensures.untouched k ∙ c.loop-n.invariant.untouched k;
-      said = λ k.
-          said_turn c.args.tree.now.geometry c.loop-n.tree.geometry c.loop-n.invariant.geometry (part_bytes (layout_of c.args.tree.now.geometry) (image c.args.number) now) c.args.version c.loop-n.n
-          (c.requires.version k) below (state_in c.loop-n.tree) (c.loop-n.invariant.said k) c.read.new.out
+      decoded = λ k.
+          decoded_turn c.args.tree.now.geometry c.loop-n.tree.geometry c.loop-n.invariant.geometry (part_bytes (layout_of c.args.tree.now.geometry) (image c.args.number) now) c.args.version c.loop-n.n
+          (c.requires.version k) below (state_in c.loop-n.tree) (c.loop-n.invariant.decoded k) c.read.new.out
           (read_there c.args.tree.now.geometry c.geometry-g.result c.geometry-g.ensures c.args.number c.loop-n.n c.loop-n.at c.piece_size.result c.loop-n.buffer c.requires.number below
           c.loop-n.invariant.at c.piece_size.ensures.size few now (g.D.Disk.medium c.loop-n.disk).now c.read.new.out
           (same_bytes (g.D.Disk.medium c.args.disk.now) (g.D.Disk.medium c.loop-n.disk) (c.loop-n.invariant.untouched k)) (c.in_ok-read.ensures.bytes k))
           (state_in c.take_piece.new.tree) c.in_ok-take_piece.ensures.taken;
       good = λ k.
-          good_turn c.args.tree.now.geometry c.loop-n.tree.geometry c.loop-n.invariant.geometry (part_bytes (layout_of c.args.tree.now.geometry) (image c.args.number) now) c.args.version c.loop-n.n
-          (c.requires.version k) below (state_in c.loop-n.tree) (c.loop-n.invariant.said k) c.read.new.out
+          good_queued c.args.tree.now.geometry c.loop-n.tree.geometry c.loop-n.invariant.geometry (part_bytes (layout_of c.args.tree.now.geometry) (image c.args.number) now) c.args.version c.loop-n.n
+          (c.requires.version k) below (state_in c.loop-n.tree) (c.loop-n.invariant.decoded k) c.read.new.out
           (read_there c.args.tree.now.geometry c.geometry-g.result c.geometry-g.ensures c.args.number c.loop-n.n c.loop-n.at c.piece_size.result c.loop-n.buffer c.requires.number below
           c.loop-n.invariant.at c.piece_size.ensures.size few now (g.D.Disk.medium c.loop-n.disk).now c.read.new.out
           (same_bytes (g.D.Disk.medium c.args.disk.now) (g.D.Disk.medium c.loop-n.disk) (c.loop-n.invariant.untouched k)) (c.in_ok-read.ensures.bytes k))
@@ -91,7 +91,7 @@ pub returns-clause-read : goal.returns-clause-read
 returns-clause-read g c = λ k.
     let all : c.loop-n.n ≡ piece_count c.args.tree.now.geometry = omega (arith, c.loop-n-test.false, c.loop-n.auto.n-end, c.piece_count-n-end.ensures.count ∙ ap piece_count c.geometry-g.ensures) in
     all_read c.args.tree.now.geometry c.args.number (g.D.Disk.medium c.args.disk.now).now c.requires.number c.requires.parts (g.met.D.Disk.bytes c.args.disk.now) (c.requires.head k)
-    c.loop-n.n all (state_in c.loop-n.tree) (c.loop-n.invariant.said k) (c.loop-n.invariant.good k)
+    c.loop-n.n all (state_in c.loop-n.tree) (c.loop-n.invariant.decoded k) (c.loop-n.invariant.good k)
 
 pub returns-clause-good : goal.returns-clause-good
 returns-clause-good g c = λ k.

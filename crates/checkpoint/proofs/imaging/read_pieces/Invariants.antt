@@ -2,7 +2,7 @@
 use Rattle.std.proofs.Common.{◌≡◌, ◌+◌, length}
 use Rattle.checkpoint.proofs.Walked.{AreFree}
 use Rattle.disk.specs.Device.{moments}
-use Rattle.image.specs.Image.{AreGood, said_before, version_in}
+use Rattle.image.specs.Image.{AreGood, decoded_before, version_in}
 use Rattle.image.specs.Pieces.{piece_at}
 use Rattle.device_map.specs.Layout.{image, layout_of, part_bytes, part_at}
 use Rattle.parcel.specs.Tree.{IsWholeTree, state_in}
@@ -17,7 +17,7 @@ invariant-loop-n g l = record {
   len : length (g.D.Disk.medium l.disk).now ≡ length (g.D.Disk.medium l.initial.disk).now;
   faults : (g.D.Disk.medium l.disk).faults ≡ (g.D.Disk.medium l.initial.disk).faults;
   untouched : g.D.Disk.keeps → moments (g.D.Disk.medium l.disk) ≡ moments (g.D.Disk.medium l.initial.disk);
-  said : g.D.Disk.keeps → let bytes = part_bytes (layout_of l.initial.tree.geometry) (image l.number) (g.D.Disk.medium l.initial.disk).now in
-      state_in l.tree ≡ said_before (version_in bytes) l.initial.tree.geometry bytes l.n;
+  decoded : g.D.Disk.keeps → let bytes = part_bytes (layout_of l.initial.tree.geometry) (image l.number) (g.D.Disk.medium l.initial.disk).now in
+      state_in l.tree ≡ decoded_before (version_in bytes) l.initial.tree.geometry bytes l.n;
   good : g.D.Disk.keeps → AreGood l.initial.tree.geometry (part_bytes (layout_of l.initial.tree.geometry) (image l.number) (g.D.Disk.medium l.initial.disk).now) l.n;
 }

@@ -10,9 +10,9 @@ use Rattle.image.specs.Image.{read, version_in}
 use Rattle.oplog.specs.Front.{chain}
 use Rattle.device_map.specs.Layout.{image, layout_of, part_bytes}
 use Rattle.oplog.specs.Log.{Log}
-use Rattle.oplog.specs.Stands.{in_force, named_area, run}
+use Rattle.oplog.specs.Recovery.{in_force, named_area, run}
 use Rattle.parcel.specs.Tree.{state_in}
-use Rattle.checkpoint.proofs.Refusing.{behind_header, chain_refused, image_refused, loaded, not_refused, records_refused, stands_for, took_none}
+use Rattle.checkpoint.proofs.Refusing.{behind_header, chain_refused, image_refused, loaded, not_refused, records_refused, recovers_for, took_none}
 use Rattle.checkpoint.proofs.Replays.{same_bytes}
 use Rattle.checkpoint.proofs.loading.load.Goals as goal
 
@@ -72,10 +72,10 @@ returns-in_err-records-clause-refused g c =
     (c.chain_of.ensures.untouched k ∙ c.read_image.ensures.untouched k ∙ c.named_area.ensures.untouched k ∙ c.read_header.ensures.untouched k) in
     let geometry = c.in_ok-version.ensures.geometry ∙ c.in_ok-tree.ensures.geometry in
     let state = state_in c.read_image.new.tree in
-    let said : read c.in_ok-g.g (part_bytes (layout_of c.in_ok-g.g) (image c.in_ok-area.area) now) ≡ Some state =
+    let decoded : read c.in_ok-g.g (part_bytes (layout_of c.in_ok-g.g) (image c.in_ok-area.area) now) ≡ Some state =
     sym (λ i. read (c.in_ok-tree.ensures.geometry i) (part_bytes (layout_of (c.in_ok-tree.ensures.geometry i)) (image c.in_ok-area.area) (second i))) ∙ c.in_ok-version.ensures.read k in
     let one = sym (ap (λ (bytes : List ℕ). are_chained (layout_of c.in_ok-g.g) bytes) third) ∙ c.in_ok-chained.ensures.sound k in
-    records_refused c.in_ok-g.g now (c.in_ok-g.ensures.header k) c.in_ok-g.ensures.whole c.in_ok-area.area names good state said one _
+    records_refused c.in_ok-g.g now (c.in_ok-g.ensures.header k) c.in_ok-g.ensures.whole c.in_ok-area.area names good state decoded one _
     (subst (λ (o : Option OpenFault). IsFaultOfBytes o c.in_err-records.field-0.0) (λ i. in_force_fault (geometry i) state c.in_ok-area.area (fourth i)) (c.in_err-records.ensures.refused k)))
 
 pub returns-clause-loaded : goal.returns-clause-loaded
@@ -93,15 +93,15 @@ returns-clause-loaded g c = λ k.
     (c.chain_of.ensures.untouched k ∙ c.read_image.ensures.untouched k ∙ c.named_area.ensures.untouched k ∙ c.read_header.ensures.untouched k) in
     let geometry = c.in_ok-version.ensures.geometry ∙ c.in_ok-tree.ensures.geometry in
     let state = state_in c.read_image.new.tree in
-    let said : read c.in_ok-g.g (part_bytes (layout_of c.in_ok-g.g) (image c.in_ok-area.area) now) ≡ Some state =
+    let decoded : read c.in_ok-g.g (part_bytes (layout_of c.in_ok-g.g) (image c.in_ok-area.area) now) ≡ Some state =
     sym (λ i. read (c.in_ok-tree.ensures.geometry i) (part_bytes (layout_of (c.in_ok-tree.ensures.geometry i)) (image c.in_ok-area.area) (second i))) ∙ c.in_ok-version.ensures.read k in
     let one = sym (ap (λ (bytes : List ℕ). are_chained (layout_of c.in_ok-g.g) bytes) third) ∙ c.in_ok-chained.ensures.sound k in
     loaded c.in_ok-g.g now _ (c.in_ok-records.ensures.geometry ∙ geometry) (c.in_ok-g.ensures.header k)
-    (not_refused c.in_ok-g.g now (c.in_ok-g.ensures.header k) c.in_ok-g.ensures.whole c.in_ok-area.area names good state said one (sym (λ i. in_force_fault (geometry i) state c.in_ok-area.area (fourth i)) ∙ c.in_ok-records.ensures.sound k))
+    (not_refused c.in_ok-g.g now (c.in_ok-g.ensures.header k) c.in_ok-g.ensures.whole c.in_ok-area.area names good state decoded one (sym (λ i. in_force_fault (geometry i) state c.in_ok-area.area (fourth i)) ∙ c.in_ok-records.ensures.sound k))
     names
     (c.in_ok-version.ensures.version k ∙ (λ i. version_in (part_bytes (layout_of (c.in_ok-tree.ensures.geometry i)) (image c.in_ok-area.area) (second i))))
     (c.in_ok-records.ensures.count k ∙ (λ i. length (in_force (layout_of (geometry i)) c.in_ok-area.area (fourth i))))
-    (stands_for c.in_ok-g.g now (c.in_ok-g.ensures.header k) c.in_ok-g.ensures.whole c.in_ok-area.area names good state said one (state_in c.replay_in_force.new.tree)
+    (recovers_for c.in_ok-g.g now (c.in_ok-g.ensures.header k) c.in_ok-g.ensures.whole c.in_ok-area.area names good state decoded one (state_in c.replay_in_force.new.tree)
     (sym (λ i. run (means (geometry i)) (Some state) (in_force (layout_of (geometry i)) c.in_ok-area.area (fourth i))) ∙ c.in_ok-records.ensures.done k))
 
 pub returns-in_err-tree-clause-memory : goal.returns-in_err-tree-clause-memory

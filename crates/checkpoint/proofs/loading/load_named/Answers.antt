@@ -11,7 +11,7 @@ use Rattle.image.specs.Image.{read}
 use Rattle.oplog.specs.Front.{chain, front}
 use Rattle.device_map.specs.Layout.{image, layout_of, part_bytes}
 use Rattle.oplog.specs.Log.{Log}
-use Rattle.oplog.specs.Stands.{named_area, run}
+use Rattle.oplog.specs.Recovery.{named_area, run}
 use Rattle.parcel.specs.Tree.{state_in}
 use Rattle.checkpoint.proofs.Refusing.{chain_half, chain_refused, image_half, image_refused, named_refused, records_half, records_refused}
 use Rattle.checkpoint.proofs.Replays.{same_bytes}
@@ -56,11 +56,11 @@ returns-in_err-records-clause-refused g c =
     let third = same_bytes (g.D.Disk.medium c.args.disk.now) (g.D.Disk.medium c.chain_of.new.disk) (c.chain_of.ensures.untouched k ∙ c.read_image.ensures.untouched k ∙ c.named_area.ensures.untouched k) in
     let good = sym (ap (λ (l : List ℕ). image_fault geometry (part_bytes (layout_of geometry) (image c.in_ok-area.area) l)) first) ∙ c.in_ok-version.ensures.sound k in
     let state = state_in c.read_image.new.tree in
-    let said : read geometry (part_bytes (layout_of geometry) (image c.in_ok-area.area) now) ≡ Some state =
+    let decoded : read geometry (part_bytes (layout_of geometry) (image c.in_ok-area.area) now) ≡ Some state =
     sym (ap (λ (l : List ℕ). read geometry (part_bytes (layout_of geometry) (image c.in_ok-area.area) l)) first) ∙ c.in_ok-version.ensures.read k in
     let one = sym (λ i. are_chained (layout_of (c.geometry-g.ensures i)) (second i)) ∙ c.in_ok-chained.ensures.sound k in
     let log = ap (λ (l : Log). l.geometry) c.name.ensures ∙ ap (λ (l : Log). l.geometry) c.requires.log in
-    records_refused geometry now (c.requires.header k) c.requires.parts c.in_ok-area.area names good state said one _
+    records_refused geometry now (c.requires.header k) c.requires.parts c.in_ok-area.area names good state decoded one _
     (named_refused geometry state c.in_ok-area.area now _
     (subst (λ (o : Option OpenFault). IsFaultOfBytes o c.in_err-records.field-0.0)
     (λ i. records_fault (c.in_ok-version.ensures.geometry i) state c.in_ok-area.area (front (layout_of (log i)) c.in_ok-area.area (third i)))
@@ -83,7 +83,7 @@ returns-clause-loaded g c = λ k.
       one = sym (λ i. are_chained (layout_of (c.geometry-g.ensures i)) (second i)) ∙ c.in_ok-chained.ensures.sound k;
       sound = sym (ap (λ (l : List ℕ). image_fault geometry (part_bytes (layout_of geometry) (image c.in_ok-area.area) l)) first) ∙ c.in_ok-version.ensures.sound k;
       first = state;
-      said = sym (ap (λ (l : List ℕ). read geometry (part_bytes (layout_of geometry) (image c.in_ok-area.area) l)) first) ∙ c.in_ok-version.ensures.read k;
+      decoded = sym (ap (λ (l : List ℕ). read geometry (part_bytes (layout_of geometry) (image c.in_ok-area.area) l)) first) ∙ c.in_ok-version.ensures.read k;
       ran = sym (λ i. run (means (c.in_ok-version.ensures.geometry i)) (Some state) (front (layout_of (log i)) c.in_ok-area.area (third i))) ∙ c.in_ok-records.ensures.done k;
     }
 

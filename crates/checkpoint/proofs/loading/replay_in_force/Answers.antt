@@ -7,7 +7,7 @@ use Rattle.checkpoint.specs.Recovery.{means}
 use Rattle.oplog.specs.Front.{chain, front}
 use Rattle.device_map.specs.Layout.{layout_of, other}
 use Rattle.oplog.specs.Log.{Log}
-use Rattle.oplog.specs.Stands.{run}
+use Rattle.oplog.specs.Recovery.{run}
 use Rattle.parcel.specs.Tree.{state_in}
 use Rattle.checkpoint.proofs.Refusing.{alone_count, alone_ran, alone_sound, both_count, both_ran, both_sound, named_refused, other_refused}
 use Rattle.checkpoint.proofs.Replays.{same_bytes}

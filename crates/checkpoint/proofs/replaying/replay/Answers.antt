@@ -1,7 +1,7 @@
 -- Counting only reads the device, so the records that are run are those of the front that was counted.
 use Rattle.std.proofs.Common.{ℕ, List, length, Some, sym, ◌∙◌, ap, subst}
 use Rattle.std.proofs.lemmas.Result.{err_from_is_err_and}
-use Rattle.oplog.specs.Stands.{run}
+use Rattle.oplog.specs.Recovery.{run}
 use Rattle.parcel.specs.Tree.{state_in}
 use Rattle.checkpoint.specs.Loading.{IsFaultOfBytes, records_fault}
 use Rattle.checkpoint.specs.Recovery.{means}

@@ -12,4 +12,4 @@ returns-clause-goes_on g c =
     (g.R.Read.remaining c.args.r.now) (g.R.Read.remaining stopped.new.r) (g.W.Write.contents c.args.w.now) (g.W.Write.contents stopped.new.w)
     (g.S.Read.remaining c.args.next_r.now) (g.S.Read.remaining last.new.r) (g.V.Write.contents c.args.next_w.now)
     (g.V.Write.contents last.new.w)
-    c.in_ok-disk.ensures.stands c.in_ok-disk.ensures.synced stopped.ensures.crashed last.ensures.ends
+    c.in_ok-disk.ensures.recovers c.in_ok-disk.ensures.synced stopped.ensures.crashed last.ensures.ends

@@ -1,8 +1,8 @@
 -- For each kind of request: refused words do nothing, and all others end as the run of their request.
 use Rattle.std.proofs.Common.{map, string_bytes, inr, inl, refl, Ok, Err}
 use Rattle.commands.proofs.Ending.{formatted, formatted_nothing, helped, is_refused, is_told, refused_by, served, served_nothing, served_on, served_on_nothing, shown, shown_nothing}
-use Rattle.words.proofs.Asking.{ask_for_nothing}
-use Rattle.words.proofs.Examples.{asks_alone}
+use Rattle.arguments.proofs.Asking.{ask_for_nothing}
+use Rattle.arguments.proofs.Examples.{asks_alone}
 use Rattle.affinity.specs.Geometry.{standard}
 use Rattle.commands.proofs.program.command.Goals as goal
 

@@ -3,16 +3,16 @@ use Rattle.std.proofs.Common.{arith}
 use Rattle.disk.specs.Torn.{torn_byte}
 use Rattle.disk.proofs.Crashes.{torn_more, kept_more}
 use Rattle.disk.proofs.torn.tear.Goals as goal
-use Rattle.disk.proofs.torn.tear.Goals.{then-is_loose, else-is_loose}
+use Rattle.disk.proofs.torn.tear.Goals.{then-is_unsynced, else-is_unsynced}
 
 pub loop-i-preserved : goal.loop-i-preserved
 loop-i-preserved c =
     let put = torn_byte c.args.kind.now c.args.kept.now c.args.asked.now in
-    elim c.if-is_loose.branch [
-      | then-is_loose w ↦
-          let more = torn_more put c.loop-i.i c.loop-i.below c.args.loose.now c.loop-i.bytes (omega arith) (omega arith) w.if-is_loose.true in
+    elim c.if-is_unsynced.branch [
+      | then-is_unsynced w ↦
+          let more = torn_more put c.loop-i.i c.loop-i.below c.args.unsynced.now c.loop-i.bytes (omega arith) (omega arith) w.if-is_unsynced.true in
           record { few = omega arith; torn = cc }
-      | else-is_loose w ↦
-          let more = kept_more put c.loop-i.i c.loop-i.below c.args.loose.now c.loop-i.bytes (omega arith) (omega arith) w.if-is_loose.false in
+      | else-is_unsynced w ↦
+          let more = kept_more put c.loop-i.i c.loop-i.below c.args.unsynced.now c.loop-i.bytes (omega arith) (omega arith) w.if-is_unsynced.false in
           record { few = omega arith; torn = cc }
     ]

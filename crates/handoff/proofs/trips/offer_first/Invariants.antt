@@ -4,4 +4,4 @@ use Rattle.handoff.specs.Lent.{AreOfGeometry}
 use Rattle.handoff.proofs.trips.offer_first.Given as goal
 
 abbrev pub invariant-loop-k : goal.invariant-loop-k
-invariant-loop-k l = (l.desk.bench ≡ l.initial.desk.bench) × (l.tree.geometry ≡ l.initial.tree.geometry) × AreOfGeometry l.initial.tree.geometry l.desk.lent
+invariant-loop-k l = (l.dispatch_seat.bench ≡ l.initial.dispatch_seat.bench) × (l.tree.geometry ≡ l.initial.tree.geometry) × AreOfGeometry l.initial.tree.geometry l.dispatch_seat.lent

@@ -4,4 +4,4 @@ use Rattle.handoff.specs.Lent.{AreOfGeometry}
 use Rattle.handoff.proofs.trips.round.Given as goal
 
 abbrev pub invariant-loop-k : goal.invariant-loop-k
-invariant-loop-k l = (l.desk.bench ≡ l.initial.desk.bench) × AreOfGeometry l.g l.desk.lent
+invariant-loop-k l = (l.dispatch_seat.bench ≡ l.initial.dispatch_seat.bench) × AreOfGeometry l.g l.dispatch_seat.lent

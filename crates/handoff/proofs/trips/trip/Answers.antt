@@ -7,4 +7,4 @@ use Rattle.handoff.proofs.trips.trip.Goals as goal
 
 pub offer-requires-clause-lent : goal.offer-requires-clause-lent
 offer-requires-clause-lent c = subst (λ (l : List (Option JobView)). (i : ℕ) → IfSome (lent_at l i) (λ job. job.geometry ≡ c.args.g.now)) (sym c.in-Some.ensures.some.3)
-    (each_set (λ job. job.geometry ≡ c.args.g.now) c.args.desk.now.lent c.args.k None tt c.requires.lent)
+    (each_set (λ job. job.geometry ≡ c.args.g.now) c.args.dispatch_seat.now.lent c.args.k None tt c.requires.lent)

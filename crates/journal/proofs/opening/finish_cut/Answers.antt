@@ -3,7 +3,7 @@ use Rattle.std.proofs.Common.{Bool, List, length, refl, sym, ◌∙◌, ap, subs
 use Rattle.affinity.specs.declared.geometry.Geometry.{Geometry}
 use Rattle.image.specs.Image.{image_of, read}
 use Rattle.image.proofs.Reading.{read_again}
-use Rattle.journal.specs.Stretches.{AreAllMarked}
+use Rattle.journal.specs.Extents.{AreAllDirty}
 use Rattle.journal.proofs.Loaded.{unfinished_cut}
 use Rattle.journal.proofs.Rows.{whole_put}
 use Rattle.journal.proofs.Saving.{all_right}
@@ -12,13 +12,13 @@ use Rattle.meaning.specs.State.{IsState}
 use Rattle.journal.proofs.opening.finish_cut.Goals as goal
 
 pub finish_on-requires-clause-all : goal.finish_on-requires-clause-all
-finish_on-requires-clause-all g c = subst (λ (l : List Bool). AreAllMarked c.args.parts.now.halves.geometry l) (sym c.deref-3.ensures.value) c.requires.loaded.all
+finish_on-requires-clause-all g c = subst (λ (l : List Bool). AreAllDirty c.args.parts.now.halves.geometry l) (sym c.deref-3.ensures.value) c.requires.loaded.all
 
 pub finish_on-requires-clause-unfinished : goal.finish_on-requires-clause-unfinished
 finish_on-requires-clause-unfinished g c = λ k.
     let p = c.args.parts.now in
     let x = state_in p.tree in
-    let all = subst (λ (l : List Bool). AreAllMarked p.halves.geometry l) (sym c.deref.ensures.value) c.requires.loaded.all in
+    let all = subst (λ (l : List Bool). AreAllDirty p.halves.geometry l) (sym c.deref.ensures.value) c.requires.loaded.all in
     let right = all_right p.tree.geometry p.halves.geometry x c.deref.result.now c.deref_mut.result.now c.requires.loaded.geometry all in
     let frozen = whole_put p.frozen.len c.freeze.new.bytes p.frozen.items (c.freeze.ensures.size ∙ ap length c.deref_mut.ensures.value) (c.freeze.ensures.size ∙ c.deref_mut.ensures.len) in
     unfinished_cut p.halves (g.D.Disk.medium c.args.disk.now) x c.deref-2.result.now (c.requires.holds k) (c.requires.calm k)
@@ -30,7 +30,7 @@ returns-clause-alike g c = λ k.
     let p = c.args.parts.now in
     let x = state_in p.tree in
     let is_state = subst (λ (h : Geometry). IsState h x) c.requires.loaded.geometry c.requires.loaded.tree.state in
-    let all = subst (λ (l : List Bool). AreAllMarked p.halves.geometry l) (sym c.deref.ensures.value) c.requires.loaded.all in
+    let all = subst (λ (l : List Bool). AreAllDirty p.halves.geometry l) (sym c.deref.ensures.value) c.requires.loaded.all in
     let right = all_right p.tree.geometry p.halves.geometry x c.deref.result.now c.deref_mut.result.now c.requires.loaded.geometry all in
     let frozen = whole_put p.frozen.len c.freeze.new.bytes p.frozen.items (c.freeze.ensures.size ∙ ap length c.deref_mut.ensures.value) (c.freeze.ensures.size ∙ c.deref_mut.ensures.len) in
     let spelled = c.deref-2.ensures.value ∙ frozen ∙ c.freeze.ensures.image right ∙ ap (λ (h : Geometry). image_of 2 h x) c.requires.loaded.geometry in
@@ -42,7 +42,7 @@ returns-clause-room g c =
     let frozen = whole_put p.frozen.len c.freeze.new.bytes p.frozen.items (c.freeze.ensures.size ∙ ap length c.deref_mut.ensures.value) (c.freeze.ensures.size ∙ c.deref_mut.ensures.len) in
     record {
       frozen = ap length frozen ∙ c.freeze.ensures.size ∙ ap length c.deref_mut.ensures.value;
-      named_marks = refl;
-      other_marks = refl;
+      named_dirty = refl;
+      other_dirty = refl;
       due = refl;
     }

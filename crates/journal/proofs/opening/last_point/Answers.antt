@@ -5,7 +5,7 @@ use Rattle.affinity.specs.declared.geometry.Geometry.{Geometry}
 use Rattle.image.specs.Image.{image_of, read}
 use Rattle.image.proofs.Reading.{read_again}
 use Rattle.journal.specs.Costs.{count_runs}
-use Rattle.journal.specs.Stretches.{AreAllMarked}
+use Rattle.journal.specs.Extents.{AreAllDirty}
 use Rattle.journal.proofs.Costs.{one_run}
 use Rattle.journal.proofs.Rows.{whole_put}
 use Rattle.journal.proofs.Saving.{all_right}
@@ -18,7 +18,7 @@ point_on-requires-clause-image g c = λ k.
     let p = c.args.parts.now in
     let x = state_in p.tree in
     let geometry = p.halves.geometry in
-    let all = subst (λ (l : List Bool). AreAllMarked geometry l) (sym c.deref.ensures.value) c.requires.loaded.all in
+    let all = subst (λ (l : List Bool). AreAllDirty geometry l) (sym c.deref.ensures.value) c.requires.loaded.all in
     let right = all_right p.tree.geometry geometry x c.deref.result.now c.deref_mut.result.now c.requires.loaded.geometry all in
     let frozen = whole_put p.frozen.len c.freeze.new.bytes p.frozen.items (c.freeze.ensures.size ∙ ap length c.deref_mut.ensures.value) (c.freeze.ensures.size ∙ c.deref_mut.ensures.len) in
     let spelled = c.deref-2.ensures.value ∙ frozen ∙ c.freeze.ensures.image right ∙ ap (λ (h : Geometry). image_of 2 h x) c.requires.loaded.geometry in
@@ -27,7 +27,7 @@ point_on-requires-clause-image g c = λ k.
 
 pub point_on-requires-clause-unmarked : goal.point_on-requires-clause-unmarked
 point_on-requires-clause-unmarked g c = λ k n few unmarked.
-    let all = subst (λ (l : List Bool). AreAllMarked c.args.parts.now.halves.geometry l) (sym c.deref-3.ensures.value) c.requires.loaded.all in
+    let all = subst (λ (l : List Bool). AreAllDirty c.args.parts.now.halves.geometry l) (sym c.deref-3.ensures.value) c.requires.loaded.all in
     absurd (true≢false (sym (all n few) ∙ unmarked))
 
 pub returns-in_err-point_on-clause-takes : goal.returns-in_err-point_on-clause-takes
@@ -35,10 +35,10 @@ returns-in_err-point_on-clause-takes g c =
     let p = err_from_is_err_and c.from_residual.result c.from_residual.ensures.1 in
     rw p.1
     (λ k.
-    let one = ap count_runs c.deref-3.ensures.value ∙ one_run c.args.parts.now.halves.geometry c.args.parts.now.other_marks.items c.requires.loaded.other_marks c.requires.loaded.all in
+    let one = ap count_runs c.deref-3.ensures.value ∙ one_run c.args.parts.now.halves.geometry c.args.parts.now.other_dirty.items c.requires.loaded.other_dirty c.requires.loaded.all in
     omega (arith, one, c.in_err-point_on.ensures.takes k))
 
 pub returns-clause-takes : goal.returns-clause-takes
 returns-clause-takes g c = λ k.
-    let one = ap count_runs c.deref-3.ensures.value ∙ one_run c.args.parts.now.halves.geometry c.args.parts.now.other_marks.items c.requires.loaded.other_marks c.requires.loaded.all in
+    let one = ap count_runs c.deref-3.ensures.value ∙ one_run c.args.parts.now.halves.geometry c.args.parts.now.other_dirty.items c.requires.loaded.other_dirty c.requires.loaded.all in
     omega (arith, one, c.in_ok-point_on.ensures.takes k)

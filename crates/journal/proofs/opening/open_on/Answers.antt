@@ -15,25 +15,25 @@ returns-in_err-settle-clause-any_moment g c = λ k. never_synced _ _ (c.settle.e
 
 pub returns-clause-any_moment : goal.returns-clause-any_moment
 returns-clause-any_moment g c = λ k.
-    synced_then (g.D.Disk.medium c.args.disk.now) (g.D.Disk.medium c.settle.new.disk) (g.D.Disk.medium c.open_settled.new.disk) (c.in_ok-settle.ensures.calm k) (c.settle.ensures.now k) (c.settle.ensures.any_moment k) (c.open_settled.ensures.any_moment k)
+    synced_then (g.D.Disk.medium c.args.disk.now) (g.D.Disk.medium c.settle.new.disk) (g.D.Disk.medium c.open_committed.new.disk) (c.in_ok-settle.ensures.calm k) (c.settle.ensures.now k) (c.settle.ensures.any_moment k) (c.open_committed.ensures.any_moment k)
 
 pub returns-clause-made_of : goal.returns-clause-made_of
 returns-clause-made_of g c =
-    if_ok c.open_settled.result _ _ (λ p made k. subst (λ (l : List ℕ). IsMadeOf l p (g.D.Disk.medium c.open_settled.new.disk)) (c.settle.ensures.now k) (made k)) c.open_settled.ensures.made_of
+    if_ok c.open_committed.result _ _ (λ p made k. subst (λ (l : List ℕ). IsMadeOf l p (g.D.Disk.medium c.open_committed.new.disk)) (c.settle.ensures.now k) (made k)) c.open_committed.ensures.made_of
 
 pub returns-clause-unwritten : goal.returns-clause-unwritten
 returns-clause-unwritten g c =
     let w0 = g.D.Disk.medium c.args.disk.now in
     let w1 = g.D.Disk.medium c.settle.new.disk in
-    let w2 = g.D.Disk.medium c.open_settled.new.disk in
-    if_err c.open_settled.result _ _
+    let w2 = g.D.Disk.medium c.open_committed.new.disk in
+    if_err c.open_committed.result _ _
     (λ e is k.
     unwritten_from e w0 w1 w2 (c.settle.ensures.now k) (unwritten_then w0 w1 w2 (g.met.D.Disk.bytes c.args.disk.now) (c.in_ok-settle.ensures.calm k) (c.settle.ensures.now k) (c.settle.ensures.any_moment k)) (is k))
-    c.open_settled.ensures.unwritten
+    c.open_committed.ensures.unwritten
 
 pub returns-clause-memory : goal.returns-clause-memory
 returns-clause-memory g c =
-    if_err c.open_settled.result _ _ (λ e told is k. subst (λ (l : List ℕ). IsDevice l) (c.settle.ensures.now k) (told is k)) c.open_settled.ensures.memory
+    if_err c.open_committed.result _ _ (λ e told is k. subst (λ (l : List ℕ). IsDevice l) (c.settle.ensures.now k) (told is k)) c.open_committed.ensures.memory
 
 pub returns-in_err-settle-clause-beyond : goal.returns-in_err-settle-clause-beyond
 returns-in_err-settle-clause-beyond g c = λ k h head.
@@ -43,8 +43,8 @@ pub returns-clause-beyond : goal.returns-clause-beyond
 returns-clause-beyond g c = λ k h head.
     let w0 = g.D.Disk.medium c.args.disk.now in
     let w1 = g.D.Disk.medium c.settle.new.disk in
-    let w2 = g.D.Disk.medium c.open_settled.new.disk in
-    beyond_then (layout_of h) w0 w1 w2 (c.settle.ensures.beyond k (layout_of h)) (c.open_settled.ensures.beyond k h (subst (λ (l : List ℕ). HasHeader h l) (sym (c.settle.ensures.now k)) head))
+    let w2 = g.D.Disk.medium c.open_committed.new.disk in
+    beyond_then (layout_of h) w0 w1 w2 (c.settle.ensures.beyond k (layout_of h)) (c.open_committed.ensures.beyond k h (subst (λ (l : List ℕ). HasHeader h l) (sym (c.settle.ensures.now k)) head))
 
 pub returns-in_err-settle-clause-takes : goal.returns-in_err-settle-clause-takes
 returns-in_err-settle-clause-takes g c =
@@ -53,4 +53,4 @@ returns-in_err-settle-clause-takes g c =
 
 pub returns-clause-takes : goal.returns-clause-takes
 returns-clause-takes g c = λ k.
-    opening_after c.open_settled.result (g.D.Disk.medium c.args.disk.now) (g.D.Disk.medium c.settle.new.disk) (g.D.Disk.medium c.open_settled.new.disk) (c.settle.ensures.now k) (c.in_ok-settle.ensures.takes k) (c.open_settled.ensures.takes k)
+    opening_after c.open_committed.result (g.D.Disk.medium c.args.disk.now) (g.D.Disk.medium c.settle.new.disk) (g.D.Disk.medium c.open_committed.new.disk) (c.settle.ensures.now k) (c.in_ok-settle.ensures.takes k) (c.open_committed.ensures.takes k)

@@ -18,7 +18,7 @@ use Rattle.oplog.specs.Front.{front}
 use Rattle.device_map.specs.Layout.{image, layout_of, other, part_bytes}
 use Rattle.oplog.specs.Log.{Log}
 use Rattle.oplog.proofs.Beyond.{beyond_read, beyond_then}
-use Rattle.oplog.specs.Stands.{named_area, run}
+use Rattle.oplog.specs.Recovery.{named_area, run}
 use Rattle.parcel.specs.Tree.{state_in}
 use Rattle.journal.proofs.opening.replay_behind.Goals as goal
 
@@ -63,7 +63,7 @@ returns-in_err-replay-clause-behind g c =
     let why = behind_refused c.args.parts.now.halves.geometry w0.now c.args.parts.now.halves.named x (c.requires.holds k) c.in_err-replay.field-0.0
     (subst (λ (rs : List (List ℕ)). IsFaultOfBytes (records_fault c.args.parts.now.halves.geometry x (other c.args.parts.now.halves.named) rs) c.in_err-replay.field-0.0) finished.front
     (subst (λ (o : Option OpenFault). IsFaultOfBytes o c.in_err-replay.field-0.0) (λ i. records_fault (geometry i) (held' i) (half i) (front (layout_of (log i)) (half i) w1)) fault)) in
-    let alike = leaves_now w0 w2 _ (same _ _ _ _ (c.finish_cut.ensures.alike k) only) w2.now (itself w2.now w2.loose (g.met.D.Disk.bytes c.replay.new.disk)) in
+    let alike = leaves_now w0 w2 _ (same _ _ _ _ (c.finish_cut.ensures.alike k) only) w2.now (itself w2.now w2.unsynced (g.met.D.Disk.bytes c.replay.new.disk)) in
     bad_half c.args.parts.now.halves.geometry (other c.args.parts.now.halves.named) (first_bad_record c.args.parts.now.tree.geometry 0 (Some x) rs) w0 w2 _ c.in_err-replay.ensures.took_none
     (subst (λ (o : Option OpenFault). IsFaultOfBytes o c.in_err-replay.field-0.0) (λ i. records_fault (c.finish_cut.ensures.tree i).geometry (held' i) (half i) rs) fault)
     (c.requires.holds k).header why alike
@@ -125,13 +125,13 @@ returns-clause-loaded g c =
     let geometry = c.in_ok-replay.ensures.geometry ∙ (λ i. (c.finish_cut.ensures.tree i).geometry) ∙ before.geometry in
     let room = c.finish_cut.ensures.room in
     are_loaded p _ p.halves.geometry (finished_now p.halves) (g.D.Disk.medium c.replay.new.disk) log refl before.fine refl c.in_ok-replay.ensures.whole geometry
-    (record { frozen = room.frozen; named_marks = room.named_marks; other_marks = room.other_marks; due = room.due })
-    before.frozen before.named_marks before.other_marks before.all (omega (arith, before.whole, c.finish_cut.ensures.call.1, c.replay.ensures.call.1))
+    (record { frozen = room.frozen; named_dirty = room.named_dirty; other_dirty = room.other_dirty; due = room.due })
+    before.frozen before.named_dirty before.other_dirty before.all (omega (arith, before.whole, c.finish_cut.ensures.call.1, c.replay.ensures.call.1))
 
 pub returns-clause-room : goal.returns-clause-room
 returns-clause-room g c =
     let room = c.finish_cut.ensures.room in
-    record { frozen = room.frozen; named_marks = room.named_marks; other_marks = room.other_marks; due = room.due }
+    record { frozen = room.frozen; named_dirty = room.named_dirty; other_dirty = room.other_dirty; due = room.due }
 
 pub returns-clause-geometry : goal.returns-clause-geometry
 returns-clause-geometry g c = ap (λ (l : Log). l.geometry) (c.in_ok-replay.ensures.log ∙ c.in_ok-finish_cut.ensures.log)

@@ -1,7 +1,7 @@
 -- While the other half is cleared, and then chained while empty, a crash recovers to the same; records go there next.
 use Rattle.std.proofs.Common.{subst, arith}
 use Rattle.std.proofs.lemmas.Result.{err_from_is_err_and}
-use Rattle.journal.proofs.Cutting.{begun_forced, begun_images, begun_none, begun_ready, begun_stands, chain_moments, named_below}
+use Rattle.journal.proofs.Cutting.{begun_forced, begun_images, begun_none, begun_ready, begun_recovers, chain_moments, named_below}
 use Rattle.journal.proofs.Pointing.{clear_moments}
 use Rattle.oplog.proofs.Beyond.{beyond, beyond_then}
 use Rattle.oplog.specs.Calls.{Chains, HasChained}
@@ -12,23 +12,23 @@ use Rattle.journal.proofs.steps.cut_on.Goals as goal
 
 pub returns-in_err-clear_other-clause-any_moment : goal.returns-in_err-clear_other-clause-any_moment
 returns-in_err-clear_other-clause-any_moment g c = λ k.
-    let stands = (c.requires.alone k).stands in
-    let is_area = named_below c.args.halves.now.geometry c.args.halves.now.named _ _ (g.D.Disk.medium c.args.disk.now) (g.met.D.Disk.bytes c.args.disk.now) stands in
-    clear_moments c.args.halves.now.geometry c.args.halves.now.named _ is_area _ _ stands (c.clear_other.ensures.any_moment k)
+    let recovers = (c.requires.alone k).recovers in
+    let is_area = named_below c.args.halves.now.geometry c.args.halves.now.named _ _ (g.D.Disk.medium c.args.disk.now) (g.met.D.Disk.bytes c.args.disk.now) recovers in
+    clear_moments c.args.halves.now.geometry c.args.halves.now.named _ is_area _ _ recovers (c.clear_other.ensures.any_moment k)
 
 pub returns-in_err-open_chain-clause-any_moment : goal.returns-in_err-open_chain-clause-any_moment
 returns-in_err-open_chain-clause-any_moment g c = λ k.
-    let stands = (c.requires.alone k).stands in
-    let is_area = named_below c.args.halves.now.geometry c.args.halves.now.named _ _ (g.D.Disk.medium c.args.disk.now) (g.met.D.Disk.bytes c.args.disk.now) stands in
+    let recovers = (c.requires.alone k).recovers in
+    let is_area = named_below c.args.halves.now.geometry c.args.halves.now.named _ _ (g.D.Disk.medium c.args.disk.now) (g.met.D.Disk.bytes c.args.disk.now) recovers in
     let chains = subst (λ (log : Log). Chains log (g.D.Disk.medium c.clear_other.new.disk) (g.D.Disk.medium c.open_chain.new.disk)) c.in_ok-clear_other.ensures.log (c.open_chain.ensures.any_moment k) in
-    chain_moments c.args.halves.now.geometry c.args.halves.now.named _ is_area _ _ _ stands (c.clear_other.ensures.any_moment k) (c.in_ok-clear_other.ensures.cleared k) chains
+    chain_moments c.args.halves.now.geometry c.args.halves.now.named _ is_area _ _ _ recovers (c.clear_other.ensures.any_moment k) (c.in_ok-clear_other.ensures.cleared k) chains
 
 pub returns-clause-any_moment : goal.returns-clause-any_moment
 returns-clause-any_moment g c = λ k.
-    let stands = (c.requires.alone k).stands in
-    let is_area = named_below c.args.halves.now.geometry c.args.halves.now.named _ _ (g.D.Disk.medium c.args.disk.now) (g.met.D.Disk.bytes c.args.disk.now) stands in
+    let recovers = (c.requires.alone k).recovers in
+    let is_area = named_below c.args.halves.now.geometry c.args.halves.now.named _ _ (g.D.Disk.medium c.args.disk.now) (g.met.D.Disk.bytes c.args.disk.now) recovers in
     let chains = subst (λ (log : Log). Chains log (g.D.Disk.medium c.clear_other.new.disk) (g.D.Disk.medium c.open_chain.new.disk)) c.in_ok-clear_other.ensures.log (c.open_chain.ensures.any_moment k) in
-    chain_moments c.args.halves.now.geometry c.args.halves.now.named _ is_area _ _ _ stands (c.clear_other.ensures.any_moment k) (c.in_ok-clear_other.ensures.cleared k) chains
+    chain_moments c.args.halves.now.geometry c.args.halves.now.named _ is_area _ _ _ recovers (c.clear_other.ensures.any_moment k) (c.in_ok-clear_other.ensures.cleared k) chains
 
 pub returns-clause-begun : goal.returns-clause-begun
 returns-clause-begun g c = λ k.
@@ -37,8 +37,8 @@ returns-clause-begun g c = λ k.
     let w0 = g.D.Disk.medium c.args.disk.now in
     let w1 = g.D.Disk.medium c.clear_other.new.disk in
     let w2 = g.D.Disk.medium c.open_chain.new.disk in
-    let stands = (c.requires.alone k).stands in
-    let is_area = named_below geometry named _ _ w0 (g.met.D.Disk.bytes c.args.disk.now) stands in
+    let recovers = (c.requires.alone k).recovers in
+    let is_area = named_below geometry named _ _ w0 (g.met.D.Disk.bytes c.args.disk.now) recovers in
     let clears = c.clear_other.ensures.any_moment k in
     let cleared = c.in_ok-clear_other.ensures.cleared k in
     let chains = subst (λ (log : Log). Chains log w1 w2) c.in_ok-clear_other.ensures.log (c.open_chain.ensures.any_moment k) in
@@ -46,13 +46,13 @@ returns-clause-begun g c = λ k.
     let are = g.met.D.Disk.bytes c.clear_other.new.disk in
     record {
       at = record {
-        stands = begun_stands geometry named _ is_area w0 w1 w2 stands clears cleared chains are c.requires.whole chained;
-        ready = begun_ready geometry named _ is_area w0 w1 w2 stands clears cleared chains are c.requires.whole chained;
+        recovers = begun_recovers geometry named _ is_area w0 w1 w2 recovers clears cleared chains are c.requires.whole chained;
+        ready = begun_ready geometry named _ is_area w0 w1 w2 recovers clears cleared chains are c.requires.whole chained;
         calm = chained.calm;
       };
-      none = begun_none geometry named _ is_area w0 w1 w2 stands clears cleared chains are c.requires.whole chained;
-      forced = begun_forced geometry named _ is_area w0 w1 w2 stands clears cleared chains are c.requires.whole chained (g.met.D.Disk.bytes c.args.disk.now) (g.met.D.Disk.bytes c.open_chain.new.disk);
-      images = begun_images geometry named _ is_area w0 w1 w2 stands clears cleared chains are c.requires.whole chained;
+      none = begun_none geometry named _ is_area w0 w1 w2 recovers clears cleared chains are c.requires.whole chained;
+      forced = begun_forced geometry named _ is_area w0 w1 w2 recovers clears cleared chains are c.requires.whole chained (g.met.D.Disk.bytes c.args.disk.now) (g.met.D.Disk.bytes c.open_chain.new.disk);
+      images = begun_images geometry named _ is_area w0 w1 w2 recovers clears cleared chains are c.requires.whole chained;
     }
 
 pub returns-in_err-clear_other-clause-beyond : goal.returns-in_err-clear_other-clause-beyond

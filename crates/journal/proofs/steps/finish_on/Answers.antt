@@ -3,7 +3,7 @@ use Rattle.std.proofs.Common.{◌≡◌, ◌<◌, ℕ, sym, ◌∙◌, subst, ar
 use Rattle.std.proofs.lemmas.Result.{err_from_is_err_and}
 use Rattle.affinity.specs.declared.geometry.Geometry.{Geometry}
 use Rattle.image.specs.Pieces.{piece_count}
-use Rattle.journal.specs.Stretches.{Imaged}
+use Rattle.journal.specs.Extents.{Imaged}
 use Rattle.journal.proofs.Costs.{one_run, takes_all, takes_most}
 use Rattle.journal.proofs.Finishing.{finish_image_moments, finish_moments, finished}
 use Rattle.journal.proofs.StillRefused.{finish_alike, image_alike}
@@ -101,7 +101,7 @@ returns-clause-beyond g c = λ k.
 
 pub returns-then-is_err-clause-takes : goal.returns-then-is_err-clause-takes
 returns-then-is_err-clause-takes g c = λ k.
-    let one = one_run c.args.halves.now.geometry c.args.marks.now c.requires.marks c.requires.all in
+    let one = one_run c.args.halves.now.geometry c.args.dirty.now c.requires.dirty c.requires.all in
     let wrote = takes_most c.write_image.result _ _ _ (c.write_image.ensures.takes k) in
     omega (arith, one, wrote)
 
@@ -110,12 +110,12 @@ returns-in_err-flip_root-clause-takes g c =
     let p = err_from_is_err_and c.from_residual.result c.from_residual.ensures.1 in
     rw p.1
     (λ k.
-    let one = one_run c.args.halves.now.geometry c.args.marks.now c.requires.marks c.requires.all in
+    let one = one_run c.args.halves.now.geometry c.args.dirty.now c.requires.dirty c.requires.all in
     let wrote = takes_all c.write_image.result _ _ _ (sym c.is_err.ensures.value ∙ c.if-is_err.false) (c.write_image.ensures.takes k) in
     omega (arith, one, wrote, c.in_err-flip_root.ensures.takes k))
 
 pub returns-clause-takes : goal.returns-clause-takes
 returns-clause-takes g c = λ k.
-    let one = one_run c.args.halves.now.geometry c.args.marks.now c.requires.marks c.requires.all in
+    let one = one_run c.args.halves.now.geometry c.args.dirty.now c.requires.dirty c.requires.all in
     let wrote = takes_all c.write_image.result _ _ _ (sym c.is_err.ensures.value ∙ c.if-is_err.false) (c.write_image.ensures.takes k) in
     omega (arith, one, wrote, c.in_ok-flip_root.ensures.takes k)

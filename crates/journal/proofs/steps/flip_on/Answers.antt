@@ -2,8 +2,8 @@
 use Rattle.std.proofs.Common.{◌≡◌, sym, ◌∙◌, subst}
 use Rattle.checkpoint.specs.Recovery.{holds}
 use Rattle.disk.specs.Device.{Medium}
-use Rattle.disk.specs.Moments.{LeavesOnly}
-use Rattle.journal.proofs.Cutting.{name_moments, named_alone, named_before, named_below, named_images, named_ready, named_stands, sync_moments}
+use Rattle.disk.specs.Moments.{CrashImagesAre}
+use Rattle.journal.proofs.Cutting.{name_moments, named_alone, named_before, named_below, named_images, named_ready, named_recovers, sync_moments}
 use Rattle.oplog.proofs.Answered.{on_ok}
 use Rattle.oplog.proofs.Beyond.{beyond, beyond_sync, beyond_then}
 use Rattle.oplog.specs.Calls.{Flips, HasFlipped}
@@ -13,7 +13,7 @@ use Rattle.journal.proofs.steps.flip_on.Goals as goal
 
 pub returns-then-is_err-clause-any_moment : goal.returns-then-is_err-clause-any_moment
 returns-then-is_err-clause-any_moment g c = λ k.
-    sync_moments c.args.halves.now.geometry c.args.halves.now.named c.args.halves.now.used _ c.args.bytes.now _ (c.requires.written k).by.stands _ c.make_last.result (c.make_last.ensures.syncs k)
+    sync_moments c.args.halves.now.geometry c.args.halves.now.named c.args.halves.now.used _ c.args.bytes.now _ (c.requires.written k).by.recovers _ c.make_last.result (c.make_last.ensures.syncs k)
 
 pub returns-in_err-flip_root-clause-any_moment : goal.returns-in_err-flip_root-clause-any_moment
 returns-in_err-flip_root-clause-any_moment g c = λ k.
@@ -23,10 +23,10 @@ returns-in_err-flip_root-clause-any_moment g c = λ k.
     let w2 = g.D.Disk.medium c.flip_root.new.disk in
     let written = c.requires.written k in
     let syncs = on_ok c.make_last.result _ (sym c.is_err.ensures.value ∙ c.if-is_err.false) (c.make_last.ensures.syncs k).ok in
-    let is_area = named_below geometry named _ _ w0 (g.met.D.Disk.bytes c.args.disk.now) written.by.stands in
+    let is_area = named_below geometry named _ _ w0 (g.met.D.Disk.bytes c.args.disk.now) written.by.recovers in
     let flips = subst (λ (m : Medium). Flips c.args.halves.now m w2) syncs (c.flip_root.ensures.any_moment k) in
-    let so_far = subst (λ (m : Medium). LeavesOnly w0 m (λ c'. holds geometry c' ≡ holds geometry w0.now)) syncs (sync_moments geometry named c.args.halves.now.used _ c.args.bytes.now w0 written.by.stands (g.D.Disk.medium c.make_last.new.disk) c.make_last.result (c.make_last.ensures.syncs k)) in
-    name_moments geometry named c.args.halves.now.used _ c.args.bytes.now w0 written.by.stands is_area written.by.some written.is written.behind w2 (g.met.D.Disk.bytes c.args.disk.now) so_far flips
+    let so_far = subst (λ (m : Medium). CrashImagesAre w0 m (λ c'. holds geometry c' ≡ holds geometry w0.now)) syncs (sync_moments geometry named c.args.halves.now.used _ c.args.bytes.now w0 written.by.recovers (g.D.Disk.medium c.make_last.new.disk) c.make_last.result (c.make_last.ensures.syncs k)) in
+    name_moments geometry named c.args.halves.now.used _ c.args.bytes.now w0 written.by.recovers is_area written.by.some written.is written.behind w2 (g.met.D.Disk.bytes c.args.disk.now) so_far flips
 
 pub returns-clause-any_moment : goal.returns-clause-any_moment
 returns-clause-any_moment g c = λ k.
@@ -36,10 +36,10 @@ returns-clause-any_moment g c = λ k.
     let w2 = g.D.Disk.medium c.flip_root.new.disk in
     let written = c.requires.written k in
     let syncs = on_ok c.make_last.result _ (sym c.is_err.ensures.value ∙ c.if-is_err.false) (c.make_last.ensures.syncs k).ok in
-    let is_area = named_below geometry named _ _ w0 (g.met.D.Disk.bytes c.args.disk.now) written.by.stands in
+    let is_area = named_below geometry named _ _ w0 (g.met.D.Disk.bytes c.args.disk.now) written.by.recovers in
     let flips = subst (λ (m : Medium). Flips c.args.halves.now m w2) syncs (c.flip_root.ensures.any_moment k) in
-    let so_far = subst (λ (m : Medium). LeavesOnly w0 m (λ c'. holds geometry c' ≡ holds geometry w0.now)) syncs (sync_moments geometry named c.args.halves.now.used _ c.args.bytes.now w0 written.by.stands (g.D.Disk.medium c.make_last.new.disk) c.make_last.result (c.make_last.ensures.syncs k)) in
-    name_moments geometry named c.args.halves.now.used _ c.args.bytes.now w0 written.by.stands is_area written.by.some written.is written.behind w2 (g.met.D.Disk.bytes c.args.disk.now) so_far flips
+    let so_far = subst (λ (m : Medium). CrashImagesAre w0 m (λ c'. holds geometry c' ≡ holds geometry w0.now)) syncs (sync_moments geometry named c.args.halves.now.used _ c.args.bytes.now w0 written.by.recovers (g.D.Disk.medium c.make_last.new.disk) c.make_last.result (c.make_last.ensures.syncs k)) in
+    name_moments geometry named c.args.halves.now.used _ c.args.bytes.now w0 written.by.recovers is_area written.by.some written.is written.behind w2 (g.met.D.Disk.bytes c.args.disk.now) so_far flips
 
 pub returns-clause-flipped : goal.returns-clause-flipped
 returns-clause-flipped g c = λ k.
@@ -49,18 +49,18 @@ returns-clause-flipped g c = λ k.
     let w2 = g.D.Disk.medium c.flip_root.new.disk in
     let written = c.requires.written k in
     let syncs = on_ok c.make_last.result _ (sym c.is_err.ensures.value ∙ c.if-is_err.false) (c.make_last.ensures.syncs k).ok in
-    let is_area = named_below geometry named _ _ w0 (g.met.D.Disk.bytes c.args.disk.now) written.by.stands in
+    let is_area = named_below geometry named _ _ w0 (g.met.D.Disk.bytes c.args.disk.now) written.by.recovers in
     let are = g.met.D.Disk.bytes c.args.disk.now in
     let flipped = subst (λ (m : Medium). HasFlipped c.args.halves.now m w2) syncs (c.in_ok-flip_root.ensures.flipped k) in
     record {
       at = record {
-        stands = named_stands geometry named c.args.halves.now.used _ c.args.bytes.now w0 written.by.stands is_area written.by.some written.is written.behind w2 are flipped;
-        ready = named_ready geometry named c.args.halves.now.used _ c.args.bytes.now w0 written.by.stands is_area written.by.some written.is written.behind w2 are flipped c.requires.whole written.ready;
+        recovers = named_recovers geometry named c.args.halves.now.used _ c.args.bytes.now w0 written.by.recovers is_area written.by.some written.is written.behind w2 are flipped;
+        ready = named_ready geometry named c.args.halves.now.used _ c.args.bytes.now w0 written.by.recovers is_area written.by.some written.is written.behind w2 are flipped c.requires.whole written.ready;
         calm = flipped.calm;
       };
-      before = named_before geometry named c.args.halves.now.used _ c.args.bytes.now w0 written.by.stands is_area written.by.some written.is written.behind w2 are flipped;
-      alone = named_alone geometry named c.args.halves.now.used _ c.args.bytes.now w0 written.by.stands is_area written.by.some written.is written.behind w2 are flipped;
-      images = named_images geometry named c.args.halves.now.used _ c.args.bytes.now w0 written.by.stands is_area written.by.some written.is written.behind w2 are flipped;
+      before = named_before geometry named c.args.halves.now.used _ c.args.bytes.now w0 written.by.recovers is_area written.by.some written.is written.behind w2 are flipped;
+      alone = named_alone geometry named c.args.halves.now.used _ c.args.bytes.now w0 written.by.recovers is_area written.by.some written.is written.behind w2 are flipped;
+      images = named_images geometry named c.args.halves.now.used _ c.args.bytes.now w0 written.by.recovers is_area written.by.some written.is written.behind w2 are flipped;
     }
 
 pub returns-then-is_err-clause-beyond : goal.returns-then-is_err-clause-beyond

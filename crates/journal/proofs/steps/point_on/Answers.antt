@@ -2,9 +2,9 @@
 use Rattle.std.proofs.Common.{◌≡◌, ◌<◌, ℕ, sym, ◌∙◌, subst, arith}
 use Rattle.std.proofs.lemmas.Result.{err_from_is_err_and}
 use Rattle.affinity.specs.declared.geometry.Geometry.{Geometry}
-use Rattle.journal.specs.Stretches.{AgreeUnmarked, Imaged, image_in}
+use Rattle.journal.specs.Extents.{AgreeOnClean, Imaged, image_in}
 use Rattle.journal.proofs.Costs.{takes_all, takes_most}
-use Rattle.journal.proofs.Pointing.{clear_moments, flip_moments, image_moments, now_emptied, now_is, now_kept, now_ready, now_stands, still_unmarked}
+use Rattle.journal.proofs.Pointing.{clear_moments, flip_moments, image_moments, now_emptied, now_is, now_kept, now_ready, now_recovers, still_unmarked}
 use Rattle.oplog.proofs.Answered.{on_ok}
 use Rattle.oplog.proofs.Beyond.{beyond, beyond_then}
 use Rattle.oplog.specs.Calls.{Flips, HasFlipped}
@@ -18,17 +18,17 @@ along P {a} {a'} {b} {b'} first second held = subst (λ y. P a' y) second (subst
 
 pub returns-in_err-clear_other-clause-any_moment : goal.returns-in_err-clear_other-clause-any_moment
 returns-in_err-clear_other-clause-any_moment g c = λ k.
-    clear_moments c.args.halves.now.geometry c.args.halves.now.named _ (omega (arith, c.named-area.ensures.named, c.named-area.ensures.half)) _ _ (c.requires.alone k).stands (c.clear_other.ensures.any_moment k)
+    clear_moments c.args.halves.now.geometry c.args.halves.now.named _ (omega (arith, c.named-area.ensures.named, c.named-area.ensures.half)) _ _ (c.requires.alone k).recovers (c.clear_other.ensures.any_moment k)
 
 pub write_image-requires-clause-unmarked : goal.write_image-requires-clause-unmarked
 write_image-requires-clause-unmarked g c = λ k.
-    along (λ (x : Geometry) (n : ℕ). AgreeUnmarked x c.args.marks.now (image_in x (other n) (g.D.Disk.medium c.clear_other.new.disk)) c.args.bytes.now) (sym c.geometry-g.ensures) (sym c.named-area.ensures.named)
-    (still_unmarked c.args.halves.now.geometry (other c.args.halves.now.named) (other c.args.halves.now.named) c.args.marks.now c.args.bytes.now (g.D.Disk.medium c.args.disk.now) (g.D.Disk.medium c.clear_other.new.disk) (omega arith) (c.in_ok-clear_other.ensures.cleared k) (c.requires.unmarked k))
+    along (λ (x : Geometry) (n : ℕ). AgreeOnClean x c.args.dirty.now (image_in x (other n) (g.D.Disk.medium c.clear_other.new.disk)) c.args.bytes.now) (sym c.geometry-g.ensures) (sym c.named-area.ensures.named)
+    (still_unmarked c.args.halves.now.geometry (other c.args.halves.now.named) (other c.args.halves.now.named) c.args.dirty.now c.args.bytes.now (g.D.Disk.medium c.args.disk.now) (g.D.Disk.medium c.clear_other.new.disk) (omega arith) (c.in_ok-clear_other.ensures.cleared k) (c.requires.unmarked k))
 
 pub returns-then-is_err-clause-any_moment : goal.returns-then-is_err-clause-any_moment
 returns-then-is_err-clause-any_moment g c = λ k.
     let writes = along (λ (x : Geometry) (n : ℕ). ChangesOnly (g.D.Disk.medium c.clear_other.new.disk) (g.D.Disk.medium c.write_image.new.disk) (IsSameBut (layout_of x) (image (other n)))) c.geometry-g.ensures c.named-area.ensures.named (c.write_image.ensures.any_moment k) in
-    image_moments c.args.halves.now.geometry c.args.halves.now.named _ (omega (arith, c.named-area.ensures.named, c.named-area.ensures.half)) _ _ (c.requires.alone k).stands (c.clear_other.ensures.any_moment k) _ writes
+    image_moments c.args.halves.now.geometry c.args.halves.now.named _ (omega (arith, c.named-area.ensures.named, c.named-area.ensures.half)) _ _ (c.requires.alone k).recovers (c.clear_other.ensures.any_moment k) _ writes
 
 pub returns-in_err-flip_root-clause-any_moment : goal.returns-in_err-flip_root-clause-any_moment
 returns-in_err-flip_root-clause-any_moment g c = λ k.
@@ -36,7 +36,7 @@ returns-in_err-flip_root-clause-any_moment g c = λ k.
     let imaged = along (λ (x : Geometry) (n : ℕ). Imaged x (other n) c.args.bytes.now (g.D.Disk.medium c.clear_other.new.disk) (g.D.Disk.medium c.write_image.new.disk)) c.geometry-g.ensures c.named-area.ensures.named
     (on_ok c.write_image.result _ (sym c.is_err.ensures.value ∙ c.if-is_err.false) c.write_image.ensures.written k) in
     let flips = subst (λ (log : Log). Flips log (g.D.Disk.medium c.write_image.new.disk) (g.D.Disk.medium c.flip_root.new.disk)) c.in_ok-clear_other.ensures.log (c.flip_root.ensures.any_moment k) in
-    flip_moments c.args.halves.now.geometry c.args.halves.now.named _ (omega (arith, c.named-area.ensures.named, c.named-area.ensures.half)) _ _ (c.requires.alone k).stands (c.clear_other.ensures.any_moment k) _ writes
+    flip_moments c.args.halves.now.geometry c.args.halves.now.named _ (omega (arith, c.named-area.ensures.named, c.named-area.ensures.half)) _ _ (c.requires.alone k).recovers (c.clear_other.ensures.any_moment k) _ writes
     (c.requires.alone k).some c.args.bytes.now (c.requires.image k) (c.in_ok-clear_other.ensures.cleared k) imaged _ flips
 
 pub returns-clause-any_moment : goal.returns-clause-any_moment
@@ -45,7 +45,7 @@ returns-clause-any_moment g c = λ k.
     let imaged = along (λ (x : Geometry) (n : ℕ). Imaged x (other n) c.args.bytes.now (g.D.Disk.medium c.clear_other.new.disk) (g.D.Disk.medium c.write_image.new.disk)) c.geometry-g.ensures c.named-area.ensures.named
     (on_ok c.write_image.result _ (sym c.is_err.ensures.value ∙ c.if-is_err.false) c.write_image.ensures.written k) in
     let flips = subst (λ (log : Log). Flips log (g.D.Disk.medium c.write_image.new.disk) (g.D.Disk.medium c.flip_root.new.disk)) c.in_ok-clear_other.ensures.log (c.flip_root.ensures.any_moment k) in
-    flip_moments c.args.halves.now.geometry c.args.halves.now.named _ (omega (arith, c.named-area.ensures.named, c.named-area.ensures.half)) _ _ (c.requires.alone k).stands (c.clear_other.ensures.any_moment k) _ writes
+    flip_moments c.args.halves.now.geometry c.args.halves.now.named _ (omega (arith, c.named-area.ensures.named, c.named-area.ensures.half)) _ _ (c.requires.alone k).recovers (c.clear_other.ensures.any_moment k) _ writes
     (c.requires.alone k).some c.args.bytes.now (c.requires.image k) (c.in_ok-clear_other.ensures.cleared k) imaged _ flips
 
 pub returns-clause-pointed : goal.returns-clause-pointed
@@ -61,20 +61,20 @@ returns-clause-pointed g c = λ k.
     let imaged = along (λ (x : Geometry) (n : ℕ). Imaged x (other n) c.args.bytes.now w1 w2) c.geometry-g.ensures c.named-area.ensures.named
     (on_ok c.write_image.result _ (sym c.is_err.ensures.value ∙ c.if-is_err.false) c.write_image.ensures.written k) in
     let flipped = subst (λ (log : Log). HasFlipped log w2 w3) c.in_ok-clear_other.ensures.log (c.in_ok-flip_root.ensures.flipped k) in
-    let stands = (c.requires.alone k).stands in
+    let recovers = (c.requires.alone k).recovers in
     let clears = c.clear_other.ensures.any_moment k in
     let cleared = c.in_ok-clear_other.ensures.cleared k in
     let some = (c.requires.alone k).some in
     let are = g.met.D.Disk.bytes c.write_image.new.disk in
     record {
       at = record {
-        stands = now_stands geometry named _ is_area w0 w1 stands clears w2 writes some c.args.bytes.now (c.requires.image k) cleared imaged w3 are c.requires.whole flipped;
-        ready = now_ready geometry named _ is_area w0 w1 stands clears w2 writes some c.args.bytes.now (c.requires.image k) cleared imaged w3 are c.requires.whole flipped;
+        recovers = now_recovers geometry named _ is_area w0 w1 recovers clears w2 writes some c.args.bytes.now (c.requires.image k) cleared imaged w3 are c.requires.whole flipped;
+        ready = now_ready geometry named _ is_area w0 w1 recovers clears w2 writes some c.args.bytes.now (c.requires.image k) cleared imaged w3 are c.requires.whole flipped;
         calm = flipped.calm;
       };
-      emptied = now_emptied geometry named _ is_area w0 w1 stands clears w2 writes some c.args.bytes.now (c.requires.image k) cleared imaged w3 are c.requires.whole flipped;
-      is = now_is geometry named _ is_area w0 w1 stands clears w2 writes some c.args.bytes.now (c.requires.image k) cleared imaged w3 are c.requires.whole flipped;
-      kept = now_kept geometry named _ is_area w0 w1 stands clears w2 writes some c.args.bytes.now (c.requires.image k) cleared imaged w3 are c.requires.whole flipped;
+      emptied = now_emptied geometry named _ is_area w0 w1 recovers clears w2 writes some c.args.bytes.now (c.requires.image k) cleared imaged w3 are c.requires.whole flipped;
+      is = now_is geometry named _ is_area w0 w1 recovers clears w2 writes some c.args.bytes.now (c.requires.image k) cleared imaged w3 are c.requires.whole flipped;
+      kept = now_kept geometry named _ is_area w0 w1 recovers clears w2 writes some c.args.bytes.now (c.requires.image k) cleared imaged w3 are c.requires.whole flipped;
     }
 
 pub returns-in_err-clear_other-clause-beyond : goal.returns-in_err-clear_other-clause-beyond

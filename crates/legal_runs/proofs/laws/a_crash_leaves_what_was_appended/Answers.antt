@@ -1,9 +1,9 @@
 -- The lemmas on what may be left.
-use Rattle.legal_runs.proofs.Crashes.{left_begins, left_is_settled}
+use Rattle.legal_runs.proofs.Crashes.{left_begins, left_is_committed}
 use Rattle.legal_runs.proofs.laws.a_crash_leaves_what_was_appended.Goals as goal
 
 pub returns-clause-begins : goal.returns-clause-begins
 returns-clause-begins c = left_begins
 
-pub returns-clause-settled : goal.returns-clause-settled
-returns-clause-settled c = left_is_settled
+pub returns-clause-committed : goal.returns-clause-committed
+returns-clause-committed c = left_is_committed

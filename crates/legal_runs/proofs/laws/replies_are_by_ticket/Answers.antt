@@ -1,5 +1,5 @@
 -- The lemmas on a run's arrivals.
-use Rattle.legal_runs.proofs.Arrivals.{run_ascending, logged_by_ticket, answered_by_ticket, settled_by_ticket}
+use Rattle.legal_runs.proofs.Arrivals.{run_ascending, logged_by_ticket, answered_by_ticket, committed_by_ticket}
 use Rattle.legal_runs.proofs.Elements.{in_contained, contains_in}
 use Rattle.legal_runs.proofs.Idle.{idle_sound}
 use Rattle.legal_runs.proofs.laws.replies_are_by_ticket.Goals as goal
@@ -15,5 +15,5 @@ pub returns-clause-answered : goal.returns-clause-answered
 returns-clause-answered c g old events legal idle reply is =
     contains_in _ reply (answered_by_ticket g old events legal (idle_sound old.core idle g) idle reply (in_contained _ reply is))
 
-pub returns-clause-settled : goal.returns-clause-settled
-returns-clause-settled c g old events legal idle ends = settled_by_ticket g old events legal (idle_sound old.core idle g) idle ends
+pub returns-clause-committed : goal.returns-clause-committed
+returns-clause-committed c g old events legal idle ends = committed_by_ticket g old events legal (idle_sound old.core idle g) idle ends

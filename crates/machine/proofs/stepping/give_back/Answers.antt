@@ -8,36 +8,36 @@ use Rattle.runs.specs.Steps.{IsMachineStep}
 use Rattle.runs.specs.declared.hands.Holding.{Holding}
 use Rattle.legal_runs.specs.declared.outcomes.Outcome.TheVariants as outcomes
 use Rattle.legal_runs.specs.declared.outcomes.Step.TheVariants as steps
-use Rattle.scheduler.specs.Kept.{world_of}
+use Rattle.scheduler.specs.CoreView.{core_state_of}
 use Rattle.machine.proofs.stepping.give_back.Goals as goal
 
 pub returns-then-hand-hands-clause-step : goal.returns-then-hand-hands-clause-step
-returns-then-hand-hands-clause-step g c = back_nowhere g.D.Disk.keeps c.args.core.now c.args.hands.now c.stands.ensures.no_doubt
-    c.stands.ensures.now c.args.hand c.if-hand-hands.true
+returns-then-hand-hands-clause-step g c = back_nowhere g.D.Disk.keeps c.args.core.now c.args.hands.now c.know_recovery.ensures.no_doubt
+    c.know_recovery.ensures.now c.args.hand c.if-hand-hands.true
 
 pub returns-in_default-clause-step : goal.returns-in_default-clause-step
-returns-in_default-clause-step g c = (no_result g.D.Disk.keeps c.args.core.now c.args.hands.now c.stands.ensures.no_doubt
-    c.stands.ensures.now c.requires c.args.hand (get_or c.args.hands.now c.args.hand c.index-hands-hand.result) c.take_result.new.hand
+returns-in_default-clause-step g c = (no_result g.D.Disk.keeps c.args.core.now c.args.hands.now c.know_recovery.ensures.no_doubt
+    c.know_recovery.ensures.now c.requires c.args.hand (get_or c.args.hands.now c.args.hand c.index-hands-hand.result) c.take_result.new.hand
     (slice_get-get_or c.args.hands.now c.args.hand c.index-hands-hand.result c.if-hand-hands.false)
     c.in_default.ensures).0
 
 pub returns-in_default-clause-holds : goal.returns-in_default-clause-holds
-returns-in_default-clause-holds g c = (no_result g.D.Disk.keeps c.args.core.now c.args.hands.now c.stands.ensures.no_doubt
-    c.stands.ensures.now c.requires c.args.hand (get_or c.args.hands.now c.args.hand c.index-hands-hand.result) c.take_result.new.hand
+returns-in_default-clause-holds g c = (no_result g.D.Disk.keeps c.args.core.now c.args.hands.now c.know_recovery.ensures.no_doubt
+    c.know_recovery.ensures.now c.requires c.args.hand (get_or c.args.hands.now c.args.hand c.index-hands-hand.result) c.take_result.new.hand
     (slice_get-get_or c.args.hands.now c.args.hand c.index-hands-hand.result c.if-hand-hands.false)
     c.in_default.ensures).1
 
 pub give_back-requires : goal.give_back-requires
 give_back-requires g c =
-    let t = taken g.D.Disk.keeps c.args.core.now c.args.hands.now c.stands.ensures.no_doubt c.stands.ensures.now c.requires c.args.hand
+    let t = taken g.D.Disk.keeps c.args.core.now c.args.hands.now c.know_recovery.ensures.no_doubt c.know_recovery.ensures.now c.requires c.args.hand
     (get_or c.args.hands.now c.args.hand c.index-hands-hand.result) c.take_result.new.hand c.in-Some.done c.in-Some.ensures in
     let read = slice_get-get_or c.args.hands.now c.args.hand c.index-hands-hand.result c.if-hand-hands.false in
-    was_result g.D.Disk.keeps c.args.core.now c.args.hands.now c.stands.ensures.no_doubt c.stands.ensures.now c.requires c.args.hand
+    was_result g.D.Disk.keeps c.args.core.now c.args.hands.now c.know_recovery.ensures.no_doubt c.know_recovery.ensures.now c.requires c.args.hand
     c.in-Some.done (read ∙ ap (λ (h : Holding). Some h) t.0)
 
 pub returns-clause-step : goal.returns-clause-step
 returns-clause-step g c =
-    let t = taken g.D.Disk.keeps c.args.core.now c.args.hands.now c.stands.ensures.no_doubt c.stands.ensures.now c.requires c.args.hand
+    let t = taken g.D.Disk.keeps c.args.core.now c.args.hands.now c.know_recovery.ensures.no_doubt c.know_recovery.ensures.now c.requires c.args.hand
     (get_or c.args.hands.now c.args.hand c.index-hands-hand.result) c.take_result.new.hand c.in-Some.done c.in-Some.ensures in
     let read = slice_get-get_or c.args.hands.now c.args.hand c.index-hands-hand.result c.if-hand-hands.false in
     subst (λ (ticket : ℕ). IsMachineStep g.D.Disk.keeps (record { core = c.args.core.now; hands = c.args.hands.now })
@@ -46,17 +46,17 @@ returns-clause-step g c =
     (subst (λ (h : Holding). IsMachineStep g.D.Disk.keeps (record { core = c.args.core.now; hands = c.args.hands.now })
     (record { core = c.give_back.new.self; hands = slice_set c.args.hands.now c.args.hand h }) (steps.Back c.args.hand)
     (outcomes.Back c.in-Some.done.ticket)) (sym t.1)
-    (back_step g.D.Disk.keeps c.args.core.now c.args.hands.now c.stands.ensures.no_doubt c.stands.ensures.now c.requires c.args.hand
+    (back_step g.D.Disk.keeps c.args.core.now c.args.hands.now c.know_recovery.ensures.no_doubt c.know_recovery.ensures.now c.requires c.args.hand
     c.in-Some.done (read ∙ ap (λ (h : Holding). Some h) t.0) c.give_back.new.self c.give_back.ensures.geometry c.give_back.ensures.untouched
-    c.give_back.ensures.world.0 c.give_back.ensures.world.1 c.give_back.ensures.world.2 c.give_back.ensures.world.3))
+    c.give_back.ensures.state_after.0 c.give_back.ensures.state_after.1 c.give_back.ensures.state_after.2 c.give_back.ensures.state_after.3))
 
 pub returns-clause-holds : goal.returns-clause-holds
 returns-clause-holds g c =
-    let t = taken g.D.Disk.keeps c.args.core.now c.args.hands.now c.stands.ensures.no_doubt c.stands.ensures.now c.requires c.args.hand
+    let t = taken g.D.Disk.keeps c.args.core.now c.args.hands.now c.know_recovery.ensures.no_doubt c.know_recovery.ensures.now c.requires c.args.hand
     (get_or c.args.hands.now c.args.hand c.index-hands-hand.result) c.take_result.new.hand c.in-Some.done c.in-Some.ensures in
     let read = slice_get-get_or c.args.hands.now c.args.hand c.index-hands-hand.result c.if-hand-hands.false in
-    subst (λ (h : Holding). HoldsJobs c.give_back.new.self.geometry (world_of c.give_back.new.self) (slice_set c.args.hands.now c.args.hand h))
+    subst (λ (h : Holding). HoldsJobs c.give_back.new.self.geometry (core_state_of c.give_back.new.self) (slice_set c.args.hands.now c.args.hand h))
     (sym t.1)
-    (back_holds g.D.Disk.keeps c.args.core.now c.args.hands.now c.stands.ensures.no_doubt c.stands.ensures.now c.requires c.args.hand
+    (back_holds g.D.Disk.keeps c.args.core.now c.args.hands.now c.know_recovery.ensures.no_doubt c.know_recovery.ensures.now c.requires c.args.hand
     c.in-Some.done (read ∙ ap (λ (h : Holding). Some h) t.0) c.give_back.new.self c.give_back.ensures.geometry c.give_back.ensures.untouched
-    c.give_back.ensures.world.0 c.give_back.ensures.world.1 c.give_back.ensures.world.2 c.give_back.ensures.world.3)
+    c.give_back.ensures.state_after.0 c.give_back.ensures.state_after.1 c.give_back.ensures.state_after.2 c.give_back.ensures.state_after.3)

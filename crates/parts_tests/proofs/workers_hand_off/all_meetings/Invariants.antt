@@ -3,4 +3,4 @@ use Rattle.std.proofs.Common.{◌≡◌}
 use Rattle.parts_tests.proofs.workers_hand_off.all_meetings.Given as goal
 
 abbrev pub invariant-loop-meeting : goal.invariant-loop-meeting
-invariant-loop-meeting l = l.desk.bench ≡ l.initial.desk.bench
+invariant-loop-meeting l = l.dispatch_seat.bench ≡ l.initial.dispatch_seat.bench

@@ -3,4 +3,4 @@ use Rattle.std.proofs.Common.{◌≡◌}
 use Rattle.parts_tests.proofs.workers_hand_off.collect.Given as goal
 
 abbrev pub invariant-loop : goal.invariant-loop
-invariant-loop l = l.desk.bench ≡ l.initial.desk.bench
+invariant-loop l = l.dispatch_seat.bench ≡ l.initial.dispatch_seat.bench

@@ -3,4 +3,4 @@ use Rattle.std.proofs.Common.{◌≡◌}
 use Rattle.parts_tests.proofs.workers_hand_off.collect_round.Given as goal
 
 abbrev pub invariant-loop-k : goal.invariant-loop-k
-invariant-loop-k g l = l.desk.bench ≡ l.initial.desk.bench
+invariant-loop-k g l = l.dispatch_seat.bench ≡ l.initial.dispatch_seat.bench

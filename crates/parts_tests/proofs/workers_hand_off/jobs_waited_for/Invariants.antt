@@ -3,4 +3,4 @@ use Rattle.std.proofs.Common.{◌≡◌}
 use Rattle.parts_tests.proofs.workers_hand_off.jobs_waited_for.Given as goal
 
 abbrev pub invariant-loop-ticket : goal.invariant-loop-ticket
-invariant-loop-ticket g l = l.desk.bench ≡ l.initial.desk.bench
+invariant-loop-ticket g l = l.dispatch_seat.bench ≡ l.initial.dispatch_seat.bench

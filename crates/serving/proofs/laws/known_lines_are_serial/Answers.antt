@@ -6,9 +6,9 @@ use Rattle.serving.proofs.Serial.{asked_leads_there, said_is_serial}
 use Rattle.serving.proofs.laws.known_lines_are_serial.Goals as goal
 
 pub returns-clause-output : goal.returns-clause-output
-returns-clause-output c g x n ls replies said row told known answered =
-    said_is_serial g replies x n ls [] said row (λ p is. inr (in_contained _ p (told p (contains_in replies p is)))) known answered
-    ∙ ap (λ l. take (length said) (output_lines g x l)) (append-nil ls)
+returns-clause-output c g x n ls replies retired row reply_pairs known answered =
+    said_is_serial g replies x n ls [] retired row (λ p is. inr (in_contained _ p (reply_pairs p (contains_in replies p is)))) known answered
+    ∙ ap (λ l. take (length retired) (output_lines g x l)) (append-nil ls)
 
 pub returns-clause-state : goal.returns-clause-state
 returns-clause-state c = asked_leads_there

@@ -19,5 +19,5 @@ returns-clause-device g c start now row input left ended before written idle h f
     ends_at_device g.D.Disk.keeps start now idle row input left ended before written h failed wound_up
 
 pub returns-clause-run : goal.returns-clause-run
-returns-clause-run g c start now row input left ended before written idle h no_doubt stands =
-    has_served g.D.Disk.keeps start now idle row input left ended before written h no_doubt stands
+returns-clause-run g c start now row input left ended before written idle h no_doubt recovers =
+    has_served g.D.Disk.keeps start now idle row input left ended before written h no_doubt recovers

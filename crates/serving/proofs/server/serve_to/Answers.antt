@@ -7,7 +7,7 @@ use Rattle.serving.proofs.server.serve_to.Goals as goal
 pub returns-then-workers-eq0 : goal.returns-then-workers-eq0
 returns-then-workers-eq0 g c = record {
   run = no_workers_ran g.D.Disk.keeps c.args.core c.args.workers c.requires.idle
-      c.stands.ensures.no_doubt c.stands.ensures.now (g.R.Read.remaining c.args.r.now) (g.L.Teller.told c.args.teller);
+      c.know_recovery.ensures.no_doubt c.know_recovery.ensures.now (g.R.Read.remaining c.args.r.now) (g.L.ReplySink.sent c.args.sink);
   ends = (refl, refl, refl);
   no_workers = c.if-workers-eq0.true;
   emptied = tt;
@@ -16,7 +16,7 @@ returns-then-workers-eq0 g c = record {
 pub returns-in_default : goal.returns-in_default
 returns-in_default g c = record {
   run = no_memory_ran g.D.Disk.keeps c.args.core c.args.workers c.requires.idle
-      c.stands.ensures.no_doubt c.stands.ensures.now (g.R.Read.remaining c.args.r.now) (g.L.Teller.told c.args.teller);
+      c.know_recovery.ensures.no_doubt c.know_recovery.ensures.now (g.R.Read.remaining c.args.r.now) (g.L.ReplySink.sent c.args.sink);
   ends = (refl, refl, refl);
   no_workers = c.if-workers-eq0.false;
   emptied = tt;

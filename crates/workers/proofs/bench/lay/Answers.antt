@@ -8,4 +8,4 @@ use Rattle.workers.proofs.bench.lay.Goals as goal
 
 pub new-requires : goal.new-requires
 new-requires c = let n = c.args.places in
-    subst (λ slots. BenchRule (opening c.args.words.now slots (Dispatcher n (replicate n None)))) (sym c.in_ok-trays.ensures) (opens_empty n _ c.requires.words)
+    subst (λ slots. BenchRule (opening c.args.words.now slots (Dispatcher n (replicate n None)))) (sym c.in_ok-cells.ensures) (opens_empty n _ c.requires.words)

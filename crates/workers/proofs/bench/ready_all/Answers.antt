@@ -2,7 +2,7 @@
 use Rattle.std.proofs.Common.{◌≡◌, ◌+◌, ◌-◌, ◌∷◌, ap, ◌∙◌, replicate, None, arith}
 use Rattle.std.proofs.lemmas.List.{get_or-replicate}
 use Rattle.workers.specs.Steps.{Sat}
-use Rattle.workers.specs.Desk.{spare, lent_of}
+use Rattle.workers.specs.Seats.{spare, lent_of}
 use Rattle.workers.specs.declared.seats.View.TheVariants.{Dispatcher}
 use Rattle.workers.proofs.Turning.{readied}
 use Rattle.workers.proofs.bench.ready_all.Goals as goal

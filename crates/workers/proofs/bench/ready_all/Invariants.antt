@@ -1,6 +1,6 @@
 -- The places from this one on are ready, and the seat has their slots in order.
 use Rattle.std.proofs.Common.{◌≡◌, ◌≤◌, ◌-◌, replicate, None}
-use Rattle.workers.specs.Desk.{spare}
+use Rattle.workers.specs.Seats.{spare}
 use Rattle.workers.specs.declared.seats.View.TheVariants.{Dispatcher}
 use Rattle.workers.proofs.bench.ready_all.Given as goal
 

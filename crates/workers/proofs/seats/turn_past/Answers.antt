@@ -1,7 +1,7 @@
 -- A place where something is lent has no slot in the row; any other's is at the head, and is turned to the end.
 use Rattle.std.proofs.Common.{ap, ◌∙◌}
 use Rattle.atomic_table.specs.Table.{turned}
-use Rattle.workers.specs.Desk.{lent_of}
+use Rattle.workers.specs.Seats.{lent_of}
 use Rattle.workers.proofs.Turning.{passes, turns_empty}
 use Rattle.workers.proofs.seats.turn_past.Goals as goal
 

@@ -2,7 +2,7 @@
 use Rattle.std.proofs.Common.{rules, arith, refl, ap, ◌∙◌, eqb-true, ◌∷◌, Some}
 use Rattle.std.proofs.lemmas.Bool.{eqb-false}
 use Rattle.workers.specs.Steps.{Sat}
-use Rattle.workers.specs.declared.tray.Load.TheVariants.{Offered}
+use Rattle.workers.specs.declared.job_cell.CellContent.TheVariants.{Offered}
 use Rattle.workers.specs.declared.seats.View.TheVariants.{Claimed}
 use Rattle.workers.proofs.Keeps.{claims}
 use Rattle.workers.proofs.steps.claim.Goals as goal

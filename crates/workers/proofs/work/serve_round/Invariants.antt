@@ -1,6 +1,6 @@
 -- Between two places the seat is idle, at the same bench.
 use Rattle.std.proofs.Common.{◌≡◌}
-use Rattle.workers.specs.Desk.{idle}
+use Rattle.workers.specs.Seats.{idle}
 use Rattle.workers.proofs.work.serve_round.Given as goal
 
 abbrev pub invariant-loop-k : goal.invariant-loop-k

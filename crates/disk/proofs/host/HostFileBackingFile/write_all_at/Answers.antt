@@ -8,4 +8,4 @@ pub invariant_of-self-else-is_err-clause-are_bytes : goal.invariant_of-self-else
 invariant_of-self-else-is_err-clause-are_bytes g c =
     let self = c.args.self.now in
     subst (λ (m : Medium). AreBytes m.now) (sym c.note-else-is_err.ensures)
-    (bytes-overlaid self.shadow.medium.now c.args.at c.args.bytes.now self.are_bytes (bytes_fit c.args.bytes.now (λ i. (c.type_inv.bytes i).fits)))
+    (bytes-overlaid self.ghost_device.medium.now c.args.at c.args.bytes.now self.are_bytes (bytes_fit c.args.bytes.now (λ i. (c.type_inv.bytes i).fits)))

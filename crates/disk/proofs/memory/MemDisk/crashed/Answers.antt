@@ -1,7 +1,7 @@
 -- The copy is torn in its unsynced bytes alone, so it is a crash image of the device.
 use Rattle.std.proofs.Common.{rules, ◌≡◌, List, length, ℕ, ap, sym, subst, ◌∙◌, arith}
 use Rattle.std.proofs.lemmas.Grind.{common_steps}
-use Rattle.disk.specs.Device.{SameButLoose}
+use Rattle.disk.specs.Device.{SameButUnsynced}
 use Rattle.disk.specs.Torn.{torn_byte, torn_from}
 use Rattle.disk.proofs.Crashes.{torn_leaves}
 use Rattle.disk.proofs.memory.MemDisk.crashed.Goals as goal
@@ -10,11 +10,11 @@ pub returns-clause-may : goal.returns-clause-may
 returns-clause-may c =
     let self = c.args.self.now in
     let put = torn_byte c.args.torn.now self.kept.items self.asked.items in
-    let now = self.shadow.medium.now in
-    let loose = self.shadow.medium.loose in
-    let size : length loose ≡ length now = ap length self.loose_is ∙ self.loose_size ∙ sym (ap length self.now_is) in
-    let is : c.in_ok-after.after.shadow.medium.now ≡ torn_from put 0 0 loose now = grind (arith, common_steps) in
+    let now = self.ghost_device.medium.now in
+    let unsynced = self.ghost_device.medium.unsynced in
+    let size : length unsynced ≡ length now = ap length self.unsynced_is ∙ self.unsynced_size ∙ sym (ap length self.now_is) in
+    let is : c.in_ok-after.after.ghost_device.medium.now ≡ torn_from put 0 0 unsynced now = grind (arith, common_steps) in
     record {
-      same = subst (λ (c : List ℕ). SameButLoose now loose c) (sym is) (torn_leaves put 0 0 loose now size);
+      same = subst (λ (c : List ℕ). SameButUnsynced now unsynced c) (sym is) (torn_leaves put 0 0 unsynced now size);
       bytes = search rules;
     }

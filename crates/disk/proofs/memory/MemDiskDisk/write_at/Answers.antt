@@ -2,7 +2,7 @@
 use Rattle.std.proofs.Common.{refl, sym, subst, arith}
 use Rattle.std.proofs.lemmas.Grind.{common_steps}
 use Rattle.disk.specs.Device.{AreBytes, Medium}
-use Rattle.disk.specs.Span.{HoldsLoose}
+use Rattle.disk.specs.Span.{HoldsUnsynced}
 use Rattle.disk.proofs.Bytes.{bytes_fit, bytes-overlaid}
 use Rattle.disk.proofs.Spans.{holds_lost, holds_written}
 use Rattle.disk.proofs.memory.MemDiskDisk.write_at.Goals as goal
@@ -13,12 +13,12 @@ invariant_of-self c =
     let span = c.with-self.result in
     record {
       now_is = grind (arith, common_steps);
-      loose_is = grind (arith, common_steps);
+      unsynced_is = grind (arith, common_steps);
       kept_size = grind (arith, common_steps);
       asked_size = grind (arith, common_steps);
-      loose_size = grind (arith, common_steps);
-      holds_loose = subst (λ (m : Medium). HoldsLoose span.start span.end m self.kept.items) (sym c.note.ensures)
-          (holds_lost self.span.start self.span.end span.start span.end c.args.at _ self.shadow.medium self.kept.items self.span.ordered (omega (arith, c.in_ok-start.ensures.start, c.in_ok-start.ensures.inside)) (omega (arith, c.in_ok-start.ensures.start, c.in_ok-start.ensures.inside)) (omega (arith, c.in_ok-start.ensures.start, c.in_ok-start.ensures.inside)) c.with-self.ensures.holds_old self.holds_loose);
+      unsynced_size = grind (arith, common_steps);
+      holds_unsynced = subst (λ (m : Medium). HoldsUnsynced span.start span.end m self.kept.items) (sym c.note.ensures)
+          (holds_lost self.span.start self.span.end span.start span.end c.args.at _ self.ghost_device.medium self.kept.items self.span.ordered (omega (arith, c.in_ok-start.ensures.start, c.in_ok-start.ensures.inside)) (omega (arith, c.in_ok-start.ensures.start, c.in_ok-start.ensures.inside)) (omega (arith, c.in_ok-start.ensures.start, c.in_ok-start.ensures.inside)) c.with-self.ensures.holds_old self.holds_unsynced);
       fits = grind (arith, common_steps);
       are_bytes = subst (λ (m : Medium). AreBytes m.now) (sym c.note.ensures) self.are_bytes;
     }
@@ -29,13 +29,13 @@ invariant_of-self-2 c =
     let span = c.with-self.result in
     record {
       now_is = grind (arith, common_steps);
-      loose_is = grind (arith, common_steps);
+      unsynced_is = grind (arith, common_steps);
       kept_size = grind (arith, common_steps);
       asked_size = grind (arith, common_steps);
-      loose_size = grind (arith, common_steps);
-      holds_loose = subst (λ (m : Medium). HoldsLoose span.start span.end m self.kept.items) (sym c.note-2.ensures)
-          (holds_written self.span.start self.span.end span.start span.end c.args.at _ self.shadow.medium self.kept.items self.span.ordered (omega (arith, c.in_ok-start.ensures.start, c.in_ok-start.ensures.inside)) (omega (arith, c.in_ok-start.ensures.start, c.in_ok-start.ensures.inside)) (omega (arith, c.in_ok-start.ensures.start, c.in_ok-start.ensures.inside)) c.with-self.ensures.holds_old self.holds_loose c.args.bytes.now refl);
+      unsynced_size = grind (arith, common_steps);
+      holds_unsynced = subst (λ (m : Medium). HoldsUnsynced span.start span.end m self.kept.items) (sym c.note-2.ensures)
+          (holds_written self.span.start self.span.end span.start span.end c.args.at _ self.ghost_device.medium self.kept.items self.span.ordered (omega (arith, c.in_ok-start.ensures.start, c.in_ok-start.ensures.inside)) (omega (arith, c.in_ok-start.ensures.start, c.in_ok-start.ensures.inside)) (omega (arith, c.in_ok-start.ensures.start, c.in_ok-start.ensures.inside)) c.with-self.ensures.holds_old self.holds_unsynced c.args.bytes.now refl);
       fits = grind (arith, common_steps);
       are_bytes = subst (λ (m : Medium). AreBytes m.now) (sym c.note-2.ensures)
-          (bytes-overlaid self.shadow.medium.now c.args.at c.args.bytes.now self.are_bytes (bytes_fit c.args.bytes.now (λ i. (c.type_inv.bytes i).fits)));
+          (bytes-overlaid self.ghost_device.medium.now c.args.at c.args.bytes.now self.are_bytes (bytes_fit c.args.bytes.now (λ i. (c.type_inv.bytes i).fits)));
     }

@@ -2,13 +2,13 @@
 use Rattle.std.proofs.Common.{◌≡◌, ℕ, ◌+◌, ◌++◌, false, Some, length, option_map, refl, sym, ◌∙◌, ap, subst, arith}
 use Rattle.affinity.specs.declared.geometry.Geometry.{Geometry}
 use Rattle.checkpoint.specs.Recovery.{holds}
-use Rattle.disk.specs.Moments.{LeavesOnly}
+use Rattle.disk.specs.Moments.{CrashImagesAre}
 use Rattle.image.specs.Pieces.{piece_count}
-use Rattle.journal.specs.Journal.{AreCarriedOut, JournalView, HoldsSome, records, records_in, settled}
+use Rattle.journal.specs.Journal.{AreCarriedOut, JournalView, HoldsSome, records, records_in, committed}
 use Rattle.journal.specs.Keeping.{IsCutState, held_of}
-use Rattle.journal.specs.Marks.{AreBothTouched}
-use Rattle.journal.proofs.Logging.{log_kept, log_moments, log_records, log_told, placed_used, settled_of, touched_along}
-use Rattle.journal.proofs.Rows.{same_marks, whole_items, whole_put}
+use Rattle.journal.specs.DirtyPieces.{AreBothTouched}
+use Rattle.journal.proofs.Logging.{log_kept, log_moments, log_records, log_told, placed_used, committed_of, touched_along}
+use Rattle.journal.proofs.Rows.{same_dirty, whole_items, whole_put}
 use Rattle.disk.proofs.Moments.{weaker}
 use Rattle.oplog.specs.Beyond.{KeepsBeyond}
 use Rattle.device_map.specs.Layout.{device_size, image_size, layout_of}
@@ -22,60 +22,60 @@ pub returns-in-Err-clause-any_moment : goal.returns-in-Err-clause-any_moment
 returns-in-Err-clause-any_moment g c = λ k x is.
     let fine : c.self.inside.failed ≡ false = ap (λ (h : JournalView). h.failed) c.self.view_is ∙ c.requires.sound in
     let out = subst (λ (h : JournalView). AreCarriedOut h.geometry x c.args.messages.now) (sym c.self.view_is) (c.requires.carried_out k x is) in
-    subst (λ (h : JournalView). LeavesOnly h.medium (g.D.Disk.medium c.append.new.disk) (HoldsSome h.geometry x c.args.messages.now)) c.self.view_is
-    (log_moments c.self.inside.halves c.self.inside.frozen.items c.self.inside.named_marks.items c.self.inside.other_marks.items c.self.inside.due.items c.self.inside.left c.args.messages.now
-    (g.D.Disk.medium c.self.inside.disk) (g.D.Disk.medium c.append.new.disk) (g.met.D.Disk.bytes c.self.inside.disk) (c.self.invariant.7 fine k) (c.append.ensures.any_moment k) x (ap settled c.self.view_is ∙ is) out)
+    subst (λ (h : JournalView). CrashImagesAre h.medium (g.D.Disk.medium c.append.new.disk) (HoldsSome h.geometry x c.args.messages.now)) c.self.view_is
+    (log_moments c.self.inside.halves c.self.inside.frozen.items c.self.inside.named_dirty.items c.self.inside.other_dirty.items c.self.inside.due.items c.self.inside.left c.args.messages.now
+    (g.D.Disk.medium c.self.inside.disk) (g.D.Disk.medium c.append.new.disk) (g.met.D.Disk.bytes c.self.inside.disk) (c.self.invariant.7 fine k) (c.append.ensures.any_moment k) x (ap committed c.self.view_is ∙ is) out)
 
 pub returns-clause-any_moment : goal.returns-clause-any_moment
 returns-clause-any_moment g c = λ k x is.
     let fine : c.self.inside.failed ≡ false = ap (λ (h : JournalView). h.failed) c.self.view_is ∙ c.requires.sound in
     let out = subst (λ (h : JournalView). AreCarriedOut h.geometry x c.args.messages.now) (sym c.self.view_is) (c.requires.carried_out k x is) in
-    subst (λ (h : JournalView). LeavesOnly h.medium (g.D.Disk.medium c.append.new.disk) (HoldsSome h.geometry x c.args.messages.now)) c.self.view_is
-    (log_moments c.self.inside.halves c.self.inside.frozen.items c.self.inside.named_marks.items c.self.inside.other_marks.items c.self.inside.due.items c.self.inside.left c.args.messages.now
-    (g.D.Disk.medium c.self.inside.disk) (g.D.Disk.medium c.append.new.disk) (g.met.D.Disk.bytes c.self.inside.disk) (c.self.invariant.7 fine k) (c.append.ensures.any_moment k) x (ap settled c.self.view_is ∙ is) out)
+    subst (λ (h : JournalView). CrashImagesAre h.medium (g.D.Disk.medium c.append.new.disk) (HoldsSome h.geometry x c.args.messages.now)) c.self.view_is
+    (log_moments c.self.inside.halves c.self.inside.frozen.items c.self.inside.named_dirty.items c.self.inside.other_dirty.items c.self.inside.due.items c.self.inside.left c.args.messages.now
+    (g.D.Disk.medium c.self.inside.disk) (g.D.Disk.medium c.append.new.disk) (g.met.D.Disk.bytes c.self.inside.disk) (c.self.invariant.7 fine k) (c.append.ensures.any_moment k) x (ap committed c.self.view_is ∙ is) out)
 
-pub returns-clause-settled : goal.returns-clause-settled
-returns-clause-settled g c = λ k.
+pub returns-clause-committed : goal.returns-clause-committed
+returns-clause-committed g c = λ k.
     let fine : c.self.inside.failed ≡ false = ap (λ (h : JournalView). h.failed) c.self.view_is ∙ c.requires.sound in
     let out : (x : State) → holds c.self.inside.halves.geometry (g.D.Disk.medium c.self.inside.disk).now ≡ Some x → AreCarriedOut c.self.inside.halves.geometry x c.args.messages.now =
-    λ x is. subst (λ (h : JournalView). AreCarriedOut h.geometry x c.args.messages.now) (sym c.self.view_is) (c.requires.carried_out k x (sym (ap settled c.self.view_is) ∙ is)) in
-    subst (λ (h : JournalView). holds c.append.new.self.geometry (g.D.Disk.medium c.append.new.disk).now ≡ option_map (λ x. fold h.geometry x c.args.messages.now) (settled h)) c.self.view_is
+    λ x is. subst (λ (h : JournalView). AreCarriedOut h.geometry x c.args.messages.now) (sym c.self.view_is) (c.requires.carried_out k x (sym (ap committed c.self.view_is) ∙ is)) in
+    subst (λ (h : JournalView). holds c.append.new.self.geometry (g.D.Disk.medium c.append.new.disk).now ≡ option_map (λ x. fold h.geometry x c.args.messages.now) (committed h)) c.self.view_is
     (ap (λ (l : Log). holds l.geometry (g.D.Disk.medium c.append.new.disk).now) c.in_default.ensures.log
-    ∙ log_told c.self.inside.halves c.self.inside.frozen.items c.self.inside.named_marks.items c.self.inside.other_marks.items c.self.inside.due.items c.self.inside.left c.args.messages.now
+    ∙ log_told c.self.inside.halves c.self.inside.frozen.items c.self.inside.named_dirty.items c.self.inside.other_dirty.items c.self.inside.due.items c.self.inside.left c.args.messages.now
     (g.D.Disk.medium c.self.inside.disk) (g.D.Disk.medium c.append.new.disk) (g.met.D.Disk.bytes c.self.inside.disk) (g.met.D.Disk.bytes c.append.new.disk) (c.self.invariant.7 fine k) out (c.in_default.ensures.added k))
 
 pub returns-clause-sound : goal.returns-clause-sound
 returns-clause-sound g c = λ k.
     let fine : c.self.inside.failed ≡ false = ap (λ (h : JournalView). h.failed) c.self.view_is ∙ c.requires.sound in
     let out : (x : State) → holds c.self.inside.halves.geometry (g.D.Disk.medium c.self.inside.disk).now ≡ Some x → AreCarriedOut c.self.inside.halves.geometry x c.args.messages.now =
-    λ x is. subst (λ (h : JournalView). AreCarriedOut h.geometry x c.args.messages.now) (sym c.self.view_is) (c.requires.carried_out k x (sym (ap settled c.self.view_is) ∙ is)) in
+    λ x is. subst (λ (h : JournalView). AreCarriedOut h.geometry x c.args.messages.now) (sym c.self.view_is) (c.requires.carried_out k x (sym (ap committed c.self.view_is) ∙ is)) in
     let same : c.geometry-g.result ≡ c.self.inside.halves.geometry = c.geometry-g.ensures ∙ ap (λ (l : Log). l.geometry) c.in_default.ensures.log in
-    settled_of c.append.new.self c.self.inside.frozen.items _ _ c.self.inside.due.items c.self.inside.left c.self.inside.failed (g.D.Disk.medium c.append.new.disk)
-    (log_kept c.self.inside.halves c.append.new.self c.self.inside.frozen.items c.self.inside.named_marks.items c.self.inside.other_marks.items c.self.inside.due.items c.mark_touched.new.marks c.mark_touched-2.new.marks c.self.inside.left c.args.messages.now
+    committed_of c.append.new.self c.self.inside.frozen.items _ _ c.self.inside.due.items c.self.inside.left c.self.inside.failed (g.D.Disk.medium c.append.new.disk)
+    (log_kept c.self.inside.halves c.append.new.self c.self.inside.frozen.items c.self.inside.named_dirty.items c.self.inside.other_dirty.items c.self.inside.due.items c.dirty_touched.new.dirty c.dirty_touched-2.new.dirty c.self.inside.left c.args.messages.now
     (g.D.Disk.medium c.self.inside.disk) (g.D.Disk.medium c.append.new.disk) c.in_default.ensures.log (g.met.D.Disk.bytes c.self.inside.disk) (g.met.D.Disk.bytes c.append.new.disk) (c.self.invariant.7 fine k) out (c.in_default.ensures.added k) (c.self.invariant.6 fine).1
-    (touched_along _ _ c.args.messages.now _ _ _ _ same c.deref_mut.ensures.value refl c.mark_touched.ensures.touched)
-    (touched_along _ _ c.args.messages.now _ _ _ _ same c.deref_mut-2.ensures.value refl c.mark_touched-2.ensures.touched))
+    (touched_along _ _ c.args.messages.now _ _ _ _ same c.deref_mut.ensures.value refl c.dirty_touched.ensures.touched)
+    (touched_along _ _ c.args.messages.now _ _ _ _ same c.deref_mut-2.ensures.value refl c.dirty_touched-2.ensures.touched))
 
 pub returns-clause-records : goal.returns-clause-records
 returns-clause-records g c = λ k.
     let fine : c.self.inside.failed ≡ false = ap (λ (h : JournalView). h.failed) c.self.view_is ∙ c.requires.sound in
     subst (λ (h : JournalView). records_in c.append.new.self.geometry (g.D.Disk.medium c.append.new.disk).now ≡ records h ++ records_of c.args.messages.now) c.self.view_is
     (ap (λ (l : Log). records_in l.geometry (g.D.Disk.medium c.append.new.disk).now) c.in_default.ensures.log
-    ∙ log_records c.self.inside.halves c.self.inside.frozen.items c.self.inside.named_marks.items c.self.inside.other_marks.items c.self.inside.due.items c.self.inside.left c.args.messages.now
+    ∙ log_records c.self.inside.halves c.self.inside.frozen.items c.self.inside.named_dirty.items c.self.inside.other_dirty.items c.self.inside.due.items c.self.inside.left c.args.messages.now
     (g.D.Disk.medium c.self.inside.disk) (g.D.Disk.medium c.append.new.disk) (g.met.D.Disk.bytes c.self.inside.disk) (c.self.invariant.7 fine k) (c.in_default.ensures.added k))
 
-pub returns-clause-marked : goal.returns-clause-marked
-returns-clause-marked g c =
+pub returns-clause-dirty_at : goal.returns-clause-dirty_at
+returns-clause-dirty_at g c =
     let same : c.geometry-g.result ≡ c.self.inside.halves.geometry = c.geometry-g.ensures ∙ ap (λ (l : Log). l.geometry) c.in_default.ensures.log in
-    let first = whole_put c.self.inside.named_marks.len c.mark_touched.new.marks c.self.inside.named_marks.items (c.mark_touched.ensures.size ∙ ap length c.deref_mut.ensures.value) (c.mark_touched.ensures.size ∙ c.deref_mut.ensures.len) in
-    let second = whole_put c.self.inside.other_marks.len c.mark_touched-2.new.marks c.self.inside.other_marks.items (c.mark_touched-2.ensures.size ∙ ap length c.deref_mut-2.ensures.value) (c.mark_touched-2.ensures.size ∙ c.deref_mut-2.ensures.len) in
-    subst (λ (h : JournalView). AreBothTouched h.geometry c.args.messages.now h.marks (record {
-      named = whole_items c.self.inside.named_marks.len c.mark_touched.new.marks c.self.inside.named_marks.items;
-      others = whole_items c.self.inside.other_marks.len c.mark_touched-2.new.marks c.self.inside.other_marks.items;
+    let first = whole_put c.self.inside.named_dirty.len c.dirty_touched.new.dirty c.self.inside.named_dirty.items (c.dirty_touched.ensures.size ∙ ap length c.deref_mut.ensures.value) (c.dirty_touched.ensures.size ∙ c.deref_mut.ensures.len) in
+    let second = whole_put c.self.inside.other_dirty.len c.dirty_touched-2.new.dirty c.self.inside.other_dirty.items (c.dirty_touched-2.ensures.size ∙ ap length c.deref_mut-2.ensures.value) (c.dirty_touched-2.ensures.size ∙ c.deref_mut-2.ensures.len) in
+    subst (λ (h : JournalView). AreBothTouched h.geometry c.args.messages.now h.dirty (record {
+      named = whole_items c.self.inside.named_dirty.len c.dirty_touched.new.dirty c.self.inside.named_dirty.items;
+      others = whole_items c.self.inside.other_dirty.len c.dirty_touched-2.new.dirty c.self.inside.other_dirty.items;
     })) c.self.view_is
     (record {
-      named = touched_along _ _ c.args.messages.now _ _ _ _ same c.deref_mut.ensures.value first c.mark_touched.ensures.touched;
-      others = touched_along _ _ c.args.messages.now _ _ _ _ same c.deref_mut-2.ensures.value second c.mark_touched-2.ensures.touched;
+      named = touched_along _ _ c.args.messages.now _ _ _ _ same c.deref_mut.ensures.value first c.dirty_touched.ensures.touched;
+      others = touched_along _ _ c.args.messages.now _ _ _ _ same c.deref_mut-2.ensures.value second c.dirty_touched-2.ensures.touched;
     })
 
 pub returns-clause-none : goal.returns-clause-none
@@ -83,14 +83,14 @@ returns-clause-none g c = λ none.
     let used : c.self.inside.halves.used + length c.args.messages.now ≡ c.self.inside.halves.used = omega (arith, none) in
     let log = c.in_default.ensures.log in
     let same : c.geometry-g.result ≡ c.self.inside.halves.geometry = c.geometry-g.ensures ∙ ap (λ (l : Log). l.geometry) log in
-    let first = whole_put c.self.inside.named_marks.len c.mark_touched.new.marks c.self.inside.named_marks.items (c.mark_touched.ensures.size ∙ ap length c.deref_mut.ensures.value) (c.mark_touched.ensures.size ∙ c.deref_mut.ensures.len) in
-    let second = whole_put c.self.inside.other_marks.len c.mark_touched-2.new.marks c.self.inside.other_marks.items (c.mark_touched-2.ensures.size ∙ ap length c.deref_mut-2.ensures.value) (c.mark_touched-2.ensures.size ∙ c.deref_mut-2.ensures.len) in
-    let named = same_marks c.self.inside.halves.geometry c.args.messages.now _ _ none c.self.invariant.3 (ap length first ∙ c.mark_touched.ensures.size ∙ ap length c.deref_mut.ensures.value)
-    (touched_along _ _ c.args.messages.now _ _ _ _ same c.deref_mut.ensures.value first c.mark_touched.ensures.touched) in
-    let others = same_marks c.self.inside.halves.geometry c.args.messages.now _ _ none c.self.invariant.4 (ap length second ∙ c.mark_touched-2.ensures.size ∙ ap length c.deref_mut-2.ensures.value)
-    (touched_along _ _ c.args.messages.now _ _ _ _ same c.deref_mut-2.ensures.value second c.mark_touched-2.ensures.touched) in
+    let first = whole_put c.self.inside.named_dirty.len c.dirty_touched.new.dirty c.self.inside.named_dirty.items (c.dirty_touched.ensures.size ∙ ap length c.deref_mut.ensures.value) (c.dirty_touched.ensures.size ∙ c.deref_mut.ensures.len) in
+    let second = whole_put c.self.inside.other_dirty.len c.dirty_touched-2.new.dirty c.self.inside.other_dirty.items (c.dirty_touched-2.ensures.size ∙ ap length c.deref_mut-2.ensures.value) (c.dirty_touched-2.ensures.size ∙ c.deref_mut-2.ensures.len) in
+    let named = same_dirty c.self.inside.halves.geometry c.args.messages.now _ _ none c.self.invariant.3 (ap length first ∙ c.dirty_touched.ensures.size ∙ ap length c.deref_mut.ensures.value)
+    (touched_along _ _ c.args.messages.now _ _ _ _ same c.deref_mut.ensures.value first c.dirty_touched.ensures.touched) in
+    let others = same_dirty c.self.inside.halves.geometry c.args.messages.now _ _ none c.self.invariant.4 (ap length second ∙ c.dirty_touched-2.ensures.size ∙ ap length c.deref_mut-2.ensures.value)
+    (touched_along _ _ c.args.messages.now _ _ _ _ same c.deref_mut-2.ensures.value second c.dirty_touched-2.ensures.touched) in
     (λ i. held_of (log i) (named i) (others i) c.self.inside.left c.self.inside.failed (g.D.Disk.medium (c.append.ensures.none none i)))
-    ∙ ap (λ (n : ℕ). held_of (record c.self.inside.halves { used = n }) c.self.inside.named_marks.items c.self.inside.other_marks.items c.self.inside.left c.self.inside.failed (g.D.Disk.medium c.self.inside.disk)) used
+    ∙ ap (λ (n : ℕ). held_of (record c.self.inside.halves { used = n }) c.self.inside.named_dirty.items c.self.inside.other_dirty.items c.self.inside.left c.self.inside.failed (g.D.Disk.medium c.self.inside.disk)) used
     ∙ c.self.view_is
 
 pub invariant_of-self-2 : goal.invariant_of-self-2
@@ -98,13 +98,13 @@ invariant_of-self-2 g c =
     let log = c.in_default.ensures.log in
     let geometry = ap (λ (l : Log). l.geometry) log in
     let same : c.geometry-g.result ≡ c.self.inside.halves.geometry = c.geometry-g.ensures ∙ geometry in
-    let first = whole_put c.self.inside.named_marks.len c.mark_touched.new.marks c.self.inside.named_marks.items (c.mark_touched.ensures.size ∙ ap length c.deref_mut.ensures.value) (c.mark_touched.ensures.size ∙ c.deref_mut.ensures.len) in
-    let second = whole_put c.self.inside.other_marks.len c.mark_touched-2.new.marks c.self.inside.other_marks.items (c.mark_touched-2.ensures.size ∙ ap length c.deref_mut-2.ensures.value) (c.mark_touched-2.ensures.size ∙ c.deref_mut-2.ensures.len) in (
+    let first = whole_put c.self.inside.named_dirty.len c.dirty_touched.new.dirty c.self.inside.named_dirty.items (c.dirty_touched.ensures.size ∙ ap length c.deref_mut.ensures.value) (c.dirty_touched.ensures.size ∙ c.deref_mut.ensures.len) in
+    let second = whole_put c.self.inside.other_dirty.len c.dirty_touched-2.new.dirty c.self.inside.other_dirty.items (c.dirty_touched-2.ensures.size ∙ ap length c.deref_mut-2.ensures.value) (c.dirty_touched-2.ensures.size ∙ c.deref_mut-2.ensures.len) in (
       omega (arith, c.self.invariant.0, c.append.ensures.call.1, ap (λ (l : Log). device_size (layout l)) log),
       omega (arith, c.self.invariant.1, ap (λ (l : Log). l.used) log, ap (λ (g : Geometry). g.half) geometry, ap (λ (h : JournalView). h.room) c.self.view_is, c.requires.room),
       c.self.invariant.2 ∙ sym (ap image_size geometry),
-      ap length first ∙ c.mark_touched.ensures.size ∙ ap length c.deref_mut.ensures.value ∙ c.self.invariant.3 ∙ sym (ap piece_count geometry),
-      ap length second ∙ c.mark_touched-2.ensures.size ∙ ap length c.deref_mut-2.ensures.value ∙ c.self.invariant.4 ∙ sym (ap piece_count geometry),
+      ap length first ∙ c.dirty_touched.ensures.size ∙ ap length c.deref_mut.ensures.value ∙ c.self.invariant.3 ∙ sym (ap piece_count geometry),
+      ap length second ∙ c.dirty_touched-2.ensures.size ∙ ap length c.deref_mut-2.ensures.value ∙ c.self.invariant.4 ∙ sym (ap piece_count geometry),
       c.self.invariant.5 ∙ sym (ap piece_count geometry),
       (λ fine. (
         ap (λ (l : Log). l.failed) log ∙ (c.self.invariant.6 fine).0,
@@ -112,11 +112,11 @@ invariant_of-self-2 g c =
       )),
       (λ fine k.
           let out : (x : State) → holds c.self.inside.halves.geometry (g.D.Disk.medium c.self.inside.disk).now ≡ Some x → AreCarriedOut c.self.inside.halves.geometry x c.args.messages.now =
-          λ x is. subst (λ (h : JournalView). AreCarriedOut h.geometry x c.args.messages.now) (sym c.self.view_is) (c.requires.carried_out k x (sym (ap settled c.self.view_is) ∙ is)) in
-          log_kept c.self.inside.halves c.append.new.self c.self.inside.frozen.items c.self.inside.named_marks.items c.self.inside.other_marks.items c.self.inside.due.items _ _ c.self.inside.left c.args.messages.now
+          λ x is. subst (λ (h : JournalView). AreCarriedOut h.geometry x c.args.messages.now) (sym c.self.view_is) (c.requires.carried_out k x (sym (ap committed c.self.view_is) ∙ is)) in
+          log_kept c.self.inside.halves c.append.new.self c.self.inside.frozen.items c.self.inside.named_dirty.items c.self.inside.other_dirty.items c.self.inside.due.items _ _ c.self.inside.left c.args.messages.now
           (g.D.Disk.medium c.self.inside.disk) (g.D.Disk.medium c.append.new.disk) log (g.met.D.Disk.bytes c.self.inside.disk) (g.met.D.Disk.bytes c.append.new.disk) (c.self.invariant.7 fine k) out (c.in_default.ensures.added k) (c.self.invariant.6 fine).1
-          (touched_along _ _ c.args.messages.now _ _ _ _ same c.deref_mut.ensures.value first c.mark_touched.ensures.touched)
-          (touched_along _ _ c.args.messages.now _ _ _ _ same c.deref_mut-2.ensures.value second c.mark_touched-2.ensures.touched)),
+          (touched_along _ _ c.args.messages.now _ _ _ _ same c.deref_mut.ensures.value first c.dirty_touched.ensures.touched)
+          (touched_along _ _ c.args.messages.now _ _ _ _ same c.deref_mut-2.ensures.value second c.dirty_touched-2.ensures.touched)),
       c.self.invariant.8,
       c.self.invariant.9,
     )

@@ -3,23 +3,23 @@ use Rattle.std.proofs.Common.{◌≡◌, false, Option, Some, None, ℕ, Bool, L
 use Rattle.std.proofs.lemmas.List.{length-replicate}
 use Rattle.affinity.specs.declared.geometry.Geometry.{Geometry}
 use Rattle.checkpoint.specs.Recovery.{holds}
-use Rattle.disk.specs.Moments.{LeavesOnly, moment}
+use Rattle.disk.specs.Moments.{CrashImagesAre, moment}
 use Rattle.image.specs.Image.{image_of, read}
 use Rattle.image.specs.Pieces.{piece_count}
 use Rattle.journal.specs.Costs.{point_takes}
-use Rattle.journal.specs.Journal.{JournalView, settled}
+use Rattle.journal.specs.Journal.{JournalView, committed}
 use Rattle.journal.specs.Keeping.{IsCutState, IsSoundJournal}
 use Rattle.journal.specs.Steps.{IsPointed}
-use Rattle.journal.specs.Stretches.{AgreeUnmarked, image_in}
+use Rattle.journal.specs.Extents.{AgreeOnClean, image_in}
 use Rattle.journal.proofs.Costs.{few_runs}
-use Rattle.journal.proofs.Logging.{settled_of}
+use Rattle.journal.proofs.Logging.{committed_of}
 use Rattle.journal.proofs.Rows.{whole_items, whole_put}
 use Rattle.checkpoint.specs.Version.{named_version}
-use Rattle.journal.proofs.Saving.{frozen_right, agrees, is_alone, point_settled, point_sound, pointed_version, reads}
+use Rattle.journal.proofs.Saving.{frozen_right, agrees, is_alone, point_committed, point_sound, pointed_version, reads}
 use Rattle.oplog.specs.Beyond.{KeepsBeyond}
 use Rattle.device_map.specs.Layout.{layout_of, device_size, image_size, other}
 use Rattle.oplog.specs.Log.{Log, layout}
-use Rattle.oplog.specs.Stands.{in_force, named_area}
+use Rattle.oplog.specs.Recovery.{in_force, named_area}
 use Rattle.parcel.specs.Tree.{state_in}
 use Rattle.meaning.specs.State.{IsState}
 use Rattle.journal.proofs.journal.Journal.point.Goals as goal
@@ -32,10 +32,10 @@ point_on-requires-clause-alone g c = λ k.
     let is_state = subst (λ (x : Geometry). IsState x (state_in c.args.tree.now)) geometry c.requires.whole.state in
     let frozen = whole_put c.self.inside.frozen.len c.freeze.new.bytes c.self.inside.frozen.items (c.freeze.ensures.size ∙ ap length c.deref_mut.ensures.value) (c.freeze.ensures.size ∙ c.deref_mut.ensures.len) in
     let w0 = g.D.Disk.medium c.self.inside.disk in
-    let is : holds c.self.inside.halves.geometry w0.now ≡ Some (state_in c.args.tree.now) = ap settled c.self.view_is ∙ c.requires.state k in
-    let right = frozen_right c.self.inside.halves c.self.inside.frozen.items c.self.inside.named_marks.items c.self.inside.other_marks.items c.self.inside.due.items c.self.inside.left w0 (state_in c.args.tree.now) alone (c.self.invariant.7 fine k) is c.args.tree.now.geometry c.deref.result.now c.deref_mut.result.now geometry c.deref.ensures.value c.deref_mut.ensures.value in
+    let is : holds c.self.inside.halves.geometry w0.now ≡ Some (state_in c.args.tree.now) = ap committed c.self.view_is ∙ c.requires.state k in
+    let right = frozen_right c.self.inside.halves c.self.inside.frozen.items c.self.inside.named_dirty.items c.self.inside.other_dirty.items c.self.inside.due.items c.self.inside.left w0 (state_in c.args.tree.now) alone (c.self.invariant.7 fine k) is c.args.tree.now.geometry c.deref.result.now c.deref_mut.result.now geometry c.deref.ensures.value c.deref_mut.ensures.value in
     let spelled : c.freeze.new.bytes ≡ image_of 2 c.self.inside.halves.geometry (state_in c.args.tree.now) = c.freeze.ensures.image right ∙ ap (λ (x : Geometry). image_of 2 x (state_in c.args.tree.now)) geometry in
-    is_alone c.self.inside.halves c.self.inside.frozen.items c.freeze.new.bytes c.self.inside.named_marks.items c.self.inside.other_marks.items c.self.inside.due.items c.self.inside.left w0 (state_in c.args.tree.now) alone (c.self.invariant.6 fine).1 (c.self.invariant.7 fine k) is is_state spelled (g.met.D.Disk.bytes c.self.inside.disk)
+    is_alone c.self.inside.halves c.self.inside.frozen.items c.freeze.new.bytes c.self.inside.named_dirty.items c.self.inside.other_dirty.items c.self.inside.due.items c.self.inside.left w0 (state_in c.args.tree.now) alone (c.self.invariant.6 fine).1 (c.self.invariant.7 fine k) is is_state spelled (g.met.D.Disk.bytes c.self.inside.disk)
 
 pub point_on-requires-clause-image : goal.point_on-requires-clause-image
 point_on-requires-clause-image g c = λ k.
@@ -45,10 +45,10 @@ point_on-requires-clause-image g c = λ k.
     let is_state = subst (λ (x : Geometry). IsState x (state_in c.args.tree.now)) geometry c.requires.whole.state in
     let frozen = whole_put c.self.inside.frozen.len c.freeze.new.bytes c.self.inside.frozen.items (c.freeze.ensures.size ∙ ap length c.deref_mut.ensures.value) (c.freeze.ensures.size ∙ c.deref_mut.ensures.len) in
     let w0 = g.D.Disk.medium c.self.inside.disk in
-    let is : holds c.self.inside.halves.geometry w0.now ≡ Some (state_in c.args.tree.now) = ap settled c.self.view_is ∙ c.requires.state k in
-    let right = frozen_right c.self.inside.halves c.self.inside.frozen.items c.self.inside.named_marks.items c.self.inside.other_marks.items c.self.inside.due.items c.self.inside.left w0 (state_in c.args.tree.now) alone (c.self.invariant.7 fine k) is c.args.tree.now.geometry c.deref.result.now c.deref_mut.result.now geometry c.deref.ensures.value c.deref_mut.ensures.value in
+    let is : holds c.self.inside.halves.geometry w0.now ≡ Some (state_in c.args.tree.now) = ap committed c.self.view_is ∙ c.requires.state k in
+    let right = frozen_right c.self.inside.halves c.self.inside.frozen.items c.self.inside.named_dirty.items c.self.inside.other_dirty.items c.self.inside.due.items c.self.inside.left w0 (state_in c.args.tree.now) alone (c.self.invariant.7 fine k) is c.args.tree.now.geometry c.deref.result.now c.deref_mut.result.now geometry c.deref.ensures.value c.deref_mut.ensures.value in
     let spelled : c.freeze.new.bytes ≡ image_of 2 c.self.inside.halves.geometry (state_in c.args.tree.now) = c.freeze.ensures.image right ∙ ap (λ (x : Geometry). image_of 2 x (state_in c.args.tree.now)) geometry in
-    ap (read c.self.inside.halves.geometry) (c.deref-2.ensures.value ∙ frozen) ∙ reads c.self.inside.halves c.self.inside.frozen.items c.freeze.new.bytes c.self.inside.named_marks.items c.self.inside.other_marks.items c.self.inside.due.items c.self.inside.left w0 (state_in c.args.tree.now) alone (c.self.invariant.6 fine).1 (c.self.invariant.7 fine k) is is_state spelled (g.met.D.Disk.bytes c.self.inside.disk)
+    ap (read c.self.inside.halves.geometry) (c.deref-2.ensures.value ∙ frozen) ∙ reads c.self.inside.halves c.self.inside.frozen.items c.freeze.new.bytes c.self.inside.named_dirty.items c.self.inside.other_dirty.items c.self.inside.due.items c.self.inside.left w0 (state_in c.args.tree.now) alone (c.self.invariant.6 fine).1 (c.self.invariant.7 fine k) is is_state spelled (g.met.D.Disk.bytes c.self.inside.disk)
 
 pub point_on-requires-clause-unmarked : goal.point_on-requires-clause-unmarked
 point_on-requires-clause-unmarked g c = λ k.
@@ -58,34 +58,34 @@ point_on-requires-clause-unmarked g c = λ k.
     let is_state = subst (λ (x : Geometry). IsState x (state_in c.args.tree.now)) geometry c.requires.whole.state in
     let frozen = whole_put c.self.inside.frozen.len c.freeze.new.bytes c.self.inside.frozen.items (c.freeze.ensures.size ∙ ap length c.deref_mut.ensures.value) (c.freeze.ensures.size ∙ c.deref_mut.ensures.len) in
     let w0 = g.D.Disk.medium c.self.inside.disk in
-    let is : holds c.self.inside.halves.geometry w0.now ≡ Some (state_in c.args.tree.now) = ap settled c.self.view_is ∙ c.requires.state k in
-    let right = frozen_right c.self.inside.halves c.self.inside.frozen.items c.self.inside.named_marks.items c.self.inside.other_marks.items c.self.inside.due.items c.self.inside.left w0 (state_in c.args.tree.now) alone (c.self.invariant.7 fine k) is c.args.tree.now.geometry c.deref.result.now c.deref_mut.result.now geometry c.deref.ensures.value c.deref_mut.ensures.value in
+    let is : holds c.self.inside.halves.geometry w0.now ≡ Some (state_in c.args.tree.now) = ap committed c.self.view_is ∙ c.requires.state k in
+    let right = frozen_right c.self.inside.halves c.self.inside.frozen.items c.self.inside.named_dirty.items c.self.inside.other_dirty.items c.self.inside.due.items c.self.inside.left w0 (state_in c.args.tree.now) alone (c.self.invariant.7 fine k) is c.args.tree.now.geometry c.deref.result.now c.deref_mut.result.now geometry c.deref.ensures.value c.deref_mut.ensures.value in
     let spelled : c.freeze.new.bytes ≡ image_of 2 c.self.inside.halves.geometry (state_in c.args.tree.now) = c.freeze.ensures.image right ∙ ap (λ (x : Geometry). image_of 2 x (state_in c.args.tree.now)) geometry in
-    subst (λ (l : List ℕ). AgreeUnmarked c.self.inside.halves.geometry c.deref-3.result.now (image_in c.self.inside.halves.geometry (other c.self.inside.halves.named) w0) l) (sym (c.deref-2.ensures.value ∙ frozen))
-    (subst (λ (l : List Bool). AgreeUnmarked c.self.inside.halves.geometry l (image_in c.self.inside.halves.geometry (other c.self.inside.halves.named) w0) c.freeze.new.bytes) (sym c.deref-3.ensures.value) (agrees c.self.inside.halves c.self.inside.frozen.items c.freeze.new.bytes c.self.inside.named_marks.items c.self.inside.other_marks.items c.self.inside.due.items c.self.inside.left w0 (state_in c.args.tree.now) alone (c.self.invariant.6 fine).1 (c.self.invariant.7 fine k) is is_state spelled (g.met.D.Disk.bytes c.self.inside.disk)))
+    subst (λ (l : List ℕ). AgreeOnClean c.self.inside.halves.geometry c.deref-3.result.now (image_in c.self.inside.halves.geometry (other c.self.inside.halves.named) w0) l) (sym (c.deref-2.ensures.value ∙ frozen))
+    (subst (λ (l : List Bool). AgreeOnClean c.self.inside.halves.geometry l (image_in c.self.inside.halves.geometry (other c.self.inside.halves.named) w0) c.freeze.new.bytes) (sym c.deref-3.ensures.value) (agrees c.self.inside.halves c.self.inside.frozen.items c.freeze.new.bytes c.self.inside.named_dirty.items c.self.inside.other_dirty.items c.self.inside.due.items c.self.inside.left w0 (state_in c.args.tree.now) alone (c.self.invariant.6 fine).1 (c.self.invariant.7 fine k) is is_state spelled (g.met.D.Disk.bytes c.self.inside.disk)))
 
 pub returns-in-Err-clause-any_moment : goal.returns-in-Err-clause-any_moment
 returns-in-Err-clause-any_moment g c = λ k.
-    subst (λ (h : JournalView). LeavesOnly h.medium (g.D.Disk.medium c.point_on.new.disk) (λ c'. holds h.geometry c' ≡ settled h)) c.self.view_is (c.point_on.ensures.any_moment k)
+    subst (λ (h : JournalView). CrashImagesAre h.medium (g.D.Disk.medium c.point_on.new.disk) (λ c'. holds h.geometry c' ≡ committed h)) c.self.view_is (c.point_on.ensures.any_moment k)
 
 pub returns-clause-any_moment : goal.returns-clause-any_moment
 returns-clause-any_moment g c = λ k.
-    subst (λ (h : JournalView). LeavesOnly h.medium (g.D.Disk.medium c.point_on.new.disk) (λ c'. holds h.geometry c' ≡ settled h)) c.self.view_is (c.point_on.ensures.any_moment k)
+    subst (λ (h : JournalView). CrashImagesAre h.medium (g.D.Disk.medium c.point_on.new.disk) (λ c'. holds h.geometry c' ≡ committed h)) c.self.view_is (c.point_on.ensures.any_moment k)
 
-pub returns-clause-settled : goal.returns-clause-settled
-returns-clause-settled g c = λ k.
+pub returns-clause-committed : goal.returns-clause-committed
+returns-clause-committed g c = λ k.
     let fine : c.self.inside.failed ≡ false = ap (λ (h : JournalView). h.failed) c.self.view_is ∙ c.requires.sound in
     let alone : c.self.inside.left ≡ None = ap (λ (h : JournalView). h.left) c.self.view_is ∙ c.requires.alone in
     let geometry : c.args.tree.now.geometry ≡ c.self.inside.halves.geometry = c.requires.geometry ∙ sym (ap (λ (h : JournalView). h.geometry) c.self.view_is) in
     let is_state = subst (λ (x : Geometry). IsState x (state_in c.args.tree.now)) geometry c.requires.whole.state in
     let frozen = whole_put c.self.inside.frozen.len c.freeze.new.bytes c.self.inside.frozen.items (c.freeze.ensures.size ∙ ap length c.deref_mut.ensures.value) (c.freeze.ensures.size ∙ c.deref_mut.ensures.len) in
     let w0 = g.D.Disk.medium c.self.inside.disk in
-    let is : holds c.self.inside.halves.geometry w0.now ≡ Some (state_in c.args.tree.now) = ap settled c.self.view_is ∙ c.requires.state k in
-    let right = frozen_right c.self.inside.halves c.self.inside.frozen.items c.self.inside.named_marks.items c.self.inside.other_marks.items c.self.inside.due.items c.self.inside.left w0 (state_in c.args.tree.now) alone (c.self.invariant.7 fine k) is c.args.tree.now.geometry c.deref.result.now c.deref_mut.result.now geometry c.deref.ensures.value c.deref_mut.ensures.value in
+    let is : holds c.self.inside.halves.geometry w0.now ≡ Some (state_in c.args.tree.now) = ap committed c.self.view_is ∙ c.requires.state k in
+    let right = frozen_right c.self.inside.halves c.self.inside.frozen.items c.self.inside.named_dirty.items c.self.inside.other_dirty.items c.self.inside.due.items c.self.inside.left w0 (state_in c.args.tree.now) alone (c.self.invariant.7 fine k) is c.args.tree.now.geometry c.deref.result.now c.deref_mut.result.now geometry c.deref.ensures.value c.deref_mut.ensures.value in
     let spelled : c.freeze.new.bytes ≡ image_of 2 c.self.inside.halves.geometry (state_in c.args.tree.now) = c.freeze.ensures.image right ∙ ap (λ (x : Geometry). image_of 2 x (state_in c.args.tree.now)) geometry in
     let w1 = g.D.Disk.medium c.point_on.new.disk in
     let made = subst (λ (l : List ℕ). IsPointed c.self.inside.halves l w0 w1) (c.deref-2.ensures.value ∙ frozen) (c.in_default.ensures.pointed k) in
-    ap (λ (x : Geometry). holds x w1.now) c.point_on.ensures.geometry ∙ point_settled c.self.inside.halves c.self.inside.frozen.items c.freeze.new.bytes c.self.inside.named_marks.items c.self.inside.other_marks.items c.self.inside.due.items c.self.inside.left w0 (state_in c.args.tree.now) alone (c.self.invariant.6 fine).1 (c.self.invariant.7 fine k) is is_state spelled (g.met.D.Disk.bytes c.self.inside.disk) w1 (g.met.D.Disk.bytes c.point_on.new.disk) made ∙ ap settled c.self.view_is
+    ap (λ (x : Geometry). holds x w1.now) c.point_on.ensures.geometry ∙ point_committed c.self.inside.halves c.self.inside.frozen.items c.freeze.new.bytes c.self.inside.named_dirty.items c.self.inside.other_dirty.items c.self.inside.due.items c.self.inside.left w0 (state_in c.args.tree.now) alone (c.self.invariant.6 fine).1 (c.self.invariant.7 fine k) is is_state spelled (g.met.D.Disk.bytes c.self.inside.disk) w1 (g.met.D.Disk.bytes c.point_on.new.disk) made ∙ ap committed c.self.view_is
 
 pub returns-clause-emptied : goal.returns-clause-emptied
 returns-clause-emptied g c = λ k.
@@ -95,8 +95,8 @@ returns-clause-emptied g c = λ k.
     let is_state = subst (λ (x : Geometry). IsState x (state_in c.args.tree.now)) geometry c.requires.whole.state in
     let frozen = whole_put c.self.inside.frozen.len c.freeze.new.bytes c.self.inside.frozen.items (c.freeze.ensures.size ∙ ap length c.deref_mut.ensures.value) (c.freeze.ensures.size ∙ c.deref_mut.ensures.len) in
     let w0 = g.D.Disk.medium c.self.inside.disk in
-    let is : holds c.self.inside.halves.geometry w0.now ≡ Some (state_in c.args.tree.now) = ap settled c.self.view_is ∙ c.requires.state k in
-    let right = frozen_right c.self.inside.halves c.self.inside.frozen.items c.self.inside.named_marks.items c.self.inside.other_marks.items c.self.inside.due.items c.self.inside.left w0 (state_in c.args.tree.now) alone (c.self.invariant.7 fine k) is c.args.tree.now.geometry c.deref.result.now c.deref_mut.result.now geometry c.deref.ensures.value c.deref_mut.ensures.value in
+    let is : holds c.self.inside.halves.geometry w0.now ≡ Some (state_in c.args.tree.now) = ap committed c.self.view_is ∙ c.requires.state k in
+    let right = frozen_right c.self.inside.halves c.self.inside.frozen.items c.self.inside.named_dirty.items c.self.inside.other_dirty.items c.self.inside.due.items c.self.inside.left w0 (state_in c.args.tree.now) alone (c.self.invariant.7 fine k) is c.args.tree.now.geometry c.deref.result.now c.deref_mut.result.now geometry c.deref.ensures.value c.deref_mut.ensures.value in
     let spelled : c.freeze.new.bytes ≡ image_of 2 c.self.inside.halves.geometry (state_in c.args.tree.now) = c.freeze.ensures.image right ∙ ap (λ (x : Geometry). image_of 2 x (state_in c.args.tree.now)) geometry in
     let w1 = g.D.Disk.medium c.point_on.new.disk in
     let made = subst (λ (l : List ℕ). IsPointed c.self.inside.halves l w0 w1) (c.deref-2.ensures.value ∙ frozen) (c.in_default.ensures.pointed k) in
@@ -110,8 +110,8 @@ returns-clause-version g c = λ k.
     let is_state = subst (λ (x : Geometry). IsState x (state_in c.args.tree.now)) geometry c.requires.whole.state in
     let frozen = whole_put c.self.inside.frozen.len c.freeze.new.bytes c.self.inside.frozen.items (c.freeze.ensures.size ∙ ap length c.deref_mut.ensures.value) (c.freeze.ensures.size ∙ c.deref_mut.ensures.len) in
     let w0 = g.D.Disk.medium c.self.inside.disk in
-    let is : holds c.self.inside.halves.geometry w0.now ≡ Some (state_in c.args.tree.now) = ap settled c.self.view_is ∙ c.requires.state k in
-    let right = frozen_right c.self.inside.halves c.self.inside.frozen.items c.self.inside.named_marks.items c.self.inside.other_marks.items c.self.inside.due.items c.self.inside.left w0 (state_in c.args.tree.now) alone (c.self.invariant.7 fine k) is c.args.tree.now.geometry c.deref.result.now c.deref_mut.result.now geometry c.deref.ensures.value c.deref_mut.ensures.value in
+    let is : holds c.self.inside.halves.geometry w0.now ≡ Some (state_in c.args.tree.now) = ap committed c.self.view_is ∙ c.requires.state k in
+    let right = frozen_right c.self.inside.halves c.self.inside.frozen.items c.self.inside.named_dirty.items c.self.inside.other_dirty.items c.self.inside.due.items c.self.inside.left w0 (state_in c.args.tree.now) alone (c.self.invariant.7 fine k) is c.args.tree.now.geometry c.deref.result.now c.deref_mut.result.now geometry c.deref.ensures.value c.deref_mut.ensures.value in
     let spelled : c.freeze.new.bytes ≡ image_of 2 c.self.inside.halves.geometry (state_in c.args.tree.now) = c.freeze.ensures.image right ∙ ap (λ (x : Geometry). image_of 2 x (state_in c.args.tree.now)) geometry in
     let w1 = g.D.Disk.medium c.point_on.new.disk in
     let made = subst (λ (l : List ℕ). IsPointed c.self.inside.halves l w0 w1) (c.deref-2.ensures.value ∙ frozen) (c.in_default.ensures.pointed k) in
@@ -125,16 +125,16 @@ returns-clause-sound g c = λ k.
     let is_state = subst (λ (x : Geometry). IsState x (state_in c.args.tree.now)) geometry c.requires.whole.state in
     let frozen = whole_put c.self.inside.frozen.len c.freeze.new.bytes c.self.inside.frozen.items (c.freeze.ensures.size ∙ ap length c.deref_mut.ensures.value) (c.freeze.ensures.size ∙ c.deref_mut.ensures.len) in
     let w0 = g.D.Disk.medium c.self.inside.disk in
-    let is : holds c.self.inside.halves.geometry w0.now ≡ Some (state_in c.args.tree.now) = ap settled c.self.view_is ∙ c.requires.state k in
-    let right = frozen_right c.self.inside.halves c.self.inside.frozen.items c.self.inside.named_marks.items c.self.inside.other_marks.items c.self.inside.due.items c.self.inside.left w0 (state_in c.args.tree.now) alone (c.self.invariant.7 fine k) is c.args.tree.now.geometry c.deref.result.now c.deref_mut.result.now geometry c.deref.ensures.value c.deref_mut.ensures.value in
+    let is : holds c.self.inside.halves.geometry w0.now ≡ Some (state_in c.args.tree.now) = ap committed c.self.view_is ∙ c.requires.state k in
+    let right = frozen_right c.self.inside.halves c.self.inside.frozen.items c.self.inside.named_dirty.items c.self.inside.other_dirty.items c.self.inside.due.items c.self.inside.left w0 (state_in c.args.tree.now) alone (c.self.invariant.7 fine k) is c.args.tree.now.geometry c.deref.result.now c.deref_mut.result.now geometry c.deref.ensures.value c.deref_mut.ensures.value in
     let spelled : c.freeze.new.bytes ≡ image_of 2 c.self.inside.halves.geometry (state_in c.args.tree.now) = c.freeze.ensures.image right ∙ ap (λ (x : Geometry). image_of 2 x (state_in c.args.tree.now)) geometry in
     let w1 = g.D.Disk.medium c.point_on.new.disk in
     let made = subst (λ (l : List ℕ). IsPointed c.self.inside.halves l w0 w1) (c.deref-2.ensures.value ∙ frozen) (c.in_default.ensures.pointed k) in
-    settled_of c.point_on.new.halves (whole_items c.self.inside.frozen.len c.freeze.new.bytes c.self.inside.frozen.items) c.exchange_marks.new.named.items c.exchange_marks.new.other.items c.self.inside.due.items c.self.inside.left c.self.inside.failed w1
-    (subst (λ (o : Option ℕ). IsSoundJournal c.point_on.new.halves (whole_items c.self.inside.frozen.len c.freeze.new.bytes c.self.inside.frozen.items) c.exchange_marks.new.named.items c.exchange_marks.new.other.items c.self.inside.due.items o w1) (sym alone)
-    (subst (λ (l : List ℕ). IsSoundJournal c.point_on.new.halves l c.exchange_marks.new.named.items c.exchange_marks.new.other.items c.self.inside.due.items None w1) (sym frozen)
-    (subst (λ (l : Log). IsSoundJournal l c.freeze.new.bytes c.exchange_marks.new.named.items c.exchange_marks.new.other.items c.self.inside.due.items None w1) (sym c.in_default.ensures.log)
-    (point_sound c.self.inside.halves c.self.inside.frozen.items c.freeze.new.bytes c.self.inside.named_marks.items c.self.inside.other_marks.items c.self.inside.due.items c.self.inside.left w0 (state_in c.args.tree.now) alone (c.self.invariant.6 fine).1 (c.self.invariant.7 fine k) is is_state spelled (g.met.D.Disk.bytes c.self.inside.disk) w1 (g.met.D.Disk.bytes c.point_on.new.disk) c.exchange_marks.new.named.items c.exchange_marks.new.other.items (ap (λ v. v.items) c.exchange_marks.ensures.kept) made))))
+    committed_of c.point_on.new.halves (whole_items c.self.inside.frozen.len c.freeze.new.bytes c.self.inside.frozen.items) c.swap_dirty.new.named.items c.swap_dirty.new.other.items c.self.inside.due.items c.self.inside.left c.self.inside.failed w1
+    (subst (λ (o : Option ℕ). IsSoundJournal c.point_on.new.halves (whole_items c.self.inside.frozen.len c.freeze.new.bytes c.self.inside.frozen.items) c.swap_dirty.new.named.items c.swap_dirty.new.other.items c.self.inside.due.items o w1) (sym alone)
+    (subst (λ (l : List ℕ). IsSoundJournal c.point_on.new.halves l c.swap_dirty.new.named.items c.swap_dirty.new.other.items c.self.inside.due.items None w1) (sym frozen)
+    (subst (λ (l : Log). IsSoundJournal l c.freeze.new.bytes c.swap_dirty.new.named.items c.swap_dirty.new.other.items c.self.inside.due.items None w1) (sym c.in_default.ensures.log)
+    (point_sound c.self.inside.halves c.self.inside.frozen.items c.freeze.new.bytes c.self.inside.named_dirty.items c.self.inside.other_dirty.items c.self.inside.due.items c.self.inside.left w0 (state_in c.args.tree.now) alone (c.self.invariant.6 fine).1 (c.self.invariant.7 fine k) is is_state spelled (g.met.D.Disk.bytes c.self.inside.disk) w1 (g.met.D.Disk.bytes c.point_on.new.disk) c.swap_dirty.new.named.items c.swap_dirty.new.other.items (ap (λ v. v.items) c.swap_dirty.ensures.kept) made))))
 
 pub invariant_of-self-2 : goal.invariant_of-self-2
 invariant_of-self-2 g c =
@@ -148,8 +148,8 @@ invariant_of-self-2 g c =
       omega (arith, c.self.invariant.0, c.point_on.ensures.call.1, ap (λ (l : Log). device_size (layout l)) log),
       omega (arith, ap (λ (l : Log). l.used) log),
       ap length frozen ∙ c.freeze.ensures.size ∙ ap length c.deref_mut.ensures.value ∙ c.self.invariant.2 ∙ sym (ap image_size same),
-      ap length c.exchange_marks.ensures.written ∙ length-replicate _ false ∙ c.self.invariant.4 ∙ sym (ap piece_count same),
-      ap (λ v. length v.items) c.exchange_marks.ensures.kept ∙ c.self.invariant.3 ∙ sym (ap piece_count same),
+      ap length c.swap_dirty.ensures.written ∙ length-replicate _ false ∙ c.self.invariant.4 ∙ sym (ap piece_count same),
+      ap (λ v. length v.items) c.swap_dirty.ensures.kept ∙ c.self.invariant.3 ∙ sym (ap piece_count same),
       c.self.invariant.5 ∙ sym (ap piece_count same),
       (λ fine. (
         ap (λ (l : Log). l.failed) log ∙ (c.self.invariant.6 fine).0,
@@ -157,15 +157,15 @@ invariant_of-self-2 g c =
       )),
       (λ fine k.
           let w0 = g.D.Disk.medium c.self.inside.disk in
-          let is : holds c.self.inside.halves.geometry w0.now ≡ Some (state_in c.args.tree.now) = ap settled c.self.view_is ∙ c.requires.state k in
-          let right = frozen_right c.self.inside.halves c.self.inside.frozen.items c.self.inside.named_marks.items c.self.inside.other_marks.items c.self.inside.due.items c.self.inside.left w0 (state_in c.args.tree.now) alone (c.self.invariant.7 fine k) is c.args.tree.now.geometry c.deref.result.now c.deref_mut.result.now geometry c.deref.ensures.value c.deref_mut.ensures.value in
+          let is : holds c.self.inside.halves.geometry w0.now ≡ Some (state_in c.args.tree.now) = ap committed c.self.view_is ∙ c.requires.state k in
+          let right = frozen_right c.self.inside.halves c.self.inside.frozen.items c.self.inside.named_dirty.items c.self.inside.other_dirty.items c.self.inside.due.items c.self.inside.left w0 (state_in c.args.tree.now) alone (c.self.invariant.7 fine k) is c.args.tree.now.geometry c.deref.result.now c.deref_mut.result.now geometry c.deref.ensures.value c.deref_mut.ensures.value in
           let spelled : c.freeze.new.bytes ≡ image_of 2 c.self.inside.halves.geometry (state_in c.args.tree.now) = c.freeze.ensures.image right ∙ ap (λ (x : Geometry). image_of 2 x (state_in c.args.tree.now)) geometry in
           let w1 = g.D.Disk.medium c.point_on.new.disk in
           let made = subst (λ (l : List ℕ). IsPointed c.self.inside.halves l w0 w1) (c.deref-2.ensures.value ∙ frozen) (c.in_default.ensures.pointed k) in
-          subst (λ (o : Option ℕ). IsSoundJournal c.point_on.new.halves (whole_items c.self.inside.frozen.len c.freeze.new.bytes c.self.inside.frozen.items) c.exchange_marks.new.named.items c.exchange_marks.new.other.items c.self.inside.due.items o w1) (sym alone)
-          (subst (λ (l : List ℕ). IsSoundJournal c.point_on.new.halves l c.exchange_marks.new.named.items c.exchange_marks.new.other.items c.self.inside.due.items None w1) (sym frozen)
-          (subst (λ (l : Log). IsSoundJournal l c.freeze.new.bytes c.exchange_marks.new.named.items c.exchange_marks.new.other.items c.self.inside.due.items None w1) (sym c.in_default.ensures.log)
-          (point_sound c.self.inside.halves c.self.inside.frozen.items c.freeze.new.bytes c.self.inside.named_marks.items c.self.inside.other_marks.items c.self.inside.due.items c.self.inside.left w0 (state_in c.args.tree.now) alone (c.self.invariant.6 fine).1 (c.self.invariant.7 fine k) is is_state spelled (g.met.D.Disk.bytes c.self.inside.disk) w1 (g.met.D.Disk.bytes c.point_on.new.disk) c.exchange_marks.new.named.items c.exchange_marks.new.other.items (ap (λ v. v.items) c.exchange_marks.ensures.kept) made)))),
+          subst (λ (o : Option ℕ). IsSoundJournal c.point_on.new.halves (whole_items c.self.inside.frozen.len c.freeze.new.bytes c.self.inside.frozen.items) c.swap_dirty.new.named.items c.swap_dirty.new.other.items c.self.inside.due.items o w1) (sym alone)
+          (subst (λ (l : List ℕ). IsSoundJournal c.point_on.new.halves l c.swap_dirty.new.named.items c.swap_dirty.new.other.items c.self.inside.due.items None w1) (sym frozen)
+          (subst (λ (l : Log). IsSoundJournal l c.freeze.new.bytes c.swap_dirty.new.named.items c.swap_dirty.new.other.items c.self.inside.due.items None w1) (sym c.in_default.ensures.log)
+          (point_sound c.self.inside.halves c.self.inside.frozen.items c.freeze.new.bytes c.self.inside.named_dirty.items c.self.inside.other_dirty.items c.self.inside.due.items c.self.inside.left w0 (state_in c.args.tree.now) alone (c.self.invariant.6 fine).1 (c.self.invariant.7 fine k) is is_state spelled (g.met.D.Disk.bytes c.self.inside.disk) w1 (g.met.D.Disk.bytes c.point_on.new.disk) c.swap_dirty.new.named.items c.swap_dirty.new.other.items (ap (λ v. v.items) c.swap_dirty.ensures.kept) made)))),
       c.self.invariant.8,
       c.self.invariant.9,
     )
@@ -180,28 +180,28 @@ returns-clause-beyond g c = λ k.
 
 pub returns-in-Err-clause-takes : goal.returns-in-Err-clause-takes
 returns-in-Err-clause-takes g c = λ k.
-    let marks = ap point_takes c.deref-3.ensures.value ∙ ap (λ (h : JournalView). point_takes h.marks.others) c.self.view_is in
+    let dirty = ap point_takes c.deref-3.ensures.value ∙ ap (λ (h : JournalView). point_takes h.dirty.others) c.self.view_is in
     let start = ap (λ (h : JournalView). moment h.medium) c.self.view_is in
     let takes = c.in-Err.ensures.takes k in
-    omega (arith, marks, start, takes)
+    omega (arith, dirty, start, takes)
 
 pub returns-clause-takes : goal.returns-clause-takes
 returns-clause-takes g c = λ k.
-    let marks = ap point_takes c.deref-3.ensures.value ∙ ap (λ (h : JournalView). point_takes h.marks.others) c.self.view_is in
+    let dirty = ap point_takes c.deref-3.ensures.value ∙ ap (λ (h : JournalView). point_takes h.dirty.others) c.self.view_is in
     let start = ap (λ (h : JournalView). moment h.medium) c.self.view_is in
     let takes = c.in_default.ensures.takes k in
-    omega (arith, marks, start, takes)
+    omega (arith, dirty, start, takes)
 
 pub returns-in-Err-clause-few : goal.returns-in-Err-clause-few
 returns-in-Err-clause-few g c =
-    let most = few_runs c.self.inside.other_marks.items in
-    let count = ap (λ (h : JournalView). point_takes h.marks.others) c.self.view_is in
-    let long : length c.self.inside.other_marks.items ≡ piece_count c.args.self.now.geometry = c.self.invariant.4 ∙ ap (λ (h : JournalView). piece_count h.geometry) c.self.view_is in
+    let most = few_runs c.self.inside.other_dirty.items in
+    let count = ap (λ (h : JournalView). point_takes h.dirty.others) c.self.view_is in
+    let long : length c.self.inside.other_dirty.items ≡ piece_count c.args.self.now.geometry = c.self.invariant.4 ∙ ap (λ (h : JournalView). piece_count h.geometry) c.self.view_is in
     omega (arith, most, count, long)
 
 pub returns-clause-few : goal.returns-clause-few
 returns-clause-few g c =
-    let most = few_runs c.self.inside.other_marks.items in
-    let count = ap (λ (h : JournalView). point_takes h.marks.others) c.self.view_is in
-    let long : length c.self.inside.other_marks.items ≡ piece_count c.args.self.now.geometry = c.self.invariant.4 ∙ ap (λ (h : JournalView). piece_count h.geometry) c.self.view_is in
+    let most = few_runs c.self.inside.other_dirty.items in
+    let count = ap (λ (h : JournalView). point_takes h.dirty.others) c.self.view_is in
+    let long : length c.self.inside.other_dirty.items ≡ piece_count c.args.self.now.geometry = c.self.invariant.4 ∙ ap (λ (h : JournalView). piece_count h.geometry) c.self.view_is in
     omega (arith, most, count, long)

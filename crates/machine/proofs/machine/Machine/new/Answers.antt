@@ -1,14 +1,14 @@
--- Empty hands hold no job, so with a sound world they keep what a machine keeps.
+-- Empty hands hold no job, so with a sound core state they keep what a machine keeps.
 use Rattle.std.proofs.Common.{List, map, ap, sym, subst, ◌∙◌}
 use Rattle.machine.proofs.Starting.{all_empty, empty_hold}
 use Rattle.runs.specs.Machine.{HoldsJobs, hand_of}
 use Rattle.runs.specs.declared.hands.Holding.{Holding}
-use Rattle.scheduler.specs.Kept.{world_of}
+use Rattle.scheduler.specs.CoreView.{core_state_of}
 use Rattle.machine.proofs.machine.Machine.new.Goals as goal
 
 pub invariant_of-result : goal.invariant_of-result
-invariant_of-result g c = subst (λ (hs : List Holding). HoldsJobs c.args.core.geometry (world_of c.args.core) hs) (sym c.in-Ok.ensures)
-    (empty_hold c.args.core.geometry (world_of c.args.core) c.args.hands c.slots.ensures.sound)
+invariant_of-result g c = subst (λ (hs : List Holding). HoldsJobs c.args.core.geometry (core_state_of c.args.core) hs) (sym c.in-Ok.ensures)
+    (empty_hold c.args.core.geometry (core_state_of c.args.core) c.args.hands c.slots.ensures.sound)
 
 pub returns-in-Ok-clause-made : goal.returns-in-Ok-clause-made
-returns-in-Ok-clause-made g c = λ i. record { core = world_of c.args.core; hands = (ap (map hand_of) c.in-Ok.ensures ∙ all_empty c.args.hands) i }
+returns-in-Ok-clause-made g c = λ i. record { core = core_state_of c.args.core; hands = (ap (map hand_of) c.in-Ok.ensures ∙ all_empty c.args.hands) i }

@@ -3,13 +3,13 @@ use Rattle.std.proofs.Common.{◌≡◌, ◌+◌, ◌<◌, ◌≤◌, List, [], 
 use Rattle.std.specs.Prelude.{slice_set}
 use Rattle.std.specs.Vec.{with_items}
 use Rattle.std.proofs.lemmas.List.{take_all, with_items_is}
-use Rattle.legal_runs.specs.Laws.{IsSoundWorld}
+use Rattle.legal_runs.specs.Laws.{IsSoundCoreState}
 use Rattle.legal_runs.specs.declared.outcomes.Outcome.{Outcome}
 use Rattle.legal_runs.specs.declared.outcomes.Step.{Step}
 use Rattle.runs.proofs.Running.{has_run, next_stages, no_stages}
 use Rattle.runs.specs.Machine.{MachineView, HasStages, HoldsJobs}
 use Rattle.runs.specs.declared.hands.Holding.{Holding}
-use Rattle.scheduler.specs.Kept.{world_of}
+use Rattle.scheduler.specs.CoreView.{core_state_of}
 use Rattle.machine.proofs.machine.Machine.run.Goals as goal
 
 pub loop-i-init : goal.loop-i-init
@@ -21,7 +21,7 @@ loop-i-init g c =
     }
 
 pub make_step-requires : goal.make_step-requires
-make_step-requires g c = subst (HoldsJobs c.loop-i.self-inside.core.geometry (world_of c.loop-i.self-inside.core))
+make_step-requires g c = subst (HoldsJobs c.loop-i.self-inside.core.geometry (core_state_of c.loop-i.self-inside.core))
     (sym c.deref_mut.ensures.value) c.loop-i.invariant.holds
 
 pub loop-i-preserved : goal.loop-i-preserved
@@ -39,7 +39,7 @@ loop-i-preserved g c =
       ran = subst (λ (hands : List Holding). HasStages g.D.Disk.keeps c.args.self.now (record { core = c.make_step.new.core; hands = hands })
           (take (c.loop-i.i + 1) c.args.steps.now) (take (c.loop-i.i + 1) (slice_set c.loop-i.outcomes c.loop-i.i c.make_step.result)))
           (sym kept) more;
-      holds = subst (HoldsJobs c.make_step.new.core.geometry (world_of c.make_step.new.core)) (sym kept) c.make_step.ensures.holds;
+      holds = subst (HoldsJobs c.make_step.new.core.geometry (core_state_of c.make_step.new.core)) (sym kept) c.make_step.ensures.holds;
     }
 
 pub invariant_of-self : goal.invariant_of-self
@@ -51,7 +51,7 @@ returns g c =
     let all : take c.loop-i.i c.args.steps.now ≡ c.args.steps.now = take_all c.loop-i.i c.args.steps.now c.loop-i-test.false in
     let long : length c.loop-i.outcomes ≤ c.loop-i.i = omega (arith, c.requires, c.loop-i.auto.outcomes, c.loop-i-test.false) in
     has_run g.D.Disk.keeps c.args.self.now now c.args.steps.now c.loop-i.outcomes
-    (subst (λ (m : MachineView). IsSoundWorld m.core.geometry (world_of m.core)) c.self.view_is c.self.invariant.sound)
+    (subst (λ (m : MachineView). IsSoundCoreState m.core.geometry (core_state_of m.core)) c.self.view_is c.self.invariant.sound)
     (subst (λ (os : List Outcome). HasStages g.D.Disk.keeps c.args.self.now now c.args.steps.now os) (take_all c.loop-i.i c.loop-i.outcomes long)
     (subst (λ (ss : List Step). HasStages g.D.Disk.keeps c.args.self.now now ss (take c.loop-i.i c.loop-i.outcomes)) all c.loop-i.invariant.ran))
-    c.stands.ensures.no_doubt c.stands.ensures.now
+    c.know_recovery.ensures.no_doubt c.know_recovery.ensures.now

@@ -1,12 +1,12 @@
 -- It stays under way, and halts only where the device does.
 use Rattle.std.proofs.Common.{◌≡◌, ℕ, Some, ap, false, refl, ◌∙◌}
-use Rattle.legal_runs.specs.World.{World}
+use Rattle.legal_runs.specs.CoreState.{CoreState}
 use Rattle.scheduler.proofs.Called.{cut_called}
-use Rattle.scheduler.specs.Kept.{world_of}
+use Rattle.scheduler.specs.CoreView.{core_state_of}
 use Rattle.serving.specs.Session.{SessionView}
 use Rattle.serving.proofs.Pointing.{begins, halts}
-use Rattle.serving.proofs.Stretches.{cut_is_quiet}
-use Rattle.serving.proofs.Under.{holds_of, on_machine}
+use Rattle.serving.proofs.Segments.{cut_is_quiet}
+use Rattle.serving.proofs.Invariant.{holds_of, on_machine}
 use Rattle.serving.proofs.session.Session.begin_point.Goals as goal
 
 pub invariant_of-self : goal.invariant_of-self
@@ -14,7 +14,7 @@ invariant_of-self g c =
     let old = c.self.inside.core in
     let new = c.cut-cut.new.self in
     let quiet = cut_is_quiet g.D.Disk.keeps old new c.cut-cut.ensures.geometry c.cut-cut.ensures.any_moment c.cut-cut.result
-    (cut_called old.geometry (world_of old) (world_of new) c.cut-cut.result c.cut-cut.ensures.world) c.cut-cut.ensures.counts in
+    (cut_called old.geometry (core_state_of old) (core_state_of new) c.cut-cut.result c.cut-cut.ensures.state_after) c.cut-cut.ensures.counts in
     (on_machine g.D.Disk.keeps _ _ _ _ c.self.invariant.0 (quiet _ (holds_of g.D.Disk.keeps _ _ c.self.invariant.0)) refl refl, c.self.invariant.1)
 
 pub returns-clause-moves : goal.returns-clause-moves
@@ -23,9 +23,9 @@ returns-clause-moves g c =
     let new = c.cut-cut.new.self in
     let left = ap (λ (p : SessionView). p.core.left) c.self.view_is ∙ c.requires.none in (
       ap (λ (p : SessionView). p.stop) c.self.view_is,
-      halts (world_of old) left (world_of new) _
-          (c.self.inside.broken ≡ c.args.self.now.broken) (c.self.inside.broken ≡ false) c.cut-cut.result c.begin.result c.cut-cut.ensures.world
-          c.begin.ensures (ap (λ (p : SessionView). p.broken) c.self.view_is),
+      halts (core_state_of old) left (core_state_of new) _
+          (c.self.inside.output_failed ≡ c.args.self.now.output_failed) (c.self.inside.output_failed ≡ false) c.cut-cut.result c.begin.result c.cut-cut.ensures.state_after
+          c.begin.ensures (ap (λ (p : SessionView). p.output_failed) c.self.view_is),
     )
 
 pub returns-clause-begun : goal.returns-clause-begun
@@ -33,6 +33,6 @@ returns-clause-begun g c =
     let old = c.self.inside.core in
     let new = c.cut-cut.new.self in
     let left = ap (λ (p : SessionView). p.core.left) c.self.view_is ∙ c.requires.none in
-    begins (world_of old) left (world_of new) _
-    ((n : ℕ) × (new.left ≡ Some n)) (λ m. (m.0, ap (λ (w : World). w.left) m.2)) c.cut-cut.result c.begin.result c.cut-cut.ensures.world
+    begins (core_state_of old) left (core_state_of new) _
+    ((n : ℕ) × (new.left ≡ Some n)) (λ m. (m.0, ap (λ (w : CoreState). w.left) m.2)) c.cut-cut.result c.begin.result c.cut-cut.ensures.state_after
     c.begin.ensures

@@ -1,11 +1,11 @@
--- It stays under way, and the row is empty still where the last point is made, which fails only where the device does.
+-- It stays under way, and the reorder buffer is empty still where the last point is made, which fails only where the device does.
 use Rattle.std.proofs.Common.{◌≡◌, ap, refl, ◌∙◌}
-use Rattle.line_row.specs.Rows.{RowView}
+use Rattle.reorder_buffer.specs.ReorderBuffer.{ReorderBufferView}
 use Rattle.scheduler.proofs.Called.{point_called}
-use Rattle.scheduler.specs.Kept.{CoreView, world_of}
-use Rattle.serving.proofs.Stretches.{point_is_quiet}
+use Rattle.scheduler.specs.CoreView.{CoreView, core_state_of}
+use Rattle.serving.proofs.Segments.{point_is_quiet}
 use Rattle.serving.proofs.Pointing.{halts_so, point_fails}
-use Rattle.serving.proofs.Under.{holds_of, idle_of, on_machine}
+use Rattle.serving.proofs.Invariant.{holds_of, idle_of, on_machine}
 use Rattle.serving.specs.Session.{SessionView}
 use Rattle.serving.proofs.session.Session.finish.Goals as goal
 
@@ -14,19 +14,19 @@ invariant_of-self g c =
     let old = c.self.inside.core in
     let new = c.point.new.self in
     let quiet = point_is_quiet g.D.Disk.keeps old new c.point.ensures.geometry c.point.ensures.any_moment c.point.result
-    (point_called old.geometry (world_of old) (world_of new) c.point.result c.point.ensures.world) c.point.ensures.counts in
+    (point_called old.geometry (core_state_of old) (core_state_of new) c.point.result c.point.ensures.state_after) c.point.ensures.counts in
     (on_machine g.D.Disk.keeps _ _ _ _ c.self.invariant.0 (quiet _ (holds_of g.D.Disk.keeps _ _ c.self.invariant.0)) refl refl, c.self.invariant.1)
 
-pub returns-in-End-clause-moves : goal.returns-in-End-clause-moves
-returns-in-End-clause-moves g c =
-    let sent = c.in_ok-send.ensures in
+pub returns-in-EndOfInput-clause-moves : goal.returns-in-EndOfInput-clause-moves
+returns-in-EndOfInput-clause-moves g c =
+    let sent = c.in_ok-flush_replies.ensures in
     let logged = c.in_ok-log_what_ran.ensures in
-    let row = ap (λ (r : RowView). r.lines) (sent.same.1 ∙ logged.same.0) ∙ c.requires.row in
+    let row = ap (λ (r : ReorderBufferView). r.lines) (sent.same.1 ∙ logged.same.0) ∙ c.requires.row in
     let idle = idle_of g.D.Disk.keeps _ _ c.self.invariant.0 (ap (λ (p : SessionView). p.row.lines) c.self.view_is ∙ row) in
     let left = ap (λ (p : SessionView). p.core.left) c.self.view_is ∙ ap (λ (k : CoreView). k.left) sent.same.0 ∙ logged.left ∙ c.requires.none in
-    let broken = ap (λ (p : SessionView). p.broken) c.self.view_is ∙ sent.moves.1 ∙ logged.moves.1 in (
+    let output_failed = ap (λ (p : SessionView). p.output_failed) c.self.view_is ∙ sent.moves.1 ∙ logged.moves.1 in (
       ap (λ (p : SessionView). p.stop) c.self.view_is ∙ sent.moves.0 ∙ logged.moves.0,
-      halts_so c.point.result c.or_halt.result _ _ _ c.or_halt.ensures broken
-          (point_fails (world_of c.self.inside.core) left idle.none_held (world_of c.point.new.self)
-          (world_of c.point.new.self ≡ record (world_of c.self.inside.core) { room = c.self.inside.core.geometry.half }) c.point.result c.point.ensures.world),
+      halts_so c.point.result c.or_halt.result _ _ _ c.or_halt.ensures output_failed
+          (point_fails (core_state_of c.self.inside.core) left idle.none_held (core_state_of c.point.new.self)
+          (core_state_of c.point.new.self ≡ record (core_state_of c.self.inside.core) { room = c.self.inside.core.geometry.half }) c.point.result c.point.ensures.state_after),
     )

@@ -6,14 +6,14 @@ use Rattle.messages.specs.FirstLine.{GivesLine, LosesFront}
 use Rattle.message.specs.Reader.{Closes, Finds, has_ended, is_drained, line_of, source, unread}
 use Rattle.message.specs.declared.reading.Found.{Found}
 use Rattle.serving.specs.Lines.{NoMessage}
-use Rattle.serving.specs.Reads.{stop_of}
+use Rattle.serving.specs.Reads.{read_end_of}
 use Rattle.serving.specs.Runs.{lent_hand}
-use Rattle.serving.specs.Session.{IsUnderWayFrom, SessionView}
-use Rattle.serving.specs.declared.session.Stop.{Stop}
-use Rattle.serving.specs.declared.session.Stop.TheVariants as stops
+use Rattle.serving.specs.Session.{SessionInvariantFrom, SessionView}
+use Rattle.serving.specs.declared.session.ReadEnd.{ReadEnd}
+use Rattle.serving.specs.declared.session.ReadEnd.TheVariants as ends_of_reading
 use Rattle.serving.proofs.Stopping.{stops_at_refusal}
-use Rattle.serving.proofs.Taken.{at_end, has_told_end, none_left, still, takes_none}
-use Rattle.serving.proofs.Under.{follows, has_place, has_slot, holds_of, knows_of, on_line, on_long_line, on_stop}
+use Rattle.serving.proofs.Taken.{at_end, has_sent_end, none_left, still, takes_none}
+use Rattle.serving.proofs.Invariant.{follows, has_place, has_slot, holds_of, knows_of, on_line, on_long_line, on_stop}
 use Rattle.serving.proofs.session.Session.read_next.Goals as goal
 
 pub take-requires-clause-room : goal.take-requires-clause-room
@@ -38,8 +38,8 @@ invariant_of-self g c =
     let drained = sym c.if-is_drained.ensures.value in
     let knows = knows_of g.D.Disk.keeps _ _ u in (
       on_stop g.D.Disk.keeps _ f.core f.row f.open_lines (unread rest f.lines) (is_drained f.lines) (has_ended f.lines) (rest (source f.lines)) none refl refl (omega (arith, may)) knows
-          _ stops.End u (still g.D.Disk.keeps _ (holds_of g.D.Disk.keeps _ _ u)) refl
-          (none_left (unread rest f.lines) (c.if-is_drained.ensures.nothing refl), knows (has_told_end _ _ drained)),
+          _ ends_of_reading.EndOfInput u (still g.D.Disk.keeps _ (holds_of g.D.Disk.keeps _ _ u)) refl
+          (none_left (unread rest f.lines) (c.if-is_drained.ensures.nothing refl), knows (has_sent_end _ _ drained)),
       c.self.invariant.1,
     )
 
@@ -54,7 +54,7 @@ invariant_of-self-in-Ok g c =
     let knows = c.next_line.ensures.at_end (knows_of g.D.Disk.keeps _ _ u) in
     let left = unread rest f.lines in
     let may = subst (λ (p : SessionView). p.open_lines < p.row.slots) (sym c.self.view_is) c.requires.room in
-    let took = c.in-Ok.ensures.takes (map lent_hand f.desk.lent) (holds_of g.D.Disk.keeps _ _ u) in (
+    let took = c.in-Ok.ensures.takes (map lent_hand f.dispatch_seat.lent) (holds_of g.D.Disk.keeps _ _ u) in (
       on_line g.D.Disk.keeps _ c.take.new.core c.take.new.row (f.open_lines + 1) (unread rest n) (is_drained n) (has_ended n) (rest (source n)) none
           c.in-Ok.ensures.slots (omega (arith, ap length took.2, length-append f.row.lines (took.0 ∷ []))) (omega (arith, may)) knows
           took.0 took.2 going
@@ -76,26 +76,26 @@ invariant_of-self-in-Err-take g c =
     let going = sym c.if-is_drained.ensures.value in
     let knows = c.next_line.ensures.at_end (knows_of g.D.Disk.keeps _ _ u) in
     let left = unread rest f.lines in
-    let took = c.in-Err-take.ensures.takes (map lent_hand f.desk.lent) (holds_of g.D.Disk.keeps _ _ u) in
+    let took = c.in-Err-take.ensures.takes (map lent_hand f.dispatch_seat.lent) (holds_of g.D.Disk.keeps _ _ u) in
     let room = has_place g.D.Disk.keeps _ _ u may in
     let found = subst (λ (l : List ℕ). IfSome left (λ bs. GivesLine l bs (unread rest n))) (sym c.line.ensures)
     (subst (λ (x : Found). Finds (Ok x) left (line_of n) (unread rest n)) c.in-Ok-Line.field-0-is c.in-Ok-Line.ensures.found) in
-    subst (λ (stop : Stop). IsUnderWayFrom g.D.Disk.keeps g.L.Teller.start (record {
+    subst (λ (stop : ReadEnd). SessionInvariantFrom g.D.Disk.keeps g.L.ReplySink.start (record {
       core = c.take.new.core;
-      desk = f.desk;
+      dispatch_seat = f.dispatch_seat;
       row = c.take.new.row;
       out = f.out;
-      told = g.L.Teller.told f.teller;
+      sent = g.L.ReplySink.sent f.sink;
       open_lines = f.open_lines;
-      broken = f.broken;
+      output_failed = f.output_failed;
       stop = Some stop;
       left = unread rest n;
       drained = is_drained n;
       ended = has_ended n;
       behind = rest (source n);
-    }) × (f.desk.bench ≡ f.bench.now)) (sym took.4) (
+    }) × (f.dispatch_seat.bench ≡ f.bench.now)) (sym took.4) (
       on_stop g.D.Disk.keeps _ c.take.new.core c.take.new.row f.open_lines (unread rest n) (is_drained n) (has_ended n) (rest (source n)) none c.in-Err-take.ensures.slots (omega (arith, ap length took.5)) (omega (arith, may)) knows
-          _ (stop_of took.1) u took.3.quiet took.5
+          _ (read_end_of took.1) u took.3.quiet took.5
           (stops_at_refusal g.D.Disk.keeps _ _ left (unread rest n) (rest (source n)) (is_drained f.lines) c.line.result.now took.0 took.1 took.2 found took.3
           (has_slot g.D.Disk.keeps _ _ took.0 none u room)),
       c.self.invariant.1,
@@ -134,7 +134,7 @@ invariant_of-self-in-Ok-End g c =
     let left = unread rest f.lines in
     let found = subst (λ (x : Found). Finds (Ok x) left (line_of n) (unread rest n)) c.in-Ok-End.field-0-is c.in-Ok-End.ensures.found in (
       on_stop g.D.Disk.keeps _ f.core f.row f.open_lines (unread rest n) (is_drained n) (has_ended n) (rest (source n)) none refl refl (omega (arith, may)) knows
-          _ stops.End u (still g.D.Disk.keeps _ (holds_of g.D.Disk.keeps _ _ u)) refl
+          _ ends_of_reading.EndOfInput u (still g.D.Disk.keeps _ (holds_of g.D.Disk.keeps _ _ u)) refl
           (at_end left (unread rest n) found, knows (c.next_line.ensures.end (c.in-Ok-End.is ∙ ap Ok c.in-Ok-End.field-0-is))),
       c.self.invariant.1,
     )
@@ -151,7 +151,7 @@ invariant_of-self-in-Err g c =
     let knows = c.next_line.ensures.at_end (knows_of g.D.Disk.keeps _ _ u) in
     let left = unread rest f.lines in (
       on_stop g.D.Disk.keeps _ f.core f.row f.open_lines (unread rest n) (is_drained n) (has_ended n) (rest (source n)) none refl refl (omega (arith, may)) knows
-          _ stops.Fault u (still g.D.Disk.keeps _ (holds_of g.D.Disk.keeps _ _ u)) refl
+          _ ends_of_reading.ReadFailed u (still g.D.Disk.keeps _ (holds_of g.D.Disk.keeps _ _ u)) refl
           (going, subst (λ (l : Option (List ℕ)). IfSome left (λ bs. LosesFront bs l)) c.in-Err.ensures.lost c.in-Err.ensures.found),
       c.self.invariant.1,
     )
@@ -162,7 +162,7 @@ returns-in-Ok-clause-slots g c = c.in-Ok.ensures.slots ∙ ap (λ (p : SessionVi
 pub returns-in-Ok-clause-longer : goal.returns-in-Ok-clause-longer
 returns-in-Ok-clause-longer g c is =
     let f = c.self.inside in
-    let took = c.in-Ok.ensures.takes (map lent_hand f.desk.lent) (holds_of g.D.Disk.keeps _ _ c.self.invariant.0) in
+    let took = c.in-Ok.ensures.takes (map lent_hand f.dispatch_seat.lent) (holds_of g.D.Disk.keeps _ _ c.self.invariant.0) in
     ap length took.2 ∙ length-append f.row.lines (took.0 ∷ []) ∙ ap (λ (p : SessionView). length p.row.lines + 1) c.self.view_is
 
 pub returns-in-Err-take-clause-slots : goal.returns-in-Err-take-clause-slots

@@ -4,19 +4,19 @@ use Rattle.atomic_table.specs.Seated.{TableId}
 use Rattle.parcel.specs.Run.{JobView, IsJobRun}
 use Rattle.workers.specs.Rule.{LentRow, lent_at}
 use Rattle.workers.specs.Steps.{Sat}
-use Rattle.workers.specs.Desk.{Desk, lent_of}
-use Rattle.workers.specs.declared.tray.Load.TheVariants.{Answered}
+use Rattle.workers.specs.Seats.{DispatchSeatView, lent_of}
+use Rattle.workers.specs.declared.job_cell.CellContent.TheVariants.{Delivered}
 use Rattle.workers.proofs.Lending.{same_head, one_result}
 use Rattle.workers.proofs.bench.Bench.collect.Goals as goal
 
-pub take_back-requires-clause-won : goal.take_back-requires-clause-won
-take_back-requires-clause-won c = let won = c.win.ensures.won c.if-not-win.false in
+pub take_delivered-requires-clause-won : goal.take_delivered-requires-clause-won
+take_delivered-requires-clause-won c = let won = c.try_collect.ensures.won c.if-not-try_collect.false in
     let same : c.deref_mut.result.now ≡ c.seat.inside.lent.items = search rules in
     let here : c.seat.inside.seat.table_id ≡ c.self.inside.table.shared.table_id = search rules in
     (lent_of c.seat.inside.seat.me.0, won, same ∙ c.seat.invariant.flagged, ap length same ∙ (c.seat.invariant.places ∙ ap (λ (z : TableId). z.slots) here))
 
 pub returns-clause-some : goal.returns-clause-some
-returns-clause-some c = let won = c.win.ensures.won c.if-not-win.false in let done = c.take_back.result in
-    let same = one_result done won.done (same_head c.win.new.seat.me.1 _ _ c.args.k (Some (Answered done)) (Some (Answered won.done)) c.take_back.ensures.result (ap (λ (n : Sat). n.1) won.seat)) in
-    subst (λ (row : LentRow). (job : JobView) × (lent_at row c.args.k ≡ Some job) × IsJobRun job done × (lent_of c.take_back.new.seat.me.0 ≡ set row c.args.k None)) (ap (λ (d : Desk). d.lent) c.seat.view_is)
-    (won.job, won.asked, subst (λ d. IsJobRun won.job d) (sym same) won.run, c.take_back.ensures.lent ∙ ap (λ (n : Sat). lent_of n.0) won.seat)
+returns-clause-some c = let won = c.try_collect.ensures.won c.if-not-try_collect.false in let done = c.take_delivered.result in
+    let same = one_result done won.done (same_head c.try_collect.new.seat.me.1 _ _ c.args.k (Some (Delivered done)) (Some (Delivered won.done)) c.take_delivered.ensures.result (ap (λ (n : Sat). n.1) won.seat)) in
+    subst (λ (row : LentRow). (job : JobView) × (lent_at row c.args.k ≡ Some job) × IsJobRun job done × (lent_of c.take_delivered.new.seat.me.0 ≡ set row c.args.k None)) (ap (λ (d : DispatchSeatView). d.lent) c.seat.view_is)
+    (won.job, won.asked, subst (λ d. IsJobRun won.job d) (sym same) won.run, c.take_delivered.ensures.lent ∙ ap (λ (n : Sat). lent_of n.0) won.seat)

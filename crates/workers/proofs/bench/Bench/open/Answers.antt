@@ -2,13 +2,13 @@
 use Rattle.std.proofs.Common.{rules, ◌≡◌, length, replicate, None, false, sym, ap, ◌∙◌, subst}
 use Rattle.std.proofs.lemmas.List.{length-replicate}
 use Rattle.atomic_table.specs.Seated.{TableId}
-use Rattle.workers.specs.Desk.{IsBench}
-use Rattle.workers.proofs.Lending.{no_flags, desk_of}
+use Rattle.workers.specs.Seats.{IsBench}
+use Rattle.workers.proofs.Lending.{no_flags, dispatch_seat_of}
 use Rattle.workers.proofs.bench.Bench.open.Goals as goal
 
-pub invariant_of-desk : goal.invariant_of-desk
-invariant_of-desk c = let n = c.args.places in
-    let here = c.in_ok-seats.ensures.desk.0 ∙ (c.ready_all.ensures.bench ∙ c.in_ok-table.ensures.seat.0) in
+pub invariant_of-dispatch_seat : goal.invariant_of-dispatch_seat
+invariant_of-dispatch_seat c = let n = c.args.places in
+    let here = c.in_ok-seats.ensures.dispatch_seat.0 ∙ (c.ready_all.ensures.bench ∙ c.in_ok-table.ensures.seat.0) in
     let off : c.in_ok-lent.lent.items ≡ replicate n false = c.in_ok-lent.ensures.items_if_clones_equal (search rules) in
-    desk_of _ _ _ (replicate n None) (subst IsBench (sym here) c.in_ok-table.ensures.table.0) (c.in_ok-seats.ensures.desk.1 ∙ c.ready_all.ensures.seat)
+    dispatch_seat_of _ _ _ (replicate n None) (subst IsBench (sym here) c.in_ok-table.ensures.table.0) (c.in_ok-seats.ensures.dispatch_seat.1 ∙ c.ready_all.ensures.seat)
     (off ∙ no_flags n) (ap length off ∙ (length-replicate n false ∙ sym (ap (λ (z : TableId). z.slots) here ∙ c.in_ok-table.ensures.table.1)))

@@ -1,0 +1,47 @@
+-- Words that are wrong ask for nothing, and a command has one name.
+use Rattle.std.proofs.Common.{◌≡◌, ◌∙◌, sym, subst, inl, inr, List, [], ◌∷◌, true, false, Option}
+use Rattle.std.specs.List.{list_all}
+use Rattle.std.proofs.lemmas.Bool.{and_parts}
+use Rattle.std.proofs.lemmas.Option.{same_Some}
+use Rattle.affinity.specs.Limits.{AreInRange}
+use Rattle.clap.specs.Words.{IsAmong, Kinds, Row, Text, kind_of}
+use Rattle.clap.specs.declared.error.Error.{Error}
+use Rattle.clap.specs.declared.error.kind.ErrorKind.{ErrorKind}
+use Rattle.arguments.proofs.Options.{in_range}
+use Rattle.arguments.specs.Arguments.{Asks, AreRefused, IsNamed, IsReason, findings, is_mistake}
+use Rattle.arguments.specs.declared.parsing.Request.{Request}
+use Rattle.arguments.specs.declared.parsing.Request.TheVariants.{Help, Plain, Format, Show, Serve}
+use Rattle.arguments.specs.declared.parsing.WordRefusal.TheVariants.{Words as by_words}
+
+-- ---- words that are wrong
+
+mistake_among : (kinds : Kinds) (k : ErrorKind) → list_all is_mistake kinds ≡ true → IsAmong k kinds → is_mistake k ≡ true
+mistake_among [] k all among = absurd among
+mistake_among (x ∷ xs) k all among = elim among [
+  | inl is ↦ rw is (and_parts (is_mistake x) (list_all is_mistake xs) all).0
+  | inr later ↦ mistake_among xs k (and_parts (is_mistake x) (list_all is_mistake xs) all).1 later
+]
+
+pub ask_for_nothing : (words : List Text) (request : Request) → Asks words request → AreRefused words → ⊥
+ask_for_nothing words (Plain g) asks (inl wrong) = wrong.0 asks.0
+ask_for_nothing words (Plain g) asks (inr out_of_range) = out_of_range.3 (subst AreInRange asks.2 (in_range g))
+ask_for_nothing words (Format path g) asks (inl wrong) = wrong.0 asks.0
+ask_for_nothing words (Format path g) asks (inr out_of_range) = out_of_range.3 (subst AreInRange asks.3 (in_range g))
+ask_for_nothing words (Show path) asks (inl wrong) = wrong.0 asks.0
+ask_for_nothing words (Show path) asks (inr out_of_range) = out_of_range.1 asks.1
+ask_for_nothing words (Serve path s) asks (inl wrong) = wrong.0 asks.0
+ask_for_nothing words (Serve path s) asks (inr out_of_range) = out_of_range.2 asks.1
+ask_for_nothing words (Help text) asks (inl wrong) =
+    let bad : true ≡ false = sym (mistake_among _ (kind_of text) wrong.1 asks.0) ∙ asks.1 in
+    cc
+ask_for_nothing words (Help text) asks (inr out_of_range) = subst (IsAmong (kind_of text)) out_of_range.0 asks.0
+
+-- ---- words that name a command
+
+-- a command has one name
+pub two_names : (name other : Text) (command : Option (Text × List Row)) → IsNamed name command → IsNamed other command → name ≡ other
+two_names name other command named called = same_Some _ _ (sym named ∙ called)
+
+-- and there are no mistakes in them
+pub no_mistake : (words : List Text) (error : Error) → findings words ≡ [] → IsReason words (by_words error) → ⊥
+no_mistake words error nothing reason = subst (IsAmong (kind_of error)) nothing reason.0

@@ -1,0 +1,67 @@
+-- The options of a command, and the numbers that they give.
+use Rattle.std.proofs.Common.{◌≡◌, ◌&&◌, refl, ℕ, Bool, true, false, not, List, [], ◌∷◌, length, Option, Some, None, nat_lt, ltb-true, lt-ltb}
+use Rattle.std.specs.Prelude.{Result, Ok, Err, option_and_then, option_map, unwrap_or}
+use Rattle.std.specs.Borrow.{Bor}
+use Rattle.std.specs.Char.{digit_value}
+use Rattle.std.specs.List.{list_all}
+use Rattle.std.specs.Str.Parse.{AllDigits, ParsesUnsigned, digits_value, without_leading_plus}
+use Rattle.std.proofs.lemmas.Bool.{and_parts, not-true}
+use Rattle.affinity.specs.declared.geometry.Geometry.{Geometry}
+use Rattle.affinity.specs.Geometry.{numbers_of}
+use Rattle.affinity.specs.Limits.{AreInRange}
+use Rattle.clap.specs.Words.{Text}
+use Rattle.clap.specs.Matches.{ReadsOne}
+use Rattle.arguments.specs.Arguments.{number_of}
+
+-- a command that is plain has no argument for the commands below it
+pub no_globals : (groups external globals rest : Bool) → (groups && (external && (not globals && rest))) ≡ true → globals ≡ false
+no_globals groups external globals rest plain = not-true _ (and_parts _ _ (and_parts _ _ (and_parts _ _ plain).1).1).0
+
+-- the text that is given, or none
+pub unwrap_or-now : (given : Option (Bor (List ℕ))) (none : Bor (List ℕ)) → none.now ≡ [] → (unwrap_or given none).now ≡ unwrap_or (option_map (λ s. s.now) given) []
+unwrap_or-now None none empty = empty
+unwrap_or-now (Some text) none empty = refl
+
+-- ---- a number as text
+
+are_digits : (ds : List ℕ) → AllDigits 10 ds → list_all (λ d. nat_lt (digit_value d) 10) ds ≡ true
+are_digits [] h = refl
+are_digits (d ∷ ds) h = rw (lt-ltb (digit_value d) 10 h.0) (are_digits ds h.1)
+
+digits_from : (ds : List ℕ) → list_all (λ d. nat_lt (digit_value d) 10) ds ≡ true → AllDigits 10 ds
+digits_from [] e = tt
+digits_from (d ∷ ds) e =
+    let parts = and_parts _ _ e in
+    (ltb-true _ _ parts.0, digits_from ds parts.1)
+
+abbrev is_number : List ℕ → Bool
+is_number ds = nat_lt 0 (length ds) && list_all (λ d. nat_lt (digit_value d) 10) ds && nat_lt (digits_value 10 ds) 65536
+
+number_read : (E : Type 0) (text : Text) (n : ℕ) → ParsesUnsigned {E = E} 16 10 text (Ok n) → Some n ≡ number_of text
+number_read E text n h =
+    let ds = without_leading_plus text in
+    rw (lt-ltb 0 (length ds) h.0.0.0, are_digits ds h.0.0.1, lt-ltb (digits_value 10 ds) 65536 h.0.1, h.1) refl
+
+no_number_read : (E : Type 0) (text : Text) (e : E) → ParsesUnsigned 16 10 text (Err e) → None ≡ number_of text
+no_number_read E text e h = go (is_number (without_leading_plus text)) refl
+  where
+    go : (b : Bool) → is_number (without_leading_plus text) ≡ b → None ≡ number_of text
+    go false t = rw t refl
+    go true t =
+        let outer = and_parts _ _ t in
+        let inner = and_parts _ _ outer.0 in
+        absurd (h ((ltb-true _ _ inner.0, digits_from (without_leading_plus text) inner.1), ltb-true _ _ outer.1))
+
+-- ---- the numbers of a geometry
+
+pub in_range : (g : Geometry) → AreInRange (numbers_of g)
+in_range g = (g.aggregates_range, g.volumes_range, g.stripes_range, g.width_range, g.files_range, g.blocks_range, g.quota_range, g.half_range)
+
+-- what a typed getter gives for the text of an option, or for none
+pub got_number : (E : Type 0) (gives : List ℕ → Result ℕ E → Type 0) → ((t : List ℕ) (x : Result ℕ E) → gives t x → ParsesUnsigned 16 10 t x)
+    → (text : Option Text) (r : Option ℕ) → (text ≡ None → r ≡ None) → ((t : List ℕ) → text ≡ Some t → ReadsOne gives t r) → r ≡ option_and_then number_of text
+got_number E gives parses None r none value = none refl
+got_number E gives parses (Some t) (Some n) none value = number_read E t n (parses t (Ok n) (value t refl))
+got_number E gives parses (Some t) None none value =
+    let failed = value t refl in
+    no_number_read E t failed.0 (parses t (Err failed.0) failed.1)

@@ -1,0 +1,240 @@
+-- What the words of a call ask for. `clap` reads them, by its rules for the commands and options that stand here.
+use Rattle.std.specs.Prelude.{◌≡◌, ◌≢◌, ◌&&◌, ◌⊎◌, ℕ, Bool, true, false, List, [], ◌∷◌, fold, length, Option, Some, None, option_and_then, option_map, unwrap_or, Result, Ok, Err, codes, if◌then◌else◌, nat_lt, ℤ, pos}
+use Rattle.std.specs.Char.{digit_value}
+use Rattle.std.specs.List.{list_all}
+use Rattle.std.specs.Str.Parse.{digits_value, without_leading_plus}
+use Rattle.affinity.specs.declared.geometry.Geometry.{Geometry}
+use Rattle.affinity.specs.Geometry.{numbers_of, standard}
+use Rattle.affinity.specs.Limits.{AreInRange}
+use Rattle.clap.specs.Words.{App, Kinds, IsAmong, Row, Rule, Text, fault_of, first_of, kind_of, new_app, new_rule, subcommand_of, with_rule, with_subcommand}
+use Rattle.clap.specs.Simple.{on_top}
+use Rattle.clap.specs.Walk.{one_of}
+use Rattle.clap.specs.declared.builder.value_parser.ValueParser.TheVariants.{Signed}
+use Rattle.clap.specs.declared.error.Error.{Error}
+use Rattle.clap.specs.declared.error.kind.ErrorKind.{ErrorKind}
+use Rattle.clap.specs.declared.error.kind.ErrorKind.TheVariants.{DisplayHelp, DisplayVersion}
+use Rattle.clap.specs.declared.error.kind.ErrorKind.TheVariants as kind
+use Rattle.arguments.specs.declared.parsing.Request.{Request}
+use Rattle.arguments.specs.declared.parsing.Request.TheVariants.{Help, Plain, Format, Show, Serve}
+use Rattle.arguments.specs.declared.parsing.ServiceNumbers.{ServiceNumbers}
+use Rattle.arguments.specs.declared.parsing.WordRefusal.{WordRefusal}
+use Rattle.arguments.specs.declared.parsing.WordRefusal.TheVariants.{Words, OutOfMemory, GeometryOutOfRange}
+
+-- ---- the commands
+
+-- the options of a geometry, in the order of its numbers
+abbrev pub names : List Text
+names = codes "aggregates" ∷ codes "volumes" ∷ codes "stripes" ∷ codes "width" ∷ codes "files" ∷ codes "blocks" ∷ codes "quota"
+    ∷ codes "half" ∷ []
+
+-- an option with one value, a number from 0 to 65535
+abbrev pub number_rule : Text → Rule
+number_rule name = record (new_rule name) { long = Some name; value_names = 1; parser = Some (Signed (pos 0) (pos 65535)) }
+
+-- an option with one value, a number from the one to the other
+abbrev pub rule_within : Text → ℤ → ℤ → Rule
+rule_within name least most = record (new_rule name) { long = Some name; value_names = 1; parser = Some (Signed least most) }
+
+abbrev pub with_numbers : App → App
+with_numbers a = fold (λ b name. with_rule b (number_rule name)) a names
+
+-- the options of a service: how many workers it has, how many lines it reads before it has answered them, and after how many records
+-- it makes a point
+abbrev pub with_service : App → App
+with_service a =
+    with_rule (with_rule (with_rule a (rule_within (codes "workers") (pos 0) (pos 64))) (rule_within (codes "slots") (pos 1) (pos 1024)))
+    (rule_within (codes "every") (pos 0) (pos 1024))
+
+-- the file of a device, which has to be given
+abbrev pub device_rule : Rule
+device_rule = record (new_rule (codes "device")) { value_names = 1; required = true }
+
+-- the command `plain`
+abbrev pub plain : App
+plain = with_numbers (new_app (codes "plain"))
+
+-- the command `format`
+abbrev pub format : App
+format = with_numbers (with_rule (new_app (codes "format")) device_rule)
+
+-- the command `show`
+abbrev pub show : App
+show = with_rule (new_app (codes "show")) device_rule
+
+-- the command `serve`
+abbrev pub serve : App
+serve = with_service (with_rule (new_app (codes "serve")) device_rule)
+
+-- the program without its commands, of which one has to be given; it has a version
+abbrev pub bare : App
+bare = on_top (λ s. record s { has_version = true; subcommand_required = true; arg_required_else_help = true }) (new_app (codes "waffd"))
+
+-- the program
+abbrev pub waffd : App
+waffd = with_subcommand (with_subcommand (with_subcommand (with_subcommand bare plain.top) format.top) show.top) serve.top
+
+-- ---- what the words say
+
+-- the number that decimal digits write, with a plus before them or none, below 2^16
+abbrev pub number_of : Text → Option ℕ
+number_of text =
+    let digits = without_leading_plus text in
+    if nat_lt 0 (length digits) && list_all (λ d. nat_lt (digit_value d) 10) digits
+    && nat_lt (digits_value 10 digits) 65536 then Some (digits_value 10 digits) else None
+
+-- the number of an option among those that were given, or the standard one
+abbrev pub number_in : List Row → Text → ℕ → ℕ
+number_in rows name default = unwrap_or (option_and_then number_of (one_of name rows)) default
+
+-- the eight numbers
+abbrev pub numbers_in : List Row → List ℕ
+numbers_in rows =
+    number_in rows (codes "aggregates") standard.aggregates
+    ∷ number_in rows (codes "volumes") standard.volumes
+    ∷ number_in rows (codes "stripes") standard.stripes
+    ∷ number_in rows (codes "width") standard.width
+    ∷ number_in rows (codes "files") standard.files
+    ∷ number_in rows (codes "blocks") standard.blocks
+    ∷ number_in rows (codes "quota") standard.quota
+    ∷ number_in rows (codes "half") standard.half
+    ∷ []
+
+-- the numbers of a service in their order: its workers, its slots, and after how many records it makes a point
+abbrev pub service_numbers : ServiceNumbers → List ℕ
+service_numbers s = s.workers ∷ s.slots ∷ s.every ∷ []
+
+-- the numbers of a service
+abbrev pub service_in : List Row → List ℕ
+service_in rows =
+    number_in rows (codes "workers") 2
+    ∷ number_in rows (codes "slots") 16
+    ∷ number_in rows (codes "every") 0
+    ∷ []
+
+-- the file of the device; no words pass that don't tell it
+abbrev pub device_in : List Row → Text
+device_in rows = unwrap_or (first_of (codes "device") rows) []
+
+-- what `clap` may find in the words, the program's own name first: nothing, a call for help or the version, or mistakes
+abbrev pub findings : List Text → Kinds
+findings words = fault_of waffd words
+
+-- whether the text that tells of it goes to the standard error: it does, but for help and the version
+abbrev pub is_mistake : ErrorKind → Bool
+is_mistake DisplayHelp = false
+is_mistake DisplayVersion = false
+is_mistake _ = true
+
+-- the command that the words name, with what was given to its arguments
+abbrev pub command_of : List Text → Option (Text × List Row)
+command_of words = subcommand_of waffd words
+
+-- The command has this name.
+abbrev pub IsNamed : Text → Option (Text × List Row) → Type 0
+IsNamed name command = option_map (λ c. c.0) command ≡ Some name
+
+-- The command is `plain`: it is none of the others, and no words pass that name none.
+abbrev pub IsPlain : Option (Text × List Row) → Type 0
+IsPlain command = (¬ (IsNamed (codes "format") command)) × (¬ (IsNamed (codes "show") command)) × (¬ (IsNamed (codes "serve") command))
+
+-- the numbers that the options of the command give
+abbrev pub numbers_at : Option (Text × List Row) → List ℕ
+numbers_at None = numbers_of standard
+numbers_at (Some command) = numbers_in command.1
+
+-- the numbers of the service that the options of the command give
+abbrev pub service_at : Option (Text × List Row) → List ℕ
+service_at None = 2 ∷ 16 ∷ 0 ∷ []
+service_at (Some command) = service_in command.1
+
+-- the file of the device that is given to the command
+abbrev pub device_at : Option (Text × List Row) → Text
+device_at None = []
+device_at (Some command) = device_in command.1
+
+-- The geometry of these numbers, or their refusal.
+abbrev pub GivesGeometry : List ℕ → Result Geometry WordRefusal → Type 0
+GivesGeometry numbers (Ok g) = numbers_of g ≡ numbers
+GivesGeometry numbers (Err refusal) = (refusal ≡ GeometryOutOfRange) × (¬ (AreInRange numbers))
+
+-- The request, or its refusal, by the command.
+abbrev pub IsRequested : Option (Text × List Row) → Result Request WordRefusal → Type 0
+IsRequested command (Ok (Plain g)) = IsPlain command × (numbers_of g ≡ numbers_at command)
+IsRequested command (Ok (Format path g)) = IsNamed (codes "format") command × (path.now ≡ device_at command)
+    × (numbers_of g ≡ numbers_at command)
+IsRequested command (Ok (Show path)) = IsNamed (codes "show") command × (path.now ≡ device_at command)
+IsRequested command (Ok (Serve path s)) = IsNamed (codes "serve") command × (path.now ≡ device_at command)
+    × (service_numbers s ≡ service_at command)
+IsRequested command (Err GeometryOutOfRange) =
+    (¬ (IsNamed (codes "show") command)) × (¬ (IsNamed (codes "serve") command)) × (¬ (AreInRange (numbers_at command)))
+IsRequested command _ = ⊥
+
+-- The words ask for service without a device at this geometry.
+abbrev pub AsksPlain : List Text → Geometry → Type 0
+AsksPlain words g = (findings words ≡ []) × IsPlain (command_of words) × (numbers_of g ≡ numbers_at (command_of words))
+
+-- The words ask for a device of this geometry in the file of this path.
+abbrev pub AsksFormat : List Text → Text → Geometry → Type 0
+AsksFormat words path g = (findings words ≡ []) × IsNamed (codes "format") (command_of words) × (path ≡ device_at (command_of words))
+    × (numbers_of g ≡ numbers_at (command_of words))
+
+-- The words ask what the device in the file of this path holds.
+abbrev pub AsksShow : List Text → Text → Type 0
+AsksShow words path = (findings words ≡ []) × IsNamed (codes "show") (command_of words) × (path ≡ device_at (command_of words))
+
+-- The words ask for service with the device in the file of this path, and give these numbers for it.
+abbrev pub AsksServeWith : List Text → Text → List ℕ → Type 0
+AsksServeWith words path numbers =
+    (findings words ≡ []) × IsNamed (codes "serve") (command_of words) × (path ≡ device_at (command_of words))
+    × (numbers ≡ service_at (command_of words))
+
+-- The words ask for service without a device, or for a device, at numbers that are no geometry.
+abbrev pub AsksOutOfRange : List Text → Type 0
+AsksOutOfRange words =
+    (findings words ≡ []) × (¬ (IsNamed (codes "show") (command_of words))) × (¬ (IsNamed (codes "serve") (command_of words)))
+    × (¬ (AreInRange (numbers_at (command_of words))))
+
+-- The words ask for help.
+abbrev pub AsksHelp : List Text → Type 0
+AsksHelp words = findings words ≡ DisplayHelp ∷ []
+
+-- The words ask for the version.
+abbrev pub AsksVersion : List Text → Type 0
+AsksVersion words = findings words ≡ DisplayVersion ∷ []
+
+-- The words ask for no command: they ask for help or the version, or there are mistakes in them. Behind the word `help` there may be a
+-- mistake or none, and `clap` tells which.
+abbrev pub AsksNoService : List Text → Type 0
+AsksNoService words = findings words ≢ []
+
+-- There are mistakes in the words, and they ask for no help and no version.
+abbrev pub IsWrong : List Text → Type 0
+IsWrong words = (findings words ≢ []) × (list_all is_mistake (findings words) ≡ true)
+
+-- The words are refused.
+abbrev pub AreRefused : List Text → Type 0
+AreRefused words = IsWrong words ⊎ AsksOutOfRange words
+
+-- The words ask for this.
+abbrev pub Asks : List Text → Request → Type 0
+Asks words (Help text) = IsAmong (kind_of text) (findings words) × (is_mistake (kind_of text) ≡ false)
+Asks words (Plain g) = AsksPlain words g
+Asks words (Format path g) = AsksFormat words path.now g
+Asks words (Show path) = AsksShow words path.now
+Asks words (Serve path s) = AsksServeWith words path.now (service_numbers s)
+
+-- The words give no request for this reason. Memory may be wanting at any words.
+abbrev pub IsReason : List Text → WordRefusal → Type 0
+IsReason words (Words error) = IsAmong (kind_of error) (findings words) × (is_mistake (kind_of error) ≡ true)
+IsReason words OutOfMemory = Unit {0}
+IsReason words GeometryOutOfRange = AsksOutOfRange words
+
+-- what an error of `clap` stands for, by its kind
+abbrev pub answer_by : Error → ErrorKind → Result Request WordRefusal
+answer_by error kind.OutOfMemory = Err OutOfMemory
+answer_by error DisplayHelp = Ok (Help error)
+answer_by error DisplayVersion = Ok (Help error)
+answer_by error _ = Err (Words error)
+
+abbrev pub answer_of : Error → Result Request WordRefusal
+answer_of error = answer_by error (kind_of error)

@@ -1,0 +1,2 @@
+-- The words of what a command line asks for.
+pub mod Arguments

@@ -1,0 +1,316 @@
+//! The words that the program is called with, and what they ask for.
+ghost use Rattle.std.specs.Prelude.{◌≡◌, IfOk, IfErr, false, fold, map, string_bytes};
+ghost use Rattle.clap.specs.Words.{app_of, found_of, new_app, rows_of, rule_of, subcommand_rows_of, with_rule};
+ghost use Rattle.arguments.specs.Arguments.{Asks, GivesGeometry, IsReason, IsRequested, answer_of, device_in, device_rule, number_in, number_rule, numbers_in, rule_within, service_in, service_numbers, waffd, bare, plain, format, serve, with_numbers, with_service};
+ghost use Rattle.arguments.specs.declared.parsing.WordRefusal.TheVariants.{OutOfMemory};
+
+use affinity::{BadGeometry, Geometry};
+use clap::builder::ValueParser;
+use clap::error::ErrorKind;
+use clap::{Arg, ArgMatches, Command, value_parser};
+use std::alloc::{AllocError, Global};
+
+/// What `--version` prints behind the program's name: its version, and the kit and the logic with which it is proved.
+const VERSION: &str = "0.1.0 (proved with rattle-kit-13f, logic dac8208d650f15bf)";
+
+// What help says of the commands.
+const PLAIN: &str = "Answers the messages on standard input, one line each, from an empty state on";
+
+const FORMAT: &str = "Makes a device of an empty state in a file, instead of a file that is there";
+
+const SERVE: &str =
+    "Answers the messages on standard input, one line each, with the device in a file";
+
+const SHOW: &str = "Tells what the device in a file holds, and leaves it as it is";
+
+/// What help says of the file of a device.
+const DEVICE: &str = "The file of the device";
+
+/// The options of a geometry, in the order of its numbers: the name of each, and what help says of it.
+const NUMBERS: [(&str, &str); 8] = [
+    ("aggregates", "Aggregates, 1 to 4 [default: 1]"),
+    ("volumes", "Volumes of each aggregate, 1 to 8 [default: 4]"),
+    ("stripes", "Stripes of each volume, 1 to 8 [default: 4]"),
+    (
+        "width",
+        "Blocks in a row in one stripe, 1 to 64 [default: 4]",
+    ),
+    ("files", "Files of each volume, 1 to 64 [default: 16]"),
+    ("blocks", "Blocks of each file, 1 to 256 [default: 64]"),
+    (
+        "quota",
+        "Blocks that a stripe can hold, 1 to 64 [default: 64]",
+    ),
+    (
+        "half",
+        "Records in each half of the log, 4 to 1024 [default: 256]",
+    ),
+];
+
+// What help says of the options of a service.
+const WORKERS: &str = "Threads that run messages, 0 to 64 [default: 2]";
+
+const SLOTS: &str = "Lines that are read and not answered yet, 1 to 1024 [default: 16]";
+
+const EVERY: &str =
+    "Changes between consistency points, 0 to 1024; 0 makes them where the log is full [default: 0]";
+
+/// The numbers that the words give for a service.
+#[derive(Clone, Copy)]
+pub struct ServiceNumbers {
+    /// Threads that run messages.
+    pub workers: u16,
+    /// Lines that may be read and not be answered yet.
+    pub slots: u16,
+    /// Records after which a consistency point is made; with 0 one is made where the log is full.
+    pub every: u16,
+}
+
+/// What the words ask for.
+#[derive(Drop)]
+pub enum Request<'a> {
+    /// Print this text of `clap`: help, or the version.
+    Help(clap::Error),
+    /// Serve standard input to standard output, without a device.
+    Plain(Geometry),
+    /// Make a device of this geometry in the file of this path.
+    Format(&'a str, Geometry),
+    /// Tell what the device in the file of this path holds.
+    Show(&'a str),
+    /// Serve standard input to standard output with the device in the file of this path.
+    Serve(&'a str, ServiceNumbers),
+}
+
+/// Why the words give no request.
+#[derive(Drop)]
+pub enum WordRefusal {
+    /// `clap` says what is wrong with them.
+    Words(clap::Error),
+    /// There was no memory to read them.
+    OutOfMemory,
+    /// One of the numbers of the geometry is out of its range.
+    GeometryOutOfRange,
+}
+
+impl From<AllocError> for WordRefusal {
+    ghost from_gives = { λ _ refusal. refusal ≡ OutOfMemory };
+
+    fn from(_error: AllocError) -> WordRefusal {
+        WordRefusal::OutOfMemory
+    }
+}
+
+/// What an error of `clap` stands for: help or the version, a mistake in the words, or want of memory.
+fn answered<'a>(error: clap::Error) -> Result<Request<'a>, WordRefusal>
+    ensures { result ≡ answer_of error }
+{
+    if error.kind() == ErrorKind::OutOfMemory {
+        return Err(WordRefusal::OutOfMemory);
+    }
+    if error.use_stderr() {
+        return Err(WordRefusal::Words(error));
+    }
+    Ok(Request::Help(error))
+}
+
+/// An option that takes a number from 0 to 65535.
+fn number<'a>(alloc: Global, name: &'a str, help: &'a str) -> Arg<'a>
+    ensures rule { rule_of result ≡ number_rule name.entry.now }
+    ensures local { result.global ≡ false }
+{
+    Arg::new(alloc, name)
+        .long(name)
+        .value_name("N")
+        .value_parser(value_parser!(u16))
+        .help(help)
+}
+
+/// An option that takes a number from `least` to `most`.
+fn number_within<'a>(alloc: Global, name: &'a str, help: &'a str, least: i64, most: i64) -> Arg<'a>
+    ensures rule { rule_of result ≡ rule_within name.entry.now least most }
+    ensures local { result.global ≡ false }
+{
+    Arg::new(alloc, name)
+        .long(name)
+        .value_name("N")
+        .value_parser(ValueParser::signed(least, most))
+        .help(help)
+}
+
+/// The argument that tells the file of a device. It has to be given.
+fn device<'a>(alloc: Global) -> Arg<'a>
+    ensures rule { rule_of result ≡ device_rule }
+    ensures local { result.global ≡ false }
+{
+    Arg::new(alloc, "device")
+        .value_name("DEVICE")
+        .required(true)
+        .help(DEVICE)
+}
+
+/// The command with an option added for each name with its help. They take numbers from 0 to 65535.
+fn with_each<'a>(
+    alloc: Global,
+    command: Command<'a>,
+    options: &[(&'a str, &'a str)],
+) -> Result<Command<'a>, AllocError>
+    ensures { IfOk result (λ c. app_of c
+        ≡ fold (λ b option. with_rule b (number_rule option.0.now)) (app_of command.entry) options.now) }
+{
+    let mut command = command;
+    'options: for &(name, help) in options {
+        command = command.arg(number(alloc, name, help))?;
+    }
+    Ok(command)
+}
+
+/// The command with the options of a geometry added.
+fn with_geometry<'a>(alloc: Global, command: Command<'a>) -> Result<Command<'a>, AllocError>
+    ensures { IfOk result (λ c. app_of c ≡ with_numbers (app_of command.entry)) }
+{
+    with_each(alloc, command, &NUMBERS)
+}
+
+/// The command with the options of a service added.
+fn with_service<'a>(alloc: Global, command: Command<'a>) -> Result<Command<'a>, AllocError>
+    ensures { IfOk result (λ c. app_of c ≡ with_service (app_of command.entry)) }
+{
+    command
+        .arg(number_within(alloc, "workers", WORKERS, 0, 64))?
+        .arg(number_within(alloc, "slots", SLOTS, 1, 1024))?
+        .arg(number_within(alloc, "every", EVERY, 0, 1024))
+}
+
+/// A command with the file of a device.
+fn of_device<'a>(alloc: Global, name: &'a str, about: &'a str) -> Result<Command<'a>, AllocError>
+    ensures { IfOk result (λ c. app_of c ≡ with_rule (new_app name.entry.now) device_rule) }
+{
+    Command::new(alloc, name).about(about).arg(device(alloc))
+}
+
+/// The command `plain`.
+fn plain_command<'a>(alloc: Global) -> Result<Command<'a>, AllocError>
+    ensures { IfOk result (λ command. app_of command ≡ plain) }
+{
+    with_geometry(alloc, Command::new(alloc, "plain").about(PLAIN))
+}
+
+/// The command `format`.
+fn format_command<'a>(alloc: Global) -> Result<Command<'a>, AllocError>
+    ensures { IfOk result (λ command. app_of command ≡ format) }
+{
+    let on_device = of_device(alloc, "format", FORMAT)?;
+    with_geometry(alloc, on_device)
+}
+
+/// The command `serve`.
+fn serve_command<'a>(alloc: Global) -> Result<Command<'a>, AllocError>
+    ensures { IfOk result (λ command. app_of command ≡ serve) }
+{
+    let on_device = of_device(alloc, "serve", SERVE)?;
+    with_service(alloc, on_device)
+}
+
+/// The program without its commands.
+fn bare<'a>(alloc: Global) -> Command<'a>
+    ensures { app_of result ≡ bare }
+{
+    Command::new(alloc, "waffd")
+        .about("A server for messages about files of 512-byte blocks")
+        .version(VERSION)
+        .subcommand_required(true)
+        .arg_required_else_help(true)
+}
+
+/// The commands of the program, each with its options.
+fn commands<'a>(alloc: Global) -> Result<Command<'a>, AllocError>
+    ensures { IfOk result (λ command. app_of command ≡ waffd) }
+{
+    bare(alloc)
+        .subcommand(plain_command(alloc)?)?
+        .subcommand(format_command(alloc)?)?
+        .subcommand(of_device(alloc, "show", SHOW)?)?
+        .subcommand(serve_command(alloc)?)
+}
+
+/// The number that was given to an option, or the program's own.
+fn number_given(options: &ArgMatches<'_>, name: &str, standard: u16) -> u16
+    ensures { result ≡ number_in (rows_of (found_of options.now)) name.now standard }
+{
+    options.get_one::<u16>(name).unwrap_or(standard)
+}
+
+/// The eight numbers of the geometry that the options ask for.
+fn numbers_given(options: &ArgMatches<'_>) -> [u16; 8]
+    ensures { result ≡ numbers_in (rows_of (found_of options.now)) }
+{
+    let standard = Geometry::default();
+    [
+        number_given(options, "aggregates", standard.aggregates),
+        number_given(options, "volumes", standard.volumes),
+        number_given(options, "stripes", standard.stripes),
+        number_given(options, "width", standard.width),
+        number_given(options, "files", standard.files),
+        number_given(options, "blocks", standard.blocks),
+        number_given(options, "quota", standard.quota),
+        number_given(options, "half", standard.half),
+    ]
+}
+
+/// The geometry that the options ask for.
+fn geometry_given(options: &ArgMatches<'_>) -> Result<Geometry, WordRefusal>
+    ensures { GivesGeometry (numbers_in (rows_of (found_of options.now))) result }
+{
+    match Geometry::new(numbers_given(options)) {
+        Ok(geometry) => Ok(geometry),
+        Err(BadGeometry) => Err(WordRefusal::GeometryOutOfRange),
+    }
+}
+
+/// The numbers of the service that the options ask for.
+fn service_given(options: &ArgMatches<'_>) -> ServiceNumbers
+    ensures { service_numbers result ≡ service_in (rows_of (found_of options.now)) }
+{
+    ServiceNumbers {
+        workers: number_given(options, "workers", 2),
+        slots: number_given(options, "slots", 16),
+        every: number_given(options, "every", 0),
+    }
+}
+
+/// The file of the device that was given.
+fn device_given<'a>(options: &ArgMatches<'a>) -> &'a str
+    ensures { result.now ≡ device_in (rows_of (found_of options.now)) }
+{
+    options.get_str("device").unwrap_or("")
+}
+
+/// What the words ask for, where `clap` found nothing wrong with them.
+fn requested<'a>(matches: &ArgMatches<'a>) -> Result<Request<'a>, WordRefusal>
+    ensures { IsRequested (subcommand_rows_of matches.now) result }
+{
+    match matches.subcommand() {
+        Some(("format", options)) => Ok(Request::Format(
+            device_given(options),
+            geometry_given(options)?,
+        )),
+        Some(("show", options)) => Ok(Request::Show(device_given(options))),
+        Some(("serve", options)) => Ok(Request::Serve(
+            device_given(options),
+            service_given(options),
+        )),
+        Some((_plain, options)) => Ok(Request::Plain(geometry_given(options)?)),
+        None => Ok(Request::Plain(Geometry::default())),
+    }
+}
+
+/// What the words ask for, the program's own name first.
+pub fn read_words<'a>(alloc: Global, words: &'a [String]) -> Result<Request<'a>, WordRefusal>
+    ensures ok { IfOk result (Asks (map string_bytes words.now)) }
+    ensures err { IfErr result (IsReason (map string_bytes words.now)) }
+{
+    match commands(alloc)?.try_get_matches_from(words) {
+        Ok(matches) => requested(&matches),
+        Err(error) => answered(error),
+    }
+}

@@ -1,6 +1,0 @@
--- The lemma.
-use Rattle.checkpoint.proofs.Fine.{head, fine}
-use Rattle.checkpoint.proofs.laws.a_device_that_stands_is_not_refused.Goals as goal
-
-pub returns : goal.returns
-returns c g bytes x are stood = (head g bytes x are stood, fine g bytes x are stood)

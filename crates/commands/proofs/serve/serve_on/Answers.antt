@@ -1,0 +1,55 @@
+-- A refused opening leaves input and output; else the device comes back with all that its server promises.
+use Rattle.std.proofs.Common.{ℕ, refl, sym, subst}
+use Rattle.std.specs.Prelude.{Result, Err}
+use Rattle.disk.specs.Device.{AreBytes, Medium}
+use Rattle.scheduler.specs.CoreView.{IsJustOpened}
+use Rattle.commands.specs.Faults.{as_fault}
+use Rattle.commands.specs.Acknowledged.{KeepsAcknowledged}
+use Rattle.commands.specs.Promise.{LeavesRecovered}
+use Rattle.commands.specs.Serving.{EndsOnDevice, CrashesSafely}
+use Rattle.commands.specs.declared.faults.Fault.{Fault}
+use Rattle.commands.proofs.Kept.{keeps_acknowledged}
+use Rattle.commands.proofs.Promise.{leaves_recovered}
+use Rattle.commands.proofs.OnDevice.{ends_on_device, has_lived, has_served_by}
+use Rattle.commands.proofs.serve.serve_on.Goals as goal
+
+pub returns-in-Err-clause-ends : goal.returns-in-Err-clause-ends
+returns-in-Err-clause-ends g c =
+    let keeps = g.D.Disk.keeps in
+    let old = g.D.Disk.medium c.args.disk in
+    let new = g.D.Disk.medium c.in-Err.error.disk in
+    let input = g.R.Read.remaining c.args.r.now in
+    let before = g.W.Write.contents c.args.w.now in
+    subst (λ (f : Fault). EndsOnDevice keeps c.args.service old new (Err f) input input before before) (sym c.from-in-Err.ensures)
+    ((λ k. (c.in-Err.ensures.refused k, c.in-Err.ensures.unwritten k)), refl, refl, c.in-Err.ensures.device)
+
+pub returns : goal.returns
+returns g c =
+    let keeps = g.D.Disk.keeps in
+    let service = c.args.service in
+    let old = g.D.Disk.medium c.args.disk in
+    let start = c.in-Ok.core in
+    let now = c.serve_core-core.result.0 in
+    let end = c.serve_core-core.result.1 in
+    let input = g.R.Read.remaining c.args.r.now in
+    let left = g.R.Read.remaining c.serve_core-core.new.r in
+    let before = g.W.Write.contents c.args.w.now in
+    let written = g.W.Write.contents c.serve_core-core.new.w in
+    let fresh = subst (λ (n : ℕ). IsJustOpened n start) c.from.ensures c.in-Ok.ensures.opened in
+    let by = has_served_by keeps service old start now end input left before written fresh c.in-Ok.ensures.header c.in-Ok.ensures.recovered_before
+    c.in-Ok.ensures.any_moment c.serve_core-core.ensures c.recovers.ensures.now in
+    let bytes = subst (λ (m : Medium). AreBytes m.now) c.into_disk.ensures (g.met.D.Disk.bytes c.into_disk.result) in
+    let given_back : (P : Medium → Result (Unit {0}) Fault → Type 0) → P now.medium (as_fault end)
+    → P (g.D.Disk.medium c.into_disk.result) c.as_fault.result =
+    λ P h. subst (λ (m : Medium). P m c.as_fault.result) (sym c.into_disk.ensures)
+    (subst (λ (r : Result (Unit {0}) Fault). P now.medium r) (sym c.as_fault.ensures) h) in
+    record {
+      ends = given_back (λ m r. EndsOnDevice keeps service old m r input left before written)
+          (ends_on_device keeps service old now.medium end input left before written by c.recovers.ensures.no_doubt bytes);
+      crash_safe = given_back (λ m r. CrashesSafely keeps service old m r input left before written)
+          (has_lived keeps service old now.medium end input left before written by);
+      kept = given_back (λ m r. KeepsAcknowledged keeps old m r input before written)
+          (keeps_acknowledged keeps service old now.medium end input left before written by);
+      recovers = given_back (λ m r. LeavesRecovered keeps old m r input before written)
+          (leaves_recovered keeps service old now.medium end input left before written by);
+    }

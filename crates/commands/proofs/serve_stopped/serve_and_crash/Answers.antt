@@ -1,0 +1,22 @@
+-- What serving says of any device, of the one in memory that is crashed.
+use Rattle.disk.specs.Memory.{medium_of, memory_of}
+use Rattle.commands.proofs.Kept.{told_so}
+use Rattle.commands.proofs.Promise.{opened_then}
+use Rattle.commands.proofs.serve_stopped.serve_and_crash.Goals as goal
+
+pub returns : goal.returns
+returns g c =
+    let end = c.serve_on-disk.result.1 in
+    let before = g.W.Write.contents c.args.w.now in
+    let written = g.W.Write.contents c.serve_on-disk.new.w in
+    record {
+      crashed = record {
+        ended = memory_of c.serve_on-disk.result.0;
+        ends = c.serve_on-disk.ensures.ends;
+        crash_safe = c.serve_on-disk.ensures.crash_safe;
+        crash = c.crash.ensures.after;
+        leaves = c.crash.ensures.may;
+      };
+      kept = told_so end before written (λ k. k tt (medium_of c.crash.result).now c.crash.ensures.may) c.serve_on-disk.ensures.kept;
+      recovers = opened_then end (λ k. k tt (medium_of c.crash.result).now c.crash.ensures.may) c.serve_on-disk.ensures.recovers;
+    }

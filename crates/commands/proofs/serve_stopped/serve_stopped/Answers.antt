@@ -1,0 +1,29 @@
+-- The fuse that is set is no part of the medium.
+use Rattle.std.proofs.Common.{◌≡◌, ap, subst}
+use Rattle.disk.specs.Device.{Medium}
+use Rattle.disk.specs.Memory.{Memory, medium_of, memory_of}
+use Rattle.commands.specs.Acknowledged.{HoldsAcknowledged, UnlessUnsent}
+use Rattle.commands.specs.Promise.{HoldsRecovered, UnlessUnopened, unless_unsent}
+use Rattle.commands.specs.Serving.{HasServedUntilCrash}
+use Rattle.commands.proofs.serve_stopped.serve_stopped.Goals as goal
+
+pub returns : goal.returns
+returns g c =
+    let left = c.serve_and_crash.result.0 in
+    let end = c.serve_and_crash.result.1 in
+    let input = g.R.Read.remaining c.args.r.now in
+    let rest = g.R.Read.remaining c.serve_and_crash.new.r in
+    let before = g.W.Write.contents c.args.w.now in
+    let written = g.W.Write.contents c.serve_and_crash.new.w in
+    let same : medium_of c.stop_at.new.self ≡ medium_of c.args.disk = ap (λ (m : Memory). m.medium) c.stop_at.ensures in
+    record {
+      crashed = subst (λ (m : Medium). HasServedUntilCrash c.args.service m c.args.torn (memory_of left) end input rest before written)
+          same c.serve_and_crash.ensures.crashed;
+      kept = subst (λ (m : Medium). UnlessUnsent end before written (HoldsAcknowledged m input before written (medium_of left).now))
+          same c.serve_and_crash.ensures.kept;
+      recovers = subst (λ (m : Medium). UnlessUnopened end (HoldsRecovered m input (unless_unsent end before) written (medium_of left).now))
+          same c.serve_and_crash.ensures.recovers;
+    }
+
+pub serve_and_crash-requires-clause-stops : goal.serve_and_crash-requires-clause-stops
+serve_and_crash-requires-clause-stops g c lent outlives = ap (λ (m : Memory). m.injected_fault) c.stop_at.ensures

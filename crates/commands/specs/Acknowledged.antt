@@ -1,0 +1,45 @@
+-- What was told is kept: the promise of a service on a device, in words of its lines and of what a crash leaves.
+use Rattle.std.specs.Prelude.{◌≡◌, ℕ, List, Option, None, Result, Err}
+use Rattle.std.specs.Io.KnownBytes.{Appends}
+use Rattle.affinity.specs.declared.geometry.Geometry.{Geometry}
+use Rattle.checkpoint.specs.Header.{HasHeader}
+use Rattle.checkpoint.specs.Refusals.{refused}
+use Rattle.disk.specs.Device.{IsCrashImage, Medium}
+use Rattle.legal_runs.specs.CoreState.{Replied}
+use Rattle.meaning.specs.Output.{joined}
+use Rattle.meaning.specs.State.{State}
+use Rattle.serving.specs.Ends.{AreFirst}
+use Rattle.serving.specs.Lines.{admitted, ticketed}
+use Rattle.serving.specs.Logged.{AreInLog, HoldsLog}
+use Rattle.commands.specs.Serving.{RecoveredTo}
+use Rattle.commands.specs.declared.faults.Fault.{Fault}
+use Rattle.commands.specs.declared.faults.Fault.TheVariants.{Write, Open}
+
+-- The device recovered to a state, and the output has these lines for the first lines of the input. A log has each message that was told
+-- a reply by its ticket, with that reply. The bytes recover to where the log leads from that state, perhaps with more of the messages
+-- that were taken, and they are opened again.
+pub record HoldsAcknowledged (old : Medium) (input before written : Option (List ℕ)) (bytes : List ℕ) : Type 0 where
+  pub geometry : Geometry
+  pub start : State
+  pub recovered_before : RecoveredTo (Unit {0}) old geometry start
+  pub taken : List (List ℕ)
+  pub first : AreFirst input taken
+  pub sent : List (List ℕ)
+  pub output : Appends before written (joined sent)
+  pub log : List Replied
+  pub kept : AreInLog geometry log 0 taken sent
+  pub holds : HoldsLog geometry start (ticketed 0 (admitted geometry taken)) log bytes
+  pub header : HasHeader geometry bytes
+  pub not_refused : refused geometry bytes ≡ None
+
+-- Where a write failed it is open what was sent, and where the device could not be opened nothing was. At each other end this is so.
+abbrev pub UnlessUnsent : Result (Unit {0}) Fault → Option (List ℕ) → Option (List ℕ) → Type 0 → Type 0
+UnlessUnsent (Err Write) before written P = Unit {0}
+UnlessUnsent (Err (Open fault)) before written P = written ≡ before
+UnlessUnsent _ before written P = P
+
+-- What was told when a service ended is held by whatever a crash leaves then.
+abbrev pub KeepsAcknowledged : Type 0 → Medium → Medium → Result (Unit {0}) Fault → Option (List ℕ) → Option (List ℕ)
+    → Option (List ℕ) → Type 0
+KeepsAcknowledged keeps old new end input before written =
+    UnlessUnsent end before written (keeps → (c : List ℕ) → IsCrashImage new c → HoldsAcknowledged old input before written c)

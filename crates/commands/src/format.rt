@@ -1,0 +1,43 @@
+//! `waffd format`: a device of an empty state, in a file.
+ghost use Rattle.std.specs.Prelude.{◌≡◌, IfOk};
+ghost use Rattle.commands.specs.Ends.{EndsMaking};
+ghost use Rattle.commands.specs.Lines.{formatted_line};
+
+use crate::faults::Fault;
+use crate::lines::{add_line, write_lines};
+use affinity::Geometry;
+use checkpoint::{device_len, format};
+use disk::FileDisk;
+use std::alloc::{AllocError, Global};
+use std::fs::File;
+use std::io::Write;
+use std::rt::Files;
+
+/// What is printed of a device of this geometry that was made. `AllocError` where there is no memory.
+fn formatted_text(alloc: Global, geometry: &Geometry) -> Result<Vec<u8>, AllocError>
+    ensures { IfOk result (λ line. line.items ≡ formatted_line geometry.now) }
+{
+    let mut line = Vec::new(alloc);
+    add_line(&mut line, "formatted", &[device_len(geometry)])?;
+    Ok(line)
+}
+
+/// Makes a device of this geometry in the file of this path, instead of a file that is there, and
+/// prints its length on `w`. At a fault other than a write's nothing is. What the file then holds
+/// no contract sees, since none knows whether a file keeps its bytes.
+pub fn format_device<T: Files<File = File>, W: Write>(
+    rt: &T,
+    alloc: Global,
+    path: &str,
+    geometry: Geometry,
+    w: &mut W,
+) -> Result<(), Fault>
+    ensures { EndsMaking geometry result (W.contents w.old) (W.contents w.new) }
+{
+    let line = formatted_text(alloc, &geometry)?;
+    let disk = FileDisk::create(rt, path, device_len(&geometry))?;
+    if let Err(error) = format(alloc, disk, geometry) {
+        return Err(Fault::from(error.fault));
+    }
+    write_lines(&line, w)
+}

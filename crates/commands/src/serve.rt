@@ -1,0 +1,99 @@
+//! `waffd serve`: the lines of the input, answered on the device in a file by workers that run messages at once.
+ghost use Rattle.std.specs.Prelude.{◌≡◌, false};
+ghost use Rattle.legal_runs.specs.Laws.{IsIdle};
+ghost use Rattle.scheduler.specs.CoreView.{core_state_of};
+ghost use Rattle.serving.specs.Serve.{ServesSo};
+ghost use Rattle.commands.specs.Faults.{as_fault};
+ghost use Rattle.commands.specs.Acknowledged.{KeepsAcknowledged};
+ghost use Rattle.commands.specs.Promise.{LeavesRecovered};
+ghost use Rattle.commands.specs.Serving.{EndsInFile, EndsOnDevice, CrashesSafely};
+
+use crate::faults::Fault;
+use crate::service::Service;
+use disk::{Disk, FileDisk};
+use scheduler::Core;
+use serving::{ServeError, ServeFault, serve};
+use std::alloc::Global;
+use std::fs::File;
+use std::io::{Read, Write};
+use std::rt::Files;
+use std::sync::Wait;
+use std::thread::Threads;
+use workers::OpenGate;
+
+/// The same end, with the fault of the program.
+fn as_fault(end: Result<(), ServeFault>) -> Result<(), Fault>
+    ensures { result ≡ as_fault end }
+{
+    match end {
+        Ok(()) => Ok(()),
+        Err(fault) => Err(Fault::from(fault)),
+    }
+}
+
+/// Serves with a core in which no message is, and hands it back.
+fn serve_core<T: Threads + Wait + Sync, R: Read, W: Write, D: Disk + Drop>(
+    rt: &T,
+    alloc: Global,
+    core: Core<D>,
+    service: Service,
+    r: &mut R,
+    w: &mut W,
+) -> (Core<D>, Result<(), ServeFault>)
+    requires idle { IsIdle (core_state_of core) }
+    requires works { core.failed ≡ false }
+    ensures { ServesSo D.keeps service.workers core result (R.remaining r.old) (R.remaining r.new) (W.contents w.old)
+        (W.contents w.new) }
+{
+    let workers = usize::from(service.workers);
+    let every = u64::from(service.every);
+    match serve(rt, alloc, core, r, w, workers, every, &OpenGate) {
+        Ok(core) => (core, Ok(())),
+        Err(ServeError { core, fault }) => (core, Err(fault)),
+    }
+}
+
+/// Opens a device and answers the lines of `r` on `w` with it, from the state for which it stands. The device comes back as it
+/// was left.
+pub fn serve_on<T: Threads + Wait + Sync, R: Read, W: Write, D: Disk + Drop>(
+    rt: &T,
+    alloc: Global,
+    disk: D,
+    service: Service,
+    r: &mut R,
+    w: &mut W,
+) -> (D, Result<(), Fault>)
+    ensures ends { EndsOnDevice D.keeps service (D.medium disk) (D.medium result.0) result.1 (R.remaining r.old) (R.remaining r.new)
+        (W.contents w.old) (W.contents w.new) }
+    ensures crash_safe { CrashesSafely D.keeps service (D.medium disk) (D.medium result.0) result.1 (R.remaining r.old) (R.remaining r.new)
+        (W.contents w.old) (W.contents w.new) }
+    ensures kept { KeepsAcknowledged D.keeps (D.medium disk) (D.medium result.0) result.1 (R.remaining r.old)
+        (W.contents w.old) (W.contents w.new) }
+    ensures recovers { LeavesRecovered D.keeps (D.medium disk) (D.medium result.0) result.1 (R.remaining r.old)
+        (W.contents w.old) (W.contents w.new) }
+{
+    let core = match Core::open(alloc, disk, usize::from(service.slots)) {
+        Ok(core) => core,
+        Err(error) => return (error.disk, Err(Fault::from(error.fault))),
+    };
+    let (core, end) = serve_core(rt, alloc, core, service, r, w);
+    core.recovers();
+    (core.into_disk(), as_fault(end))
+}
+
+/// Answers the lines of `r` on `w` with the device in the file of this path, from the state for which it stands. The file has to be
+/// one that may be written. No contract sees what it then holds: what is said of its device holds where files keep their bytes.
+pub fn serve_device<T: Files<File = File> + Threads + Wait + Sync, R: Read, W: Write>(
+    rt: &T,
+    alloc: Global,
+    path: &str,
+    service: Service,
+    r: &mut R,
+    w: &mut W,
+) -> Result<(), Fault>
+    ensures { EndsInFile service result (R.remaining r.old) (R.remaining r.new) (W.contents w.old) (W.contents w.new) }
+{
+    let disk = FileDisk::open(rt, path)?;
+    let (_disk, end) = serve_on(rt, alloc, disk, service, r, w);
+    end
+}

@@ -1,0 +1,68 @@
+//! The promise of a service, with the moment as a variable: a device in memory that stops at any call, and then crashes.
+ghost use Rattle.std.specs.Prelude.{◌≡◌, ◌<◌};
+ghost use Rattle.disk.specs.Memory.{medium_of, memory_of};
+ghost use Rattle.disk.specs.Torn.{HasBytes};
+ghost use Rattle.disk.specs.declared.injected_fault.InjectedFault.TheVariants.{StopAt};
+ghost use Rattle.commands.specs.Acknowledged.{HoldsAcknowledged, UnlessUnsent};
+ghost use Rattle.commands.specs.Promise.{HoldsRecovered, UnlessUnopened, unless_unsent};
+ghost use Rattle.commands.specs.Serving.{HasServedUntilCrash};
+
+use crate::faults::Fault;
+use crate::serve::serve_on;
+use crate::service::Service;
+use disk::{MemDisk, Torn};
+use std::alloc::Global;
+use std::io::{Read, Write};
+use std::sync::Wait;
+use std::thread::Threads;
+
+/// Serves with a device that stops at its n-th call from now on, and crashes it. So the condition `stops` ties n to the device that is
+/// served: no clause of the return sees the fuse of a device that has crashed.
+fn serve_and_crash<T: Threads + Wait + Sync, R: Read, W: Write>(
+    rt: &T,
+    alloc: Global,
+    disk: MemDisk,
+    _n: u64,
+    torn: Torn,
+    service: Service,
+    r: &mut R,
+    w: &mut W,
+) -> (MemDisk, Result<(), Fault>)
+    requires stops { (memory_of disk).injected_fault ≡ StopAt _n }
+    requires bytes { HasBytes torn }
+    ensures crashed { HasServedUntilCrash service (medium_of disk) torn (memory_of result.0) result.1 (R.remaining r.old)
+        (R.remaining r.new) (W.contents w.old) (W.contents w.new) }
+    ensures kept { UnlessUnsent result.1 (W.contents w.old) (W.contents w.new)
+        (HoldsAcknowledged (medium_of disk) (R.remaining r.old) (W.contents w.old) (W.contents w.new) (medium_of result.0).now) }
+    ensures recovers { UnlessUnopened result.1 (HoldsRecovered (medium_of disk) (R.remaining r.old)
+        (unless_unsent result.1 (W.contents w.old)) (W.contents w.new) (medium_of result.0).now) }
+{
+    let (disk, end) = serve_on(rt, alloc, disk, service, r, w);
+    (disk.crash(torn), end)
+}
+
+/// Answers the lines of `r` on `w` with a device that stops at its n-th call, whichever that is, and crashes it. The service ended as
+/// `serve_on` says. What the crash leaves, however it tears what was not synced, holds each change whose line was written.
+pub fn serve_stopped<T: Threads + Wait + Sync, R: Read, W: Write>(
+    rt: &T,
+    alloc: Global,
+    disk: MemDisk,
+    n: u64,
+    torn: Torn,
+    service: Service,
+    r: &mut R,
+    w: &mut W,
+) -> (MemDisk, Result<(), Fault>)
+    requires call { 0 < n }
+    requires bytes { HasBytes torn }
+    ensures crashed { HasServedUntilCrash service (medium_of disk) torn (memory_of result.0) result.1 (R.remaining r.old)
+        (R.remaining r.new) (W.contents w.old) (W.contents w.new) }
+    ensures kept { UnlessUnsent result.1 (W.contents w.old) (W.contents w.new)
+        (HoldsAcknowledged (medium_of disk) (R.remaining r.old) (W.contents w.old) (W.contents w.new) (medium_of result.0).now) }
+    ensures recovers { UnlessUnopened result.1 (HoldsRecovered (medium_of disk) (R.remaining r.old)
+        (unless_unsent result.1 (W.contents w.old)) (W.contents w.new) (medium_of result.0).now) }
+{
+    let mut disk = disk;
+    disk.stop_at(n);
+    serve_and_crash(rt, alloc, disk, n, torn, service, r, w)
+}

@@ -1,0 +1,85 @@
+//! What contracts know of a device and no memory holds: its moments so far, and how often it failed.
+ghost use Rattle.std.specs.Prelude.{◌≡◌, []};
+ghost use Rattle.disk.specs.Device.{begun};
+ghost use Rattle.disk.specs.GhostDevice.{medium_after, bytes_of};
+
+use std::marker::Model;
+use std::mem;
+use std::snapshot::Snapshot;
+
+/// What a device reports of a call.
+#[derive(Clone, Copy, Debug)]
+pub(crate) enum Call {
+    /// It was made, with the given bytes.
+    Begun,
+    /// The bytes were written from this offset on.
+    Wrote(u64),
+    /// The bytes were to be written from this offset on, and a read gives what it gave before.
+    Lost(u64),
+    Synced,
+    /// A read or a sync failed.
+    Failed,
+    /// It was made, with this number of zeros.
+    Zeroed(u64),
+    /// It was found, with this number of bytes.
+    Found(u64),
+}
+
+/// The bytes of a call, the last one first.
+#[derive(Drop)]
+pub(crate) enum ByteList {
+    Empty,
+    More(u8, Snapshot<ByteList>),
+}
+
+/// The calls so far, the last one first.
+#[derive(Drop)]
+pub(crate) enum CallList {
+    Nothing,
+    After(Call, Snapshot<ByteList>, Snapshot<CallList>),
+}
+
+/// The calls of a device as contracts see them: a snapshot takes no memory. Nothing in itself ties it to a device: each device
+/// does so by its own ghost fields.
+#[derive(Drop)]
+pub(crate) struct GhostDevice {
+    last: Snapshot<CallList>,
+}
+
+/// The loop has no effect, so a compiler leaves it out.
+fn snapshot_of(bytes: &[u8]) -> Snapshot<ByteList>
+    ensures { bytes_of result.value ≡ bytes.now }
+{
+    let mut list = ByteList::Empty;
+    for byte in bytes.iter().copied() {
+        let before = Snapshot::of(&list);
+        list = ByteList::More(byte, before);
+    }
+    Snapshot::of(&list)
+}
+
+impl Model for GhostDevice {
+    ghost use Rattle.disk.specs.GhostDevice.{GhostDeviceView, medium_after_all};
+
+    ghost Value = { GhostDeviceView };
+
+    ghost view = { λ s. record { medium = medium_after_all s.last.value } };
+}
+
+impl GhostDevice {
+    pub(crate) fn new() -> GhostDevice
+        ensures { result.medium ≡ begun [] }
+    {
+        GhostDevice {
+            last: Snapshot::of(&CallList::Nothing),
+        }
+    }
+
+    /// Notes a call, with the bytes that it was given.
+    pub(crate) fn note(&mut self, call: &Call, bytes: &[u8])
+        ensures { self.new.medium ≡ medium_after call.now bytes.now self.old.medium }
+    {
+        let before = mem::replace(&mut self.last, Snapshot::of(&CallList::Nothing));
+        self.last = Snapshot::of(&CallList::After(*call, snapshot_of(bytes), before));
+    }
+}

@@ -1,0 +1,55 @@
+//! Fuses, by which a test lets calls of a device in memory fail, and the count of these calls.
+ghost use Rattle.std.specs.Prelude.{◌≡◌, ◌+◌, ◌-◌, ◌^◌, min};
+ghost use Rattle.disk.specs.declared.injected_fault.InjectedFault.TheVariants.{Off};
+
+#[derive(Clone, Copy, Debug)]
+pub(crate) enum InjectedFault {
+    Off,
+    /// The call of this number from now on fails, and later ones go on.
+    FailAt(u64),
+    /// The call of this number from now on fails, and so do all later ones.
+    StopAt(u64),
+}
+
+#[derive(Clone, Copy, Debug)]
+pub(crate) struct Meter {
+    pub(crate) injected_fault: InjectedFault,
+    pub(crate) calls: u64,
+}
+
+impl Meter {
+    ghost use Rattle.disk.specs.InjectedFault.{is_blown, burned};
+
+    pub(crate) fn new() -> Meter
+        ensures { result ≡ record { injected_fault = Off; calls = 0 } }
+    {
+        Meter {
+            injected_fault: InjectedFault::Off,
+            calls: 0,
+        }
+    }
+
+    /// Counts a call, and says whether it is to fail.
+    pub(crate) fn spend(&mut self) -> bool
+        ensures blown { result ≡ is_blown self.old.injected_fault }
+        ensures after { self.new ≡ record { injected_fault = burned self.old.injected_fault; calls = min (self.old.calls + 1) (2 ^ 64 - 1) } }
+    {
+        self.calls = self.calls.saturating_add(1);
+        match self.injected_fault {
+            InjectedFault::Off => false,
+            InjectedFault::FailAt(n) if n <= 1 => {
+                self.injected_fault = InjectedFault::Off;
+                true
+            }
+            InjectedFault::FailAt(n) => {
+                self.injected_fault = InjectedFault::FailAt(n - 1);
+                false
+            }
+            InjectedFault::StopAt(n) if n <= 1 => true,
+            InjectedFault::StopAt(n) => {
+                self.injected_fault = InjectedFault::StopAt(n - 1);
+                false
+            }
+        }
+    }
+}

@@ -1,0 +1,10 @@
+-- What the messages so far touch is marked, and no more.
+use Rattle.std.proofs.Common.{◌≡◌, length, take}
+use Rattle.journal.specs.DirtyPieces.{DirtiesTouched}
+use Rattle.journal.proofs.dirty.dirty_touched.Given as goal
+
+abbrev pub invariant-loop-m : goal.invariant-loop-m
+invariant-loop-m l = record {
+  size : length l.dirty ≡ length l.initial.dirty;
+  touched : DirtiesTouched l.g (take l.m-index l.messages) l.initial.dirty l.dirty;
+}

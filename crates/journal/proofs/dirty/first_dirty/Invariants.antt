@@ -1,0 +1,6 @@
+-- No piece before this one is marked.
+use Rattle.journal.specs.Keeping.{AreCleanBefore}
+use Rattle.journal.proofs.dirty.first_dirty.Given as goal
+
+abbrev pub invariant-loop-n : goal.invariant-loop-n
+invariant-loop-n l = AreCleanBefore l.n l.dirty

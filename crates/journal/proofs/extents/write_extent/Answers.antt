@@ -1,0 +1,54 @@
+-- The sizes of the extents before it sum up to its place, and there one write patches the image.
+use Rattle.std.proofs.Common.{◌≡◌, ◌+◌, ◌-◌, ℕ, List, sym, ◌∙◌, ap, arith}
+use Rattle.std.proofs.lemmas.Result.{err_from_is_err_and}
+use Rattle.disk.specs.Device.{overlaid}
+use Rattle.journal.specs.Extents.{image_in, extent_at, extent_size}
+use Rattle.journal.proofs.Patches.{image_long, one_patched}
+use Rattle.journal.proofs.Places.{extent_after, extent_inside, extent_rises, stretch_some}
+use Rattle.device_map.specs.Layout.{slice}
+use Rattle.journal.proofs.extents.write_extent.Goals as goal
+
+pub loop-i-preserved : goal.loop-i-preserved
+loop-i-preserved g c = (λ j. c.loop-i.invariant j + c.extent_size-at.ensures.size j) ∙ sym (extent_after c.args.g.now c.loop-i.i)
+
+pub overflow_add-at : goal.overflow_add-at
+overflow_add-at g c =
+    let next = extent_after c.args.g.now c.loop-i.i in
+    let rises = extent_rises c.args.g.now (c.loop-i.i + 1) c.args.n (omega arith) in
+    let inside = extent_inside c.args.g.now c.args.n c.requires.n in
+    omega (arith, next, rises, inside, c.requires.size, c.type_inv.bytes, c.loop-i.invariant, c.extent_size-at.ensures.size)
+
+pub overflow_add-at-2 : goal.overflow_add-at-2
+overflow_add-at-2 g c =
+    let last : c.loop-i.i ≡ c.args.n = omega arith in
+    let place : c.loop-i.at ≡ extent_at c.args.g.now c.args.n = c.loop-i.invariant ∙ ap (extent_at c.args.g.now) last in
+    let inside = extent_inside c.args.g.now c.args.n c.requires.n in
+    omega (arith, place, inside, c.requires.size, c.type_inv.bytes, c.extent_size.ensures.size)
+
+pub write_run-requires-clause-inside : goal.write_run-requires-clause-inside
+write_run-requires-clause-inside g c =
+    let last : c.loop-i.i ≡ c.args.n = omega arith in
+    let place : c.loop-i.at ≡ extent_at c.args.g.now c.args.n = c.loop-i.invariant ∙ ap (extent_at c.args.g.now) last in
+    let inside = extent_inside c.args.g.now c.args.n c.requires.n in
+    omega (arith, place, inside, c.requires.size, c.extent_size.ensures.size)
+
+pub returns-clause-written : goal.returns-clause-written
+returns-clause-written g c = λ k.
+    let last : c.loop-i.i ≡ c.args.n = omega arith in
+    let place : c.loop-i.at ≡ extent_at c.args.g.now c.args.n = c.loop-i.invariant ∙ ap (extent_at c.args.g.now) last in
+    let count : c.loop-i.at + c.extent_size.result - c.loop-i.at ≡ extent_size c.args.g.now c.args.n = omega (arith, c.extent_size.ensures.size) in
+    let old : List ℕ = image_in c.args.g.now c.args.area (g.D.Disk.medium c.args.disk.now) in
+    one_patched c.args.g.now c.args.n c.loop-i.at c.args.bytes.now old (image_in c.args.g.now c.args.area (g.D.Disk.medium c.write_run.new.disk)) c.requires.n c.requires.size
+    (image_long c.args.g.now c.args.area (g.D.Disk.medium c.args.disk.now) c.requires.area c.requires.whole) place
+    (c.in_ok-write_run.ensures.written k ∙ ap (λ (m : ℕ). overlaid old c.loop-i.at (slice c.args.bytes.now c.loop-i.at m)) count)
+
+pub returns-in_err-write_run-clause-takes : goal.returns-in_err-write_run-clause-takes
+returns-in_err-write_run-clause-takes g c =
+    let p = err_from_is_err_and c.from_residual.result c.from_residual.ensures.1 in
+    let some = stretch_some c.args.g.now c.args.n in
+    rw p.1 (λ k. c.in_err-write_run.ensures.takes (omega (arith, some, c.extent_size.ensures.size)) k)
+
+pub returns-clause-takes : goal.returns-clause-takes
+returns-clause-takes g c =
+    let some = stretch_some c.args.g.now c.args.n in
+    λ k. c.in_ok-write_run.ensures.takes (omega (arith, some, c.extent_size.ensures.size)) k

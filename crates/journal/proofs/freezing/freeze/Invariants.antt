@@ -1,7 +1,0 @@
--- Up to here the bytes are those of the image, if the pieces that aren't marked were so at first.
-use Rattle.journal.proofs.FrozenBytes.{IsFrozenTo}
-use Rattle.parcel.specs.Tree.{state_in}
-use Rattle.journal.proofs.freezing.freeze.Given as goal
-
-abbrev pub invariant-loop-n : goal.invariant-loop-n
-invariant-loop-n l = IsFrozenTo l.g (state_in l.tree) l.marks l.initial.bytes l.n l.at l.bytes

@@ -1,0 +1,212 @@
+-- Without a cut in progress the named area holds the state; else the cut is finished, and the records behind it run.
+use Rattle.std.proofs.Common.{Bool, true, false, refl, sym, ◌∙◌, ap, subst, arith}
+use Rattle.std.proofs.lemmas.Result.{err_from_is_err_and}
+use Rattle.affinity.specs.declared.geometry.Geometry.{Geometry}
+use Rattle.checkpoint.specs.Loading.{NamedHolds}
+use Rattle.checkpoint.specs.Recovery.{holds}
+use Rattle.checkpoint.specs.Refusals.{refused}
+use Rattle.checkpoint.proofs.Replays.{same_bytes}
+use Rattle.disk.specs.Moments.{CrashImagesAre}
+use Rattle.journal.specs.Parts.{IsBad, IsRefusedAlike}
+use Rattle.journal.specs.Steps.{RecoversStill}
+use Rattle.journal.proofs.Costs.{finish_is, no_call}
+use Rattle.journal.proofs.Loaded.{are_loaded, alone_fine, alone_holds, alone_recovers, held_after, not_off, not_on}
+use Rattle.journal.proofs.Settling.{alike_after, alike_read, all_unwritten, bad_behind, bad_from, bad_synced, still_after, still_read, still_synced, unread}
+use Rattle.oplog.specs.Beyond.{KeepsBeyond}
+use Rattle.device_map.specs.Layout.{layout_of, other}
+use Rattle.oplog.proofs.Beyond.{beyond_read, beyond_then}
+use Rattle.oplog.specs.Log.{Log, new_log, renamed}
+use Rattle.parcel.specs.Tree.{state_in}
+use Rattle.journal.proofs.opening.load_in_order.Goals as goal
+
+pub returns-in_err-named-clause-any_moment : goal.returns-in_err-named-clause-any_moment
+returns-in_err-named-clause-any_moment g c = λ k. still_read c.args.parts.now.tree.geometry _ _ (c.requires.calm k) (c.load_named.ensures.untouched k)
+
+pub returns-in_err-named-clause-alike : goal.returns-in_err-named-clause-alike
+returns-in_err-named-clause-alike g c = λ k. alike_read c.args.parts.now.tree.geometry _ _ (c.requires.header k) (c.requires.calm k) (c.load_named.ensures.untouched k)
+
+pub returns-in_err-named-clause-unwritten : goal.returns-in_err-named-clause-unwritten
+returns-in_err-named-clause-unwritten g c =
+    let p = err_from_is_err_and c.from_residual.result c.from_residual.ensures.1 in
+    rw (p.1, p.2) (λ k. all_unwritten _ _ _ (unread _ _ (c.load_named.ensures.untouched k)) (λ h. c.in_err-named.ensures.half k))
+
+pub returns-then-not-named-clause-any_moment : goal.returns-then-not-named-clause-any_moment
+returns-then-not-named-clause-any_moment g c = λ k. still_read c.args.parts.now.tree.geometry _ _ (c.requires.calm k) (c.load_named.ensures.untouched k)
+
+pub returns-then-not-named-clause-alike : goal.returns-then-not-named-clause-alike
+returns-then-not-named-clause-alike g c = λ k. alike_read c.args.parts.now.tree.geometry _ _ (c.requires.header k) (c.requires.calm k) (c.load_named.ensures.untouched k)
+
+pub returns-then-not-named-clause-alone : goal.returns-then-not-named-clause-alone
+returns-then-not-named-clause-alone g c = λ k.
+    let w0 = g.D.Disk.medium c.args.disk.now in
+    let w1 = g.D.Disk.medium c.load_named.new.disk in
+    let only = c.load_named.ensures.untouched k in
+    alone_recovers c.load_named.new.log w1 (state_in c.load_named.new.tree)
+    (held_after c.args.parts.now.tree.geometry c.load_named.new.log c.in_ok-named.named.area c.in_ok-named.named.chained false (state_in c.load_named.new.tree) w0 w1 c.in_ok-named.ensures.log (not_on c.in_ok-named.named.chained c.if-not-named.true) only (c.in_ok-named.ensures.loaded k))
+    (still_synced w0 w1 only (c.requires.calm k))
+
+pub returns-then-not-named-clause-was : goal.returns-then-not-named-clause-was
+returns-then-not-named-clause-was g c = λ k.
+    let geometry = c.args.parts.now.tree.geometry in
+    let now = (g.D.Disk.medium c.args.disk.now).now in
+    let x = state_in c.load_named.new.tree in
+    alone_holds geometry now c.in_ok-named.named.area x (subst (λ (t : Bool). NamedHolds geometry now c.in_ok-named.named.area t x) (not_on c.in_ok-named.named.chained c.if-not-named.true) (c.in_ok-named.ensures.loaded k))
+
+pub returns-then-not-named-clause-sound : goal.returns-then-not-named-clause-sound
+returns-then-not-named-clause-sound g c = λ k.
+    let geometry = c.args.parts.now.tree.geometry in
+    let now = (g.D.Disk.medium c.args.disk.now).now in
+    let x = state_in c.load_named.new.tree in
+    alone_fine geometry now c.in_ok-named.named.area x (subst (λ (t : Bool). NamedHolds geometry now c.in_ok-named.named.area t x) (not_on c.in_ok-named.named.chained c.if-not-named.true) (c.in_ok-named.ensures.loaded k))
+
+pub replay_behind-requires-clause-holds : goal.replay_behind-requires-clause-holds
+replay_behind-requires-clause-holds g c = λ k.
+    held_after c.args.parts.now.tree.geometry c.load_named.new.log c.in_ok-named.named.area c.in_ok-named.named.chained true (state_in c.load_named.new.tree) (g.D.Disk.medium c.args.disk.now) (g.D.Disk.medium c.load_named.new.disk) c.in_ok-named.ensures.log (not_off c.in_ok-named.named.chained c.if-not-named.false) (c.load_named.ensures.untouched k) (c.in_ok-named.ensures.loaded k)
+
+pub returns-in_err-replay_behind-clause-any_moment : goal.returns-in_err-replay_behind-clause-any_moment
+returns-in_err-replay_behind-clause-any_moment g c = λ k.
+    let w1 = g.D.Disk.medium c.load_named.new.disk in
+    let w2 = g.D.Disk.medium c.replay_behind.new.disk in
+    let log = ap (λ (l : Log). l.geometry) c.in_ok-named.ensures.log in
+    still_after c.args.parts.now.tree.geometry (g.D.Disk.medium c.args.disk.now) w1 w2 (c.requires.calm k) (c.load_named.ensures.untouched k)
+    (subst (λ (h : Geometry). RecoversStill h w1 w2) log (c.replay_behind.ensures.any_moment k))
+
+pub returns-in_err-replay_behind-clause-alike : goal.returns-in_err-replay_behind-clause-alike
+returns-in_err-replay_behind-clause-alike g c = λ k.
+    let w1 = g.D.Disk.medium c.load_named.new.disk in
+    let w2 = g.D.Disk.medium c.replay_behind.new.disk in
+    let log = ap (λ (l : Log). l.geometry) c.in_ok-named.ensures.log in
+    alike_after c.args.parts.now.tree.geometry (g.D.Disk.medium c.args.disk.now) w1 w2 (c.requires.header k) (c.requires.calm k) (c.load_named.ensures.untouched k)
+    (subst (λ (h : Geometry). CrashImagesAre w1 w2 (IsRefusedAlike h w1.now)) log (c.replay_behind.ensures.alike k))
+
+pub returns-in_err-replay_behind-clause-unwritten : goal.returns-in_err-replay_behind-clause-unwritten
+returns-in_err-replay_behind-clause-unwritten g c =
+    let p = err_from_is_err_and c.from_residual-in_err-replay_behind.result c.from_residual-in_err-replay_behind.ensures.1 in
+    rw (p.1, p.2)
+    (λ k.
+    let w2 = g.D.Disk.medium c.replay_behind.new.disk in
+    let w0 = g.D.Disk.medium c.args.disk.now in
+    let w1 = g.D.Disk.medium c.load_named.new.disk in
+    let bad = subst (λ (l : Log). IsBad l.geometry (other l.named) w1 w2 c.in_err-replay_behind.field-0.0) c.in_ok-named.ensures.log (c.in_err-replay_behind.ensures.behind k) in
+    bad_behind _ c.in_ok-named.named.area (g.D.Disk.medium c.args.disk.now) w2 c.args.parts.now.tree.geometry c.in_ok-named.ensures.area (c.in_ok-named.ensures.loaded k).named (c.requires.header k)
+    (bad_from _ _ _ w0 w1 w2 (same_bytes w0 w1 (c.load_named.ensures.untouched k)) bad))
+
+pub returns-clause-any_moment : goal.returns-clause-any_moment
+returns-clause-any_moment g c = λ k.
+    let w1 = g.D.Disk.medium c.load_named.new.disk in
+    let w2 = g.D.Disk.medium c.replay_behind.new.disk in
+    let log = ap (λ (l : Log). l.geometry) c.in_ok-named.ensures.log in
+    still_after c.args.parts.now.tree.geometry (g.D.Disk.medium c.args.disk.now) w1 w2 (c.requires.calm k) (c.load_named.ensures.untouched k)
+    (subst (λ (h : Geometry). RecoversStill h w1 w2) log (c.replay_behind.ensures.any_moment k))
+
+pub returns-clause-alike : goal.returns-clause-alike
+returns-clause-alike g c = λ k.
+    let w1 = g.D.Disk.medium c.load_named.new.disk in
+    let w2 = g.D.Disk.medium c.replay_behind.new.disk in
+    let log = ap (λ (l : Log). l.geometry) c.in_ok-named.ensures.log in
+    alike_after c.args.parts.now.tree.geometry (g.D.Disk.medium c.args.disk.now) w1 w2 (c.requires.header k) (c.requires.calm k) (c.load_named.ensures.untouched k)
+    (subst (λ (h : Geometry). CrashImagesAre w1 w2 (IsRefusedAlike h w1.now)) log (c.replay_behind.ensures.alike k))
+
+pub returns-clause-was : goal.returns-clause-was
+returns-clause-was g c = λ k.
+    let same = same_bytes (g.D.Disk.medium c.args.disk.now) (g.D.Disk.medium c.load_named.new.disk) (c.load_named.ensures.untouched k) in
+    let log = ap (λ (l : Log). l.geometry) c.in_ok-named.ensures.log in
+    sym (λ i. holds (log i) (same i)) ∙ c.in_ok-replay_behind.ensures.was k
+
+pub returns-clause-sound : goal.returns-clause-sound
+returns-clause-sound g c = λ k.
+    let same = same_bytes (g.D.Disk.medium c.args.disk.now) (g.D.Disk.medium c.load_named.new.disk) (c.load_named.ensures.untouched k) in
+    let log = ap (λ (l : Log). l.geometry) c.in_ok-named.ensures.log in
+    sym (λ i. refused (log i) (same i)) ∙ c.in_ok-replay_behind.ensures.sound k
+
+pub replay_behind-requires-clause-loaded : goal.replay_behind-requires-clause-loaded
+replay_behind-requires-clause-loaded g c =
+    let p = c.args.parts.now in
+    let taken = c.requires.taken in
+    are_loaded p _ p.tree.geometry (renamed c.in_ok-named.named.area (new_log p.tree.geometry)) (g.D.Disk.medium c.load_named.new.disk) c.in_ok-named.ensures.log refl refl refl c.in_ok-named.ensures.whole c.in_ok-named.ensures.geometry
+    (record { frozen = refl; named_dirty = refl; other_dirty = refl; due = refl }) taken.frozen taken.named_dirty taken.other_dirty taken.all (omega (arith, c.requires.whole, c.load_named.ensures.call.1))
+
+pub returns-then-not-named-clause-loaded : goal.returns-then-not-named-clause-loaded
+returns-then-not-named-clause-loaded g c =
+    let p = c.args.parts.now in
+    let taken = c.requires.taken in
+    are_loaded p _ p.tree.geometry (renamed c.in_ok-named.named.area (new_log p.tree.geometry)) (g.D.Disk.medium c.load_named.new.disk) c.in_ok-named.ensures.log refl refl refl c.in_ok-named.ensures.whole c.in_ok-named.ensures.geometry
+    (record { frozen = refl; named_dirty = refl; other_dirty = refl; due = refl }) taken.frozen taken.named_dirty taken.other_dirty taken.all (omega (arith, c.requires.whole, c.load_named.ensures.call.1))
+
+pub returns-then-not-named-clause-room : goal.returns-then-not-named-clause-room
+returns-then-not-named-clause-room g c = record { frozen = refl; named_dirty = refl; other_dirty = refl; due = refl }
+
+pub returns-clause-room : goal.returns-clause-room
+returns-clause-room g c =
+    let room = c.in_ok-replay_behind.ensures.room in
+    record { frozen = room.frozen; named_dirty = room.named_dirty; other_dirty = room.other_dirty; due = room.due }
+
+pub returns-in_err-named-clause-synced : goal.returns-in_err-named-clause-synced
+returns-in_err-named-clause-synced g c =
+    let p = err_from_is_err_and c.from_residual.result c.from_residual.ensures.1 in
+    rw p.1 (λ not_device k. still_synced (g.D.Disk.medium c.args.disk.now) (g.D.Disk.medium c.load_named.new.disk) (c.load_named.ensures.untouched k) (c.requires.calm k))
+
+pub returns-in_err-replay_behind-clause-synced : goal.returns-in_err-replay_behind-clause-synced
+returns-in_err-replay_behind-clause-synced g c =
+    let p = err_from_is_err_and c.from_residual-in_err-replay_behind.result c.from_residual-in_err-replay_behind.ensures.1 in
+    rw (p.1, p.2)
+    (λ not_device k.
+    let log = c.load_named.new.log in
+    bad_synced log.geometry (other log.named) c.in_err-replay_behind.field-0.0 (g.D.Disk.medium c.load_named.new.disk) (g.D.Disk.medium c.replay_behind.new.disk) not_device (c.in_err-replay_behind.ensures.behind k))
+
+pub returns-in_err-named-clause-beyond : goal.returns-in_err-named-clause-beyond
+returns-in_err-named-clause-beyond g c = λ k.
+    beyond_read (layout_of c.args.parts.now.tree.geometry) _ _ (c.load_named.ensures.untouched k)
+
+pub returns-then-not-named-clause-beyond : goal.returns-then-not-named-clause-beyond
+returns-then-not-named-clause-beyond g c = λ k.
+    beyond_read (layout_of c.args.parts.now.tree.geometry) _ _ (c.load_named.ensures.untouched k)
+
+pub returns-in_err-replay_behind-clause-beyond : goal.returns-in_err-replay_behind-clause-beyond
+returns-in_err-replay_behind-clause-beyond g c = λ k.
+    let t = c.args.parts.now.tree.geometry in
+    let w0 = g.D.Disk.medium c.args.disk.now in
+    let w1 = g.D.Disk.medium c.load_named.new.disk in
+    let w2 = g.D.Disk.medium c.replay_behind.new.disk in
+    let log = ap (λ (l : Log). l.geometry) c.in_ok-named.ensures.log in
+    beyond_then (layout_of t) w0 w1 w2 (beyond_read (layout_of t) w0 w1 (c.load_named.ensures.untouched k))
+    (subst (λ (h : Geometry). KeepsBeyond (layout_of h) w1 w2) log (c.replay_behind.ensures.beyond k))
+
+pub returns-clause-beyond : goal.returns-clause-beyond
+returns-clause-beyond g c = λ k.
+    let t = c.args.parts.now.tree.geometry in
+    let w0 = g.D.Disk.medium c.args.disk.now in
+    let w1 = g.D.Disk.medium c.load_named.new.disk in
+    let w2 = g.D.Disk.medium c.replay_behind.new.disk in
+    let log = ap (λ (l : Log). l.geometry) c.in_ok-named.ensures.log in
+    beyond_then (layout_of t) w0 w1 w2 (beyond_read (layout_of t) w0 w1 (c.load_named.ensures.untouched k))
+    (subst (λ (h : Geometry). KeepsBeyond (layout_of h) w1 w2) log (c.replay_behind.ensures.beyond k))
+
+pub returns-in_err-named-clause-takes : goal.returns-in_err-named-clause-takes
+returns-in_err-named-clause-takes g c =
+    let p = err_from_is_err_and c.from_residual.result c.from_residual.ensures.1 in
+    rw p.1
+    (λ k.
+    let read = no_call (g.D.Disk.medium c.args.disk.now) (g.D.Disk.medium c.load_named.new.disk) (c.load_named.ensures.untouched k) in
+    omega (arith, read))
+
+pub returns-then-not-named-clause-takes : goal.returns-then-not-named-clause-takes
+returns-then-not-named-clause-takes g c = λ k.
+    let read = no_call (g.D.Disk.medium c.args.disk.now) (g.D.Disk.medium c.load_named.new.disk) (c.load_named.ensures.untouched k) in
+    let none = finish_is c.args.parts.now.tree.geometry (g.D.Disk.medium c.args.disk.now).now c.in_ok-named.named.area c.in_ok-named.named.chained false (state_in c.load_named.new.tree) (not_on c.in_ok-named.named.chained c.if-not-named.true) (c.in_ok-named.ensures.loaded k) in
+    omega (arith, read, none)
+
+pub returns-in_err-replay_behind-clause-takes : goal.returns-in_err-replay_behind-clause-takes
+returns-in_err-replay_behind-clause-takes g c =
+    let p = err_from_is_err_and c.from_residual-in_err-replay_behind.result c.from_residual-in_err-replay_behind.ensures.1 in
+    rw p.1
+    (λ k.
+    let read = no_call (g.D.Disk.medium c.args.disk.now) (g.D.Disk.medium c.load_named.new.disk) (c.load_named.ensures.untouched k) in
+    let four = finish_is c.args.parts.now.tree.geometry (g.D.Disk.medium c.args.disk.now).now c.in_ok-named.named.area c.in_ok-named.named.chained true (state_in c.load_named.new.tree) (not_off c.in_ok-named.named.chained c.if-not-named.false) (c.in_ok-named.ensures.loaded k) in
+    omega (arith, read, four, c.in_err-replay_behind.ensures.takes k))
+
+pub returns-clause-takes : goal.returns-clause-takes
+returns-clause-takes g c = λ k.
+    let read = no_call (g.D.Disk.medium c.args.disk.now) (g.D.Disk.medium c.load_named.new.disk) (c.load_named.ensures.untouched k) in
+    let four = finish_is c.args.parts.now.tree.geometry (g.D.Disk.medium c.args.disk.now).now c.in_ok-named.named.area c.in_ok-named.named.chained true (state_in c.load_named.new.tree) (not_off c.in_ok-named.named.chained c.if-not-named.false) (c.in_ok-named.ensures.loaded k) in
+    omega (arith, read, four, c.in_ok-replay_behind.ensures.takes k)

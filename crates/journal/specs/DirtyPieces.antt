@@ -1,0 +1,51 @@
+-- Marks of a journal: for each of the two images, which of its pieces may be others than those of what is committed.
+use Rattle.std.specs.Prelude.{◌≡◌, ◌↔◌, ◌<◌, ℕ, suc, Bool, true, false, List, [], ◌∷◌, get_or, length, replicate}
+use Rattle.std.specs.List.{AllByRecursion}
+use Rattle.affinity.specs.declared.geometry.Geometry.{Geometry}
+use Rattle.image.specs.Pieces.{piece_count}
+use Rattle.image.specs.Touched.{may_change}
+use Rattle.messages.specs.declared.Msg.{Msg}
+
+pub record DirtyPieces : Type 0 where
+  -- of the image that is named
+  pub named : List Bool
+  -- of the other one, as it is or will be once a cut is written
+  pub others : List Bool
+
+-- how many are marked
+abbrev pub count_dirty : List Bool → ℕ
+count_dirty [] = 0
+count_dirty (true ∷ dirty) = suc (count_dirty dirty)
+count_dirty (false ∷ dirty) = count_dirty dirty
+
+-- Marks after these messages: a piece isn't marked exactly where it wasn't before and none of the messages touches it.
+abbrev pub DirtiesTouched : Geometry → List Msg → List Bool → List Bool → Type 0
+DirtiesTouched g ms old new = (n : ℕ) → n < piece_count g
+    → (get_or new n true ≡ false) ↔ ((get_or old n true ≡ false) × AllByRecursion (λ m. may_change g m n ≡ false) ms)
+
+-- the same in both images
+pub record AreBothTouched (g : Geometry) (ms : List Msg) (old new : DirtyPieces) : Type 0 where
+  pub named : DirtiesTouched g ms old.named new.named
+  pub others : DirtiesTouched g ms old.others new.others
+
+-- as many marks, none of them set
+abbrev pub unmarked : List Bool → List Bool
+unmarked dirty = replicate (length dirty) false
+
+-- ---- the marks after a step
+
+-- The other image was written and named: none of its pieces is marked. The image that was named keeps its marks.
+abbrev pub pointed_dirty : DirtyPieces → DirtyPieces
+pointed_dirty dirty = record { named = unmarked dirty.others; others = dirty.named }
+
+-- A cut has begun: the pieces of the other image that were marked are due, and then none is.
+abbrev pub cut_dirty : DirtyPieces → DirtyPieces
+cut_dirty dirty = record { named = dirty.named; others = unmarked dirty.others }
+
+-- The other image is named from now on: each keeps its marks.
+abbrev pub flipped_dirty : DirtyPieces → DirtyPieces
+flipped_dirty dirty = record { named = dirty.others; others = dirty.named }
+
+-- A device was just opened: the named image is that of its state, and of the other one nothing is known.
+abbrev pub opened_dirty : Geometry → DirtyPieces
+opened_dirty g = record { named = replicate (piece_count g) false; others = replicate (piece_count g) true }

@@ -1,0 +1,54 @@
+-- An image as the extents in which it is written: its head with the first piece, then each other piece.
+use Rattle.std.specs.Prelude.{◌≡◌, ◌≢◌, ◌<◌, ◌+◌, ℕ, zero, suc, Bool, true, false, List, ◌++◌, get_or}
+use Rattle.affinity.specs.declared.geometry.Geometry.{Geometry}
+use Rattle.disk.specs.Device.{Medium, IsSynced}
+use Rattle.image.specs.Image.{image_head}
+use Rattle.image.specs.Pieces.{piece_at, piece_count, piece_of, piece_size}
+use Rattle.oplog.specs.Changes.{IsSameBut}
+use Rattle.device_map.specs.Layout.{slice, layout_of, part_bytes, image}
+use Rattle.meaning.specs.State.{State}
+
+-- where a extent begins in its image, and how many bytes it has
+abbrev pub extent_at : Geometry → ℕ → ℕ
+extent_at g zero = 0
+extent_at g (suc n) = piece_at g (suc n)
+
+abbrev pub extent_size : Geometry → ℕ → ℕ
+extent_size g zero = 64 + piece_size g 0
+extent_size g (suc n) = piece_size g (suc n)
+
+-- the bytes of a extent
+abbrev pub extent_in : Geometry → List ℕ → ℕ → List ℕ
+extent_in g bytes n = slice bytes (extent_at g n) (extent_size g n)
+
+-- the extent of a state
+abbrev pub extent_of : Geometry → State → ℕ → List ℕ
+extent_of g x zero = image_head 2 ++ piece_of 2 g x 0
+extent_of g x (suc n) = piece_of 2 g x (suc n)
+
+-- Two rows of bytes have the same in each extent that isn't marked.
+abbrev pub AgreeOnClean : Geometry → List Bool → List ℕ → List ℕ → Type 0
+AgreeOnClean g dirty xs ys = (n : ℕ) → n < piece_count g → get_or dirty n true ≡ false → extent_in g xs n ≡ extent_in g ys n
+
+-- Each extent that isn't marked is the one of this state.
+abbrev pub AreSpelled : Geometry → State → List Bool → List ℕ → Type 0
+AreSpelled g x dirty bytes = (n : ℕ) → n < piece_count g → get_or dirty n true ≡ false → extent_in g bytes n ≡ extent_of g x n
+
+-- Every extent is marked.
+abbrev pub AreAllDirty : Geometry → List Bool → Type 0
+AreAllDirty g dirty = (n : ℕ) → n < piece_count g → get_or dirty n true ≡ true
+
+-- the bytes of the image of an area
+abbrev pub image_in : Geometry → ℕ → Medium → List ℕ
+image_in g area m = part_bytes (layout_of g) (image area) m.now
+
+-- The image of an area has these bytes, nothing else has changed, and nothing is unsynced.
+pub record Imaged (g : Geometry) (area : ℕ) (bytes : List ℕ) (old new : Medium) : Type 0 where
+  pub same : IsSameBut (layout_of g) (image area) old.now new.now
+  pub is : image_in g area new ≡ bytes
+  pub calm : IsSynced new
+
+-- Stretch n is now that of these bytes, and each other one is as it was.
+pub record IsPatchedAt (g : Geometry) (n : ℕ) (bytes old new : List ℕ) : Type 0 where
+  pub is : extent_in g new n ≡ extent_in g bytes n
+  pub others : (i : ℕ) → i < piece_count g → i ≢ n → extent_in g new i ≡ extent_in g old i

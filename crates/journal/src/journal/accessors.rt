@@ -1,0 +1,52 @@
+//! What a journal tells without a call of its device, and the device at its end.
+ghost use Rattle.std.specs.Prelude.{◌≡◌, false};
+ghost use Rattle.journal.specs.Journal.{IsCommitted};
+
+use super::Journal;
+use affinity::Geometry;
+use disk::Disk;
+
+impl<D: Disk> Journal<D> {
+    /// How many records can still be logged before a point is due.
+    pub fn room(&self) -> usize
+        ensures room { result ≡ self.now.room }
+        ensures sound { self.now.failed ≡ false → D.keeps → IsCommitted self.now }
+    {
+        self.halves.room()
+    }
+
+    /// How many pieces of a cut are still to be written, while one is in progress.
+    pub fn left(&self) -> Option<usize>
+        ensures { result ≡ self.now.left }
+    {
+        self.left
+    }
+
+    /// The numbers of the server.
+    pub fn geometry(&self) -> Geometry
+        ensures { result ≡ self.now.geometry }
+    {
+        self.halves.geometry()
+    }
+
+    /// Whether the device has failed in a call.
+    pub fn failed(&self) -> bool
+        ensures { result ≡ self.now.failed }
+    {
+        self.failed
+    }
+
+    /// The device.
+    pub fn disk(&self) -> &D
+        ensures { D.medium result.now ≡ self.now.medium }
+    {
+        &self.disk
+    }
+
+    /// The device.
+    pub fn into_disk(self) -> D
+        ensures { D.medium result ≡ self.medium }
+    {
+        self.disk
+    }
+}

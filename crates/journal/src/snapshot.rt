@@ -1,0 +1,43 @@
+//! The state of a point or a cut, frozen as the bytes of its image.
+ghost use Rattle.std.specs.Prelude.{◌≡◌, ◌≤◌, drop, length, take};
+ghost use Rattle.image.specs.Image.{image_head, image_of};
+ghost use Rattle.image.specs.Pieces.{piece_count};
+ghost use Rattle.journal.specs.Extents.{AreSpelled};
+ghost use Rattle.device_map.specs.Layout.{image_size};
+ghost use Rattle.parcel.specs.Tree.{IsWholeTree, state_in};
+
+use device_map::IMAGE_HEAD_SIZE;
+use image::layout::{VERSION, head_of, piece_size};
+use parcel::{Tree, write_piece};
+
+/// Writes the head of an image.
+fn write_head(bytes: &mut [u8])
+    requires { 64 ≤ length bytes.old }
+    ensures head { take 64 bytes.new ≡ image_head 2 }
+    ensures rest { drop 64 bytes.new ≡ drop 64 bytes.old }
+    ensures size { length bytes.new ≡ length bytes.old }
+{
+    bytes[..IMAGE_HEAD_SIZE].copy_from_slice(&head_of(VERSION));
+}
+
+/// Makes bytes the image of what a whole tree holds, of which all extents but the marked ones are there already: those
+/// alone are spelled.
+pub(crate) fn freeze(tree: &Tree, dirty: &[bool], bytes: &mut [u8])
+    requires whole { IsWholeTree tree.now }
+    requires dirty { length dirty.now ≡ piece_count tree.now.geometry }
+    requires size { length bytes.old ≡ image_size tree.now.geometry }
+    ensures image { AreSpelled tree.now.geometry (state_in tree.now) dirty.now bytes.old
+        → bytes.new ≡ image_of 2 tree.now.geometry (state_in tree.now) }
+    ensures size { length bytes.new ≡ length bytes.old }
+{
+    let g = tree.geometry();
+    write_head(bytes);
+    let mut at = IMAGE_HEAD_SIZE;
+    for (n, is_dirty) in dirty.iter().enumerate() {
+        let end = at + piece_size(&g, n);
+        if *is_dirty {
+            write_piece(tree, n, &mut bytes[at..end]);
+        }
+        at = end;
+    }
+}

@@ -1,3 +1,0 @@
--- The lemmas of this crate: lines in the order of their tickets, and the row that holds them.
-mod Order
-mod Rows

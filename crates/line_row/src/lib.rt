@@ -1,6 +1,0 @@
-//! The row of lines: what is known of each line that was read and not said yet, in the order in which they were read.
-#![tactic(auto)]
-
-mod row;
-
-pub use row::{Line, LineRow};

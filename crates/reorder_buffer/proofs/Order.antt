@@ -1,0 +1,119 @@
+-- Lines whose tickets go up by one: each has its place, and an answer leaves the others as they are. And lines that are looked at one
+-- after the other, and answered where they are those of a ticket.
+use Rattle.std.proofs.Common.{◌≡◌, ℕ, ◌+◌, ◌<◌, ◌≤◌, Bool, true, false, zero, suc, List, [], ◌∷◌, ◌⊎◌, inl, inr}
+use Rattle.std.proofs.Common.{if◌then◌else◌, ◌==◌, drop, take, length, map, set, get_or, refl, ap, sym, ◌∙◌, subst, arith}
+use Rattle.std.proofs.lemmas.Bool.{ne_eqb}
+use Rattle.messages.specs.declared.Reply.{Reply}
+use Rattle.reorder_buffer.specs.ReorderBuffer.{Completed, Line, NoMessage, OutOfRange, Pending, complete_one, AreFrom, AreConsecutive, IsOf}
+
+-- a line that has a ticket is that ticket's
+pub ticket_in : (line : Line) → ((ticket : ℕ) × (line ≡ Pending ticket)) ⊎ ((ticket : ℕ) × (reply : Reply) × (line ≡ Completed ticket reply))
+    → (ticket : ℕ) × IsOf ticket line
+ticket_in line (inl (ticket, is)) = (ticket, subst (λ (l : Line). IsOf ticket l) (sym is) refl)
+ticket_in line (inr (ticket, reply, is)) = (ticket, subst (λ (l : Line). IsOf ticket l) (sym is) refl)
+
+one_more : (k : ℕ) → suc k ≡ k + 1
+one_more k = omega arith
+
+module _ (ticket : ℕ) (reply : Reply) where
+  -- ---- what an answer leaves
+
+  -- these lines, as they are
+  abbrev Left : List Line → Type 0
+  Left lines = map (complete_one ticket reply) lines ≡ lines
+
+  -- the line of another message
+  left : (n : ℕ) (line : Line) → IsOf n line → (n ≡ ticket → ⊥) → complete_one ticket reply line ≡ line
+  left n NoMessage of differs = refl
+  left n OutOfRange of differs = refl
+  left n (Completed t r) of differs = refl
+  left n (Pending t) of differs =
+      ap (λ (b : Bool). if b then Completed t reply else Pending t) (ne_eqb t ticket (λ e. differs (sym of ∙ e)))
+
+  both_left : (line : Line) (ticketed : List Line) → complete_one ticket reply line ≡ line → Left ticketed → Left (line ∷ ticketed)
+  both_left line ticketed first rest =
+      ap (λ (l : Line). l ∷ map (complete_one ticket reply) ticketed) first ∙ ap (λ (l : List Line). line ∷ l) rest
+
+  -- those that all have greater tickets
+  pub greater_left : (n : ℕ) (ticketed : List Line) → ticket < n → AreFrom n ticketed → Left ticketed
+  greater_left n [] lt from = refl
+  greater_left n (line ∷ ticketed) lt from =
+      both_left line ticketed (left n line from.0 (λ e. omega (arith, e, lt))) (greater_left (n + 1) ticketed (omega (arith, lt)) from.1)
+
+  -- those that all have smaller ones
+  pub smaller_left : (n : ℕ) (ticketed : List Line) → n + length ticketed ≤ ticket → AreFrom n ticketed → Left ticketed
+  smaller_left n [] le from = refl
+  smaller_left n (line ∷ ticketed) le from =
+      both_left line ticketed (left n line from.0 (λ e. omega (arith, e, le))) (smaller_left (n + 1) ticketed (omega (arith, le)) from.1)
+
+  -- those before the place of the ticket
+  pub before_left : (n i : ℕ) (ticketed : List Line) → n + i ≡ ticket → AreFrom n ticketed → Left (take i ticketed)
+  before_left n zero ticketed is from = refl
+  before_left n (suc i) [] is from = refl
+  before_left n (suc i) (line ∷ ticketed) is from =
+      both_left line (take i ticketed) (left n line from.0 (λ e. omega (arith, e, is)))
+      (before_left (n + 1) i ticketed (omega (arith, is)) from.1)
+
+  -- those behind it
+  behind : (n i : ℕ) (ticketed : List Line) → n + i ≡ ticket → AreFrom n ticketed → Left (drop (suc i) ticketed)
+  behind n i [] is from = refl
+  behind n zero (line ∷ ticketed) is from = greater_left (n + 1) ticketed (omega (arith, is)) from.1
+  behind n (suc i) (line ∷ ticketed) is from = behind (n + 1) i ticketed (omega (arith, is)) from.1
+
+  pub behind_left : (n i : ℕ) (ticketed : List Line) → n + i ≡ ticket → AreFrom n ticketed → Left (drop (i + 1) ticketed)
+  behind_left n i ticketed is from =
+      subst (λ (k : ℕ). Left (drop k ticketed)) (one_more i) (behind n i ticketed is from)
+
+  -- ---- lines that are looked at
+
+  -- the first so many were looked at
+  abbrev pub looked : ℕ → List Line → List Line
+  looked zero row = row
+  looked (suc k) [] = []
+  looked (suc k) (line ∷ row) = complete_one ticket reply line ∷ looked k row
+
+  -- it begins where those before are left as they are
+  pub looked_first : (k : ℕ) (row : List Line) → Left (take k row) → row ≡ looked k row
+  looked_first zero row same = refl
+  looked_first (suc k) [] same = refl
+  looked_first (suc k) (line ∷ row) same =
+      ap (λ (l : List Line). get_or l 0 line ∷ row) (sym same) ∙ ap (λ (l : List Line). complete_one ticket reply line ∷ l)
+      (looked_first k row (ap (λ (l : List Line). drop 1 l) same))
+
+  -- it ends where those behind are left as they are
+  pub looked_last : (k : ℕ) (row : List Line) → Left (drop k row) → looked k row ≡ map (complete_one ticket reply) row
+  looked_last zero row same = sym same
+  looked_last (suc k) [] same = refl
+  looked_last (suc k) (line ∷ row) same = ap (λ (l : List Line). complete_one ticket reply line ∷ l) (looked_last k row same)
+
+  then_next : (k : ℕ) (row : List Line) (d : Line) → k < length row
+      → set (looked k row) k (complete_one ticket reply (get_or (looked k row) k d)) ≡ looked (suc k) row
+  then_next zero [] d within = absurd (omega (arith, within))
+  then_next (suc k) [] d within = absurd (omega (arith, within))
+  then_next zero (line ∷ row) d within = refl
+  then_next (suc k) (line ∷ row) d within = ap (λ l. complete_one ticket reply line ∷ l) (then_next k row d (omega (arith, within)))
+
+  -- the next one is looked at
+  pub looks_at : (k : ℕ) (row : List Line) (line : Line) → k < length row → line ≡ get_or (looked k row) k line
+      → set (looked k row) k (complete_one ticket reply line) ≡ looked (k + 1) row
+  looks_at k row line within is =
+      ap (λ l. set (looked k row) k (complete_one ticket reply l)) is ∙ then_next k row line within ∙ ap (λ n. looked n row) (one_more k)
+
+  -- ---- lines that stay in order
+
+  of_answered : (n : ℕ) (line : Line) → IsOf n line → IsOf n (complete_one ticket reply line)
+  of_answered n NoMessage of = of
+  of_answered n OutOfRange of = of
+  of_answered n (Completed t r) of = of
+  of_answered n (Pending t) of = elim (t == ticket) as (λ b. IsOf n (if b then Completed t reply else Pending t)) [
+    | true ↦ of
+    | false ↦ of
+  ]
+
+  from_looked : (k n : ℕ) (row : List Line) → AreFrom n row → AreFrom n (looked k row)
+  from_looked zero n row from = from
+  from_looked (suc k) n [] from = from
+  from_looked (suc k) n (line ∷ row) from = (of_answered n line from.0, from_looked k (n + 1) row from.1)
+
+  pub looked_in_order : (k : ℕ) (row : List Line) → AreConsecutive row → AreConsecutive (looked k row)
+  looked_in_order k row order = (order.0, from_looked k order.0 row order.1)

@@ -1,0 +1,86 @@
+-- A reorder buffer whose lines with tickets lie beside the kinds of all: its lines, as it grows, shrinks and is answered.
+use Rattle.std.proofs.Common.{◌≡◌, ℕ, ◌+◌, ◌<◌, ◌≤◌, suc, List, [], ◌∷◌, ◌++◌, length, map, refl, ap, sym, ◌∙◌, append-nil, arith}
+use Rattle.messages.specs.declared.Reply.{Reply}
+use Rattle.reorder_buffer.specs.ReorderBuffer.{Completed, Line, NoMessage, OutOfRange, Pending, complete_one, AreFrom, IsOf, Ticketed, LineKind, Outside, ReorderBufferView, Stray, ticketed_among, lines_of, with_tickets}
+
+-- ---- how many lines there are
+
+length-lines_of : (kinds : List LineKind) (ticketed : List Line) → ticketed_among kinds ≡ length ticketed
+    → length (lines_of kinds ticketed) ≡ length kinds
+length-lines_of [] ticketed many = refl
+length-lines_of (Stray ∷ kinds) ticketed many = ap suc (length-lines_of kinds ticketed many)
+length-lines_of (Outside ∷ kinds) ticketed many = ap suc (length-lines_of kinds ticketed many)
+length-lines_of (Ticketed ∷ kinds) [] many = absurd (omega (arith, many))
+length-lines_of (Ticketed ∷ kinds) (line ∷ ticketed) many = ap suc (length-lines_of kinds ticketed (omega (arith, many)))
+
+pub length-row : (kinds : List LineKind) (ticketed : List Line) (slots : ℕ) (row : ReorderBufferView)
+    → record { lines = lines_of kinds ticketed; slots = slots } ≡ row → ticketed_among kinds ≡ length ticketed → length row.lines ≡ length kinds
+length-row kinds ticketed slots row is many = sym (ap (λ (v : ReorderBufferView). length v.lines) is) ∙ length-lines_of kinds ticketed many
+
+-- where there is room for a line, there is for its kind
+pub kinds_have_room : (kinds : List LineKind) (ticketed : List Line) (slots : ℕ) (row : ReorderBufferView)
+    → record { lines = lines_of kinds ticketed; slots = slots } ≡ row → ticketed_among kinds ≡ length ticketed → length row.lines < row.slots → length kinds < slots
+kinds_have_room kinds ticketed slots row is many room =
+    let lines = length-row kinds ticketed slots row is many in
+    let same : slots ≡ row.slots = ap (λ (v : ReorderBufferView). v.slots) is in
+    omega (arith, lines, same, room)
+
+pub fewer_are_ticketed : (kinds : List LineKind) → ticketed_among kinds ≤ length kinds
+fewer_are_ticketed [] = omega arith
+fewer_are_ticketed (Stray ∷ kinds) = omega (arith, fewer_are_ticketed kinds)
+fewer_are_ticketed (Outside ∷ kinds) = omega (arith, fewer_are_ticketed kinds)
+fewer_are_ticketed (Ticketed ∷ kinds) = omega (arith, fewer_are_ticketed kinds)
+
+-- ---- one line more
+
+pub ticketed_among-append : (kinds more : List LineKind) → ticketed_among (kinds ++ more) ≡ ticketed_among kinds + ticketed_among more
+ticketed_among-append [] more = omega arith
+ticketed_among-append (Stray ∷ kinds) more = ticketed_among-append kinds more
+ticketed_among-append (Outside ∷ kinds) more = ticketed_among-append kinds more
+ticketed_among-append (Ticketed ∷ kinds) more = omega (arith, ticketed_among-append kinds more)
+
+pub lines_of-append : (kinds more : List LineKind) (ticketed rest : List Line) → ticketed_among kinds ≡ length ticketed
+    → lines_of (kinds ++ more) (ticketed ++ rest) ≡ lines_of kinds ticketed ++ lines_of more rest
+lines_of-append [] more [] rest many = refl
+lines_of-append [] more (line ∷ ticketed) rest many = absurd (omega (arith, many))
+lines_of-append (Stray ∷ kinds) more ticketed rest many = ap (λ l. NoMessage ∷ l) (lines_of-append kinds more ticketed rest many)
+lines_of-append (Outside ∷ kinds) more ticketed rest many = ap (λ l. OutOfRange ∷ l) (lines_of-append kinds more ticketed rest many)
+lines_of-append (Ticketed ∷ kinds) more [] rest many = absurd (omega (arith, many))
+lines_of-append (Ticketed ∷ kinds) more (line ∷ ticketed) rest many =
+    ap (λ l. line ∷ l) (lines_of-append kinds more ticketed rest (omega (arith, many)))
+
+-- one without a ticket
+pub lines_of-plain : (kinds more : List LineKind) (ticketed : List Line) → ticketed_among kinds ≡ length ticketed
+    → lines_of (kinds ++ more) ticketed ≡ lines_of kinds ticketed ++ lines_of more []
+lines_of-plain kinds more ticketed many =
+    ap (λ (l : List Line). lines_of (kinds ++ more) l) (sym (append-nil ticketed)) ∙ lines_of-append kinds more ticketed [] many
+
+-- ---- those with tickets
+
+one_with_ticket : (n : ℕ) (line : Line) (row : List Line) → IsOf n line → with_tickets (line ∷ row) ≡ line ∷ with_tickets row
+one_with_ticket n NoMessage row of = absurd of
+one_with_ticket n OutOfRange row of = absurd of
+one_with_ticket n (Pending t) row of = refl
+one_with_ticket n (Completed t reply) row of = refl
+
+pub tickets_of_lines : (kinds : List LineKind) (ticketed : List Line) (n : ℕ) → ticketed_among kinds ≡ length ticketed → AreFrom n ticketed
+    → with_tickets (lines_of kinds ticketed) ≡ ticketed
+tickets_of_lines [] [] n many from = refl
+tickets_of_lines [] (line ∷ ticketed) n many from = absurd (omega (arith, many))
+tickets_of_lines (Stray ∷ kinds) ticketed n many from = tickets_of_lines kinds ticketed n many from
+tickets_of_lines (Outside ∷ kinds) ticketed n many from = tickets_of_lines kinds ticketed n many from
+tickets_of_lines (Ticketed ∷ kinds) [] n many from = absurd (omega (arith, many))
+tickets_of_lines (Ticketed ∷ kinds) (line ∷ ticketed) n many from =
+    one_with_ticket n line (lines_of kinds ticketed) from.0
+    ∙ ap (λ (l : List Line). line ∷ l) (tickets_of_lines kinds ticketed (n + 1) (omega (arith, many)) from.1)
+
+-- ---- every line answered where it is the ticket's
+
+pub lines_of-answered : (ticket : ℕ) (reply : Reply) (kinds : List LineKind) (ticketed : List Line)
+    → lines_of kinds (map (complete_one ticket reply) ticketed) ≡ map (complete_one ticket reply) (lines_of kinds ticketed)
+lines_of-answered ticket reply [] ticketed = refl
+lines_of-answered ticket reply (Stray ∷ kinds) ticketed = ap (λ l. NoMessage ∷ l) (lines_of-answered ticket reply kinds ticketed)
+lines_of-answered ticket reply (Outside ∷ kinds) ticketed = ap (λ l. OutOfRange ∷ l) (lines_of-answered ticket reply kinds ticketed)
+lines_of-answered ticket reply (Ticketed ∷ kinds) [] = refl
+lines_of-answered ticket reply (Ticketed ∷ kinds) (line ∷ ticketed) =
+    ap (λ l. complete_one ticket reply line ∷ l) (lines_of-answered ticket reply kinds ticketed)

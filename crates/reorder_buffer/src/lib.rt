@@ -1,0 +1,6 @@
+//! The row of lines: what is known of each line that was read and not said yet, in the order in which they were read.
+#![tactic(auto)]
+
+mod reorder_buffer;
+
+pub use reorder_buffer::{Line, ReorderBuffer};

@@ -1,0 +1,238 @@
+//! The row of the lines that were read and not said yet, oldest first.
+
+ghost use Rattle.std.specs.Prelude.{◌≡◌, ◌<◌, ◌≤◌, ◌+◌, ◌↔◌, ◌++◌, ◌∷◌, [], IfOk, IsTrue, MatchBool, MatchOption, ℕ, drop, length, map, take};
+ghost use Rattle.std.specs.VecDeque.{deque_len};
+ghost use Rattle.message.specs.Waiting.{FitsReply};
+ghost use Rattle.reorder_buffer.specs.ReorderBuffer.{Line, complete_one, AreFrom, AreConsecutive, AreLeft, IsOf, can_retire, retired_text, text, with_tickets};
+
+use message::ReplyBuffer;
+use messages::{Refusal, Reply};
+use std::alloc::{AllocError, Global};
+use std::collections::VecDeque;
+use std::marker::Model;
+use std::ops::Range;
+
+/// What is known of a line that was read.
+#[derive(Clone, Copy)]
+pub enum Line {
+    /// It is no message.
+    NoMessage,
+    /// It is a message with a number that is out of range.
+    OutOfRange,
+    /// It is the message with this ticket, which is not answered yet.
+    Pending(u64),
+    /// It is the message with this ticket, and this is its reply.
+    Completed(u64, Reply),
+}
+
+/// Which kind of line lies at a place of the reorder buffer.
+#[derive(Clone, Copy)]
+enum LineKind {
+    /// A line that is no message.
+    NoMessage,
+    /// A message with a number that is out of range.
+    OutOfRange,
+    /// A message with a ticket.
+    Ticketed,
+}
+
+/// The lines that were read and not said yet, oldest first. A contract sees them, and how many there is room for. Once made it takes no
+/// memory.
+///
+/// A line without a ticket is its kind alone. Those with tickets lie in a queue of their own. Their tickets go up by one, so that a
+/// ticket tells where its line lies.
+pub struct ReorderBuffer {
+    kinds: VecDeque<LineKind>,
+    /// The lines with tickets, oldest first.
+    ticketed: VecDeque<Line>,
+    slots: usize,
+}
+
+// By hand, as a derived one is proved anew in each crate that drops a reorder buffer.
+impl Drop for ReorderBuffer {
+    fn drop(self) {
+        let ReorderBuffer {
+            kinds: _,
+            ticketed: _,
+            slots: _,
+        } = self;
+    }
+}
+
+impl Model for ReorderBuffer {
+    ghost use Rattle.std.specs.Prelude.{◌≡◌, ◌≤◌, ℕ, length};
+    ghost use Rattle.std.specs.VecDeque.{deque_capacity};
+    ghost use Rattle.reorder_buffer.specs.ReorderBuffer.{AreConsecutive, ReorderBufferView, ticketed_among, lines_of};
+
+    ghost Value = { ReorderBufferView };
+
+    ghost view = { λ r. record { lines = lines_of r.kinds.items r.ticketed.items; slots = r.slots } };
+
+    ghost invariant = { λ r. (r.slots ≤ deque_capacity r.kinds) × (r.slots ≤ deque_capacity r.ticketed) × (length r.kinds.items ≤ r.slots)
+        × (ticketed_among r.kinds.items ≡ length r.ticketed.items) × AreConsecutive r.ticketed.items };
+}
+
+/// Puts the reply to the message with this ticket to a line, where it is that message's and not answered.
+fn complete_line(line: &mut Line, ticket: u64, reply: &Reply)
+    ensures { line.new ≡ complete_one ticket reply.now line.old }
+{
+    match line {
+        Line::Pending(its) if *its == ticket => *line = Line::Completed(ticket, *reply),
+        Line::NoMessage | Line::OutOfRange | Line::Pending(_) | Line::Completed(..) => {}
+    }
+}
+
+/// The ticket of the oldest of these lines, if it has one.
+fn first_ticket(ticketed: &VecDeque<Line>) -> Option<u64>
+    ensures { (first : ℕ) → AreFrom first ticketed.now.items → MatchOption result (ticketed.now.items ≡ []) (λ ticket. ticket ≡ first) }
+{
+    match ticketed.front()? {
+        Line::Pending(ticket) | Line::Completed(ticket, _) => Some(*ticket),
+        Line::NoMessage | Line::OutOfRange => None,
+    }
+}
+
+/// The place of the line that a reply to this ticket can change, if there is one.
+fn places_of(ticketed: &VecDeque<Line>, ticket: u64) -> Range<usize>
+    requires { AreConsecutive ticketed.now.items }
+    ensures within { (result.start ≤ result.end) × (result.end ≤ deque_len ticketed.now) }
+    ensures before { AreLeft ticket (take result.start ticketed.now.items) }
+    ensures behind { AreLeft ticket (drop result.end ticketed.now.items) }
+{
+    let Some(first) = first_ticket(ticketed) else {
+        return 0..0;
+    };
+    if ticket < first || ticket - first >= ticketed.len() as u64 {
+        return 0..0;
+    }
+    let place = (ticket - first) as usize;
+    place..place + 1
+}
+
+/// Adds what a line is answered to the lines that wait to be told, if it is answered.
+fn add_text(line: &Line, out: &mut ReplyBuffer)
+    requires { FitsReply out.old }
+    ensures { out.new ≡ out.old ++ text line.now }
+{
+    match line {
+        Line::NoMessage => out.add_no_message(),
+        Line::OutOfRange => out.add_refusal(Refusal::Range),
+        Line::Completed(_, reply) => out.add_reply(reply),
+        Line::Pending(_) => {}
+    }
+}
+
+impl ReorderBuffer {
+    /// An empty reorder buffer, with room for `slots` lines.
+    pub fn new(alloc: Global, slots: usize) -> Result<ReorderBuffer, AllocError>
+        ensures lines { IfOk result (λ row. row.lines ≡ []) }
+        ensures slots { IfOk result (λ row. row.slots ≡ slots) }
+    {
+        Ok(ReorderBuffer {
+            kinds: VecDeque::with_capacity(alloc, slots)?,
+            ticketed: VecDeque::with_capacity(alloc, slots)?,
+            slots,
+        })
+    }
+
+    /// How many lines there are.
+    pub fn len(&self) -> usize
+        ensures len { result ≡ length self.now.lines }
+        ensures within { result ≤ self.now.slots }
+    {
+        self.kinds.len()
+    }
+
+    /// How many lines there is room for.
+    pub fn slots(&self) -> usize
+        ensures { result ≡ self.now.slots }
+    {
+        self.slots
+    }
+
+    /// Whether there is room for a further line.
+    pub fn has_room(&self) -> bool
+        ensures { IsTrue result ↔ (length self.now.lines < self.now.slots) }
+    {
+        self.kinds.len() < self.slots
+    }
+
+    /// The oldest line.
+    pub fn front(&self) -> Option<&Line>
+        ensures { MatchOption result (self.now.lines ≡ []) (λ line. self.now.lines ≡ line.now ∷ drop 1 self.now.lines) }
+    {
+        match self.kinds.front()? {
+            LineKind::NoMessage => Some(&Line::NoMessage),
+            LineKind::OutOfRange => Some(&Line::OutOfRange),
+            LineKind::Ticketed => self.ticketed.front(),
+        }
+    }
+
+    /// Whether the oldest line is answered, so that it is the next one of the output.
+    fn can_retire(&self) -> bool
+        ensures { result ≡ can_retire self.now.lines }
+    {
+        match self.front() {
+            Some(Line::Pending(_)) | None => false,
+            Some(Line::NoMessage | Line::OutOfRange | Line::Completed(..)) => true,
+        }
+    }
+
+    /// Puts a line after the others; its ticket is the one behind theirs, if it has one. It is inlined, so that no line is copied
+    /// with the room for a reply that it doesn't have.
+    #[inline(always)]
+    pub fn push(&mut self, line: Line)
+        requires room { length self.old.lines < self.old.slots }
+        requires order { (ticket : ℕ) → IsOf ticket line → AreConsecutive (with_tickets self.old.lines ++ line ∷ []) }
+        ensures lines { self.new.lines ≡ self.old.lines ++ line ∷ [] }
+        ensures slots { self.new.slots ≡ self.old.slots }
+    {
+        match line {
+            Line::NoMessage => self.kinds.push_back_reserved(LineKind::NoMessage),
+            Line::OutOfRange => self.kinds.push_back_reserved(LineKind::OutOfRange),
+            Line::Pending(_) | Line::Completed(..) => {
+                self.kinds.push_back_reserved(LineKind::Ticketed);
+                self.ticketed.push_back_reserved(line);
+            }
+        }
+    }
+
+    /// Lets go of the oldest line, if there is one.
+    fn pop(&mut self)
+        ensures lines { self.new.lines ≡ drop 1 self.old.lines }
+        ensures slots { self.new.slots ≡ self.old.slots }
+    {
+        if let Some(LineKind::Ticketed) = self.kinds.pop_front() {
+            self.ticketed.pop_front();
+        }
+    }
+
+    /// Puts the reply to the message with this ticket to its line, where it is in the reorder buffer and not answered.
+    pub fn answer(&mut self, ticket: u64, reply: Reply)
+        ensures lines { self.new.lines ≡ map (complete_one ticket reply) self.old.lines }
+        ensures slots { self.new.slots ≡ self.old.slots }
+    {
+        let places = places_of(&self.ticketed, ticket);
+        for k in places.start..places.end {
+            complete_line(&mut self.ticketed[k], ticket, &reply);
+        }
+    }
+
+    /// Adds what the oldest line is answered to the lines that wait to be told, and lets go of it, if it is answered: whether it is.
+    pub fn retire_front(&mut self, out: &mut ReplyBuffer) -> bool
+        requires { FitsReply out.old }
+        ensures next { result ≡ can_retire self.old.lines }
+        ensures retired { MatchBool result (out.new ≡ out.old ++ retired_text self.old.lines) (out.new ≡ out.old) }
+        ensures left { MatchBool result (self.new.lines ≡ drop 1 self.old.lines) (self.new ≡ self.old) }
+        ensures slots { self.new.slots ≡ self.old.slots }
+    {
+        if !self.can_retire() {
+            return false;
+        }
+        if let Some(line) = self.front() {
+            add_text(line, out);
+        }
+        self.pop();
+        true
+    }
+}

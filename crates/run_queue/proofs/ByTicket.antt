@@ -1,0 +1,71 @@
+-- Whose turn it is, said by tickets: where the tickets ascend, it is the first one that is clear and has room.
+use Rattle.std.proofs.Common.{◌≡◌, ◌∙◌, ℕ, ◌<◌, Bool, true, false, not, ◌&&◌, ◌||◌, List, [], ◌∷◌, ◌++◌, Some, refl, ap, sym, arith, append_assoc}
+use Rattle.std.specs.Prelude.{if◌then◌else◌, nat_lt}
+use Rattle.std.specs.List.{list_any, find, AllByRecursion}
+use Rattle.std.proofs.lemmas.Bool.{ltb-true, lt-ltb, false_from_ne_true}
+use Rattle.std.proofs.lemmas.List.Folds.{list_any-append}
+use Rattle.run_queue.specs.RunQueue.{are_related_intervals, is_free_of, has_room, first_to_go, next_queued, CameBefore}
+pub use Rattle.run_queue.specs.Order.{Ascend, comes_first, is_conflict_free}
+use Rattle.run_queue.specs.declared.queued_message.QueuedMessage.{QueuedMessage}
+
+-- those that came before it count by their affinities alone
+all_early : (t : QueuedMessage) (ts : List QueuedMessage) → CameBefore t.ticket ts
+    → list_any (comes_first t) ts ≡ list_any (λ d. are_related_intervals t.affinity d.affinity) ts
+all_early t [] before = refl
+all_early t (d ∷ ts) before =
+    ap (λ b. (b && are_related_intervals t.affinity d.affinity) || list_any (comes_first t) ts) (lt-ltb d.ticket t.ticket before.0)
+    ∙ ap (λ b. are_related_intervals t.affinity d.affinity || b) (all_early t ts before.1)
+
+-- no later one counts, nor does it itself
+not_less : (t d : QueuedMessage) → (d.ticket < t.ticket → ⊥) → comes_first t d ≡ false
+not_less t d h = ap (λ b. b && are_related_intervals t.affinity d.affinity)
+    (false_from_ne_true (nat_lt d.ticket t.ticket) (λ less. h (ltb-true d.ticket t.ticket less)))
+
+none_late : (t : QueuedMessage) (ts : List QueuedMessage) → AllByRecursion (λ d. t.ticket < d.ticket) ts → list_any (comes_first t) ts ≡ false
+none_late t [] after = refl
+none_late t (d ∷ ts) after =
+    let above = after.0 in
+    ap (λ b. b || list_any (comes_first t) ts) (not_less t d (λ less. omega (arith, less, above))) ∙ none_late t ts after.1
+
+or_nothing : (b : Bool) → (b || false) ≡ b
+or_nothing true = refl
+or_nothing false = refl
+
+only_early : (t : QueuedMessage) (earlier later : List QueuedMessage) → CameBefore t.ticket earlier → AllByRecursion (λ d. t.ticket < d.ticket) later
+    → list_any (comes_first t) (earlier ++ t ∷ later) ≡ list_any (λ d. are_related_intervals t.affinity d.affinity) earlier
+only_early t earlier later before after =
+    list_any-append (comes_first t) earlier (t ∷ later)
+    ∙ ap (λ b. list_any (comes_first t) earlier || (b || list_any (comes_first t) later)) (not_less t t (λ less. omega (arith, less)))
+    ∙ ap (λ b. list_any (comes_first t) earlier || b) (none_late t later after)
+    ∙ or_nothing (list_any (comes_first t) earlier)
+    ∙ all_early t earlier before
+
+came_before : (ticket : ℕ) (ts : List QueuedMessage) (t : QueuedMessage) → CameBefore ticket ts → t.ticket < ticket → CameBefore ticket (ts ++ t ∷ [])
+came_before ticket [] t before less = (less, tt)
+came_before ticket (d ∷ ts) t before less = (before.0, came_before ticket ts t before.1 less)
+
+all_came : (earlier : List QueuedMessage) (t : QueuedMessage) (later : List QueuedMessage) → AllByRecursion (λ d. CameBefore d.ticket earlier) later
+    → AllByRecursion (λ d. t.ticket < d.ticket) later → AllByRecursion (λ d. CameBefore d.ticket (earlier ++ t ∷ [])) later
+all_came earlier t [] before after = tt
+all_came earlier t (d ∷ later) before after =
+    (came_before d.ticket earlier t before.0 after.0, all_came earlier t later before.1 after.1)
+
+first_from : (room : Bool) (held waiting earlier later : List QueuedMessage) → waiting ≡ earlier ++ later
+    → AllByRecursion (λ d. CameBefore d.ticket earlier) later → Ascend later
+    → first_to_go room held earlier later ≡ find (λ t. has_room room t && is_conflict_free held waiting t) later
+first_from room held waiting earlier [] whole before ascends = refl
+first_from room held waiting earlier (t ∷ later) whole before ascends =
+    let early = ap (list_any (comes_first t)) whole ∙ only_early t earlier later before.0 ascends.0 in
+    let same = ap (λ b. has_room room t && (is_free_of held t && not b)) (sym early) in
+    let deeper = first_from room held waiting (earlier ++ t ∷ []) later (whole ∙ sym (append_assoc earlier (t ∷ []) later))
+    (all_came earlier t later before.1 ascends.0) ascends.1 in
+    ap (λ b. if b then Some t else first_to_go room held (earlier ++ t ∷ []) later) same
+    ∙ ap (λ o. if has_room room t && is_conflict_free held waiting t then Some t else o) deeper
+
+none_before : (ts : List QueuedMessage) → AllByRecursion (λ d. CameBefore d.ticket []) ts
+none_before [] = tt
+none_before (t ∷ ts) = (tt, none_before ts)
+
+pub next_is_first : (room : Bool) (held waiting : List QueuedMessage) → Ascend waiting
+    → next_queued room held waiting ≡ find (λ t. has_room room t && is_conflict_free held waiting t) waiting
+next_is_first room held waiting ascends = first_from room held waiting [] waiting refl (none_before waiting) ascends

@@ -1,0 +1,150 @@
+-- The affinities above one, by their numbers.
+use Rattle.std.proofs.Common.{◌≡◌, ◌∙◌, ℕ, zero, suc, ◌<◌, ◌≤◌, Bool, true, false, [], ◌∷◌, take, refl, ap, sym, subst, inl, inr, arith, length, ◌⊎◌}
+use Rattle.std.specs.Prelude.{◌==◌}
+use Rattle.std.specs.List.{list_any}
+use Rattle.std.proofs.lemmas.Bool.{eq-eqb, eqb-true, cases_Bool, and_parts, and_from, or_cases, or_right, true≢false}
+use Rattle.std.proofs.lemmas.Bool.Decides.{nat_tests}
+use Rattle.affinity.specs.Path.{Path, begins}
+use Rattle.affinity.specs.Interval.{Interval, IsPath, IsAffinity, IsAffinityOf, contains, interval, number, server_size}
+use Rattle.affinity.specs.declared.geometry.Geometry.{Geometry}
+use Rattle.affinity.proofs.Paths.{begins-refl}
+use Rattle.affinity.proofs.Preorder.{begins-contains, path_at, path_at-number}
+use Rattle.run_queue.specs.Near.{numbers_above, AreAbove}
+
+-- ---- beginnings of a path
+
+begins-is : (q p : Path) → begins q p ≡ true → q ≡ take (length q) p
+begins-is [] p h = refl
+begins-is (x ∷ q) [] h = absurd (true≢false (sym h))
+begins-is (x ∷ q) (y ∷ p) h =
+    let parts = and_parts (x == y) (begins q p) h in
+    ap (λ (k : ℕ). k ∷ q) (eqb-true x y parts.0) ∙ ap (λ (r : Path). y ∷ r) (begins-is q p parts.1)
+
+begins-take : (k : ℕ) (p : Path) → begins (take k p) p ≡ true
+begins-take zero p = refl
+begins-take (suc k) [] = refl
+begins-take (suc k) (x ∷ p) = and_from (x == x) (begins (take k p) p) (eq-eqb x x refl) (begins-take k p)
+
+take-all : (k : ℕ) (p : Path) → length p ≤ k → take k p ≡ p
+take-all zero [] h = refl
+take-all zero (x ∷ p) h = absurd (omega arith)
+take-all (suc k) [] h = refl
+take-all (suc k) (x ∷ p) h = ap (λ (r : Path). x ∷ r) (take-all k p (omega arith))
+
+short : (g : Geometry) (p : Path) → IsPath g p → length p ≤ 4
+short g [] h = omega arith
+short g (a ∷ []) h = omega arith
+short g (a ∷ v ∷ []) h = omega arith
+short g (a ∷ v ∷ k ∷ []) h = omega arith
+short g (a ∷ v ∷ k ∷ s ∷ []) h = omega arith
+short g (a ∷ v ∷ zero ∷ s ∷ r ∷ p) h = absurd h
+short g (a ∷ v ∷ suc zero ∷ s ∷ r ∷ p) h = absurd h
+short g (a ∷ v ∷ suc (suc k) ∷ s ∷ r ∷ p) h = absurd h
+
+-- the paths above one that there is are there
+one_is : (g : Geometry) (p : Path) → IsPath g p → IsPath g (take 1 p)
+one_is g [] h = tt
+one_is g (a ∷ []) h = h
+one_is g (a ∷ v ∷ []) h = h.0
+one_is g (a ∷ v ∷ zero ∷ []) h = h.0
+one_is g (a ∷ v ∷ zero ∷ s ∷ []) h = h.0
+one_is g (a ∷ v ∷ zero ∷ s ∷ r ∷ p) h = absurd h
+one_is g (a ∷ v ∷ suc zero ∷ []) h = h.0
+one_is g (a ∷ v ∷ suc zero ∷ s ∷ p) h = absurd h
+one_is g (a ∷ v ∷ suc (suc k) ∷ p) h = absurd h
+
+two_is : (g : Geometry) (p : Path) → IsPath g p → IsPath g (take 2 p)
+two_is g [] h = tt
+two_is g (a ∷ []) h = h
+two_is g (a ∷ v ∷ []) h = h
+two_is g (a ∷ v ∷ zero ∷ []) h = h
+two_is g (a ∷ v ∷ zero ∷ s ∷ []) h = (h.0, h.1)
+two_is g (a ∷ v ∷ zero ∷ s ∷ r ∷ p) h = absurd h
+two_is g (a ∷ v ∷ suc zero ∷ []) h = h
+two_is g (a ∷ v ∷ suc zero ∷ s ∷ p) h = absurd h
+two_is g (a ∷ v ∷ suc (suc k) ∷ p) h = absurd h
+
+three_is : (g : Geometry) (p : Path) → IsPath g p → IsPath g (take 3 p)
+three_is g [] h = tt
+three_is g (a ∷ []) h = h
+three_is g (a ∷ v ∷ []) h = h
+three_is g (a ∷ v ∷ zero ∷ []) h = h
+three_is g (a ∷ v ∷ zero ∷ s ∷ []) h = (h.0, h.1)
+three_is g (a ∷ v ∷ zero ∷ s ∷ r ∷ p) h = absurd h
+three_is g (a ∷ v ∷ suc zero ∷ []) h = h
+three_is g (a ∷ v ∷ suc zero ∷ s ∷ p) h = absurd h
+three_is g (a ∷ v ∷ suc (suc k) ∷ p) h = absurd h
+
+pub same_path : (g : Geometry) (p q : Path) → IsPath g p → IsPath g q → number g p ≡ number g q → p ≡ q
+same_path g p q h k same = sym (path_at-number g p h) ∙ ap (path_at g) same ∙ path_at-number g q k
+
+-- ---- their numbers
+
+is_at : (g : Geometry) (p q : Path) (k : ℕ) → q ≡ take k p → (number g (take k p) == number g q) ≡ true
+is_at g p q k same = eq-eqb _ _ (ap (λ (r : Path). number g r) (sym same))
+
+-- a beginning of so many numbers is found among those, or is the path itself
+found_at : (g : Geometry) (p q : Path) (k : ℕ) → IsPath g p → q ≡ take k p
+    → (q ≡ p) ⊎ (list_any (λ n. n == number g q) (numbers_above g p) ≡ true)
+found_at g p q zero h is = inr (rw (is_at g p q 0 is) refl)
+found_at g p q (suc zero) h is = inr (or_right (number g (take 0 p) == number g q) _ (rw (is_at g p q 1 is) refl))
+found_at g p q (suc (suc zero)) h is =
+    inr (or_right (number g (take 0 p) == number g q) _ (or_right (number g (take 1 p) == number g q) _ (rw (is_at g p q 2 is) refl)))
+found_at g p q (suc (suc (suc zero))) h is =
+    inr (or_right (number g (take 0 p) == number g q) _ (or_right (number g (take 1 p) == number g q) _
+    (or_right (number g (take 2 p) == number g q) _ (rw (is_at g p q 3 is) refl))))
+found_at g p q (suc (suc (suc (suc k)))) h is =
+    let most = short g p h in inl (is ∙ take-all (suc (suc (suc (suc k)))) p (omega arith))
+
+above-found : (g : Geometry) (p q : Path) → IsPath g p → begins q p ≡ true
+    → (q ≡ p) ⊎ (list_any (λ n. n == number g q) (numbers_above g p) ≡ true)
+above-found g p q h first = found_at g p q (length q) h (begins-is q p first)
+
+at_begins : (g : Geometry) (p q : Path) (k : ℕ) → IsPath g (take k p) → IsPath g q → (number g (take k p) == number g q) ≡ true → begins q p ≡ true
+at_begins g p q k there h same =
+    subst (λ (r : Path). begins r p ≡ true) (same_path g (take k p) q there h (eqb-true _ _ same)) (begins-take k p)
+
+above-begins : (g : Geometry) (p q : Path) → IsPath g p → IsPath g q → list_any (λ n. n == number g q) (numbers_above g p) ≡ true → begins q p ≡ true
+above-begins g p q h k found = elim (or_cases _ _ found) [
+  | inl e ↦ at_begins g p q 0 tt k e
+  | inr rest ↦ elim (or_cases _ _ rest) [
+    | inl e ↦ at_begins g p q 1 (one_is g p h) k e
+    | inr rest ↦ elim (or_cases _ _ rest) [
+      | inl e ↦ at_begins g p q 2 (two_is g p h) k e
+      | inr rest ↦ elim (or_cases _ _ rest) [
+        | inl e ↦ at_begins g p q 3 (three_is g p h) k e
+        | inr none ↦ absurd (true≢false (sym none))
+      ]
+    ]
+  ]
+]
+
+same_truth : (b c : Bool) → (b ≡ true → c ≡ true) → (c ≡ true → b ≡ true) → b ≡ c
+same_truth true c f g = sym (f refl)
+same_truth false true f g = g refl
+same_truth false false f g = refl
+
+-- ---- what is related
+
+pub are_above : (g : Geometry) (p : Path) (a : Interval) → IsAffinityOf g p a → AreAbove g a (numbers_above g p)
+are_above g p a h b k =
+    let q = k.0 in
+    let below : contains a b.number ≡ begins p q = rw (h.interval, k.1.interval) (sym (begins-contains g p q h.path k.1.path)) in
+    let above : contains b a.number ≡ begins q p = rw (h.interval, k.1.interval) (sym (begins-contains g q p k.1.path h.path)) in
+    let is : b.number ≡ number g q = ap (λ (i : Interval). i.number) k.1.interval in
+    elim (cases_Bool (contains a b.number)) [
+      | inl in_ ↦ rw in_ refl
+      | inr out ↦ rw (out, above, is) (same_truth _ _ (λ first. elim (above-found g p q h.path first) [
+        | inl same ↦ absurd (true≢false (sym (below ∙ ap (λ (r : Path). begins p r) same ∙ begins-refl p) ∙ out))
+        | inr found ↦ found
+      ]) (λ found. above-begins g p q h.path k.1.path found))
+    ]
+
+pub contains-own : (g : Geometry) (a : Interval) → IsAffinity g a → contains a a.number ≡ true
+contains-own g a h = rw h.1.interval (sym (begins-contains g h.0 h.0 h.1.path h.1.path) ∙ begins-refl h.0)
+
+pub number-below : (g : Geometry) (a : Interval) → IsAffinity g a → a.number < server_size g
+number-below g a h =
+    let whole : contains (interval g []) (number g h.0) ≡ true = sym (begins-contains g [] h.0 tt h.1.path) in
+    let is : a.number ≡ number g h.0 = ap (λ (i : Interval). i.number) h.1.interval in
+    grind (arith, nat_tests)

@@ -1,0 +1,28 @@
+-- What is known of the one whose turn it is.
+use Rattle.std.proofs.Common.{◌≡◌, ◌∙◌, Bool, true, false, List, [], ◌∷◌, ◌++◌, Some, refl, ap, subst, ◌||◌}
+use Rattle.std.specs.Prelude.{if◌then◌else◌}
+use Rattle.std.specs.List.{list_any}
+use Rattle.std.proofs.lemmas.Bool.{eq-eqb}
+use Rattle.std.proofs.lemmas.Option.{none-some, same_Some}
+use Rattle.run_queue.specs.RunQueue.{RunQueueView, may_go, first_to_go, has_slot, IsNext}
+use Rattle.run_queue.specs.declared.queued_message.QueuedMessage.{QueuedMessage}
+
+-- the one whose turn it is waits
+waits_from : (room : Bool) (held earlier later : List QueuedMessage) (t : QueuedMessage) → first_to_go room held earlier later ≡ Some t
+    → list_any (has_slot t.slot) later ≡ true
+waits_from room held earlier [] t h = absurd (none-some t h)
+waits_from room held earlier (u ∷ later) t h = by (may_go room held earlier u) (waits_from room held (earlier ++ u ∷ []) later t) h
+  where
+    or_true : (b : Bool) → (b || true) ≡ true
+    or_true true = refl
+    or_true false = refl
+
+    by : (b : Bool) → (first_to_go room held (earlier ++ u ∷ []) later ≡ Some t → list_any (has_slot t.slot) later ≡ true)
+        → (if b then Some u else first_to_go room held (earlier ++ u ∷ []) later) ≡ Some t
+        → list_any (has_slot t.slot) (u ∷ later) ≡ true
+    by true behind h =
+        subst (λ (v : QueuedMessage). list_any (has_slot v.slot) (u ∷ later) ≡ true) (same_Some u t h) (rw (eq-eqb u.slot u.slot refl) refl)
+    by false behind h = ap (λ b. has_slot t.slot u || b) (behind h) ∙ or_true (has_slot t.slot u)
+
+pub next_waits : (q : RunQueueView) (t : QueuedMessage) → IsNext q t → list_any (has_slot t.slot) q.waiting ≡ true
+next_waits q t h = waits_from h.0 q.held [] q.waiting t h.1

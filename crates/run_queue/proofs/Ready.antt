@@ -1,0 +1,345 @@
+-- Which marks stay right, and what the marks say of those that may go.
+use Rattle.std.proofs.Common.{◌≡◌, ◌≢◌, ◌∙◌, ℕ, zero, suc, ◌+◌, ◌<◌, ◌≤◌, Bool, true, false, not, ◌&&◌, ◌||◌, List, [], ◌∷◌, ◌++◌, find, take, Option, Some, None, refl, ap, sym, subst, inl, inr, arith, length, slice_index_or}
+use Rattle.std.specs.Prelude.{nat_lt, if◌then◌else◌, slice_set, replicate}
+use Rattle.std.specs.List.{list_any, AllByRecursion}
+use Rattle.std.proofs.lemmas.Bool.{ne_eqb, eqb-true, ltb-true, lt-ltb, cases_Bool, cases_eq, and_from, or_left, true≢false, false_from_ne_true}
+use Rattle.std.proofs.lemmas.Bool.Decides.{eqb_tells, leb_tells}
+use Rattle.std.proofs.lemmas.List.{length-set, get_or-set_same, get_or-set_other}
+use Rattle.std.proofs.lemmas.List.Folds.{list_any-append}
+use Rattle.std.proofs.lemmas.Option.{none-some}
+use Rattle.affinity.specs.Path.{Path}
+use Rattle.affinity.specs.Interval.{Interval, IsAffinity, contains, interval, server_size}
+use Rattle.affinity.specs.declared.geometry.Geometry.{Geometry}
+use Rattle.run_queue.specs.RunQueue.{are_related_intervals, is_free_of, has_room, has_slot, has_number, without_slot, without_number, CameBefore}
+use Rattle.run_queue.specs.Slots.{times_seated}
+use Rattle.run_queue.specs.Order.{Ascend, comes_first, is_conflict_free, may_go_at}
+use Rattle.run_queue.specs.Queues.{IsBetween}
+use Rattle.run_queue.specs.ReadyTable.{if_passes, ready_at, ready_in, IsReadyAt, StayReady, AreNearReady}
+use Rattle.run_queue.specs.declared.queued_message.QueuedMessage.{QueuedMessage}
+use Rattle.run_queue.proofs.Nearby.{number-below, same_path}
+use Rattle.run_queue.proofs.Seating.{times-cons_is, times-cons_other}
+use Rattle.run_queue.proofs.Clearing.{find-cons, find-skip, find-all, find-passes, any-found}
+use Rattle.run_queue.proofs.Earliest.{none_at, some_at, empty_at, false_and_right}
+
+-- ---- what the marks say
+
+-- the one that may go at a number is the one that is clear there, if there is room for it
+pub room-at : (g : Geometry) (room : Bool) (held waiting : List QueuedMessage) → AllByRecursion (λ d. IsAffinity g d.affinity) waiting → Ascend waiting
+    → (n : ℕ) → if_passes (has_room room) (ready_at held waiting n) ≡ may_go_at room held waiting n
+room-at g room held waiting placed ascends n = by (find (has_number n) waiting) refl
+  where
+    by : (o : Option QueuedMessage) → find (has_number n) waiting ≡ o → if_passes (has_room room) (if_passes (is_conflict_free held waiting) o) ≡ may_go_at room held waiting n
+    by None is = sym (empty_at g room held waiting placed ascends n is)
+    by (Some f) is = elim (cases_Bool (is_conflict_free held waiting f)) [
+      | inl clear ↦ ap (λ b. if_passes (has_room room) (if b then Some f else None)) clear ∙ elim (cases_Bool (has_room room f)) [
+        | inl has ↦ ap (λ b. if b then Some f else None) has ∙ sym (some_at g room held waiting placed ascends n f is (and_from _ _ has clear))
+        | inr full ↦ ap (λ b. if b then Some f else None) full
+            ∙ sym (none_at g room held waiting placed ascends n f is (ap (λ b. b && is_conflict_free held waiting f) full))
+      ]
+      | inr kept ↦ ap (λ b. if_passes (has_room room) (if b then Some f else None)) kept
+          ∙ sym (none_at g room held waiting placed ascends n f is (ap (λ b. has_room room f && b) kept ∙ false_and_right _))
+    ]
+
+-- where the first one stays, and is as clear as it was
+pub ready-same : (held waiting held' waiting' : List QueuedMessage) (n : ℕ) → find (has_number n) waiting' ≡ find (has_number n) waiting
+    → ((f : QueuedMessage) → find (has_number n) waiting ≡ Some f → is_conflict_free held' waiting' f ≡ is_conflict_free held waiting f)
+    → ready_at held' waiting' n ≡ ready_at held waiting n
+ready-same held waiting held' waiting' n same clear =
+    ap (λ (o : Option QueuedMessage). if_passes (is_conflict_free held' waiting') o) same ∙ by (find (has_number n) waiting) refl
+  where
+    by : (o : Option QueuedMessage) → find (has_number n) waiting ≡ o → if_passes (is_conflict_free held' waiting') o ≡ if_passes (is_conflict_free held waiting) o
+    by None is = refl
+    by (Some f) is = ap (λ b. if b then Some f else None) (clear f is)
+
+-- ---- one mark
+
+pub past-ready_table : (ready_table : List (Option QueuedMessage)) (n : ℕ) → length ready_table ≤ n → ready_in ready_table n ≡ None
+past-ready_table [] n past = refl
+past-ready_table (o ∷ ready_table) zero past = absurd (omega arith)
+past-ready_table (o ∷ ready_table) (suc n) past = past-ready_table ready_table n (omega arith)
+
+pub none-marked : (n i : ℕ) → ready_in (replicate n None) i ≡ None
+none-marked zero i = refl
+none-marked (suc n) zero = refl
+none-marked (suc n) (suc i) = none-marked n i
+
+none-at : (g : Geometry) (waiting : List QueuedMessage) (n : ℕ) → AllByRecursion (λ d. IsAffinity g d.affinity) waiting → server_size g ≤ n
+    → find (has_number n) waiting ≡ None
+none-at g [] n placed past = refl
+none-at g (d ∷ waiting) n placed past =
+    let below = number-below g d.affinity placed.0 in
+    find-skip (has_number n) d waiting (ne_eqb d.affinity.number n (λ same. omega (arith, below, same, past))) ∙ none-at g waiting n placed.1 past
+
+pub update_ready-past : (g : Geometry) (held waiting : List QueuedMessage) (ready_table : List (Option QueuedMessage)) (n : ℕ) → AllByRecursion (λ d. IsAffinity g d.affinity) waiting
+    → server_size g ≤ length ready_table → length ready_table ≤ n → IsReadyAt held waiting ready_table n
+update_ready-past g held waiting ready_table n placed all past =
+    past-ready_table ready_table n past
+    ∙ ap (λ (o : Option QueuedMessage). if_passes (is_conflict_free held waiting) o) (sym (none-at g waiting n placed (omega (arith, all, past))))
+
+pub stay-trans : (held waiting : List QueuedMessage) (a b c : List (Option QueuedMessage)) → StayReady held waiting a b → StayReady held waiting b c → StayReady held waiting a c
+stay-trans held waiting a b c first second = (second.0 ∙ first.0, λ n right. second.1 n (first.1 n right))
+
+-- ---- one that arrives
+
+find-last_other : (p : QueuedMessage → Bool) (ts : List QueuedMessage) (t : QueuedMessage) → p t ≡ false → find p (ts ++ t ∷ []) ≡ find p ts
+find-last_other p [] t other = find-skip p t [] other
+find-last_other p (d ∷ ts) t other = elim (cases_Bool (p d)) [
+  | inl k ↦ find-cons p d (ts ++ t ∷ []) k ∙ sym (find-cons p d ts k)
+  | inr k ↦ find-skip p d (ts ++ t ∷ []) k ∙ find-last_other p ts t other ∙ sym (find-skip p d ts k)
+]
+
+find-last_found : (p : QueuedMessage → Bool) (ts : List QueuedMessage) (t f : QueuedMessage) → find p ts ≡ Some f → find p (ts ++ t ∷ []) ≡ find p ts
+find-last_found p [] t f found = absurd (none-some f found)
+find-last_found p (d ∷ ts) t f found = elim (cases_Bool (p d)) [
+  | inl k ↦ find-cons p d (ts ++ t ∷ []) k ∙ sym (find-cons p d ts k)
+  | inr k ↦ find-skip p d (ts ++ t ∷ []) k ∙ find-last_found p ts t f (sym (find-skip p d ts k) ∙ found) ∙ sym (find-skip p d ts k)
+]
+
+or_nothing : (b : Bool) → (b || false) ≡ b
+or_nothing true = refl
+or_nothing false = refl
+
+-- a later one keeps back no one
+later-clear : (held waiting : List QueuedMessage) (t f : QueuedMessage) → f.ticket < t.ticket → is_conflict_free held (waiting ++ t ∷ []) f ≡ is_conflict_free held waiting f
+later-clear held waiting t f less =
+    let not_first : comes_first f t ≡ false = ap (λ b. b && are_related_intervals f.affinity t.affinity)
+    (false_from_ne_true (nat_lt t.ticket f.ticket) (λ h. let under = ltb-true t.ticket f.ticket h in omega (arith, under, less))) in
+    ap (λ b. is_free_of held f && not b)
+    (list_any-append (comes_first f) waiting (t ∷ [])
+    ∙ ap (λ b. list_any (comes_first f) waiting || (b || false)) not_first
+    ∙ or_nothing (list_any (comes_first f) waiting))
+
+pub ready-arrived : (held waiting : List QueuedMessage) (t : QueuedMessage) (n : ℕ) → CameBefore t.ticket waiting
+    → (find (has_number n) waiting ≡ None → t.affinity.number ≢ n) → ready_at held (waiting ++ t ∷ []) n ≡ ready_at held waiting n
+ready-arrived held waiting t n later other =
+    ready-same held waiting held (waiting ++ t ∷ []) n (by (find (has_number n) waiting) refl) (λ f is.
+    later-clear held waiting t f (find-all (λ u. u.ticket < t.ticket) (has_number n) waiting f later is))
+  where
+    by : (o : Option QueuedMessage) → find (has_number n) waiting ≡ o → find (has_number n) (waiting ++ t ∷ []) ≡ find (has_number n) waiting
+    by None is = find-last_other (has_number n) waiting t (ne_eqb t.affinity.number n (other is))
+    by (Some f) is = find-last_found (has_number n) waiting t f is
+
+pub marked-arrived : (held waiting : List QueuedMessage) (t : QueuedMessage) (before after : List (Option QueuedMessage)) → CameBefore t.ticket waiting
+    → ((n : ℕ) → IsReadyAt held waiting before n) → StayReady held (waiting ++ t ∷ []) before after
+    → (find (has_number t.affinity.number) waiting ≡ None → IsReadyAt held (waiting ++ t ∷ []) after t.affinity.number)
+    → (n : ℕ) → IsReadyAt held (waiting ++ t ∷ []) after n
+marked-arrived held waiting t before after later marked stay here n = elim (cases_eq n t.affinity.number) [
+  | inl e ↦ subst (λ m. IsReadyAt held (waiting ++ t ∷ []) after m) (sym e) (by (find (has_number t.affinity.number) waiting) refl)
+  | inr other ↦ stay.1 n (marked n ∙ sym (ready-arrived held waiting t n later (λ none same. other (sym same))))
+]
+  where
+    by : (o : Option QueuedMessage) → find (has_number t.affinity.number) waiting ≡ o → IsReadyAt held (waiting ++ t ∷ []) after t.affinity.number
+    by None is = here is
+    by (Some f) is = stay.1 t.affinity.number
+        (marked t.affinity.number ∙ sym (ready-arrived held waiting t t.affinity.number later (λ none. absurd (none-some f (sym none ∙ is)))))
+
+-- ---- numbers one by one
+
+or_turned : (a b c : Bool) → (a || (b || c)) ≡ ((a || b) || c)
+or_turned true b c = refl
+or_turned false b c = refl
+
+any-suc : (p : ℕ → Bool) (xs : List ℕ) (i : ℕ) → i < length xs → list_any p (take (suc i) xs) ≡ (list_any p (take i xs) || p (slice_index_or xs i 0))
+any-suc p [] i below = absurd (omega arith)
+any-suc p (x ∷ xs) zero below = or_nothing (p x)
+any-suc p (x ∷ xs) (suc i) below =
+    ap (λ b. p x || b) (any-suc p xs i (omega arith)) ∙ or_turned (p x) (list_any p (take i xs)) (p (slice_index_or xs i 0))
+
+pub any-more : (p : ℕ → Bool) (xs : List ℕ) (i : ℕ) → i < length xs → list_any p (take (i + 1) xs) ≡ (list_any p (take i xs) || p (slice_index_or xs i 0))
+any-more p xs i below = let next : i + 1 ≡ suc i = omega arith in ap (λ j. list_any p (take j xs)) next ∙ any-suc p xs i below
+
+pub take-past : (k : ℕ) (xs : List ℕ) → length xs ≤ k → take k xs ≡ xs
+take-past zero [] h = refl
+take-past zero (x ∷ xs) h = absurd (omega arith)
+take-past (suc k) [] h = refl
+take-past (suc k) (x ∷ xs) h = ap (λ (r : List ℕ). x ∷ r) (take-past k xs (omega arith))
+
+-- ---- one that goes
+
+-- no other one has its slot
+none-alone : (t : QueuedMessage) (ts : List QueuedMessage) → times_seated t.slot ts ≡ 0 → AllByRecursion (λ u. has_slot t.slot u ≡ true → u ≡ t) ts
+none-alone t [] none = tt
+none-alone t (d ∷ ts) none = elim (eqb_tells d.slot t.slot) [
+  | inl e ↦ absurd (omega (arith, none, times-cons_is t.slot d ts e.1))
+  | inr n ↦ (λ k. absurd (true≢false (sym k ∙ n.0)), none-alone t ts (omega (arith, none, times-cons_other t.slot d ts n.1)))
+]
+
+there-found : (p : QueuedMessage → Bool) (ts : List QueuedMessage) (t : QueuedMessage) → find p ts ≡ Some t → 1 ≤ times_seated t.slot ts
+there-found p [] t found = absurd (none-some t found)
+there-found p (d ∷ ts) t found = elim (cases_Bool (p d)) [
+  | inl k ↦ (let is = sym (find-cons p d ts k) ∙ found in let same : d ≡ t = cc in
+      omega (arith, times-cons_is t.slot d ts (ap (λ (u : QueuedMessage). u.slot) same)))
+  | inr k ↦ (let rest = there-found p ts t (sym (find-skip p d ts k) ∙ found) in elim (eqb_tells d.slot t.slot) [
+    | inl e ↦ omega (arith, rest, times-cons_is t.slot d ts e.1)
+    | inr n ↦ omega (arith, rest, times-cons_other t.slot d ts n.1)
+  ])
+]
+
+alone : (p : QueuedMessage → Bool) (ts : List QueuedMessage) (t : QueuedMessage) → find p ts ≡ Some t → times_seated t.slot ts ≤ 1
+    → AllByRecursion (λ u. has_slot t.slot u ≡ true → u ≡ t) ts
+alone p [] t found once = tt
+alone p (d ∷ ts) t found once = elim (cases_Bool (p d)) [
+  | inl k ↦ (let is = sym (find-cons p d ts k) ∙ found in let same : d ≡ t = cc in
+      let none : times_seated t.slot ts ≡ 0 = omega (arith, once, times-cons_is t.slot d ts (ap (λ (u : QueuedMessage). u.slot) same)) in
+      (λ _. same, none-alone t ts none))
+  | inr k ↦ (let later = sym (find-skip p d ts k) ∙ found in let rest = there-found p ts t later in elim (eqb_tells d.slot t.slot) [
+    | inl e ↦ absurd (omega (arith, once, rest, times-cons_is t.slot d ts e.1))
+    | inr n ↦ (λ h. absurd (true≢false (sym h ∙ n.0)), alone p ts t later (omega (arith, once, times-cons_other t.slot d ts n.1)))
+  ])
+]
+
+find-without : (p : QueuedMessage → Bool) (ts : List QueuedMessage) (t : QueuedMessage) → AllByRecursion (λ u. has_slot t.slot u ≡ true → u ≡ t) ts → p t ≡ false
+    → find p (without_slot t.slot ts) ≡ find p ts
+find-without p [] t all other = refl
+find-without p (d ∷ ts) t all other = elim (cases_Bool (has_slot t.slot d)) [
+  | inl k ↦ rw k (find-without p ts t all.1 other ∙ sym (find-skip p d ts (ap p (all.0 k) ∙ other)))
+  | inr k ↦ rw k (elim (cases_Bool (p d)) [
+    | inl is ↦ find-cons p d (without_slot t.slot ts) is ∙ sym (find-cons p d ts is)
+    | inr not_it ↦ find-skip p d (without_slot t.slot ts) not_it ∙ find-without p ts t all.1 other ∙ sym (find-skip p d ts not_it)
+  ])
+]
+
+any-without : (q : QueuedMessage → Bool) (ts : List QueuedMessage) (t : QueuedMessage) → AllByRecursion (λ u. has_slot t.slot u ≡ true → u ≡ t) ts → q t ≡ false
+    → list_any q (without_slot t.slot ts) ≡ list_any q ts
+any-without q [] t all other = refl
+any-without q (d ∷ ts) t all other = elim (cases_Bool (has_slot t.slot d)) [
+  | inl k ↦ rw k (any-without q ts t all.1 other ∙ ap (λ b. b || list_any q ts) (sym (ap q (all.0 k) ∙ other)))
+  | inr k ↦ rw k (ap (λ b. q d || b) (any-without q ts t all.1 other))
+]
+
+or_moved : (a b c : Bool) → (a || (b || c)) ≡ (b || (a || c))
+or_moved true true c = refl
+or_moved true false c = refl
+or_moved false b c = refl
+
+any-between : (q : QueuedMessage → Bool) (t : QueuedMessage) (before after : List QueuedMessage) → IsBetween t before after → list_any q after ≡ (q t || list_any q before)
+any-between q t before after h =
+    ap (λ (ts : List QueuedMessage). list_any q ts) h.3
+    ∙ list_any-append q h.0 (t ∷ h.1)
+    ∙ or_moved (list_any q h.0) (q t) (list_any q h.1)
+    ∙ ap (λ b. q t || b) (sym (list_any-append q h.0 h.1) ∙ ap (λ (ts : List QueuedMessage). list_any q ts) (sym h.2))
+
+-- the ticket tells those that wait apart
+same-ticket : (p q : QueuedMessage → Bool) (ts : List QueuedMessage) (a b : QueuedMessage) → Ascend ts → find p ts ≡ Some a → find q ts ≡ Some b
+    → a.ticket ≡ b.ticket → a ≡ b
+same-ticket p q [] a b ascends first second same = absurd (none-some a first)
+same-ticket p q (d ∷ ts) a b ascends first second same = elim (cases_Bool (p d)) [
+  | inl k ↦ (let is = sym (find-cons p d ts k) ∙ first in let a_is : d ≡ a = cc in elim (cases_Bool (q d)) [
+    | inl l ↦ (let is' = sym (find-cons q d ts l) ∙ second in cc)
+    | inr l ↦ (let more = find-all (λ u. d.ticket < u.ticket) q ts b ascends.0 (sym (find-skip q d ts l) ∙ second) in
+        let at = ap (λ (u : QueuedMessage). u.ticket) a_is in absurd (omega (arith, more, at, same)))
+  ])
+  | inr k ↦ (let later = sym (find-skip p d ts k) ∙ first in elim (cases_Bool (q d)) [
+    | inl l ↦ (let is' = sym (find-cons q d ts l) ∙ second in let b_is : d ≡ b = cc in
+        let more = find-all (λ u. d.ticket < u.ticket) p ts a ascends.0 later in
+        let at = ap (λ (u : QueuedMessage). u.ticket) b_is in absurd (omega (arith, more, at, same)))
+    | inr l ↦ same-ticket p q ts a b ascends.1 later (sym (find-skip q d ts l) ∙ second) same
+  ])
+]
+
+or_both : (a b : Bool) → (a || b) ≡ (b || a)
+or_both true true = refl
+or_both true false = refl
+or_both false true = refl
+or_both false false = refl
+
+overlap-both : (a b : Interval) → are_related_intervals a b ≡ are_related_intervals b a
+overlap-both a b = or_both (contains a b.number) (contains b a.number)
+
+not_held : (held waiting : List QueuedMessage) (u : QueuedMessage) → list_any (λ other. are_related_intervals u.affinity other.affinity) held ≡ true → is_conflict_free held waiting u ≡ false
+not_held held waiting u near = ap (λ b. not b && not (list_any (comes_first u) waiting)) near
+
+not_first : (held waiting : List QueuedMessage) (u : QueuedMessage) → list_any (comes_first u) waiting ≡ true → is_conflict_free held waiting u ≡ false
+not_first held waiting u late = ap (λ b. is_free_of held u && not b) late ∙ false_and_right (is_free_of held u)
+
+module _ (held held' waiting : List QueuedMessage) (t : QueuedMessage) (joined : IsBetween t held held') (ascends : Ascend waiting)
+    (once : times_seated t.slot waiting ≤ 1) (first : find (has_number t.affinity.number) waiting ≡ Some t) (clear : is_conflict_free held waiting t ≡ true) where
+  it_alone : AllByRecursion (λ u. has_slot t.slot u ≡ true → u ≡ t) waiting
+  it_alone = alone (has_number t.affinity.number) waiting t first once
+
+  -- a related one was kept back by it before it went
+  kept_before : (n : ℕ) (f : QueuedMessage) → find (has_number n) waiting ≡ Some f → t.affinity.number ≢ n → are_related_intervals f.affinity t.affinity ≡ true
+      → is_conflict_free held waiting f ≡ false
+  kept_before n f found other near = elim (leb_tells (suc t.ticket) f.ticket) [
+    | inl e ↦ not_first held waiting f (any-found (has_number t.affinity.number) (comes_first f) waiting t first
+        (and_from (nat_lt t.ticket f.ticket) _ (lt-ltb t.ticket f.ticket e.1) near))
+    | inr e ↦ elim (leb_tells (suc f.ticket) t.ticket) [
+      | inl k ↦ absurd (true≢false (sym clear ∙ not_first held waiting t (any-found (has_number n) (comes_first t) waiting f found
+          (and_from (nat_lt f.ticket t.ticket) _ (lt-ltb f.ticket t.ticket k.1) (overlap-both t.affinity f.affinity ∙ near)))))
+      | inr k ↦ absurd (let late = e.1 in let early = k.1 in
+          let same = same-ticket (has_number n) (has_number t.affinity.number) waiting f t ascends found first (omega (arith, late, early)) in
+          other (ap (λ (u : QueuedMessage). u.affinity.number) (sym same) ∙ eqb-true f.affinity.number n (find-passes (has_number n) waiting f found)))
+    ]
+  ]
+
+  gone-clear : (n : ℕ) (f : QueuedMessage) → find (has_number n) waiting ≡ Some f → t.affinity.number ≢ n
+      → is_conflict_free held' (without_slot t.slot waiting) f ≡ is_conflict_free held waiting f
+  gone-clear n f found other = elim (cases_Bool (are_related_intervals f.affinity t.affinity)) [
+    | inl near ↦ not_held held' (without_slot t.slot waiting) f
+        (any-between (λ u. are_related_intervals f.affinity u.affinity) t held held' joined ∙ or_left _ _ near)
+        ∙ sym (kept_before n f found other near)
+    | inr far ↦ (let same = any-between (λ u. are_related_intervals f.affinity u.affinity) t held held' joined
+        ∙ ap (λ b. b || list_any (λ u. are_related_intervals f.affinity u.affinity) held) far in
+        let left = any-without (comes_first f) waiting t it_alone
+        (ap (λ b. nat_lt t.ticket f.ticket && b) far ∙ false_and_right (nat_lt t.ticket f.ticket)) in
+        ap (λ b. not b && not (list_any (comes_first f) (without_slot t.slot waiting))) same
+        ∙ ap (λ b. is_free_of held f && not b) left)
+  ]
+
+  pub ready-gone : (n : ℕ) → t.affinity.number ≢ n → ready_at held' (without_slot t.slot waiting) n ≡ ready_at held waiting n
+  ready-gone n other = ready-same held waiting held' (without_slot t.slot waiting) n
+      (find-without (has_number n) waiting t it_alone (ne_eqb t.affinity.number n other))
+      (λ f found. gone-clear n f found other)
+
+  pub marked-gone : (before after : List (Option QueuedMessage)) → ((n : ℕ) → IsReadyAt held waiting before n)
+      → StayReady held' (without_slot t.slot waiting) before after → IsReadyAt held' (without_slot t.slot waiting) after t.affinity.number
+      → (n : ℕ) → IsReadyAt held' (without_slot t.slot waiting) after n
+  marked-gone before after marked stay here n = elim (cases_eq t.affinity.number n) [
+    | inl e ↦ subst (λ m. IsReadyAt held' (without_slot t.slot waiting) after m) e here
+    | inr other ↦ stay.1 n (marked n ∙ sym (ready-gone n other))
+  ]
+
+-- ---- what is freed
+
+-- a number is that of one affinity
+pub same_affinity : (g : Geometry) (a b : Interval) → IsAffinity g a → IsAffinity g b → a.number ≡ b.number → a ≡ b
+same_affinity g a b h k same =
+    let number_a = ap (λ (i : Interval). i.number) h.1.interval in
+    let number_b = ap (λ (i : Interval). i.number) k.1.interval in
+    h.1.interval
+    ∙ ap (λ (p : Path). interval g p) (same_path g h.0 k.0 h.1.path k.1.path (sym number_a ∙ same ∙ number_b))
+    ∙ sym k.1.interval
+
+module _ (g : Geometry) (t : QueuedMessage) (placed : IsAffinity g t.affinity) where
+  any-freed : (u : QueuedMessage) (ds : List QueuedMessage) → AllByRecursion (λ d. IsAffinity g d.affinity) ds → are_related_intervals t.affinity u.affinity ≡ false
+      → list_any (λ other. are_related_intervals u.affinity other.affinity) (without_number t.affinity.number ds)
+      ≡ list_any (λ other. are_related_intervals u.affinity other.affinity) ds
+  any-freed u [] all far = refl
+  any-freed u (d ∷ ds) all far = elim (cases_Bool (has_number t.affinity.number d)) [
+    | inl k ↦ (let same = same_affinity g d.affinity t.affinity all.0 placed (eqb-true d.affinity.number t.affinity.number k) in
+        let none = ap (λ (a : Interval). are_related_intervals u.affinity a) same ∙ overlap-both u.affinity t.affinity ∙ far in
+        rw k (any-freed u ds all.1 far ∙ ap (λ b. b || list_any (λ other. are_related_intervals u.affinity other.affinity) ds) (sym none)))
+    | inr k ↦ rw k (ap (λ b. are_related_intervals u.affinity d.affinity || b) (any-freed u ds all.1 far))
+  ]
+
+  pub marked-freed : (held waiting : List QueuedMessage) (before after : List (Option QueuedMessage)) → AllByRecursion (λ d. IsAffinity g d.affinity) held
+      → AllByRecursion (λ d. IsAffinity g d.affinity) waiting → ((n : ℕ) → IsReadyAt held waiting before n)
+      → AreNearReady g t.affinity (without_number t.affinity.number held) waiting after
+      → StayReady (without_number t.affinity.number held) waiting before after
+      → (n : ℕ) → IsReadyAt (without_number t.affinity.number held) waiting after n
+  marked-freed held waiting before after held_placed waiting_placed marked near stay n = by (find (has_number n) waiting) refl
+    where
+      stays : ((f : QueuedMessage) → find (has_number n) waiting ≡ Some f → are_related_intervals t.affinity f.affinity ≡ false)
+          → IsReadyAt (without_number t.affinity.number held) waiting after n
+      stays far = stay.1 n (marked n ∙ sym (ready-same held waiting (without_number t.affinity.number held) waiting n refl (λ f found.
+          ap (λ b. not b && not (list_any (comes_first f) waiting)) (any-freed f held held_placed (far f found)))))
+
+      by : (o : Option QueuedMessage) → find (has_number n) waiting ≡ o → IsReadyAt (without_number t.affinity.number held) waiting after n
+      by None is = stays (λ f found. absurd (none-some f (sym is ∙ found)))
+      by (Some f) is = elim (cases_Bool (are_related_intervals t.affinity f.affinity)) [
+        | inl close ↦ (let f_placed = find-all (λ d. IsAffinity g d.affinity) (has_number n) waiting f waiting_placed is in
+            subst (λ m. IsReadyAt (without_number t.affinity.number held) waiting after m)
+            (eqb-true f.affinity.number n (find-passes (has_number n) waiting f is)) (near f.affinity f_placed close))
+        | inr far ↦ stays (λ u found. (let both = sym is ∙ found in let same : f ≡ u = cc in
+            subst (λ (v : QueuedMessage). are_related_intervals t.affinity v.affinity ≡ false) same far))
+      ]

@@ -1,0 +1,199 @@
+-- Rows in the order of tickets.
+use Rattle.std.proofs.Common.{◌≡◌, ◌∙◌, ℕ, zero, suc, ◌<◌, ◌≤◌, Bool, true, not, List, [], ◌∷◌, ◌++◌, filter, Option, Some, None, refl, ap, sym, inl, inr, arith, length, slice_index_or}
+use Rattle.std.specs.Prelude.{slice_set}
+use Rattle.std.specs.List.{AllByRecursion}
+use Rattle.std.proofs.lemmas.Bool.{eq-eqb, lt-ltb, cases_Bool}
+use Rattle.std.proofs.lemmas.Bool.Decides.{eqb_tells, leb_tells}
+use Rattle.run_queue.specs.RunQueue.{has_slot, without_slot, CameBefore}
+use Rattle.run_queue.specs.Slots.{times_seated}
+use Rattle.run_queue.specs.Order.{Ascend}
+use Rattle.run_queue.specs.Queues.{present, insert, by_ticket}
+use Rattle.run_queue.specs.declared.queued_message.QueuedMessage.{QueuedMessage}
+use Rattle.run_queue.proofs.Seating.{times-cons_is, times-cons_other}
+
+-- ---- all of a row
+
+pub all-insert : (P : QueuedMessage → Type 0) (t : QueuedMessage) (ts : List QueuedMessage) → AllByRecursion P (insert t ts) → P t × AllByRecursion P ts
+all-insert P t [] h = (h.0, tt)
+all-insert P t (d ∷ ts) h = elim (leb_tells (suc t.ticket) d.ticket) [
+  | inl e ↦ (let k = rw e.0 at h in (k.0, k.1))
+  | inr n ↦ (let k = rw n.0 at h in let rest = all-insert P t ts k.1 in (rest.0, (k.0, rest.1)))
+]
+
+ascend-insert : (t : QueuedMessage) (ts : List QueuedMessage) → Ascend (insert t ts) → Ascend ts
+ascend-insert t [] h = tt
+ascend-insert t (d ∷ ts) h = elim (leb_tells (suc t.ticket) d.ticket) [
+  | inl e ↦ (let k = rw e.0 at h in k.1)
+  | inr n ↦ (let k = rw n.0 at h in ((all-insert (λ u. d.ticket < u.ticket) t ts k.0).1, ascend-insert t ts k.1))
+]
+
+pub all-filter : (P : QueuedMessage → Type 0) (p : QueuedMessage → Bool) (ts : List QueuedMessage) → AllByRecursion P ts → AllByRecursion P (filter p ts)
+all-filter P p [] h = tt
+all-filter P p (t ∷ ts) h = elim (cases_Bool (p t)) [
+  | inl k ↦ rw k (h.0, all-filter P p ts h.1)
+  | inr k ↦ rw k (all-filter P p ts h.1)
+]
+
+pub ascend-filter : (p : QueuedMessage → Bool) (ts : List QueuedMessage) → Ascend ts → Ascend (filter p ts)
+ascend-filter p [] h = tt
+ascend-filter p (t ∷ ts) h = elim (cases_Bool (p t)) [
+  | inl k ↦ rw k (all-filter (λ d. t.ticket < d.ticket) p ts h.0, ascend-filter p ts h.1)
+  | inr k ↦ rw k (ascend-filter p ts h.1)
+]
+
+pub all-last : (P : QueuedMessage → Type 0) (ts : List QueuedMessage) (t : QueuedMessage) → AllByRecursion P ts → P t → AllByRecursion P (ts ++ t ∷ [])
+all-last P [] t h k = (k, tt)
+all-last P (d ∷ ts) t h k = (h.0, all-last P ts t h.1 k)
+
+pub ascend-last : (ts : List QueuedMessage) (t : QueuedMessage) → Ascend ts → CameBefore t.ticket ts → Ascend (ts ++ t ∷ [])
+ascend-last [] t h before = (tt, tt)
+ascend-last (d ∷ ts) t h before = (all-last (λ u. d.ticket < u.ticket) ts t h.0 before.0, ascend-last ts t h.1 before.1)
+
+-- ---- how long rows are, and how often a slot stands in them
+
+length-insert : (t : QueuedMessage) (ts : List QueuedMessage) → length (insert t ts) ≡ suc (length ts)
+length-insert t [] = refl
+length-insert t (d ∷ ts) = elim (leb_tells (suc t.ticket) d.ticket) [
+  | inl e ↦ rw e.0 refl
+  | inr n ↦ rw n.0 (ap (λ k. suc k) (length-insert t ts))
+]
+
+length-by_ticket : (ts : List QueuedMessage) → length (by_ticket ts) ≡ length ts
+length-by_ticket [] = refl
+length-by_ticket (t ∷ ts) = length-insert t (by_ticket ts) ∙ ap (λ k. suc k) (length-by_ticket ts)
+
+-- where each place is taken, there are as many as places
+length-full : (places : List (Option QueuedMessage)) → ((i : ℕ) → i < length places → slice_index_or places i None ≡ None → ⊥)
+    → length (present places) ≡ length places
+length-full [] full = refl
+length-full (None ∷ places) full = absurd (full 0 (omega arith) refl)
+length-full (Some t ∷ places) full = ap (λ k. suc k) (length-full places (λ i below none. full (suc i) (omega arith) none))
+
+pub length-all : (places : List (Option QueuedMessage)) → ((i : ℕ) → i < length places → slice_index_or places i None ≡ None → ⊥)
+    → length (by_ticket (present places)) ≡ length places
+length-all places full = length-by_ticket (present places) ∙ length-full places full
+
+times-insert : (s : ℕ) (t : QueuedMessage) (ts : List QueuedMessage) → times_seated s (insert t ts) ≡ times_seated s (t ∷ ts)
+times-insert s t [] = refl
+times-insert s t (d ∷ ts) = elim (leb_tells (suc t.ticket) d.ticket) [
+  | inl e ↦ rw e.0 refl
+  | inr n ↦ rw n.0 (elim (eqb_tells d.slot s) [
+    | inl e ↦ rw e.0 (rw (times-insert s t ts) (elim (eqb_tells t.slot s) [
+      | inl f ↦ rw f.0 refl
+      | inr f ↦ rw f.0 refl
+    ]))
+    | inr e ↦ rw e.0 (times-insert s t ts)
+  ])
+]
+
+-- ---- one more
+
+insert-last : (t : QueuedMessage) (ts : List QueuedMessage) → CameBefore t.ticket ts → insert t ts ≡ ts ++ t ∷ []
+insert-last t [] before = refl
+insert-last t (d ∷ ts) before = elim (leb_tells (suc t.ticket) d.ticket) [
+  | inl e ↦ absurd (omega (arith, e.1, before.0))
+  | inr n ↦ rw n.0 (ap (λ (us : List QueuedMessage). d ∷ us) (insert-last t ts before.1))
+]
+
+insert-before : (x t : QueuedMessage) (ts : List QueuedMessage) → x.ticket < t.ticket → insert x (ts ++ t ∷ []) ≡ insert x ts ++ t ∷ []
+insert-before x t [] less = rw (lt-ltb x.ticket t.ticket less) refl
+insert-before x t (d ∷ ts) less = elim (leb_tells (suc x.ticket) d.ticket) [
+  | inl e ↦ rw e.0 refl
+  | inr n ↦ rw n.0 (ap (λ (us : List QueuedMessage). d ∷ us) (insert-before x t ts less))
+]
+
+-- one that comes to an empty place with the greatest ticket is last
+pub order-come : (places : List (Option QueuedMessage)) (i : ℕ) (t : QueuedMessage) → i < length places → slice_index_or places i None ≡ None
+    → CameBefore t.ticket (by_ticket (present places))
+    → by_ticket (present (slice_set places i (Some t))) ≡ by_ticket (present places) ++ t ∷ []
+order-come [] i t below empty before = absurd (omega arith)
+order-come (None ∷ places) zero t below empty before = insert-last t (by_ticket (present places)) before
+order-come (Some x ∷ places) zero t below empty before = absurd (cc)
+order-come (None ∷ places) (suc i) t below empty before = order-come places i t (omega arith) empty before
+order-come (Some x ∷ places) (suc i) t below empty before =
+    let parts = all-insert (λ d. d.ticket < t.ticket) x (by_ticket (present places)) before in
+    ap (λ (us : List QueuedMessage). insert x us) (order-come places i t (omega arith) empty parts.1)
+    ∙ insert-before x t (by_ticket (present places)) parts.0
+
+-- ---- one less
+
+pub without-absent : (s : ℕ) (ts : List QueuedMessage) → times_seated s ts ≡ 0 → without_slot s ts ≡ ts
+without-absent s [] none = refl
+without-absent s (t ∷ ts) none = elim (eqb_tells t.slot s) [
+  | inl e ↦ absurd (omega (arith, none, times-cons_is s t ts e.1))
+  | inr n ↦ rw n.0 (ap (λ (us : List QueuedMessage). t ∷ us) (without-absent s ts (omega (arith, none, times-cons_other s t ts n.1))))
+]
+
+without-insert_same : (s : ℕ) (x : QueuedMessage) (ts : List QueuedMessage) → x.slot ≡ s → times_seated s ts ≡ 0 → without_slot s (insert x ts) ≡ ts
+without-insert_same s x [] same none = rw (eq-eqb x.slot s same) refl
+without-insert_same s x (d ∷ ts) same none = elim (eqb_tells d.slot s) [
+  | inl e ↦ absurd (omega (arith, none, times-cons_is s d ts e.1))
+  | inr n ↦ elim (leb_tells (suc x.ticket) d.ticket) [
+    | inl e ↦ rw (e.0, eq-eqb x.slot s same) (without-absent s (d ∷ ts) none)
+    | inr m ↦ rw (m.0, n.0) (ap (λ (us : List QueuedMessage). d ∷ us)
+        (without-insert_same s x ts same (omega (arith, none, times-cons_other s d ts n.1))))
+  ]
+]
+
+insert-first : (x : QueuedMessage) (ts : List QueuedMessage) → AllByRecursion (λ d. x.ticket < d.ticket) ts → insert x ts ≡ x ∷ ts
+insert-first x [] h = refl
+insert-first x (d ∷ ts) h = rw (lt-ltb x.ticket d.ticket h.0) refl
+
+all-above : (x d : QueuedMessage) (ts : List QueuedMessage) → x.ticket < d.ticket → AllByRecursion (λ u. d.ticket < u.ticket) ts
+    → AllByRecursion (λ u. x.ticket < u.ticket) ts
+all-above x d [] less h = tt
+all-above x d (u ∷ ts) less h = let first = h.0 in (omega (arith, first), all-above x d ts less h.1)
+
+filter-insert : (p : QueuedMessage → Bool) (x : QueuedMessage) (ts : List QueuedMessage) → Ascend ts → p x ≡ true
+    → filter p (insert x ts) ≡ insert x (filter p ts)
+filter-insert p x [] ascends k = rw k refl
+filter-insert p x (d ∷ ts) ascends k = elim (leb_tells (suc x.ticket) d.ticket) [
+  | inl e ↦ (let above : AllByRecursion (λ u. x.ticket < u.ticket) (d ∷ ts) = (e.1, all-above x d ts e.1 ascends.0) in
+      rw (e.0, k) (sym (insert-first x (filter p (d ∷ ts)) (all-filter (λ u. x.ticket < u.ticket) p (d ∷ ts) above))))
+  | inr n ↦ elim (cases_Bool (p d)) [
+    | inl there ↦ rw (n.0, there) (rw n.0 (ap (λ (us : List QueuedMessage). d ∷ us) (filter-insert p x ts ascends.1 k)))
+    | inr gone ↦ rw (n.0, gone) (filter-insert p x ts ascends.1 k)
+  ]
+]
+
+there-at : (places : List (Option QueuedMessage)) (i : ℕ) (t : QueuedMessage) → slice_index_or places i None ≡ Some t
+    → 1 ≤ times_seated t.slot (by_ticket (present places))
+there-at [] i t h = absurd (cc)
+there-at (None ∷ places) zero t h = absurd (cc)
+there-at (Some x ∷ places) zero t h =
+    let same : x ≡ t = cc in
+    let count = times-insert t.slot x (by_ticket (present places)) in
+    omega (arith, count, times-cons_is t.slot x (by_ticket (present places)) (ap (λ (u : QueuedMessage). u.slot) same))
+there-at (None ∷ places) (suc i) t h = there-at places i t h
+there-at (Some x ∷ places) (suc i) t h =
+    let count = times-insert t.slot x (by_ticket (present places)) in
+    let rest = there-at places i t h in
+    elim (eqb_tells x.slot t.slot) [
+      | inl e ↦ omega (arith, count, rest, times-cons_is t.slot x (by_ticket (present places)) e.1)
+      | inr n ↦ omega (arith, count, rest, times-cons_other t.slot x (by_ticket (present places)) n.1)
+    ]
+
+-- one whose place is emptied is gone, and the others stay
+pub order-leave : (places : List (Option QueuedMessage)) (i : ℕ) (t : QueuedMessage) → slice_index_or places i None ≡ Some t
+    → times_seated t.slot (by_ticket (present places)) ≤ 1 → Ascend (by_ticket (present places))
+    → by_ticket (present (slice_set places i None)) ≡ without_slot t.slot (by_ticket (present places))
+order-leave [] i t there once ascends = absurd (cc)
+order-leave (None ∷ places) zero t there once ascends = absurd (cc)
+order-leave (Some x ∷ places) zero t there once ascends =
+    let same : x ≡ t = cc in
+    let slot = ap (λ (u : QueuedMessage). u.slot) same in
+    let count = times-insert t.slot x (by_ticket (present places)) in
+    sym (without-insert_same t.slot x (by_ticket (present places)) slot
+    (omega (arith, once, count, times-cons_is t.slot x (by_ticket (present places)) slot)))
+order-leave (None ∷ places) (suc i) t there once ascends = order-leave places i t there once ascends
+order-leave (Some x ∷ places) (suc i) t there once ascends =
+    let ws = by_ticket (present places) in
+    let count = times-insert t.slot x ws in
+    let rest = there-at places i t there in
+    elim (eqb_tells x.slot t.slot) [
+      | inl e ↦ absurd (omega (arith, once, count, rest, times-cons_is t.slot x ws e.1))
+      | inr n ↦ (let few : times_seated t.slot ws ≤ 1 = omega (arith, once, count, times-cons_other t.slot x ws n.1) in
+          let order = ascend-insert x ws ascends in
+          ap (λ (us : List QueuedMessage). insert x us) (order-leave places i t there few order)
+          ∙ sym (filter-insert (λ u. not (has_slot t.slot u)) x ws order (rw n.0 refl)))
+    ]

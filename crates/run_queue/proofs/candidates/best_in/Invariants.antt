@@ -1,0 +1,10 @@
+-- The best one so far is the earliest of those before this number.
+use Rattle.std.proofs.Common.{◌≡◌, ◌*◌, ◌-◌, ◌≤◌}
+use Rattle.run_queue.specs.RunQueue.{has_room}
+use Rattle.run_queue.specs.ReadyTable.{earliest_from, ready_in}
+use Rattle.run_queue.proofs.candidates.best_in.Given as goal
+
+abbrev pub invariant-loop-number : goal.invariant-loop-number
+invariant-loop-number l =
+    (ready_in l.ready_table l.found ≡ earliest_from (has_room l.room) l.ready_table (16 * l.block) (l.number - 16 * l.block) (ready_in l.ready_table l.best))
+    × (16 * l.block ≤ l.number)

@@ -1,0 +1,7 @@
+-- No one at an earlier number does.
+use Rattle.std.proofs.Common.{◌≡◌, ◌<◌, ◌≤◌, ℕ, false}
+use Rattle.run_queue.specs.Near.{conflicts_at}
+use Rattle.run_queue.proofs.conflicts.conflicts_below.Given as goal
+
+abbrev pub invariant-loop-n : goal.invariant-loop-n
+invariant-loop-n l = (k : ℕ) → l.fn.a.number ≤ k → k < l.n → conflicts_at l.held.messages l.waiting.messages l.ticket k ≡ false

@@ -1,0 +1,12 @@
+-- No one is held at any number.
+use Rattle.std.proofs.Common.{◌≡◌, arith}
+use Rattle.run_queue.proofs.Standing.{start-stand, start-view}
+use Rattle.run_queue.proofs.holders.Holders.new.Goals as goal
+
+pub invariant_of-result : goal.invariant_of-result
+invariant_of-result c = rw c.loop.invariant.0 (start-stand c.loop.counter 0)
+
+pub returns : goal.returns
+returns c =
+    let all : c.loop.counter ≡ c.args.numbers = omega arith in
+    rw (c.loop.invariant.0, all) (start-view c.args.numbers)

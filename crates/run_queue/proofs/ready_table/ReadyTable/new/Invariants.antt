@@ -1,0 +1,6 @@
+-- There is no mark at the numbers so far.
+use Rattle.std.proofs.Common.{◌≡◌, ◌≤◌, replicate, None, vec_capacity}
+use Rattle.run_queue.proofs.ready_table.ReadyTable.new.Given as goal
+
+abbrev pub invariant-loop : goal.invariant-loop
+invariant-loop l = (l.clear.items ≡ replicate l.counter None) × (l.numbers ≤ vec_capacity l.clear)

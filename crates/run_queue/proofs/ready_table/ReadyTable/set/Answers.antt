@@ -1,0 +1,60 @@
+-- The rank of what is marked stands at its number, and the least one of its block is known.
+use Rattle.std.proofs.Common.{◌≡◌, ◌∙◌, ℕ, ◌+◌, ◌*◌, ◌/◌, ◌<◌, List, length, get_or, map, Option, None, ap, sym, subst, arith}
+use Rattle.std.specs.Prelude.{slice_set}
+use Rattle.std.proofs.Math.ListN.{get_or-map}
+use Rattle.std.proofs.Math.Nat.{lt-mul-div-succ, mul-div-le}
+use Rattle.std.proofs.lemmas.List.{length-set, map-set}
+use Rattle.run_queue.specs.ReadyTable.{ready_in, rank_of}
+use Rattle.run_queue.specs.declared.queued_message.QueuedMessage.{QueuedMessage}
+use Rattle.run_queue.proofs.Blocks.{least-found, least-kept}
+use Rattle.run_queue.proofs.ready_table.ReadyTable.set.Goals as goal
+
+ranks_set : (ready_table : List (Option QueuedMessage)) (ranks : List ℕ) (n rank : ℕ) (o : Option QueuedMessage) → ranks ≡ map rank_of ready_table → rank ≡ rank_of o
+    → slice_set ranks n rank ≡ map rank_of (slice_set ready_table n o)
+ranks_set ready_table ranks n rank o all one =
+    ap (λ k. slice_set ranks n k) one ∙ ap (λ rs. slice_set rs n (rank_of o)) all ∙ sym (map-set rank_of ready_table n o)
+
+rank-at : (ready_table : List (Option QueuedMessage)) (ranks : List ℕ) (n : ℕ) → ranks ≡ map rank_of ready_table → get_or ranks n 18446744073709551615 ≡ rank_of (ready_in ready_table n)
+rank-at ready_table ranks n all = ap (λ rs. get_or rs n 18446744073709551615) all ∙ get_or-map rank_of ready_table n None
+
+pub invariant_of-self : goal.invariant_of-self
+invariant_of-self c =
+    let ready_table = c.self.inside.clear.items in
+    let least = c.self.inside.least.items in
+    let n = c.args.number in
+    let o = c.args.clear in
+    let are = ranks_set ready_table c.self.inside.ranks.items n c.rank_of-rank.result o c.self.invariant.0 c.rank_of-rank.ensures in
+    let many = length-set ready_table n o in
+    let blocks = length-set least (n / 16) c.least_from.result in
+    let few = c.self.invariant.2 in
+    let all = c.self.invariant.3 in
+    let within = subst (λ (now : List (Option QueuedMessage)). n < length now) (sym c.self.view_is) c.requires in
+    let under = mul-div-le n 16 in
+    let over : length ready_table < 16 * (length ready_table / 16 + 1) = lt-mul-div-succ (length ready_table) (omega arith) in (
+      are,
+      least-found ready_table least n c.least_from.result o c.self.invariant.1 (omega (arith, within, under, over, all)) (λ i below.
+          let low = c.least_from.ensures i below in
+          let turned : n / 16 * 16 + i ≡ 16 * (n / 16) + i = omega arith in
+          let rank = ap (λ (rs : List ℕ). get_or rs (n / 16 * 16 + i) 18446744073709551615) c.deref.ensures.value
+          ∙ ap (λ k. get_or (slice_set c.self.inside.ranks.items n c.rank_of-rank.result) k 18446744073709551615) turned
+          ∙ rank-at (slice_set ready_table n o) _ (16 * (n / 16) + i) are in
+          omega (arith, low, rank)),
+      omega (arith, many, few),
+      blocks ∙ all ∙ ap (λ k. k / 16 + 1) (sym many),
+    )
+
+pub invariant_of-self-else-rank-was : goal.invariant_of-self-else-rank-was
+invariant_of-self-else-rank-was c =
+    let ready_table = c.self.inside.clear.items in
+    let n = c.args.number in
+    let o = c.args.clear in
+    let many = length-set ready_table n o in
+    let few = c.self.invariant.2 in
+    let within = subst (λ (now : List (Option QueuedMessage)). n < length now) (sym c.self.view_is) c.requires in
+    let was = c.rank-was.ensures in
+    let before = ap (λ (now : List (Option QueuedMessage)). rank_of (ready_in now n)) c.self.view_is in (
+      ranks_set ready_table c.self.inside.ranks.items n c.rank_of-rank.result o c.self.invariant.0 c.rank_of-rank.ensures,
+      least-kept ready_table c.self.inside.least.items n o within c.self.invariant.1 (sym c.rank_of-rank.ensures ∙ c.if-rank-was.false ∙ was ∙ sym before),
+      omega (arith, many, few),
+      c.self.invariant.3 ∙ ap (λ k. k / 16 + 1) (sym many),
+    )

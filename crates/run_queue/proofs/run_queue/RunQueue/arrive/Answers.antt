@@ -1,0 +1,67 @@
+-- The slot is a new one, so there is a seat. Where it is first in its queue, it's marked if it is clear.
+use Rattle.std.proofs.Common.{◌≡◌, ◌∙◌, ◌<◌, ◌++◌, ap, arith, sym, subst, refl, true, false, not, find, is_some}
+use Rattle.std.specs.List.{list_any}
+use Rattle.std.proofs.lemmas.Bool.{true≢false}
+use Rattle.affinity.specs.Interval.{IsAffinity}
+use Rattle.run_queue.specs.RunQueue.{RunQueueView, has_slot, has_number, CameBefore}
+use Rattle.run_queue.specs.Queues.{Waiting}
+use Rattle.run_queue.specs.ReadyTable.{IsReadyAt}
+use Rattle.run_queue.specs.Invariant.{AreQueued}
+use Rattle.run_queue.proofs.Nearby.{number-below}
+use Rattle.run_queue.proofs.Turning.{messages-arrived, seat-arrived, kept-arrived}
+use Rattle.run_queue.proofs.run_queue.RunQueue.arrive.Goals as goal
+
+pub push-requires-clause-number : goal.push-requires-clause-number
+push-requires-clause-number c =
+    let placed = subst (λ (q : RunQueueView). IsAffinity q.geometry c.args.queued.affinity) (sym c.self.view_is) c.requires.placed in
+    let below = number-below c.self.inside.geometry c.args.queued.affinity placed in
+    let all = c.self.invariant.rows.queues c.self.inside.geometry in
+    omega (arith, below, all)
+
+pub push-requires-clause-seat : goal.push-requires-clause-seat
+push-requires-clause-seat c =
+    let t = c.args.queued in
+    let there = subst (λ (q : RunQueueView). t.slot < q.slots) (sym c.self.view_is) c.requires.slot in
+    let new = subst (λ (q : RunQueueView). list_any (has_slot t.slot) (q.waiting ++ q.held) ≡ false) (sym c.self.view_is) c.requires.new_slot in
+    seat-arrived c.self.inside.geometry c.self.inside.slots c.self.inside.waiting c.self.inside.held t c.self.invariant.rows there new
+
+pub update_ready-requires-clause-ascends : goal.update_ready-requires-clause-ascends
+update_ready-requires-clause-ascends c =
+    let t = c.args.queued in
+    let placed = subst (λ (q : RunQueueView). IsAffinity q.geometry t.affinity) (sym c.self.view_is) c.requires.placed in
+    let later = subst (λ (q : RunQueueView). CameBefore t.ticket q.waiting) (sym c.self.view_is) c.requires.later in
+    let there = subst (λ (q : RunQueueView). t.slot < q.slots) (sym c.self.view_is) c.requires.slot in
+    let new = subst (λ (q : RunQueueView). list_any (has_slot t.slot) (q.waiting ++ q.held) ≡ false) (sym c.self.view_is) c.requires.new_slot in
+    let rows = subst (λ (w : Waiting). AreQueued c.self.inside.geometry c.self.inside.slots w c.self.inside.held) (sym c.push.ensures)
+    (messages-arrived c.self.inside.geometry c.self.inside.slots c.self.inside.waiting c.self.inside.held _ c.self.invariant.rows placed later there new) in
+    rows.ascends
+
+-- whatever waits in this slot, at this affinity
+pub invariant_of-self : goal.invariant_of-self
+invariant_of-self c =
+    let t = c.args.queued in
+    let placed = subst (λ (q : RunQueueView). IsAffinity q.geometry t.affinity) (sym c.self.view_is) c.requires.placed in
+    let later = subst (λ (q : RunQueueView). CameBefore t.ticket q.waiting) (sym c.self.view_is) c.requires.later in
+    let there = subst (λ (q : RunQueueView). t.slot < q.slots) (sym c.self.view_is) c.requires.slot in
+    let new = subst (λ (q : RunQueueView). list_any (has_slot t.slot) (q.waiting ++ q.held) ≡ false) (sym c.self.view_is) c.requires.new_slot in
+    let rows = subst (λ (w : Waiting). AreQueued c.self.inside.geometry c.self.inside.slots w c.self.inside.held) (sym c.push.ensures)
+    (messages-arrived c.self.inside.geometry c.self.inside.slots c.self.inside.waiting c.self.inside.held _ c.self.invariant.rows placed later there new) in
+    let number : c.from-number.result ≡ t.affinity.number = omega arith in
+    kept-arrived c.self.inside.geometry c.self.inside.slots c.self.inside.waiting c.push.new.self c.self.inside.held t
+    c.self.inside.ready_table c.update_ready.new.ready_table c.self.invariant rows c.push.ensures later c.update_ready.ensures.others
+    (λ none. subst (λ n. IsReadyAt c.self.inside.held.messages c.push.new.self.messages c.update_ready.new.ready_table n) number c.update_ready.ensures.marked)
+
+pub invariant_of-self-else-is_first : goal.invariant_of-self-else-is_first
+invariant_of-self-else-is_first c =
+    let t = c.args.queued in
+    let placed = subst (λ (q : RunQueueView). IsAffinity q.geometry t.affinity) (sym c.self.view_is) c.requires.placed in
+    let later = subst (λ (q : RunQueueView). CameBefore t.ticket q.waiting) (sym c.self.view_is) c.requires.later in
+    let there = subst (λ (q : RunQueueView). t.slot < q.slots) (sym c.self.view_is) c.requires.slot in
+    let new = subst (λ (q : RunQueueView). list_any (has_slot t.slot) (q.waiting ++ q.held) ≡ false) (sym c.self.view_is) c.requires.new_slot in
+    let rows = subst (λ (w : Waiting). AreQueued c.self.inside.geometry c.self.inside.slots w c.self.inside.held) (sym c.push.ensures)
+    (messages-arrived c.self.inside.geometry c.self.inside.slots c.self.inside.waiting c.self.inside.held _ c.self.invariant.rows placed later there new) in
+    let number : c.from-number.result ≡ t.affinity.number = omega arith in
+    let some : is_some c.front.result ≡ true = c.is_none-is_first.ensures ∙ ap not c.if-is_first.false in
+    kept-arrived c.self.inside.geometry c.self.inside.slots c.self.inside.waiting c.push.new.self c.self.inside.held t
+    c.self.inside.ready_table c.self.inside.ready_table c.self.invariant rows c.push.ensures later (refl, λ n right. right)
+    (λ none. absurd (true≢false (sym some ∙ ap is_some (c.front.ensures.first ∙ ap (λ n. find (has_number n) c.self.inside.waiting.messages) number ∙ none))))

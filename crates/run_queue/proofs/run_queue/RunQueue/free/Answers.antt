@@ -1,0 +1,35 @@
+-- What is held no longer leaves its seat, and those near it are marked where they are clear now.
+use Rattle.std.proofs.Common.{◌≡◌, ◌∙◌, None, find, arith, sym, subst, refl}
+use Rattle.affinity.specs.Interval.{IsAffinity}
+use Rattle.run_queue.specs.RunQueue.{has_number}
+use Rattle.run_queue.specs.Queues.{HeldMessages}
+use Rattle.run_queue.specs.Invariant.{AreQueued}
+use Rattle.run_queue.proofs.Clearing.{find-all}
+use Rattle.run_queue.proofs.Standing.{without-none}
+use Rattle.run_queue.proofs.Turning.{messages-freed, kept-freed}
+use Rattle.run_queue.proofs.run_queue.RunQueue.free.Goals as goal
+
+pub update_ready_near-requires-clause-placed : goal.update_ready_near-requires-clause-placed
+update_ready_near-requires-clause-placed c =
+    find-all (λ d. IsAffinity c.self.inside.geometry d.affinity) (has_number c.from-number.result) c.self.inside.held.messages c.in-Some.queued
+    c.self.invariant.rows.held_placed (sym c.at.ensures ∙ c.in-Some.is)
+
+pub update_ready_near-requires-clause-held_placed : goal.update_ready_near-requires-clause-held_placed
+update_ready_near-requires-clause-held_placed c =
+    let rows = subst (λ (h : HeldMessages). AreQueued c.self.inside.geometry c.self.inside.slots c.self.inside.waiting h) (sym c.free.ensures)
+    (messages-freed c.self.inside.geometry c.self.inside.slots c.self.inside.waiting c.self.inside.held c.from-number.result c.self.invariant.rows) in
+    rows.held_placed
+
+pub invariant_of-self : goal.invariant_of-self
+invariant_of-self c =
+    kept-freed c.self.inside.geometry c.self.inside.slots c.self.inside.waiting c.self.inside.held c.free.new.self c.in-Some.queued
+    c.from-number.result c.self.inside.ready_table c.update_ready_near.new.ready_table c.self.invariant (sym c.at.ensures ∙ c.in-Some.is) c.free.ensures
+    c.update_ready_near.ensures.near c.update_ready_near.ensures.others
+
+pub returns-in_default : goal.returns-in_default
+returns-in_default c =
+    let number : c.from-number.result ≡ c.args.a.number = omega arith in
+    let none = sym c.at.ensures ∙ c.in_default.is in
+    let none_here = subst (λ n. find (has_number n) c.self.inside.held.messages ≡ None) number none in
+    let same = without-none c.args.a.number c.self.inside.held.messages none_here in
+    rw (← c.self.view_is) (rw same refl)

@@ -1,0 +1,9 @@
+-- The best one so far is marked as the first one that may go at a number of an earlier block.
+use Rattle.std.proofs.Common.{◌≡◌, ◌*◌}
+use Rattle.run_queue.specs.ReadyTable.{ready_in}
+use Rattle.run_queue.proofs.Earliest.{first_below}
+use Rattle.run_queue.proofs.run_queue.RunQueue.next.Given as goal
+
+abbrev pub invariant-loop-block : goal.invariant-loop-block
+invariant-loop-block l =
+    ready_in l.self-inside.ready_table l.best ≡ first_below l.room l.self-inside.held.messages l.self-inside.waiting.messages (16 * l.block)

@@ -1,0 +1,8 @@
+-- A number with a mark gets the right one, and at the others no one waits.
+use Rattle.std.proofs.Common.{arith}
+use Rattle.run_queue.proofs.Ready.{update_ready-past}
+use Rattle.run_queue.proofs.update_ready.update_ready.Goals as goal
+
+pub returns-else-number-len-clause-marked : goal.returns-else-number-len-clause-marked
+returns-else-number-len-clause-marked c =
+    update_ready-past c.args.g.now c.args.held.now.messages c.args.waiting.now.messages c.args.ready_table.now c.args.number c.requires.waiting_placed c.requires.numbers (omega arith)

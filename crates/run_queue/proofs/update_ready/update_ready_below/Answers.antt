@@ -1,0 +1,32 @@
+-- Each number below the affinity is marked, and stays so.
+use Rattle.std.proofs.Common.{◌∙◌, sym, subst, refl, inl, inr, arith}
+use Rattle.std.proofs.lemmas.Bool.{cases_eq, and_parts, leb-true, ltb-true}
+use Rattle.run_queue.specs.ReadyTable.{IsReadyAt}
+use Rattle.run_queue.proofs.Ready.{stay-trans}
+use Rattle.run_queue.proofs.update_ready.update_ready_below.Goals as goal
+
+pub loop-n-init : goal.loop-n-init
+loop-n-init c = record { stay = (refl, λ k right. right); done = λ k low high. absurd (omega arith) }
+
+pub update_ready-requires-clause-numbers : goal.update_ready-requires-clause-numbers
+update_ready-requires-clause-numbers c = let same = c.loop-n.invariant.stay.0 in omega (arith, same)
+
+pub loop-n-preserved : goal.loop-n-preserved
+loop-n-preserved c = record {
+  stay = stay-trans c.args.held.now.messages c.args.waiting.now.messages c.args.ready_table.now c.loop-n.ready_table c.update_ready.new.ready_table
+      c.loop-n.invariant.stay c.update_ready.ensures.others;
+  done = λ k low high. elim (cases_eq k c.loop-n.n) [
+    | inl e ↦ subst (λ m. IsReadyAt c.args.held.now.messages c.args.waiting.now.messages c.update_ready.new.ready_table m) (c.from.ensures ∙ sym e) c.update_ready.ensures.marked
+    | inr other ↦ c.update_ready.ensures.others.1 k (c.loop-n.invariant.done k low (omega arith))
+  ];
+}
+
+pub returns-clause-marked : goal.returns-clause-marked
+returns-clause-marked c = λ n inside.
+    let parts = and_parts _ _ inside in
+    let low = leb-true _ _ parts.0 in
+    let high = ltb-true _ _ parts.1 in
+    c.loop-n.invariant.done n low (omega arith)
+
+pub returns-clause-others : goal.returns-clause-others
+returns-clause-others c = c.loop-n.invariant.stay

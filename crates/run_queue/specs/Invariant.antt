@@ -1,0 +1,29 @@
+-- How a `RunQueue` keeps those that wait and those that are held. No public clause cites this module.
+use Rattle.std.specs.Prelude.{◌≡◌, ◌≤◌, ℕ, List, length, Option}
+use Rattle.std.specs.List.{AllByRecursion}
+use Rattle.affinity.specs.Interval.{IsAffinity, server_size}
+use Rattle.affinity.specs.declared.geometry.Geometry.{Geometry}
+use Rattle.run_queue.specs.Order.{Ascend}
+use Rattle.run_queue.specs.Queues.{Waiting, HeldMessages}
+use Rattle.run_queue.specs.Slots.{AreSeated}
+use Rattle.run_queue.specs.ReadyTable.{IsReadyAt}
+use Rattle.run_queue.specs.declared.queued_message.QueuedMessage.{QueuedMessage}
+
+-- There is a queue and a place for each affinity of any geometry, and each has its own slot.
+pub record AreQueued (g : Geometry) (slots : ℕ) (waiting : Waiting) (held : HeldMessages) : Type 0 where
+  pub queues : (any : Geometry) → server_size any ≤ waiting.numbers
+  pub places : (any : Geometry) → server_size any ≤ held.numbers
+  pub seats : waiting.seats ≡ slots
+  pub seated : AreSeated slots waiting.messages held.messages
+  pub ascends : Ascend waiting.messages
+  pub waiting_placed : AllByRecursion (λ t. IsAffinity g t.affinity) waiting.messages
+  pub held_placed : AllByRecursion (λ t. IsAffinity g t.affinity) held.messages
+
+-- There is a mark for each affinity of any geometry, and each is right.
+pub record AreReady (held waiting : List QueuedMessage) (ready_table : List (Option QueuedMessage)) : Type 0 where
+  pub numbers : (any : Geometry) → server_size any ≤ length ready_table
+  pub marked : (n : ℕ) → IsReadyAt held waiting ready_table n
+
+pub record QueueInvariant (g : Geometry) (slots : ℕ) (waiting : Waiting) (held : HeldMessages) (ready_table : List (Option QueuedMessage)) : Type 0 where
+  pub rows : AreQueued g slots waiting held
+  pub marked : AreReady held.messages waiting.messages ready_table

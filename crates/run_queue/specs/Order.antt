@@ -1,0 +1,31 @@
+-- Those that wait, by their tickets.
+use Rattle.std.specs.Prelude.{ℕ, ◌<◌, Bool, true, not, ◌&&◌, nat_lt, if◌then◌else◌, List, [], ◌∷◌, Option, Some, None}
+use Rattle.std.specs.List.{list_any, find, AllByRecursion}
+use Rattle.run_queue.specs.RunQueue.{are_related_intervals, is_free_of, has_room, has_number}
+use Rattle.run_queue.specs.declared.queued_message.QueuedMessage.{QueuedMessage}
+
+abbrev pub Ascend : List QueuedMessage → Type 0
+Ascend [] = Unit {0}
+Ascend (t ∷ messages) = AllByRecursion (λ d. t.ticket < d.ticket) messages × Ascend messages
+
+-- whether the second came before the first, at a related affinity
+abbrev pub comes_first : QueuedMessage → QueuedMessage → Bool
+comes_first t d = nat_lt d.ticket t.ticket && are_related_intervals t.affinity d.affinity
+
+-- whether no held one is at a related affinity, and no waiting one with a smaller ticket
+abbrev pub is_conflict_free : List QueuedMessage → List QueuedMessage → QueuedMessage → Bool
+is_conflict_free held waiting t = is_free_of held t && not (list_any (comes_first t) waiting)
+
+-- the first one at this number that may go, with room or without
+abbrev pub may_go_at : Bool → List QueuedMessage → List QueuedMessage → ℕ → Option QueuedMessage
+may_go_at room held waiting n = find (λ t. has_number n t && (has_room room t && is_conflict_free held waiting t)) waiting
+
+-- whether one came before another, if there is another
+abbrev pub is_earlier : Option QueuedMessage → QueuedMessage → Bool
+is_earlier None t = true
+is_earlier (Some d) t = nat_lt t.ticket d.ticket
+
+-- the one of two that came first
+abbrev pub earlier : Option QueuedMessage → Option QueuedMessage → Option QueuedMessage
+earlier o None = o
+earlier o (Some t) = if is_earlier o t then Some t else o

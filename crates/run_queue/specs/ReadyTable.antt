@@ -1,0 +1,52 @@
+-- Which of those that are first in their queues are clear, each at the number of its affinity. No public clause cites this module.
+use Rattle.std.specs.Prelude.{◌≡◌, ◌+◌, ◌*◌, ◌<◌, ◌≤◌, ℕ, zero, suc, min, Bool, true, List, length, get_or, if◌then◌else◌, slice_index_or, Option, Some, None}
+use Rattle.std.specs.List.{find}
+use Rattle.affinity.specs.Interval.{Interval, IsAffinity}
+use Rattle.affinity.specs.declared.geometry.Geometry.{Geometry}
+use Rattle.run_queue.specs.RunQueue.{are_related_intervals, has_number}
+use Rattle.run_queue.specs.Order.{earlier, is_conflict_free}
+use Rattle.run_queue.specs.declared.queued_message.QueuedMessage.{QueuedMessage}
+
+-- it, if it is there and passes this test
+abbrev pub if_passes : (QueuedMessage → Bool) → Option QueuedMessage → Option QueuedMessage
+if_passes p None = None
+if_passes p (Some t) = if p t then Some t else None
+
+-- the first one at this number, if it is clear
+abbrev pub ready_at : List QueuedMessage → List QueuedMessage → ℕ → Option QueuedMessage
+ready_at held waiting n = if_passes (is_conflict_free held waiting) (find (has_number n) waiting)
+
+abbrev pub ready_in : List (Option QueuedMessage) → ℕ → Option QueuedMessage
+ready_in ready_table n = slice_index_or ready_table n None
+
+-- The mark at this number is right.
+abbrev pub IsReadyAt : List QueuedMessage → List QueuedMessage → List (Option QueuedMessage) → ℕ → Type 0
+IsReadyAt held waiting ready_table n = ready_in ready_table n ≡ ready_at held waiting n
+
+-- No mark that was right is wrong, and there are as many.
+abbrev pub StayReady : List QueuedMessage → List QueuedMessage → List (Option QueuedMessage) → List (Option QueuedMessage) → Type 0
+StayReady held waiting before after =
+    (length after ≡ length before) × ((n : ℕ) → IsReadyAt held waiting before n → IsReadyAt held waiting after n)
+
+-- The marks at all affinities related to this one are right.
+abbrev pub AreNearReady : Geometry → Interval → List QueuedMessage → List QueuedMessage → List (Option QueuedMessage) → Type 0
+AreNearReady g a held waiting ready_table = (b : Interval) → IsAffinity g b → are_related_intervals a b ≡ true
+    → IsReadyAt held waiting ready_table b.number
+
+-- the last rank of one that is there
+abbrev pub last_rank : ℕ
+last_rank = 18446744073709551614
+
+-- how early it came: its ticket, but that the greatest two are one rank. What isn't there comes behind all.
+abbrev pub rank_of : Option QueuedMessage → ℕ
+rank_of None = 18446744073709551615
+rank_of (Some t) = min t.ticket last_rank
+
+-- the earliest of one and of those that are marked at so many numbers from this one on and pass this test
+abbrev pub earliest_from : (QueuedMessage → Bool) → List (Option QueuedMessage) → ℕ → ℕ → Option QueuedMessage → Option QueuedMessage
+earliest_from p ready_table from zero best = best
+earliest_from p ready_table from (suc n) best = earlier (earliest_from p ready_table from n best) (if_passes p (ready_in ready_table (from + n)))
+
+-- None of the sixteen numbers of a block has a rank that is less than the one of the block.
+abbrev pub AreLeast : List (Option QueuedMessage) → List ℕ → Type 0
+AreLeast ready_table least = (block i : ℕ) → i < 16 → get_or least block 0 ≤ rank_of (ready_in ready_table (16 * block + i))

@@ -1,0 +1,71 @@
+-- What contracts see of a `RunQueue`, and whose turn it is.
+use Rattle.std.specs.Prelude.{◌≡◌, ℕ, ◌<◌, Bool, not, ◌&&◌, ◌||◌, ◌==◌, List, [], ◌∷◌, ◌++◌, filter, if◌then◌else◌, Option, Some, None}
+use Rattle.std.specs.List.{list_any, AllByRecursion}
+use Rattle.affinity.specs.Interval.{Interval, contains}
+use Rattle.affinity.specs.declared.geometry.Geometry.{Geometry}
+use Rattle.run_queue.specs.declared.queued_message.QueuedMessage.{QueuedMessage}
+
+-- Those that wait stand in the order in which they came. Those that are held stand in any order.
+pub record RunQueueView : Type 0 where
+  pub geometry : Geometry
+  pub waiting : List QueuedMessage
+  pub held : List QueuedMessage
+  pub slots : ℕ
+
+-- no one waits, and no one is held
+abbrev pub queue_at_start : Geometry → ℕ → RunQueueView
+queue_at_start geometry slots = record { geometry = geometry; waiting = []; held = []; slots = slots }
+
+-- whether the number of one is among those of the other: of two affinities one is the other, or lies above it
+abbrev pub are_related_intervals : Interval → Interval → Bool
+are_related_intervals a b = contains a b.number || contains b a.number
+
+-- whether no one of the others is at a related affinity
+abbrev pub is_free_of : List QueuedMessage → QueuedMessage → Bool
+is_free_of others t = not (list_any (λ other. are_related_intervals t.affinity other.affinity) others)
+
+-- Only what may change something needs room.
+abbrev pub has_room : Bool → QueuedMessage → Bool
+has_room room t = room || not t.changing
+
+-- whether it may go while these are held, if these came earlier and still wait
+abbrev pub may_go : Bool → List QueuedMessage → List QueuedMessage → QueuedMessage → Bool
+may_go room held earlier t = has_room room t && (is_free_of held t && is_free_of earlier t)
+
+-- the first that may go of those that came later than these
+abbrev pub first_to_go : Bool → List QueuedMessage → List QueuedMessage → List QueuedMessage → Option QueuedMessage
+first_to_go room held earlier [] = None
+first_to_go room held earlier (t ∷ later) =
+    if may_go room held earlier t then Some t else first_to_go room held (earlier ++ t ∷ []) later
+
+-- the first of those that wait that may go
+abbrev pub next_queued : Bool → List QueuedMessage → List QueuedMessage → Option QueuedMessage
+next_queued room held waiting = first_to_go room held [] waiting
+
+abbrev pub has_slot : ℕ → QueuedMessage → Bool
+has_slot slot t = t.slot == slot
+
+abbrev pub without_slot : ℕ → List QueuedMessage → List QueuedMessage
+without_slot slot messages = filter (λ t. not (has_slot slot t)) messages
+
+abbrev pub has_number : ℕ → QueuedMessage → Bool
+has_number number t = t.affinity.number == number
+
+abbrev pub without_number : ℕ → List QueuedMessage → List QueuedMessage
+without_number number messages = filter (λ t. not (has_number number t)) messages
+
+-- whether it is the one of this slot, at the affinity with this number
+abbrev pub holds_at : ℕ → ℕ → QueuedMessage → Bool
+holds_at number slot t = has_slot slot t && has_number number t
+
+-- all have tickets below this one
+abbrev pub CameBefore : ℕ → List QueuedMessage → Type 0
+CameBefore ticket messages = AllByRecursion (λ t. t.ticket < ticket) messages
+
+-- it is the next one, with room or without
+abbrev pub IsNext : RunQueueView → QueuedMessage → Type 0
+IsNext q t = (room : Bool) × (next_queued room q.held q.waiting ≡ Some t)
+
+-- These are the ones that were there and this one, in any order: no test tells them apart.
+abbrev pub HasJoined : QueuedMessage → List QueuedMessage → List QueuedMessage → Type 0
+HasJoined t before after = (test : QueuedMessage → Bool) → list_any test after ≡ (test t || list_any test before)

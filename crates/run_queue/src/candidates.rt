@@ -1,0 +1,54 @@
+//! Who goes first of the clear ones.
+ghost use Rattle.std.specs.Prelude.{◌≡◌, ◌*◌, ◌≤◌, option_copied};
+ghost use Rattle.run_queue.specs.RunQueue.{has_room};
+ghost use Rattle.run_queue.specs.Order.{is_earlier, earlier};
+ghost use Rattle.run_queue.specs.ReadyTable.{earliest_from, if_passes, ready_in};
+
+use crate::QueuedMessage;
+use crate::ready_table::{BLOCK, ReadyTable};
+
+// Whether there is room for it.
+fn has_room(room: bool, queued: &QueuedMessage) -> bool
+    ensures { result ≡ has_room room queued.now }
+{
+    room || !queued.changing
+}
+
+// Whether it came before the best so far.
+fn is_earlier(best: Option<&QueuedMessage>, queued: &QueuedMessage) -> bool
+    ensures { result ≡ is_earlier (option_copied best.entry) queued.now }
+{
+    match best {
+        Some(other) => queued.ticket < other.ticket,
+        None => true,
+    }
+}
+
+// The number of the earlier one of two that are marked: the best so far, and one at a number, if
+// there is room for that.
+fn better(room: bool, ready_table: &ReadyTable, best: usize, number: usize) -> usize
+    ensures { ready_in ready_table.now result ≡ earlier (ready_in ready_table.now best) (if_passes (has_room room) (ready_in ready_table.now number)) }
+{
+    let Some(queued) = ready_table.at(number) else {
+        return best;
+    };
+    if is_earlier(ready_table.at(best), queued) && has_room(room, queued) {
+        number
+    } else {
+        best
+    }
+}
+
+/// The number of the earliest marked one: the best so far, and those in a block for which there is room.
+pub(crate) fn best_in(room: bool, ready_table: &ReadyTable, best: usize, block: usize) -> usize
+    requires { block ≤ 4096 }
+    ensures { ready_in ready_table.now result ≡ earliest_from (has_room room) ready_table.now (16 * block) 16 (ready_in ready_table.now best) }
+{
+    let mut found = best;
+    for number in block * BLOCK..(block + 1) * BLOCK {
+        if ready_table.rank(number) <= ready_table.bound(found) {
+            found = better(room, ready_table, found, number);
+        }
+    }
+    found
+}

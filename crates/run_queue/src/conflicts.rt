@@ -1,0 +1,93 @@
+//! Whether someone who waits is kept back by others.
+ghost use Rattle.std.specs.Prelude.{◌≡◌, ℕ, true, false};
+ghost use Rattle.std.specs.List.{list_any, AllByRecursion};
+ghost use Rattle.affinity.specs.Interval.{IsPath, IsAffinity, IsAffinityOf, contains, number};
+ghost use Rattle.affinity.specs.Path.{Path};
+ghost use Rattle.affinity.specs.Place.{path};
+ghost use Rattle.run_queue.specs.Order.{Ascend, is_conflict_free};
+ghost use Rattle.run_queue.specs.Near.{numbers_above, conflicts_at};
+
+use crate::QueuedMessage;
+use crate::holders::Holders;
+use crate::waiting::Queues;
+use affinity::{Affinity, Geometry, Place};
+
+// The number of the affinity of a place.
+fn number_at(g: &Geometry, place: Place) -> u16
+    requires { IsPath g.now (path place) }
+    ensures { result ≡ number g.now (path place) }
+{
+    Affinity::at(g, place).number()
+}
+
+/// The numbers of the affinities above this one, and its own where those are fewer than four.
+pub(crate) fn numbers_above(g: &Geometry, a: Affinity) -> [u16; 4]
+    requires { IsAffinity g.now a }
+    ensures { (p : Path) → IsAffinityOf g.now p a → result ≡ numbers_above g.now p }
+{
+    let own = a.number();
+    match a.place(g) {
+        Place::Serial => [own, own, own, own],
+        Place::Aggregate(_) => [0, own, own, own],
+        Place::Volume(i, _) => [0, number_at(g, Place::Aggregate(i)), own, own],
+        Place::Logical(i, v) => {
+            let aggregate = number_at(g, Place::Aggregate(i));
+            [0, aggregate, number_at(g, Place::Volume(i, v)), own]
+        }
+        Place::Label(i, v) => {
+            let aggregate = number_at(g, Place::Aggregate(i));
+            [0, aggregate, number_at(g, Place::Volume(i, v)), own]
+        }
+        Place::Stripe(i, v, _) => {
+            let aggregate = number_at(g, Place::Aggregate(i));
+            let volume = number_at(g, Place::Volume(i, v));
+            [0, aggregate, volume, number_at(g, Place::Logical(i, v))]
+        }
+    }
+}
+
+// Whether someone at a number is held, or came before this ticket and still waits.
+fn conflicts_at(held: &Holders, waiting: &Queues, ticket: u64, number: usize) -> bool
+    ensures { result ≡ conflicts_at held.now.messages waiting.now.messages ticket number }
+{
+    held.at(number).is_some()
+        || matches!(waiting.front(number), Some(front) if front.ticket < ticket)
+}
+
+// Whether someone at one of the affinities from this one down does.
+fn conflicts_below(held: &Holders, waiting: &Queues, ticket: u64, a: Affinity) -> bool
+    ensures some { result ≡ true → (n : ℕ) × (contains a n ≡ true) × (conflicts_at held.now.messages waiting.now.messages ticket n ≡ true) }
+    ensures none { result ≡ false → (n : ℕ) → contains a n ≡ true → conflicts_at held.now.messages waiting.now.messages ticket n ≡ false }
+{
+    for n in a.number()..a.end() {
+        if conflicts_at(held, waiting, ticket, usize::from(n)) {
+            return true;
+        }
+    }
+    false
+}
+
+// Whether someone at one of these numbers does.
+fn conflicts_at_any(held: &Holders, waiting: &Queues, ticket: u64, numbers: &[u16]) -> bool
+    ensures { result ≡ list_any (conflicts_at held.now.messages waiting.now.messages ticket) numbers.now }
+{
+    for n in numbers {
+        if conflicts_at(held, waiting, ticket, usize::from(*n)) {
+            return true;
+        }
+    }
+    false
+}
+
+/// Whether no one at a related affinity is held, or waits with a smaller ticket.
+pub(crate) fn is_conflict_free(g: &Geometry, held: &Holders, waiting: &Queues, queued: &QueuedMessage) -> bool
+    requires placed { IsAffinity g.now queued.now.affinity }
+    requires held_placed { AllByRecursion (λ t. IsAffinity g.now t.affinity) held.now.messages }
+    requires waiting_placed { AllByRecursion (λ t. IsAffinity g.now t.affinity) waiting.now.messages }
+    requires ascends { Ascend waiting.now.messages }
+    ensures { result ≡ is_conflict_free held.now.messages waiting.now.messages queued.now }
+{
+    let a = queued.affinity;
+    !conflicts_below(held, waiting, queued.ticket, a)
+        && !conflicts_at_any(held, waiting, queued.ticket, &numbers_above(g, a))
+}

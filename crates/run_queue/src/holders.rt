@@ -1,0 +1,73 @@
+//! The held messages, each at the number of its affinity.
+ghost use Rattle.std.specs.Prelude.{◌≡◌, ◌<◌, [], IfOk, None};
+ghost use Rattle.std.specs.List.{find};
+ghost use Rattle.run_queue.specs.RunQueue.{has_number, without_number};
+
+use crate::QueuedMessage;
+use std::alloc::{AllocError, Global};
+use std::marker::Model;
+
+/// The held messages, at most one for each number of an affinity.
+///
+/// All memory is taken by `new`.
+#[derive(Drop)]
+pub(crate) struct Holders {
+    places: Vec<Option<QueuedMessage>>, // by number
+}
+
+impl Model for Holders {
+    ghost use Rattle.std.specs.Prelude.{length};
+    ghost use Rattle.run_queue.specs.Queues.{HeldMessages, present, StandFrom};
+
+    ghost Value = { HeldMessages };
+
+    ghost view = { λ h. record { numbers = length h.places.items; messages = present h.places.items } };
+
+    ghost invariant = { λ h. StandFrom 0 h.places.items };
+}
+
+impl Holders {
+    ghost use Rattle.run_queue.specs.Queues.{IsBetween};
+
+    /// `numbers` numbers, at which no message is held. `AllocError` where there is no memory.
+    pub(crate) fn new(alloc: Global, numbers: usize) -> Result<Holders, AllocError>
+        ensures { IfOk result (λ h. h ≡ record { numbers = numbers; messages = [] }) }
+    {
+        let mut places = Vec::with_capacity(alloc, numbers)?;
+        for _ in 0..numbers {
+            places.push_reserved(None);
+        }
+        Ok(Holders { places })
+    }
+
+    /// The message held at a number.
+    pub(crate) fn at(&self, number: usize) -> Option<QueuedMessage>
+        ensures { result ≡ find (has_number number) self.now.messages }
+    {
+        if number < self.places.len() {
+            self.places[number]
+        } else {
+            None
+        }
+    }
+
+    /// One more is held, at a number where no one is.
+    pub(crate) fn hold(&mut self, queued: QueuedMessage)
+        requires number { queued.affinity.number < self.old.numbers }
+        requires free { find (has_number queued.affinity.number) self.old.messages ≡ None }
+        ensures rest { self.new ≡ record self.old { messages = self.new.messages } }
+        ensures messages { IsBetween queued self.old.messages self.new.messages }
+    {
+        let number = usize::from(queued.affinity.number());
+        self.places[number] = Some(queued);
+    }
+
+    /// What is held at a number is held no longer.
+    pub(crate) fn free(&mut self, number: usize)
+        ensures { self.new ≡ record self.old { messages = without_number number self.old.messages } }
+    {
+        if number < self.places.len() {
+            self.places[number] = None;
+        }
+    }
+}

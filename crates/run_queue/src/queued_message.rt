@@ -1,0 +1,18 @@
+//! One message that waits or is held.
+use affinity::Affinity;
+
+/// A message that waits for its turn, or that is held since it went.
+#[derive(Clone, Copy, Debug, PartialEq, Eq)]
+pub struct QueuedMessage {
+    /// The slot where the message is kept.
+    pub slot: usize,
+
+    /// Where the message belongs.
+    pub affinity: Affinity,
+
+    /// Whether it may change what the server holds, so that it needs room in the log.
+    pub changing: bool,
+
+    /// Its place in the order of arrival.
+    pub ticket: u64,
+}

@@ -1,0 +1,138 @@
+//! Marks at numbers: which of the first in their queues are clear.
+ghost use Rattle.std.specs.Prelude.{◌≡◌, ◌+◌, ◌*◌, ◌<◌, ◌≤◌, ℕ, get_or, length, min, replicate, slice_set, option_copied, IfOk, None};
+ghost use Rattle.run_queue.specs.ReadyTable.{last_rank, ready_in, rank_of};
+
+use crate::QueuedMessage;
+use std::alloc::{AllocError, Global};
+use std::marker::Model;
+
+/// How many numbers there are in a block.
+pub(crate) const BLOCK: usize = 16;
+
+/// The last rank that one who waits may have. The greatest `u64` says that no one is marked.
+const LAST_RANK: u64 = u64::MAX - 1;
+
+/// A mark for each number of an affinity, which is there if a waiting message is clear.
+///
+/// `next` is called often and looks for the earliest clear one. So each has a rank, which is its ticket, and the least
+/// rank of each block of numbers is kept: most blocks are passed by it alone.
+///
+/// All memory is taken by `new`.
+#[derive(Drop)]
+pub(crate) struct ReadyTable {
+    clear: Vec<Option<QueuedMessage>>, // by number
+    ranks: Vec<u64>, // by number
+    least: Vec<u64>, // by block
+}
+
+impl Model for ReadyTable {
+    ghost use Rattle.std.specs.Prelude.{◌≡◌, ◌+◌, ◌/◌, ◌≤◌, List, Option, length, map};
+    ghost use Rattle.run_queue.specs.ReadyTable.{AreLeast, rank_of};
+    ghost use Rattle.run_queue.specs.declared.queued_message.QueuedMessage.{QueuedMessage};
+
+    ghost Value = { List (Option QueuedMessage) };
+
+    ghost view = { λ m. m.clear.items };
+
+    ghost invariant = { λ m. (m.ranks.items ≡ map rank_of m.clear.items) × AreLeast m.clear.items m.least.items
+        × (length m.clear.items ≤ 65536) × (length m.least.items ≡ length m.clear.items / 16 + 1) };
+}
+
+impl ReadyTable {
+    /// `numbers` empty marks. `AllocError` where there is no memory.
+    pub(crate) fn new(alloc: Global, numbers: usize) -> Result<ReadyTable, AllocError>
+        requires { numbers ≤ 65536 }
+        ensures { IfOk result (λ ready_table. ready_table ≡ replicate numbers None) }
+    {
+        let mut clear = Vec::with_capacity(alloc, numbers)?;
+        for _ in 0..numbers {
+            clear.push_reserved(None);
+        }
+        let ranks = vec![in alloc; u64::MAX; numbers]?;
+        let least = vec![in alloc; u64::MAX; numbers / BLOCK + 1]?;
+        Ok(ReadyTable {
+            clear,
+            ranks,
+            least,
+        })
+    }
+
+    /// How many numbers there are.
+    pub(crate) fn len(&self) -> usize
+        ensures { result ≡ length self.now }
+    {
+        self.clear.len()
+    }
+
+    /// The clear message at a number.
+    pub(crate) fn at(&self, number: usize) -> Option<&QueuedMessage>
+        ensures { option_copied result ≡ ready_in self.now number }
+    {
+        self.clear.get(number)?.as_ref()
+    }
+
+    /// The rank of the clear message at a number, or the greatest `u64` if there is none.
+    pub(crate) fn rank(&self, number: usize) -> u64
+        ensures { result ≡ rank_of (ready_in self.now number) }
+    {
+        match self.ranks.get(number) {
+            Some(rank) => *rank,
+            None => u64::MAX,
+        }
+    }
+
+    /// An upper bound for the rank of any turn earlier than the clear one at `number`. Where none is clear there, the
+    /// last rank.
+    pub(crate) fn bound(&self, number: usize) -> u64
+        ensures { result ≡ min (rank_of (ready_in self.now number)) last_rank }
+    {
+        self.rank(number).min(LAST_RANK)
+    }
+
+    /// The least rank in a block: no one there has a lower one.
+    pub(crate) fn least(&self, block: usize) -> u64
+        ensures { (i : ℕ) → i < 16 → result ≤ rank_of (ready_in self.now (16 * block + i)) }
+    {
+        match self.least.get(block) {
+            Some(least) => *least,
+            None => 0,
+        }
+    }
+
+    /// Sets or clears the mark at `number`.
+    pub(crate) fn set(&mut self, number: usize, clear: Option<QueuedMessage>)
+        requires { number < length self.old }
+        ensures { self.new ≡ slice_set self.old number clear }
+    {
+        let rank = rank_of(&clear);
+        let was = self.rank(number);
+        self.clear[number] = clear;
+        self.ranks[number] = rank;
+        if rank != was {
+            let block = number / BLOCK;
+            self.least[block] = least_from(&self.ranks, block * BLOCK);
+        }
+    }
+}
+
+// The rank of this one.
+fn rank_of(clear: &Option<QueuedMessage>) -> u64
+    ensures { result ≡ rank_of clear.now }
+{
+    match clear {
+        Some(queued) => queued.ticket.min(LAST_RANK),
+        None => u64::MAX,
+    }
+}
+
+// The least of the ranks in a block, which begins at this number.
+fn least_from(ranks: &[u64], from: usize) -> u64
+    requires { from ≤ 65536 }
+    ensures { (i : ℕ) → i < 16 → result ≤ get_or ranks.now (from + i) 18446744073709551615 }
+{
+    let mut least = u64::MAX;
+    for number in from..ranks.len().min(from + BLOCK) {
+        least = least.min(ranks[number]);
+    }
+    least
+}

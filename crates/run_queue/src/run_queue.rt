@@ -1,0 +1,171 @@
+//! Waiting and held messages, and whose turn it is among them.
+ghost use Rattle.std.specs.Prelude.{◌≡◌, ◌+◌, ◌*◌, ◌<◌, ◌≤◌, ◌++◌, ◌∷◌, true, false, [], length, IfOk, IfSome, IfNone};
+ghost use Rattle.std.specs.List.{list_any};
+ghost use Rattle.affinity.specs.Interval.{IsAffinity, server_size};
+ghost use Rattle.run_queue.specs.RunQueue.{next_queued, has_slot, has_number, without_slot, without_number, holds_at};
+
+use crate::QueuedMessage;
+use crate::candidates::best_in;
+use crate::holders::Holders;
+use crate::update_ready::{update_ready, update_ready_near};
+use crate::ready_table::{BLOCK, ReadyTable};
+use crate::waiting::Queues;
+use affinity::{Affinity, Geometry, Place};
+use std::alloc::{AllocError, Global};
+use std::marker::Model;
+
+/// How many affinities the greatest geometry has.
+const MOST_AFFINITIES: usize = 357;
+
+/// The waiting and the held messages, each with a slot of its own.
+///
+/// All memory is taken by `new`.
+#[derive(Drop)]
+pub struct RunQueue {
+    geometry: Geometry,
+    waiting: Queues,
+    held: Holders,
+    ready_table: ReadyTable, // of the first one in each queue that is clear
+    slots: usize,
+}
+
+impl Model for RunQueue {
+    ghost use Rattle.std.specs.Prelude.{◌≡◌};
+    ghost use Rattle.run_queue.specs.RunQueue.{RunQueueView};
+    ghost use Rattle.run_queue.specs.Invariant.{QueueInvariant};
+
+    ghost Value = { RunQueueView };
+
+    ghost view = { λ t. record {
+      geometry = t.geometry;
+      waiting = t.waiting.messages;
+      held = t.held.messages;
+      slots = t.slots;
+    } };
+
+    ghost invariant = { λ t. QueueInvariant t.geometry t.slots t.waiting t.held t.ready_table };
+}
+
+/// How many blocks of marks hold those of a geometry's affinities.
+fn blocks_of(g: &Geometry) -> usize
+    ensures few { result ≤ 4097 }
+    ensures all { server_size g.now ≤ 16 * result }
+{
+    usize::from(Affinity::at(g, Place::Serial).end()) / BLOCK + 1
+}
+
+impl RunQueue {
+    ghost use Rattle.run_queue.specs.RunQueue.{queue_at_start, CameBefore, IsNext, HasJoined};
+
+    /// No one waits and no one is held. Arrivals will be at affinities of the geometry, in
+    /// slots below `slots`, which is below the greatest `usize`. There is room for any geometry.
+    /// `AllocError` where there is no memory.
+    pub fn new(alloc: Global, geometry: &Geometry, slots: usize) -> Result<RunQueue, AllocError>
+        requires { slots < usize.MAX }
+        ensures { IfOk result (λ messages. messages ≡ queue_at_start geometry.now slots) }
+    {
+        let waiting = Queues::new(alloc, MOST_AFFINITIES, slots)?;
+        let held = Holders::new(alloc, MOST_AFFINITIES)?;
+        let ready_table = ReadyTable::new(alloc, MOST_AFFINITIES)?;
+        Ok(RunQueue {
+            geometry: *geometry,
+            waiting,
+            held,
+            ready_table,
+            slots,
+        })
+    }
+
+    /// Goes over to another geometry, while no one waits and no one is held. Takes no memory.
+    pub fn begin(&mut self, geometry: &Geometry)
+        requires none_waits { self.old.waiting ≡ [] }
+        requires none_held { self.old.held ≡ [] }
+        ensures { self.new ≡ queue_at_start geometry.now self.old.slots }
+    {
+        self.geometry = *geometry;
+    }
+
+    /// The first waiting message that may go: no one at a related affinity is held, or came
+    /// earlier and still waits, and there is `room` where it may change something. None where no one
+    /// may go.
+    pub fn next(&self, room: bool) -> Option<QueuedMessage>
+        ensures { result ≡ next_queued room self.now.held self.now.waiting }
+    {
+        let mut best = self.ready_table.len(); // no one is marked there
+        for block in 0..blocks_of(&self.geometry) {
+            // Most are passed by their least ranks alone.
+            if self.ready_table.least(block) <= self.ready_table.bound(best) {
+                best = best_in(room, &self.ready_table, best, block);
+            }
+        }
+        self.ready_table.at(best).copied()
+    }
+
+    /// The slot of the message held at an affinity. None if there is none.
+    pub fn holder(&self, a: Affinity) -> Option<usize>
+        ensures some { IfSome result (λ slot. list_any (holds_at a.number slot) self.now.held ≡ true) }
+        ensures none { IfNone result (list_any (has_number a.number) self.now.held ≡ false) }
+    {
+        let queued = self.held.at(usize::from(a.number()))?;
+        Some(queued.slot)
+    }
+
+    /// One more waits, after all others. Its ticket is above theirs, and no one has its slot.
+    pub fn arrive(&mut self, queued: QueuedMessage)
+        requires placed { IsAffinity self.old.geometry queued.affinity }
+        requires later { CameBefore queued.ticket self.old.waiting }
+        requires slot { queued.slot < self.old.slots }
+        requires new_slot { list_any (has_slot queued.slot) (self.old.waiting ++ self.old.held) ≡ false }
+        ensures { self.new ≡ record self.old { waiting = self.old.waiting ++ queued ∷ [] } }
+    {
+        let number = usize::from(queued.affinity.number());
+        let is_first = self.waiting.front(number).is_none();
+        self.waiting.push(queued);
+        if is_first {
+            update_ready(
+                &mut self.ready_table,
+                &self.geometry,
+                &self.held,
+                &self.waiting,
+                number,
+            );
+        }
+    }
+
+    /// The message that `next` gave goes: it waits no longer, and is held. All others stay.
+    pub fn go(&mut self, queued: QueuedMessage)
+        requires { IsNext self.old queued }
+        ensures waiting { self.new ≡
+            record self.old { waiting = without_slot queued.slot self.old.waiting; held = self.new.held } }
+        ensures held { HasJoined queued self.old.held self.new.held }
+        ensures count { length self.new.held ≡ length self.old.held + 1 }
+    {
+        let number = usize::from(queued.affinity.number());
+        self.waiting.pop(number);
+        self.held.hold(queued);
+        update_ready(
+            &mut self.ready_table,
+            &self.geometry,
+            &self.held,
+            &self.waiting,
+            number,
+        );
+    }
+
+    /// What is held at an affinity is held no longer. Nothing changes where nothing is held there.
+    pub fn free(&mut self, a: Affinity)
+        ensures { self.new ≡ record self.old { held = without_number a.number self.old.held } }
+    {
+        let number = usize::from(a.number());
+        if let Some(queued) = self.held.at(number) {
+            self.held.free(number);
+            update_ready_near(
+                &mut self.ready_table,
+                &self.geometry,
+                &self.held,
+                &self.waiting,
+                queued.affinity,
+            );
+        }
+    }
+}

@@ -1,0 +1,91 @@
+//! How the marks follow waiting and held messages.
+ghost use Rattle.std.specs.Prelude.{◌≡◌, ◌≤◌, ◌==◌, ℕ, true, length};
+ghost use Rattle.std.specs.List.{list_any, AllByRecursion};
+ghost use Rattle.affinity.specs.Interval.{IsAffinity, contains, server_size};
+ghost use Rattle.run_queue.specs.Order.{Ascend};
+ghost use Rattle.run_queue.specs.ReadyTable.{ready_at, IsReadyAt, StayReady, AreNearReady};
+
+use crate::QueuedMessage;
+use crate::conflicts::{is_conflict_free, numbers_above};
+use crate::holders::Holders;
+use crate::ready_table::ReadyTable;
+use crate::waiting::Queues;
+use affinity::{Affinity, Geometry};
+
+// The first one at a number, if it is clear.
+fn ready_at(g: &Geometry, held: &Holders, waiting: &Queues, number: usize) -> Option<QueuedMessage>
+    requires held_placed { AllByRecursion (λ t. IsAffinity g.now t.affinity) held.now.messages }
+    requires waiting_placed { AllByRecursion (λ t. IsAffinity g.now t.affinity) waiting.now.messages }
+    requires ascends { Ascend waiting.now.messages }
+    ensures { result ≡ ready_at held.now.messages waiting.now.messages number }
+{
+    let front = waiting.front(number)?;
+    if is_conflict_free(g, held, waiting, &front) {
+        Some(front)
+    } else {
+        None
+    }
+}
+
+/// Puts the mark at a number right.
+pub(crate) fn update_ready(ready_table: &mut ReadyTable, g: &Geometry, held: &Holders, waiting: &Queues, number: usize)
+    requires numbers { server_size g.now ≤ length ready_table.old }
+    requires held_placed { AllByRecursion (λ t. IsAffinity g.now t.affinity) held.now.messages }
+    requires waiting_placed { AllByRecursion (λ t. IsAffinity g.now t.affinity) waiting.now.messages }
+    requires ascends { Ascend waiting.now.messages }
+    ensures marked { IsReadyAt held.now.messages waiting.now.messages ready_table.new number }
+    ensures others { StayReady held.now.messages waiting.now.messages ready_table.old ready_table.new }
+{
+    if number < ready_table.len() {
+        ready_table.set(number, ready_at(g, held, waiting, number));
+    }
+}
+
+// Puts the marks at an affinity and at those below it right.
+fn update_ready_below(ready_table: &mut ReadyTable, g: &Geometry, held: &Holders, waiting: &Queues, a: Affinity)
+    requires numbers { server_size g.now ≤ length ready_table.old }
+    requires held_placed { AllByRecursion (λ t. IsAffinity g.now t.affinity) held.now.messages }
+    requires waiting_placed { AllByRecursion (λ t. IsAffinity g.now t.affinity) waiting.now.messages }
+    requires ascends { Ascend waiting.now.messages }
+    ensures marked { (n : ℕ) → contains a n ≡ true → IsReadyAt held.now.messages waiting.now.messages ready_table.new n }
+    ensures others { StayReady held.now.messages waiting.now.messages ready_table.old ready_table.new }
+{
+    for n in a.number()..a.end() {
+        update_ready(ready_table, g, held, waiting, usize::from(n));
+    }
+}
+
+// Puts the marks at these numbers right.
+fn update_ready_each(ready_table: &mut ReadyTable, g: &Geometry, held: &Holders, waiting: &Queues, numbers: &[u16])
+    requires numbers { server_size g.now ≤ length ready_table.old }
+    requires held_placed { AllByRecursion (λ t. IsAffinity g.now t.affinity) held.now.messages }
+    requires waiting_placed { AllByRecursion (λ t. IsAffinity g.now t.affinity) waiting.now.messages }
+    requires ascends { Ascend waiting.now.messages }
+    ensures marked { (n : ℕ) → list_any (λ m. m == n) numbers.now ≡ true
+        → IsReadyAt held.now.messages waiting.now.messages ready_table.new n }
+    ensures others { StayReady held.now.messages waiting.now.messages ready_table.old ready_table.new }
+{
+    for n in numbers {
+        update_ready(ready_table, g, held, waiting, usize::from(*n));
+    }
+}
+
+/// Puts the marks at all affinities that are related to this one right.
+pub(crate) fn update_ready_near(
+    ready_table: &mut ReadyTable,
+    g: &Geometry,
+    held: &Holders,
+    waiting: &Queues,
+    a: Affinity,
+)
+    requires placed { IsAffinity g.now a }
+    requires numbers { server_size g.now ≤ length ready_table.old }
+    requires held_placed { AllByRecursion (λ t. IsAffinity g.now t.affinity) held.now.messages }
+    requires waiting_placed { AllByRecursion (λ t. IsAffinity g.now t.affinity) waiting.now.messages }
+    requires ascends { Ascend waiting.now.messages }
+    ensures near { AreNearReady g.now a held.now.messages waiting.now.messages ready_table.new }
+    ensures others { StayReady held.now.messages waiting.now.messages ready_table.old ready_table.new }
+{
+    update_ready_below(ready_table, g, held, waiting, a);
+    update_ready_each(ready_table, g, held, waiting, &numbers_above(g, a));
+}

@@ -1,0 +1,76 @@
+-- The lives of a device: it is formatted, opened, a machine runs on it, and a crash comes. Then it is opened again.
+use Rattle.std.specs.Prelude.{◌≡◌, ◌⊎◌, ◌≤◌, ℕ, List, [], ◌∷◌, map, Some}
+use Rattle.std.specs.List.{AllByRecursion}
+use Rattle.affinity.specs.declared.geometry.Geometry.{Geometry}
+use Rattle.checkpoint.specs.Header.{HasHeader}
+use Rattle.checkpoint.specs.Recovery.{holds}
+use Rattle.disk.specs.Device.{Medium, AreBytes, IsSynced}
+use Rattle.disk.specs.Moments.{moment, left_since}
+use Rattle.journal.specs.Opening.{OpeningCrashImages}
+use Rattle.legal_runs.specs.Events.{Event, Hands}
+use Rattle.legal_runs.specs.Laws.{IsIdle}
+use Rattle.legal_runs.specs.Incarnations.{AreLogsOf, HoldAnswered, Incarnation, Ran, Unopened, in_order}
+use Rattle.legal_runs.specs.Runs.{IsLegal}
+use Rattle.runs.specs.Stages.{RecoversForRun}
+use Rattle.messages.specs.declared.Msg.{Msg}
+use Rattle.meaning.specs.Serial.{fold}
+use Rattle.meaning.specs.State.{empty}
+
+-- A incarnation: the device when it was opened, and as the last call left it; since which moment the crash may have come; the
+-- numbers of the server that was opened; and the incarnation that its messages had.
+pub record DeviceIncarnation : Type 0 where
+  pub began : Medium
+  pub ended : Medium
+  pub since : ℕ
+  pub geometry : Geometry
+  pub incarnation : Incarnation
+
+-- What the next incarnation begins with: what a crash leaves that comes at moment t or later, with nothing unsynced; or the device as it
+-- stands, where no crash came and it is opened again.
+abbrev pub IsPassedOn : Medium → ℕ → Medium → Type 0
+IsPassedOn m t next =
+    ((left_since m t next.now) × IsSynced next) ⊎ ((next ≡ m) × (t ≤ moment m) × AreBytes m.now)
+
+-- It was opened, with the numbers of its header, as a server in which no message is; a run was made, and the crash came when so
+-- many events or more had ended.
+pub record IsRunIncarnation (l : DeviceIncarnation) (start : Hands) (events : List Event) (k : ℕ) : Type 0 where
+  pub header : HasHeader l.geometry l.began.now
+  pub recovered_before : holds l.geometry l.began.now ≡ Some start.core.committed
+  pub idle : IsIdle start.core
+  pub legal : IsLegal l.geometry start events
+  pub crash : (c : List ℕ) → left_since l.ended l.since c → RecoversForRun l.geometry start events k c
+
+-- The crash came while it was opened, or it came in a run.
+abbrev pub IsIncarnationOf : DeviceIncarnation → Incarnation → Type 0
+IsIncarnationOf l Unopened = OpeningCrashImages l.began l.ended × (l.since ≡ moment l.began)
+IsIncarnationOf l (Ran start events k) = IsRunIncarnation l start events k
+
+-- The lives of a device that may have been left by a crash of this one at moment t or later, one after the other.
+abbrev pub HasIncarnations : Medium → ℕ → List DeviceIncarnation → Type 0
+HasIncarnations m t [] = Unit {0}
+HasIncarnations m t (l ∷ incarnations) = IsPassedOn m t l.began × IsIncarnationOf l l.incarnation × HasIncarnations l.ended l.since incarnations
+
+-- Each server that was opened had these numbers.
+abbrev pub IsOfGeometry : Geometry → Geometry → Incarnation → Type 0
+IsOfGeometry g opened Unopened = Unit {0}
+IsOfGeometry g opened (Ran start events k) = opened ≡ g
+
+abbrev pub HaveGeometry : Geometry → List DeviceIncarnation → Type 0
+HaveGeometry g incarnations = AllByRecursion (λ l. IsOfGeometry g l.geometry l.incarnation) incarnations
+
+-- A crash of the last incarnation may have left these bytes.
+abbrev pub LeftByLast : Medium → ℕ → List DeviceIncarnation → List ℕ → Type 0
+LeftByLast m t [] c = left_since m t c
+LeftByLast m t (l ∷ incarnations) c = LeftByLast l.ended l.since incarnations c
+
+abbrev pub incarnations_of : List DeviceIncarnation → List Incarnation
+incarnations_of incarnations = map (λ l. l.incarnation) incarnations
+
+-- The bytes recover to what the serial server reaches, from none on, by the logs of all lives, one after the other. The log of
+-- each incarnation is one that a crash of its run leaves: a beginning of what it logged or was to log, that begins itself with every
+-- change that was answered.
+pub record RecoversForIncarnations (g : Geometry) (incarnations : List Incarnation) (c : List ℕ) : Type 0 where
+  pub logs : List (List Msg)
+  pub are_logs : AreLogsOf g empty incarnations logs
+  pub answered : HoldAnswered incarnations logs
+  pub is : holds g c ≡ Some (fold g empty (in_order logs))

@@ -1,0 +1,93 @@
+-- A refusal touches nothing; the flip keeps the committed state at each moment, and ends the checkpoint.
+use Rattle.std.proofs.Common.{◌≡◌, ◌≤◌, ◌+◌, [], refl, sym, subst, ◌∙◌}
+use Rattle.std.specs.Prelude.{if◌then◌else◌}
+use Rattle.disk.specs.Moments.{CrashImagesAre, moment}
+use Rattle.journal.specs.Journal.{HoldsSome}
+use Rattle.oplog.proofs.Beyond.{beyond_none}
+use Rattle.oplog.specs.Beyond.{KeepsBeyond}
+use Rattle.device_map.specs.Layout.{layout_of}
+use Rattle.scheduler.proofs.Journaling.{still_standing}
+use Rattle.scheduler.proofs.LogCall.{broken_takes, made_takes, none_taken}
+use Rattle.scheduler.proofs.Pointing.{flip_core, step_moment}
+use Rattle.scheduler.specs.CoreView.{CoreView, RecoversThroughout, core_state_of}
+use Rattle.scheduler.specs.Parts.{kept_of, parts}
+use Rattle.scheduler.proofs.core.Core.flip.Goals as goal
+
+pub returns-then-failed-clause-any_moment : goal.returns-then-failed-clause-any_moment
+returns-then-failed-clause-any_moment g c = λ keep.
+    subst (λ (o : CoreView). RecoversThroughout [] o o) c.self.view_is
+    (still_standing g.D.Disk.keeps (parts c.self.inside.slots c.self.inside.replies.items c.self.inside.tree c.self.inside.journal c.self.inside.queue c.self.inside.batch.items c.self.inside.next c.self.inside.flight c.self.inside.history.opened c.self.inside.history.since) c.self.invariant.1 keep [] (kept_of (parts c.self.inside.slots c.self.inside.replies.items c.self.inside.tree c.self.inside.journal c.self.inside.queue c.self.inside.batch.items c.self.inside.next c.self.inside.flight c.self.inside.history.opened c.self.inside.history.since)) refl)
+
+pub returns-in_default-clause-any_moment : goal.returns-in_default-clause-any_moment
+returns-in_default-clause-any_moment g c = λ keep.
+    subst (λ (o : CoreView). RecoversThroughout [] o o) c.self.view_is
+    (still_standing g.D.Disk.keeps (parts c.self.inside.slots c.self.inside.replies.items c.self.inside.tree c.self.inside.journal c.self.inside.queue c.self.inside.batch.items c.self.inside.next c.self.inside.flight c.self.inside.history.opened c.self.inside.history.since) c.self.invariant.1 keep [] (kept_of (parts c.self.inside.slots c.self.inside.replies.items c.self.inside.tree c.self.inside.journal c.self.inside.queue c.self.inside.batch.items c.self.inside.next c.self.inside.flight c.self.inside.history.opened c.self.inside.history.since)) refl)
+
+pub returns-then-left-gt0-clause-any_moment : goal.returns-then-left-gt0-clause-any_moment
+returns-then-left-gt0-clause-any_moment g c = λ keep.
+    subst (λ (o : CoreView). RecoversThroughout [] o o) c.self.view_is
+    (still_standing g.D.Disk.keeps (parts c.self.inside.slots c.self.inside.replies.items c.self.inside.tree c.self.inside.journal c.self.inside.queue c.self.inside.batch.items c.self.inside.next c.self.inside.flight c.self.inside.history.opened c.self.inside.history.since) c.self.invariant.1 keep [] (kept_of (parts c.self.inside.slots c.self.inside.replies.items c.self.inside.tree c.self.inside.journal c.self.inside.queue c.self.inside.batch.items c.self.inside.next c.self.inside.flight c.self.inside.history.opened c.self.inside.history.since)) refl)
+
+pub invariant_of-self : goal.invariant_of-self
+invariant_of-self g c = (
+  c.self.invariant.0,
+  flip_core g.D.Disk.keeps (parts c.self.inside.slots c.self.inside.replies.items c.self.inside.tree c.self.inside.journal c.self.inside.queue c.self.inside.batch.items c.self.inside.next c.self.inside.flight c.self.inside.history.opened c.self.inside.history.since) c.self.invariant.1 c.flip.new.self c.flip.ensures.any_moment c.flip.result (sym c.failed.ensures ∙ c.if-failed.false) c.flip.ensures.committed c.flip.ensures.after,
+  c.self.invariant.2,
+  c.self.invariant.3,
+  c.self.invariant.4,
+)
+
+pub returns-then-is_err-clause-any_moment : goal.returns-then-is_err-clause-any_moment
+returns-then-is_err-clause-any_moment g c = λ keep.
+    subst (λ (o : CoreView). CrashImagesAre o.medium c.flip.new.self.medium (HoldsSome o.geometry (core_state_of o).committed (if o.failed then o.doubt else []))) c.self.view_is
+    (step_moment g.D.Disk.keeps (parts c.self.inside.slots c.self.inside.replies.items c.self.inside.tree c.self.inside.journal c.self.inside.queue c.self.inside.batch.items c.self.inside.next c.self.inside.flight c.self.inside.history.opened c.self.inside.history.since) c.self.invariant.1 (sym c.failed.ensures ∙ c.if-failed.false) c.flip.new.self c.flip.ensures.any_moment keep)
+
+pub invariant_of-self-2 : goal.invariant_of-self-2
+invariant_of-self-2 g c = (
+  c.self.invariant.0,
+  flip_core g.D.Disk.keeps (parts c.self.inside.slots c.self.inside.replies.items c.self.inside.tree c.self.inside.journal c.self.inside.queue c.self.inside.batch.items c.self.inside.next c.self.inside.flight c.self.inside.history.opened c.self.inside.history.since) c.self.invariant.1 c.flip.new.self c.flip.ensures.any_moment c.flip.result (sym c.failed.ensures ∙ c.if-failed.false) c.flip.ensures.committed c.flip.ensures.after,
+  c.self.invariant.2,
+  c.self.invariant.3,
+  c.self.invariant.4,
+)
+
+pub returns-clause-any_moment : goal.returns-clause-any_moment
+returns-clause-any_moment g c = λ keep.
+    subst (λ (o : CoreView). CrashImagesAre o.medium c.flip.new.self.medium (HoldsSome o.geometry (core_state_of o).committed (if o.failed then o.doubt else []))) c.self.view_is
+    (step_moment g.D.Disk.keeps (parts c.self.inside.slots c.self.inside.replies.items c.self.inside.tree c.self.inside.journal c.self.inside.queue c.self.inside.batch.items c.self.inside.next c.self.inside.flight c.self.inside.history.opened c.self.inside.history.since) c.self.invariant.1 (sym c.failed.ensures ∙ c.if-failed.false) c.flip.new.self c.flip.ensures.any_moment keep)
+
+pub returns-then-failed-clause-beyond : goal.returns-then-failed-clause-beyond
+returns-then-failed-clause-beyond g c = λ keep. beyond_none (layout_of c.args.self.now.geometry) c.args.self.now.medium
+
+pub returns-in_default-clause-beyond : goal.returns-in_default-clause-beyond
+returns-in_default-clause-beyond g c = λ keep. beyond_none (layout_of c.args.self.now.geometry) c.args.self.now.medium
+
+pub returns-then-left-gt0-clause-beyond : goal.returns-then-left-gt0-clause-beyond
+returns-then-left-gt0-clause-beyond g c = λ keep. beyond_none (layout_of c.args.self.now.geometry) c.args.self.now.medium
+
+pub returns-then-is_err-clause-beyond : goal.returns-then-is_err-clause-beyond
+returns-then-is_err-clause-beyond g c = λ keep.
+    subst (λ (o : CoreView). KeepsBeyond (layout_of o.geometry) o.medium c.flip.new.self.medium) c.self.view_is (c.flip.ensures.beyond keep)
+
+pub returns-clause-beyond : goal.returns-clause-beyond
+returns-clause-beyond g c = λ keep.
+    subst (λ (o : CoreView). KeepsBeyond (layout_of o.geometry) o.medium c.flip.new.self.medium) c.self.view_is (c.flip.ensures.beyond keep)
+
+pub returns-then-failed-clause-takes : goal.returns-then-failed-clause-takes
+returns-then-failed-clause-takes g c = λ keep. none_taken c.args.self.now.medium 3
+
+pub returns-in_default-clause-takes : goal.returns-in_default-clause-takes
+returns-in_default-clause-takes g c = λ keep. none_taken c.args.self.now.medium 3
+
+pub returns-then-left-gt0-clause-takes : goal.returns-then-left-gt0-clause-takes
+returns-then-left-gt0-clause-takes g c = λ keep. none_taken c.args.self.now.medium 3
+
+pub returns-then-is_err-clause-takes : goal.returns-then-is_err-clause-takes
+returns-then-is_err-clause-takes g c = λ keep.
+    subst (λ (o : CoreView). moment c.flip.new.self.medium ≤ moment o.medium + 3) c.self.view_is
+    (broken_takes c.flip.result _ _ _ (sym c.is_err.ensures.value ∙ c.if-is_err.true) (c.flip.ensures.takes keep))
+
+pub returns-clause-takes : goal.returns-clause-takes
+returns-clause-takes g c = λ keep.
+    subst (λ (o : CoreView). moment c.flip.new.self.medium ≡ moment o.medium + 3) c.self.view_is
+    (made_takes c.flip.result _ _ _ (sym c.is_err.ensures.value ∙ c.if-is_err.false) (c.flip.ensures.takes keep))

@@ -1,0 +1,83 @@
+-- Where there is no memory nothing was called; and what was opened keeps what a core keeps.
+use Rattle.std.proofs.Common.{◌≡◌, ◌∙◌, ◌≤◌, ℕ, Some, refl, inl, sym, ap, subst, arith}
+use Rattle.std.specs.Prelude.{vec_capacity}
+use Rattle.std.proofs.lemmas.Result.{err_from_is_err_and}
+use Rattle.affinity.specs.declared.geometry.Geometry.{Geometry}
+use Rattle.disk.proofs.Moments.{started}
+use Rattle.disk.specs.Device.{IsCrashImage}
+use Rattle.journal.specs.Journal.{IsCommitted, committed}
+use Rattle.oplog.proofs.Beyond.{beyond_none}
+use Rattle.device_map.specs.Layout.{layout_of}
+use Rattle.parcel.specs.Tree.{state_in}
+use Rattle.scheduler.proofs.Opened.{opened_chains, opened_parts, opened_ran, opened_size}
+use Rattle.scheduler.proofs.Refusals.{one_fault, opened_or_refused, recovers_or_refused}
+use Rattle.run_queue.specs.RunQueue.{RunQueueView, queue_at_start}
+use Rattle.scheduler.proofs.core.Core.open.Goals as goal
+
+pub returns-in_default-clause-any_moment : goal.returns-in_default-clause-any_moment
+returns-in_default-clause-any_moment g c = λ k.
+    let m = g.D.Disk.medium c.args.d in
+    record { synced = m; first = started m (IsCrashImage m) (λ bytes left. left); rest = inl refl }
+
+pub returns-in_default-clause-unwritten : goal.returns-in_default-clause-unwritten
+returns-in_default-clause-unwritten g c = λ k.
+    let m = g.D.Disk.medium c.args.d in record { now = refl; later = started m (IsCrashImage m) (λ bytes left. left) }
+
+pub invariant_of-result : goal.invariant_of-result
+invariant_of-result g c =
+    let keeps = g.D.Disk.keeps in
+    let memory = c.in-Ok.memory in
+    let replies = memory.replies.items in
+    let tree = c.in_ok-journal.tree in
+    let journal = c.in_ok-journal.journal in
+    let same = c.in_ok-journal.ensures.tree.0 in
+    let whole = c.in_ok-journal.ensures.tree.1 in
+    let holds : keeps → (committed journal ≡ Some (state_in tree)) × IsCommitted journal = λ k. let o = c.in_ok-journal.ensures.opened k in (o.is, o.sound) in
+    let row = c.in-Ok.ensures.row in
+    let queue = c.begin.ensures ∙ ap (λ (q : RunQueueView). queue_at_start c.geometry.result q.slots) c.in-Ok.ensures.queue ∙ ap (λ (h : Geometry). queue_at_start h c.args.slots) c.geometry.ensures in
+    let size = opened_size keeps c.args.slots replies tree journal same whole holds memory.slots row in (
+      opened_chains keeps c.args.slots replies tree journal same whole holds memory.slots row c.in-Ok.ensures.parted,
+      opened_parts keeps c.args.slots replies tree journal same whole holds memory.slots row c.begin.new.self memory.batch.items c.begun.result.opened c.begun.result.since queue c.in-Ok.ensures.batch c.begun.ensures.0 c.begun.ensures.1,
+      subst (λ (n : ℕ). n ≤ vec_capacity memory.batch) (sym size) c.in-Ok.ensures.room,
+      c.in-Ok.ensures.replies ∙ sym size,
+      opened_ran keeps c.args.slots replies tree journal same whole holds memory.slots row,
+    )
+
+pub returns-in_err-journal-clause-opens : goal.returns-in_err-journal-clause-opens
+returns-in_err-journal-clause-opens g c =
+    let p = err_from_is_err_and c.from_residual.result c.from_residual.ensures.1 in
+    let m = g.D.Disk.medium c.args.d in
+    rw (p.1, p.2) (λ h x k stood told. recovers_or_refused m.now h x c.in_err-journal.field-0.0.fault (g.met.D.Disk.bytes c.args.d) stood told (c.in_err-journal.ensures.refused k))
+
+pub returns-in_err-journal-clause-exact : goal.returns-in_err-journal-clause-exact
+returns-in_err-journal-clause-exact g c =
+    let p = err_from_is_err_and c.from_residual.result c.from_residual.ensures.1 in
+    let m = g.D.Disk.medium c.args.d in
+    rw (p.1, p.2) (λ fault k also also_told told. one_fault m.now c.in_err-journal.field-0.0.fault fault told (c.in_err-journal.ensures.refused k) also_told also)
+
+pub returns-clause-exact : goal.returns-clause-exact
+returns-clause-exact g c = λ fault k also told.
+    let o = c.in_ok-journal.ensures.opened k in
+    opened_or_refused (g.D.Disk.medium c.args.d).now c.in_ok-journal.journal.geometry fault o.header o.fine told also
+
+pub returns-in_default-clause-beyond : goal.returns-in_default-clause-beyond
+returns-in_default-clause-beyond g c = λ k h header. beyond_none (layout_of h) (g.D.Disk.medium c.args.d)
+
+pub returns-in_err-journal-clause-beyond : goal.returns-in_err-journal-clause-beyond
+returns-in_err-journal-clause-beyond g c =
+    let p = err_from_is_err_and c.from_residual.result c.from_residual.ensures.1 in
+    rw (p.1, p.2) (λ k h header. c.in_err-journal.ensures.beyond k h header)
+
+pub returns-clause-beyond : goal.returns-clause-beyond
+returns-clause-beyond g c = λ k h header. c.in_ok-journal.ensures.beyond k h header
+
+pub returns-in_default-clause-takes : goal.returns-in_default-clause-takes
+returns-in_default-clause-takes g c = λ k. omega arith
+
+pub returns-in_err-journal-clause-takes : goal.returns-in_err-journal-clause-takes
+returns-in_err-journal-clause-takes g c =
+    let p = err_from_is_err_and c.from_residual.result c.from_residual.ensures.1 in
+    rw (p.1, p.2) (λ k. c.in_err-journal.ensures.takes k)
+
+pub returns-clause-takes : goal.returns-clause-takes
+returns-clause-takes g c = λ k. c.in_ok-journal.ensures.takes k

@@ -1,0 +1,79 @@
+-- No message is held, so the tree is whole and has the committed state, and the checkpoint keeps that state.
+use Rattle.std.proofs.Common.{◌≤◌, ◌+◌, [], arith, refl, sym, ap, subst, ◌∙◌}
+use Rattle.std.specs.Prelude.{if◌then◌else◌}
+use Rattle.disk.specs.Moments.{CrashImagesAre, moment}
+use Rattle.journal.specs.Costs.{longest_point}
+use Rattle.journal.specs.Journal.{HoldsSome}
+use Rattle.legal_runs.specs.Events.{point_refusal}
+use Rattle.oplog.proofs.Beyond.{beyond_none}
+use Rattle.oplog.specs.Beyond.{KeepsBeyond}
+use Rattle.device_map.specs.Layout.{layout_of}
+use Rattle.scheduler.proofs.Journaling.{still_standing}
+use Rattle.scheduler.proofs.LogCall.{broken_takes, made_takes, none_taken}
+use Rattle.scheduler.proofs.Pointing.{point_core, point_state, point_whole, point_works, step_moment}
+use Rattle.scheduler.specs.CoreView.{CoreView, RecoversThroughout, core_state_of}
+use Rattle.scheduler.specs.Parts.{kept_of, parts}
+use Rattle.scheduler.proofs.core.Core.point.Goals as goal
+
+pub returns-in-Some-clause-any_moment : goal.returns-in-Some-clause-any_moment
+returns-in-Some-clause-any_moment g c = λ keep.
+    subst (λ (o : CoreView). RecoversThroughout [] o o) c.self.view_is
+    (still_standing g.D.Disk.keeps (parts c.self.inside.slots c.self.inside.replies.items c.self.inside.tree c.self.inside.journal c.self.inside.queue c.self.inside.batch.items c.self.inside.next c.self.inside.flight c.self.inside.history.opened c.self.inside.history.since) c.self.invariant.1 keep [] (kept_of (parts c.self.inside.slots c.self.inside.replies.items c.self.inside.tree c.self.inside.journal c.self.inside.queue c.self.inside.batch.items c.self.inside.next c.self.inside.flight c.self.inside.history.opened c.self.inside.history.since)) refl)
+
+pub point-requires-clause-whole : goal.point-requires-clause-whole
+point-requires-clause-whole g c = point_whole g.D.Disk.keeps (parts c.self.inside.slots c.self.inside.replies.items c.self.inside.tree c.self.inside.journal c.self.inside.queue c.self.inside.batch.items c.self.inside.next c.self.inside.flight c.self.inside.history.opened c.self.inside.history.since) c.self.invariant.1 (ap (λ (o : CoreView). point_refusal (core_state_of o)) c.self.view_is ∙ sym c.point_refusal.ensures ∙ c.in_default.is)
+
+pub point-requires-clause-state : goal.point-requires-clause-state
+point-requires-clause-state g c = point_state g.D.Disk.keeps (parts c.self.inside.slots c.self.inside.replies.items c.self.inside.tree c.self.inside.journal c.self.inside.queue c.self.inside.batch.items c.self.inside.next c.self.inside.flight c.self.inside.history.opened c.self.inside.history.since) c.self.invariant.1 (ap (λ (o : CoreView). point_refusal (core_state_of o)) c.self.view_is ∙ sym c.point_refusal.ensures ∙ c.in_default.is)
+
+pub invariant_of-self : goal.invariant_of-self
+invariant_of-self g c = (
+  c.self.invariant.0,
+  point_core g.D.Disk.keeps (parts c.self.inside.slots c.self.inside.replies.items c.self.inside.tree c.self.inside.journal c.self.inside.queue c.self.inside.batch.items c.self.inside.next c.self.inside.flight c.self.inside.history.opened c.self.inside.history.since) c.self.invariant.1 c.point.new.self c.point.ensures.any_moment c.point.result (ap (λ (o : CoreView). point_refusal (core_state_of o)) c.self.view_is ∙ sym c.point_refusal.ensures ∙ c.in_default.is) c.point.ensures.committed c.point.ensures.after,
+  c.self.invariant.2,
+  c.self.invariant.3,
+  c.self.invariant.4,
+)
+
+pub returns-then-is_err-clause-any_moment : goal.returns-then-is_err-clause-any_moment
+returns-then-is_err-clause-any_moment g c = λ keep.
+    subst (λ (o : CoreView). CrashImagesAre o.medium c.point.new.self.medium (HoldsSome o.geometry (core_state_of o).committed (if o.failed then o.doubt else []))) c.self.view_is
+    (step_moment g.D.Disk.keeps (parts c.self.inside.slots c.self.inside.replies.items c.self.inside.tree c.self.inside.journal c.self.inside.queue c.self.inside.batch.items c.self.inside.next c.self.inside.flight c.self.inside.history.opened c.self.inside.history.since) c.self.invariant.1 (point_works g.D.Disk.keeps (parts c.self.inside.slots c.self.inside.replies.items c.self.inside.tree c.self.inside.journal c.self.inside.queue c.self.inside.batch.items c.self.inside.next c.self.inside.flight c.self.inside.history.opened c.self.inside.history.since) c.self.invariant.1 (ap (λ (o : CoreView). point_refusal (core_state_of o)) c.self.view_is ∙ sym c.point_refusal.ensures ∙ c.in_default.is)) c.point.new.self c.point.ensures.any_moment keep)
+
+pub invariant_of-self-2 : goal.invariant_of-self-2
+invariant_of-self-2 g c = (
+  c.self.invariant.0,
+  point_core g.D.Disk.keeps (parts c.self.inside.slots c.self.inside.replies.items c.self.inside.tree c.self.inside.journal c.self.inside.queue c.self.inside.batch.items c.self.inside.next c.self.inside.flight c.self.inside.history.opened c.self.inside.history.since) c.self.invariant.1 c.point.new.self c.point.ensures.any_moment c.point.result (ap (λ (o : CoreView). point_refusal (core_state_of o)) c.self.view_is ∙ sym c.point_refusal.ensures ∙ c.in_default.is) c.point.ensures.committed c.point.ensures.after,
+  c.self.invariant.2,
+  c.self.invariant.3,
+  c.self.invariant.4,
+)
+
+pub returns-clause-any_moment : goal.returns-clause-any_moment
+returns-clause-any_moment g c = λ keep.
+    subst (λ (o : CoreView). CrashImagesAre o.medium c.point.new.self.medium (HoldsSome o.geometry (core_state_of o).committed (if o.failed then o.doubt else []))) c.self.view_is
+    (step_moment g.D.Disk.keeps (parts c.self.inside.slots c.self.inside.replies.items c.self.inside.tree c.self.inside.journal c.self.inside.queue c.self.inside.batch.items c.self.inside.next c.self.inside.flight c.self.inside.history.opened c.self.inside.history.since) c.self.invariant.1 (point_works g.D.Disk.keeps (parts c.self.inside.slots c.self.inside.replies.items c.self.inside.tree c.self.inside.journal c.self.inside.queue c.self.inside.batch.items c.self.inside.next c.self.inside.flight c.self.inside.history.opened c.self.inside.history.since) c.self.invariant.1 (ap (λ (o : CoreView). point_refusal (core_state_of o)) c.self.view_is ∙ sym c.point_refusal.ensures ∙ c.in_default.is)) c.point.new.self c.point.ensures.any_moment keep)
+
+pub returns-in-Some-clause-beyond : goal.returns-in-Some-clause-beyond
+returns-in-Some-clause-beyond g c = λ keep. beyond_none (layout_of c.args.self.now.geometry) c.args.self.now.medium
+
+pub returns-then-is_err-clause-beyond : goal.returns-then-is_err-clause-beyond
+returns-then-is_err-clause-beyond g c = λ keep.
+    subst (λ (o : CoreView). KeepsBeyond (layout_of o.geometry) o.medium c.point.new.self.medium) c.self.view_is (c.point.ensures.beyond keep)
+
+pub returns-clause-beyond : goal.returns-clause-beyond
+returns-clause-beyond g c = λ keep.
+    subst (λ (o : CoreView). KeepsBeyond (layout_of o.geometry) o.medium c.point.new.self.medium) c.self.view_is (c.point.ensures.beyond keep)
+
+pub returns-in-Some-clause-takes : goal.returns-in-Some-clause-takes
+returns-in-Some-clause-takes g c = λ keep. none_taken c.args.self.now.medium (longest_point c.args.self.now.geometry)
+
+pub returns-then-is_err-clause-takes : goal.returns-then-is_err-clause-takes
+returns-then-is_err-clause-takes g c = λ keep.
+    let took = broken_takes c.point.result _ _ _ (sym c.is_err.ensures.value ∙ c.if-is_err.true) (c.point.ensures.takes keep) in
+    subst (λ (o : CoreView). moment c.point.new.self.medium ≤ moment o.medium + longest_point o.geometry) c.self.view_is (omega (arith, took, c.point.ensures.few))
+
+pub returns-clause-takes : goal.returns-clause-takes
+returns-clause-takes g c = λ keep.
+    let took = made_takes c.point.result _ _ _ (sym c.is_err.ensures.value ∙ c.if-is_err.false) (c.point.ensures.takes keep) in
+    subst (λ (o : CoreView). moment c.point.new.self.medium ≤ moment o.medium + longest_point o.geometry) c.self.view_is (omega (arith, took, c.point.ensures.few))

@@ -1,6 +1,0 @@
--- So many are logged so far.
-use Rattle.scheduler.specs.Moving.{HasLogged}
-use Rattle.scheduler.proofs.moving.move_ran.Given as goal
-
-abbrev pub invariant-loop : goal.invariant-loop
-invariant-loop l = HasLogged l.counter l.initial.slots l.slots

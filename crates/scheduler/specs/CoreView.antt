@@ -1,0 +1,69 @@
+-- A core as contracts see it: its core state, and what a crash leaves of its device.
+use Rattle.std.specs.Prelude.{◌≡◌, ℕ, Bool, false, List, [], Option, None, if◌then◌else◌}
+use Rattle.affinity.specs.declared.geometry.Geometry.{Geometry}
+use Rattle.disk.specs.Device.{Medium, IsCrashImage}
+use Rattle.disk.specs.Moments.{CrashImagesAre}
+use Rattle.journal.specs.Journal.{HoldsSome}
+use Rattle.legal_runs.specs.CoreState.{Entry, Replied, CoreState}
+use Rattle.messages.specs.declared.Msg.{Msg}
+use Rattle.parcel.specs.Tree.{TreeView, state_in}
+use Rattle.meaning.specs.Serial.{fold}
+
+pub record CoreView : Type 0 where
+  pub geometry : Geometry
+  -- the messages, by how far each has come: as in its core state
+  pub waiting : List Entry
+  pub out : List Entry
+  pub ran : List Replied
+  pub logged : List Replied
+  -- the tree when the core was opened, and the messages appended to the log since: they lead to what is committed
+  pub opened : TreeView
+  pub since : List Msg
+  -- how many records the log still takes, the ticket of the next message, and how many messages fit in
+  pub room : ℕ
+  pub next : ℕ
+  pub slots : ℕ
+  -- whether the device has failed, and what was to be appended to the log when it did
+  pub failed : Bool
+  pub doubt : List Msg
+  -- how many pieces are left to write, while a consistency point is in progress
+  pub left : Option ℕ
+  pub medium : Medium
+
+abbrev pub core_state_of : CoreView → CoreState
+core_state_of c = record {
+  waiting = c.waiting;
+  out = c.out;
+  ran = c.ran;
+  logged = c.logged;
+  committed = fold c.geometry (state_in c.opened) c.since;
+  room = c.room;
+  next = c.next;
+  slots = c.slots;
+  failed = c.failed;
+  doubt = c.doubt;
+  left = c.left;
+}
+
+-- A crash now leaves the committed state, with the first so many of the messages in doubt.
+abbrev pub RecoversNow : CoreView → Type 0
+RecoversNow c = (bytes : List ℕ) → IsCrashImage c.medium bytes → HoldsSome c.geometry (core_state_of c).committed c.doubt bytes
+
+-- A crash at any moment of a call leaves the committed state, with the first so many of the messages in doubt: where the
+-- device had not failed before, of those that the call is to append.
+abbrev pub RecoversThroughout : List Msg → CoreView → CoreView → Type 0
+RecoversThroughout appended old new =
+    CrashImagesAre old.medium new.medium (HoldsSome old.geometry (core_state_of old).committed (if old.failed then old.doubt else appended))
+
+-- A core that was just opened: nothing waits or is held, no ticket was given, and the log has all its room.
+pub record IsJustOpened (slots : ℕ) (c : CoreView) : Type 0 where
+  pub none_waits : c.waiting ≡ []
+  pub none_out : c.out ≡ []
+  pub none_ran : c.ran ≡ []
+  pub none_logged : c.logged ≡ []
+  pub room : c.room ≡ c.geometry.half
+  pub next : c.next ≡ 0
+  pub slots_are : c.slots ≡ slots
+  pub works : c.failed ≡ false
+  pub no_doubt : c.doubt ≡ []
+  pub no_cut : c.left ≡ None

@@ -1,0 +1,467 @@
+//! The core: the messages that it has taken in, what they run on, and the journal of what was carried out.
+ghost use Rattle.std.specs.Prelude.{cond, nat_lt, ◌≡◌, ◌≢◌, ◌+◌, ◌*◌, ◌≤◌, ◌↔◌, ℕ, true, false, List, Some, None, [], length, OnOk, IfOk, IfErr, MatchResult};
+ghost use Rattle.affinity.specs.declared.geometry.Geometry.{Geometry};
+ghost use Rattle.checkpoint.specs.Header.{HasHeader};
+ghost use Rattle.checkpoint.specs.Recovery.{holds};
+ghost use Rattle.checkpoint.specs.Refusals.{IsRefused};
+ghost use Rattle.checkpoint.specs.declared.fault.OpenFault.{OpenFault};
+ghost use Rattle.checkpoint.specs.declared.fault.OpenFault.TheVariants as faults;
+ghost use Rattle.disk.specs.Moments.{moment};
+ghost use Rattle.image.specs.Pieces.{piece_count};
+ghost use Rattle.journal.specs.Costs.{longest_point, opening_takes};
+ghost use Rattle.journal.specs.Opening.{IsRefusedUnwritten, OpeningCrashImages};
+ghost use Rattle.legal_runs.specs.Events.{answer, arrive, batch, flip_refusal, give_back, out_with, point_refusal, touches_device};
+ghost use Rattle.legal_runs.specs.Laws.{IsSoundCoreState};
+ghost use Rattle.legal_runs.specs.CoreState.{Entry};
+ghost use Rattle.legal_runs.specs.declared.outcomes.Step.TheVariants as steps;
+ghost use Rattle.oplog.specs.Beyond.{KeepsBeyond};
+ghost use Rattle.oplog.specs.Costs.{Takes, batches};
+ghost use Rattle.device_map.specs.Layout.{layout_of};
+ghost use Rattle.oplog.specs.Recovery.{in_force, named_area};
+ghost use Rattle.meaning.specs.State.{State};
+ghost use Rattle.scheduler.specs.Calls.{CountsFailure, IsGranted, IsLogStep, IsPieceStep, IsPointStep, answer_outcome, arrive_outcome, log_rose, point_rose};
+ghost use Rattle.arena.specs.Row.{chain_at};
+ghost use Rattle.scheduler.specs.Slots.{HasChains};
+ghost use Rattle.scheduler.specs.Jobs.{IsResultOf};
+ghost use Rattle.scheduler.specs.CoreView.{IsJustOpened, CoreView, RecoversNow, RecoversThroughout, core_state_of};
+ghost use Rattle.scheduler.specs.Opening.{IsOfBytes};
+
+use crate::Granted;
+use crate::granted::choose;
+use crate::history::History;
+use crate::memory::{Memory, take_memory};
+use crate::log_batch::{collect_loggable, move_ran};
+use crate::slot::{LOGGED, OUT, RAN, Slot, WAITING};
+use affinity::{changing, place_of};
+use arena::Arena;
+use checkpoint::{OpenError, OpenFault};
+use disk::Disk;
+use journal::Journal;
+use legal_runs::{ArriveRefusal, CoreFault, PointRefusal};
+use message::know_message;
+use messages::{Msg, Reply};
+use parcel::{Done, Job, Tree};
+use std::alloc::Global;
+use std::marker::Model;
+use run_queue::{QueuedMessage, RunQueue};
+
+/// The messages that a server has taken in, the tree that they run on, and the journal of what was carried out.
+///
+/// All memory is taken by `open`. After a fault of the device nothing more comes in, goes out or is logged, and no
+/// consistency point goes on; what is out is still taken back, and what was logged is still answered.
+#[derive(Drop)]
+pub struct Core<D: Disk> {
+    slots: Arena<Slot>,
+
+    /// By slot: what a message that ran is answered.
+    replies: Vec<Reply>,
+    queue: RunQueue,
+    tree: Tree,
+    journal: Journal<D>,
+
+    /// What is handed to the journal. After a fault of the device it stays: it is in doubt.
+    batch: Vec<Msg>,
+
+    /// The ticket of the next message.
+    next: u64,
+
+    /// How many changing messages are out or ran.
+    flight: usize,
+
+    /// How many messages ran.
+    ran: usize,
+    history: History,
+}
+
+impl<D: Disk> Model for Core<D> {
+    ghost use Rattle.std.specs.Prelude.{◌≡◌, ◌≤◌, length, vec_capacity};
+    ghost use Rattle.arena.specs.Row.{capacity_of};
+    ghost use Rattle.scheduler.specs.CoreView.{CoreView};
+    ghost use Rattle.scheduler.specs.Parts.{IsCore, kept_of, parts};
+    ghost use Rattle.scheduler.specs.Slots.{HasChains, line};
+
+    ghost Value = { CoreView };
+
+    ghost view = { λ c. kept_of
+        (parts c.slots c.replies.items c.tree c.journal c.queue c.batch.items c.next c.flight c.history.opened c.history.since) };
+
+    ghost invariant = { λ c. HasChains c.slots
+        × IsCore D.keeps
+        (parts c.slots c.replies.items c.tree c.journal c.queue c.batch.items c.next c.flight c.history.opened c.history.since)
+        × (capacity_of c.slots ≤ vec_capacity c.batch)
+        × (length c.replies.items ≡ capacity_of c.slots)
+        × (c.ran ≡ length (line c.slots c.replies.items 2)) };
+}
+
+/// 1 where it is so, and else 0.
+pub(crate) fn one_if(is_so: bool) -> usize
+    ensures { result ≡ cond is_so 1 0 }
+{
+    if is_so { 1 } else { 0 }
+}
+
+// Whether a message is out, ran or is logged.
+fn holds_any(slots: &Arena<Slot>) -> bool
+    requires { HasChains slots.now }
+    ensures { result ≡ nat_lt 0 (length (chain_at slots.now 3) + (length (chain_at slots.now 2) + length (chain_at slots.now 1))) }
+{
+    slots.front(OUT).is_some() || slots.front(RAN).is_some() || slots.front(LOGGED).is_some()
+}
+
+impl<D: Disk> Core<D> {
+    /// Opens a device that a crash may have left, for as many messages at once as there are slots.
+    ///
+    /// Takes its own memory first: where there is none, the device comes back as it was given. Then the device is opened
+    /// as `journal::open` does it, which reads it, finishes a cut that was in progress and makes a point, and with the same
+    /// faults. No message waits or is held then, the next ticket is 0, and the log has all its room, with no record in force.
+    pub fn open(alloc: Global, d: D, slots: usize) -> Result<Core<D>, OpenError<D>>
+        ensures opened { IfOk result (IsJustOpened slots) }
+        ensures header { IfOk result (λ core. D.keeps → HasHeader core.geometry (D.medium d).now) }
+        ensures stood { IfOk result (λ core. D.keeps → holds core.geometry (D.medium d).now ≡ Some (core_state_of core).committed) }
+        ensures emptied { IfOk result (λ core. D.keeps → in_force (layout_of core.geometry)
+            (named_area (layout_of core.geometry) core.medium.now) core.medium.now ≡ []) }
+
+        // A crash at any moment of the call leaves what a crash before might have left, until the first sync is over, and
+        // then what recovers to the same, or is refused for the same fault.
+        ensures any_moment { D.keeps → MatchResult result
+            (λ core. OpeningCrashImages (D.medium d) core.medium)
+            (λ e. OpeningCrashImages (D.medium d) (D.medium e.disk)) }
+
+        // What a longer device has behind its parts stays, also in what a crash leaves.
+        ensures beyond { D.keeps → (g : Geometry) → HasHeader g (D.medium d).now → MatchResult result
+            (λ core. KeepsBeyond (layout_of g) (D.medium d) core.medium)
+            (λ e. KeepsBeyond (layout_of g) (D.medium d) (D.medium e.disk)) }
+        ensures takes { D.keeps → MatchResult result
+            (λ core. moment core.medium ≡ moment (D.medium d) + opening_takes core.geometry (D.medium d).now)
+            (λ e. moment (D.medium e.disk) ≤ moment (D.medium d) + 11) }
+        ensures refused { IfErr result (λ e. D.keeps → IsRefused (D.medium d).now e.fault) }
+        ensures unwritten { IfErr result (λ e. D.keeps → IsRefusedUnwritten (D.medium d) e.fault (D.medium e.disk)) }
+
+        // What recovers to a state is opened, and what is to be refused is refused for its one fault, unless the device fails
+        // or want of memory is answered.
+        ensures opens { (g : Geometry) (x : State) → D.keeps → holds g (D.medium d).now ≡ Some x
+            → IfErr result (λ e. IsOfBytes e.fault → ⊥) }
+        ensures exact { (fault : OpenFault) → D.keeps → IsRefused (D.medium d).now fault → IsOfBytes fault
+            → MatchResult result (λ core. ⊥) (λ e. IsOfBytes e.fault → e.fault ≡ fault) }
+        ensures device { IfErr result (λ e. e.fault ≡ faults.Device ↔ ((D.medium e.disk).faults ≡ (D.medium d).faults + 1)) }
+        ensures fine { IfOk result (λ core. core.medium.faults ≡ (D.medium d).faults) }
+        ensures len { MatchResult result
+            (λ core. length core.medium.now ≡ length (D.medium d).now)
+            (λ e. length (D.medium e.disk).now ≡ length (D.medium d).now) }
+    {
+        let Ok(memory) = take_memory(alloc, slots) else {
+            return Err(OpenError {
+                disk: d,
+                fault: OpenFault::OutOfMemory,
+            });
+        };
+        let (journal, tree) = journal::open(alloc, d)?;
+        let Memory {
+            slots,
+            replies,
+            mut queue,
+            batch,
+        } = memory;
+        queue.begin(&journal.geometry());
+        Ok(Core {
+            slots,
+            replies,
+            queue,
+            history: History::begun(&tree),
+            tree,
+            journal,
+            batch,
+            next: 0,
+            flight: 0,
+            ran: 0,
+        })
+    }
+
+    /// Takes a message in, and gives it the next ticket: it waits. Tickets count from 0.
+    pub fn arrive(&mut self, m: &Msg) -> Result<u64, ArriveRefusal>
+        ensures state_after { (arrive_outcome result, core_state_of self.new) ≡ arrive self.old.geometry (core_state_of self.old) m.now }
+        ensures geometry { self.new.geometry ≡ self.old.geometry }
+        ensures untouched { self.new.medium ≡ self.old.medium }
+    {
+        if self.journal.failed() {
+            return Err(ArriveRefusal::Failed);
+        }
+        let g = self.journal.geometry();
+        let Some(affinity) = place_of(&g, m.kind(), m.numbers()) else {
+            return Err(ArriveRefusal::Range);
+        };
+        if self.next == u64::MAX {
+            return Err(ArriveRefusal::Exhausted);
+        }
+        know_message(m);
+        let ticket = self.next;
+        let Ok(slot) = self.slots.put(Slot {
+            ticket,
+            message: *m,
+            affinity,
+        })
+        else {
+            return Err(ArriveRefusal::Full);
+        };
+        self.slots.move_to(slot, WAITING);
+        let queued = QueuedMessage {
+            slot,
+            affinity,
+            changing: changing(m.kind()),
+            ticket,
+        };
+        self.queue.arrive(queued);
+        self.next += 1;
+        Ok(ticket)
+    }
+
+    /// Lets the eligible message with the least ticket go out, with what it needs of the tree.
+    pub fn grant(&mut self) -> Granted
+        ensures state_after { IsGranted self.old.geometry (core_state_of self.old) (core_state_of self.new) result }
+        ensures geometry { self.new.geometry ≡ self.old.geometry }
+        ensures untouched { self.new.medium ≡ self.old.medium }
+    {
+        if self.journal.failed() {
+            return Granted::Failed;
+        }
+        let room = self.flight < self.journal.room();
+        let queued = match choose(&self.queue, room) {
+            Ok(queued) => queued,
+            Err(why) => return why,
+        };
+        let number = queued.slot;
+        let more = one_if(queued.changing);
+        let Some(slot) = self.slots.get(number) else {
+            unreachable!()
+        };
+        let ticket = slot.ticket;
+        let message = slot.message;
+        let Some((standing, parcels)) = self.tree.lend(queued.affinity) else {
+            unreachable!()
+        };
+        let g = self.journal.geometry();
+        self.queue.go(queued);
+        self.slots.move_to(number, OUT);
+        self.flight += more;
+        Granted::Job(Job::new(g, ticket, message, standing, parcels))
+    }
+
+    /// Takes back what came of a job that is out.
+    pub fn give_back(&mut self, d: Done)
+        requires { IsResultOf self.old.geometry (core_state_of self.old) d }
+        ensures state_after { (found : Entry × List Entry) × (out_with (core_state_of self.old) d.ticket ≡ Some found)
+            × (found.0 ≡ (d.ticket, d.message))
+            × (core_state_of self.new ≡ give_back self.old.geometry (core_state_of self.old) found) }
+        ensures geometry { self.new.geometry ≡ self.old.geometry }
+        ensures untouched { self.new.medium ≡ self.old.medium }
+    {
+        let g = self.journal.geometry();
+        let Some(affinity) = place_of(&g, d.msg().kind(), d.msg().numbers()) else {
+            unreachable!()
+        };
+        let Some(slot) = self.queue.holder(affinity) else {
+            unreachable!()
+        };
+        self.replies[slot] = *d.reply();
+        let Ok(()) = self.tree.restore(affinity, d.into_parcels()) else {
+            unreachable!()
+        };
+        self.slots.move_to(slot, RAN);
+        self.ran += 1;
+    }
+
+    /// Logs the first `n` messages that ran, in the order in which they were given back, or all where fewer ran, and
+    /// tells how many these were. The changes among them that were carried out are appended to the log in one go. With
+    /// none of these the device isn't touched.
+    pub fn log(&mut self, n: usize) -> Result<usize, CoreFault>
+        ensures state_after { IsLogStep self.old.geometry (core_state_of self.old) (core_state_of self.new) n result }
+        ensures geometry { self.new.geometry ≡ self.old.geometry }
+        ensures counts { CountsFailure (log_rose result) self.old.medium.faults self.new.medium.faults }
+
+        // A crash at any moment of the call leaves what was committed, with the first m of what is appended.
+        ensures any_moment { D.keeps → RecoversThroughout (batch (core_state_of self.old) n) self.old self.new }
+        ensures beyond { D.keeps → KeepsBeyond (layout_of self.old.geometry) self.old.medium self.new.medium }
+
+        // It takes no more writes and syncs than its batches do.
+        ensures takes { D.keeps → Takes result (4 * batches (length (batch (core_state_of self.old) n))) self.old.medium self.new.medium }
+        ensures untouched { touches_device (core_state_of self.old) (steps.Log n) ≡ false → self.new.medium ≡ self.old.medium }
+    {
+        if self.journal.failed() {
+            return Err(CoreFault::Failed);
+        }
+        let count = n.min(self.ran);
+        let changing = collect_loggable(&self.slots, &self.replies, count, &mut self.batch);
+        if self.journal.log(&self.batch).is_err() {
+            return Err(CoreFault::Device);
+        }
+        self.history.note(&self.batch);
+        self.batch.clear();
+        move_ran(&mut self.slots, count);
+        self.flight -= changing;
+        self.ran -= count;
+        Ok(count)
+    }
+
+    /// The ticket and the reply of the message that was logged first. It is gone then: others may take its place, and
+    /// its slot is free. None where no message is logged.
+    pub fn answer(&mut self) -> Option<(u64, Reply)>
+        ensures state_after { (answer_outcome result, core_state_of self.new) ≡ answer (core_state_of self.old) self.old.logged }
+        ensures geometry { self.new.geometry ≡ self.old.geometry }
+        ensures untouched { self.new.medium ≡ self.old.medium }
+    {
+        let slot = self.slots.front(LOGGED)?;
+        let Some(taken) = self.slots.take(slot) else {
+            unreachable!()
+        };
+        self.queue.free(taken.affinity);
+        let reply = self.replies[slot];
+        Some((taken.ticket, reply))
+    }
+
+    // Why a consistency point can't begin.
+    fn point_refusal(&self) -> Option<PointRefusal>
+        ensures { result ≡ point_refusal (core_state_of self.now) }
+    {
+        if self.journal.failed() {
+            return Some(PointRefusal::Failed);
+        }
+        if self.journal.left().is_some() {
+            return Some(PointRefusal::Running);
+        }
+        if holds_any(&self.slots) {
+            return Some(PointRefusal::Held);
+        }
+        None
+    }
+
+    /// Makes a consistency point, where no message is held: the log is empty then.
+    pub fn point(&mut self) -> Result<(), PointRefusal>
+        ensures state_after { IsPointStep (core_state_of self.old) (core_state_of self.new) (point_refusal (core_state_of self.old))
+            (core_state_of self.new ≡ record (core_state_of self.old) { room = self.old.geometry.half }) result }
+        ensures geometry { self.new.geometry ≡ self.old.geometry }
+        ensures counts { CountsFailure (point_rose result) self.old.medium.faults self.new.medium.faults }
+
+        // A crash at any moment of the call leaves what was committed.
+        ensures any_moment { D.keeps → RecoversThroughout [] self.old self.new }
+        ensures beyond { D.keeps → KeepsBeyond (layout_of self.old.geometry) self.old.medium self.new.medium }
+        ensures emptied { OnOk result (D.keeps → in_force (layout_of self.new.geometry)
+            (named_area (layout_of self.new.geometry) self.new.medium.now) self.new.medium.now ≡ []) }
+        ensures takes { D.keeps → moment self.new.medium ≤ moment self.old.medium + longest_point self.old.geometry }
+        ensures untouched { touches_device (core_state_of self.old) steps.Point ≡ false → self.new.medium ≡ self.old.medium }
+    {
+        if let Some(why) = self.point_refusal() {
+            return Err(why);
+        }
+        if self.journal.point(&self.tree).is_err() {
+            return Err(PointRefusal::Device);
+        }
+        Ok(())
+    }
+
+    /// Begins a consistency point that goes on while messages are served: what is committed now is what it will hold.
+    pub fn cut(&mut self) -> Result<(), PointRefusal>
+        ensures state_after { IsPointStep (core_state_of self.old) (core_state_of self.new) (point_refusal (core_state_of self.old))
+            ((n : ℕ) × (n ≤ piece_count self.old.geometry)
+            × (core_state_of self.new ≡ record (core_state_of self.old) { room = self.old.geometry.half; left = Some n })) result }
+        ensures geometry { self.new.geometry ≡ self.old.geometry }
+        ensures counts { CountsFailure (point_rose result) self.old.medium.faults self.new.medium.faults }
+        ensures any_moment { D.keeps → RecoversThroughout [] self.old self.new }
+        ensures beyond { D.keeps → KeepsBeyond (layout_of self.old.geometry) self.old.medium self.new.medium }
+        ensures takes { D.keeps → Takes result 4 self.old.medium self.new.medium }
+        ensures untouched { touches_device (core_state_of self.old) steps.Cut ≡ false → self.new.medium ≡ self.old.medium }
+    {
+        if let Some(why) = self.point_refusal() {
+            return Err(why);
+        }
+        if self.journal.cut(&self.tree).is_err() {
+            return Err(PointRefusal::Device);
+        }
+        Ok(())
+    }
+
+    /// Writes the next piece of the consistency point in progress, and tells how many are left. With none left it
+    /// touches nothing.
+    pub fn piece(&mut self) -> Result<usize, PointRefusal>
+        ensures state_after { IsPieceStep (core_state_of self.old) (core_state_of self.new) result }
+        ensures geometry { self.new.geometry ≡ self.old.geometry }
+        ensures counts { CountsFailure (point_rose result) self.old.medium.faults self.new.medium.faults }
+        ensures any_moment { D.keeps → RecoversThroughout [] self.old self.new }
+        ensures beyond { D.keeps → KeepsBeyond (layout_of self.old.geometry) self.old.medium self.new.medium }
+        ensures takes { self.old.left ≢ Some 0 → D.keeps → Takes result 1 self.old.medium self.new.medium }
+        ensures untouched { touches_device (core_state_of self.old) steps.Piece ≡ false → self.new.medium ≡ self.old.medium }
+    {
+        if self.journal.failed() {
+            return Err(PointRefusal::Failed);
+        }
+        let Some(_) = self.journal.left() else {
+            return Err(PointRefusal::NotRunning);
+        };
+        match self.journal.piece() {
+            Ok(left) => Ok(left),
+            Err(_) => Err(PointRefusal::Device),
+        }
+    }
+
+    /// Ends the consistency point in progress, once every piece is written.
+    pub fn flip(&mut self) -> Result<(), PointRefusal>
+        ensures state_after { IsPointStep (core_state_of self.old) (core_state_of self.new) (flip_refusal (core_state_of self.old))
+            (core_state_of self.new ≡ record (core_state_of self.old) { left = None }) result }
+        ensures geometry { self.new.geometry ≡ self.old.geometry }
+        ensures counts { CountsFailure (point_rose result) self.old.medium.faults self.new.medium.faults }
+        ensures any_moment { D.keeps → RecoversThroughout [] self.old self.new }
+        ensures beyond { D.keeps → KeepsBeyond (layout_of self.old.geometry) self.old.medium self.new.medium }
+        ensures takes { D.keeps → Takes result 3 self.old.medium self.new.medium }
+        ensures untouched { touches_device (core_state_of self.old) steps.Flip ≡ false → self.new.medium ≡ self.old.medium }
+    {
+        if self.journal.failed() {
+            return Err(PointRefusal::Failed);
+        }
+        let Some(left) = self.journal.left() else {
+            return Err(PointRefusal::NotRunning);
+        };
+        if left > 0 {
+            return Err(PointRefusal::Unfinished);
+        }
+        if self.journal.flip().is_err() {
+            return Err(PointRefusal::Device);
+        }
+        Ok(())
+    }
+
+    /// How many messages fit in.
+    pub fn slots(&self) -> usize
+        ensures slots { result ≡ self.now.slots }
+        ensures sound { IsSoundCoreState self.now.geometry (core_state_of self.now) }
+    {
+        self.slots.capacity()
+    }
+
+    /// How many pieces are left to write, while a consistency point is in progress.
+    pub fn left(&self) -> Option<usize>
+        ensures { result ≡ self.now.left }
+    {
+        self.journal.left()
+    }
+
+    /// Does nothing: its contract tells what a crash leaves now.
+    pub fn know_recovery(&self)
+        ensures no_doubt { self.now.failed ≡ false → self.now.doubt ≡ [] }
+        ensures now { D.keeps → RecoversNow self.now }
+    {
+        let _next = self.next;
+    }
+
+    /// The device.
+    pub fn disk(&self) -> &D
+        ensures { D.medium result.now ≡ self.now.medium }
+    {
+        self.journal.disk()
+    }
+
+    /// The device, which is handed back.
+    pub fn into_disk(self) -> D
+        ensures { D.medium result ≡ self.medium }
+    {
+        self.journal.into_disk()
+    }
+}

@@ -1,0 +1,86 @@
+//! The messages that ran: what is to be logged of them, and how they become those that are logged.
+ghost use Rattle.std.specs.Prelude.{◌≡◌, ◌≤◌, ◌<◌, ◌+◌, [], ◌∷◌, ◌++◌, length, take, vec_capacity};
+ghost use Rattle.arena.specs.Row.{capacity_of, chain_at};
+ghost use Rattle.legal_runs.specs.Events.{loggable};
+ghost use Rattle.meaning.specs.Serial.{is_loggable};
+ghost use Rattle.scheduler.specs.Moving.{HasLogged, changing_in, gathered};
+ghost use Rattle.scheduler.specs.Slots.{HasChains};
+
+use crate::core::one_if;
+use crate::slot::{LOGGED, RAN, Slot};
+use affinity::changing;
+use arena::Arena;
+use messages::{Msg, Reply};
+
+// Whether the log keeps a message with this reply: a change that was carried out.
+fn is_loggable(message: &Msg, reply: &Reply) -> bool
+    ensures { result ≡ is_loggable message.now reply.now }
+{
+    changing(message.kind()) && matches!(reply, Reply::Done)
+}
+
+// Puts a message that ran into a row if the log keeps it.
+fn keep(message: &Msg, reply: &Reply, batch: &mut Vec<Msg>)
+    requires room { length batch.old.items < vec_capacity batch.old }
+    ensures batch { batch.new.items ≡ batch.old.items ++ loggable ((0, message.now, reply.now) ∷ []) }
+    ensures few { length batch.new.items ≤ length batch.old.items + 1 }
+    ensures capacity { vec_capacity batch.new ≡ vec_capacity batch.old }
+{
+    if is_loggable(message, reply) {
+        batch.push_reserved(*message);
+    }
+}
+
+/// Puts those of the first `count` messages that ran into a row that the log keeps, and tells how many of them are of a
+/// changing kind.
+pub(crate) fn collect_loggable(
+    slots: &Arena<Slot>,
+    replies: &[Reply],
+    count: usize,
+    batch: &mut Vec<Msg>,
+) -> usize
+    requires chains { HasChains slots.now }
+    requires count { count ≤ length (chain_at slots.now 2) }
+    requires replies { length replies.now ≡ capacity_of slots.now }
+    requires empty { batch.old.items ≡ [] }
+    requires room { capacity_of slots.now ≤ vec_capacity batch.old }
+    ensures batch { batch.new.items ≡ gathered slots.now replies.now (take count (chain_at slots.now 2)) }
+    ensures capacity { vec_capacity batch.new ≡ vec_capacity batch.old }
+    ensures changing { result ≡ changing_in slots.now (take count (chain_at slots.now 2)) }
+{
+    let mut at = slots.front(RAN);
+    let mut found = 0;
+    for _ in 0..count {
+        let Some(i) = at else { unreachable!() };
+        let Some(slot) = slots.get(i) else {
+            unreachable!()
+        };
+        keep(&slot.message, &replies[i], batch);
+        found += one_if(changing(slot.message.kind()));
+        at = slots.next(i);
+    }
+    found
+}
+
+// The first message that ran is logged, after all logged ones.
+fn move_first(slots: &mut Arena<Slot>)
+    requires chains { HasChains slots.old }
+    requires some { 0 < length (chain_at slots.old 2) }
+    ensures { HasLogged 1 slots.old slots.new }
+{
+    let Some(slot) = slots.front(RAN) else {
+        unreachable!()
+    };
+    slots.move_to(slot, LOGGED);
+}
+
+/// The first `count` messages that ran are logged, after all logged ones.
+pub(crate) fn move_ran(slots: &mut Arena<Slot>, count: usize)
+    requires chains { HasChains slots.old }
+    requires count { count ≤ length (chain_at slots.old 2) }
+    ensures { HasLogged count slots.old slots.new }
+{
+    for _ in 0..count {
+        move_first(slots);
+    }
+}

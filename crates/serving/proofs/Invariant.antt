@@ -1,0 +1,446 @@
+-- A session stays under way: one lemma for each kind of step, and what being under way tells.
+use Rattle.std.proofs.Common.{◌≡◌, ◌≢◌, ◌≤◌, ◌<◌, ◌+◌, ℕ, Bool, true, false, List, [], ◌∷◌, ◌++◌, Option, Some, None, refl, ap, sym, ◌∙◌, subst, length, map, drop, append_assoc, append-nil, arith}
+use Rattle.std.proofs.lemmas.List.{length-append, length-map}
+use Rattle.std.specs.Prelude.{IfSome, IsTrue, MatchBool}
+use Rattle.std.specs.Io.KnownBytes.{Appends, IsAtEnd}
+use Rattle.affinity.specs.declared.geometry.Geometry.{Geometry}
+use Rattle.std.proofs.lemmas.Bool.{true≢false}
+use Rattle.legal_runs.proofs.Lists.{all_join}
+use Rattle.legal_runs.specs.Events.{arrive}
+use Rattle.legal_runs.specs.Laws.{IsIdle}
+use Rattle.legal_runs.specs.declared.outcomes.ArriveRefusal.TheVariants as arrivals
+use Rattle.legal_runs.specs.declared.outcomes.Outcome.TheVariants.{ArriveRefused}
+use Rattle.messages.specs.Grammar.{message_of}
+use Rattle.messages.specs.FirstLine.{GivesLine, IsClosed, PassesLine}
+use Rattle.message.specs.Waiting.{so_far}
+use Rattle.messages.specs.declared.Msg.{Msg}
+use Rattle.messages.specs.declared.Reply.{Reply}
+use Rattle.scheduler.specs.CoreView.{CoreView, RecoversNow, core_state_of}
+use Rattle.serving.specs.Progress.{ServingProgress}
+use Rattle.meaning.specs.Output.{joined}
+use Rattle.serving.specs.Lines.{AreCompleted, Completed, Line, NoMessage, OutOfRange, Pending, complete_one, is_completed, text}
+use Rattle.serving.specs.Reads.{IsTaken}
+use Rattle.reorder_buffer.specs.ReorderBuffer.{AreConsecutive, ReorderBufferView, can_retire, retired_text, with_tickets}
+use Rattle.serving.specs.Runs.{Holds, IsInternal, RunsBetween, with_lent}
+use Rattle.serving.specs.Session.{SessionProgress, IsReadEnd, SessionInvariant, SessionInvariantFrom, SessionView, ReadsOrHasEnded, machine, known_unless}
+use Rattle.serving.specs.Output.{MaySend, Start, start_machine}
+use Rattle.serving.specs.declared.session.ReadEnd.{ReadEnd}
+use Rattle.serving.specs.declared.session.ReadEnd.TheVariants as ends_of_reading
+use Rattle.workers.specs.Seats.{DispatchSeatView}
+use Rattle.serving.proofs.Advancing.{Retires, forgets, retires_on, texts_both}
+use Rattle.serving.proofs.Answering.{answered_goes_on}
+use Rattle.serving.proofs.Following.{next_follows}
+use Rattle.serving.proofs.Inside.{idle_again}
+use Rattle.serving.proofs.Served.{has_served}
+use Rattle.serving.proofs.Slots.{finds_a_slot}
+use Rattle.serving.proofs.Segments.{quiet_goes_on, still_failed}
+use Rattle.serving.proofs.Taken.{line_goes_on, long_line_goes_on}
+use Rattle.serving.proofs.Tickets.{quiet_ticket}
+
+-- ---- why no more is read stays so
+
+why_on : (g : Geometry) (old new : CoreView) (left : Option (List ℕ)) (drained : Bool) (behind : Option (List ℕ)) (stop : ReadEnd) → new.next ≡ old.next
+    → (old.failed ≡ true → new.failed ≡ true) → IsReadEnd g old left drained behind stop → IsReadEnd g new left drained behind stop
+why_on g old new left drained behind ends_of_reading.EndOfInput next failed h = h
+why_on g old new left drained behind ends_of_reading.ReadFailed next failed h = h
+why_on g old new left drained behind ends_of_reading.TicketsExhausted next failed h = (next ∙ h.0, h.1)
+why_on g old new left drained behind ends_of_reading.DeviceFailed next failed h = failed h
+
+-- what was said of a reorder buffer, where the output may have failed
+retires_unless : (b : Bool) (row rest : List Line) (old now : Option (List ℕ)) → Retires row rest old now → Retires row rest (known_unless b old) (known_unless b now)
+retires_unless true row rest old now retires = record { retired = retires.retired; were = retires.were; are_completed = retires.are_completed; output = tt }
+retires_unless false row rest old now retires = retires
+
+-- What waits is said behind what was sent.
+retires_waiting : (waiting row : List Line) (out : List ℕ) (sent : Option (List ℕ)) → AreCompleted waiting → out ≡ joined (map text waiting)
+    → Retires (waiting ++ row) row sent (so_far sent out)
+retires_waiting waiting row out None answered is = record { retired = waiting; were = refl; are_completed = answered; output = tt }
+retires_waiting waiting row out (Some bytes) answered is =
+    record { retired = waiting; were = refl; are_completed = answered; output = ap (λ (l : List ℕ). bytes ++ l) is }
+
+-- A line that is answered is left by a further answer.
+is_left : (ticket : ℕ) (reply : Reply) (line : Line) → is_completed line ≡ true → complete_one ticket reply line ≡ line
+is_left ticket reply NoMessage answered = refl
+is_left ticket reply OutOfRange answered = refl
+is_left ticket reply (Pending t) answered = absurd (true≢false (sym answered))
+is_left ticket reply (Completed t r) answered = refl
+
+are_left : (ticket : ℕ) (reply : Reply) (waiting row : List Line) → AreCompleted waiting
+    → map (complete_one ticket reply) (waiting ++ row) ≡ waiting ++ map (complete_one ticket reply) row
+are_left ticket reply [] row answered = refl
+are_left ticket reply (line ∷ waiting) row answered =
+    ap (λ (x : Line). x ∷ map (complete_one ticket reply) (waiting ++ row)) (is_left ticket reply line answered.0)
+    ∙ ap (λ (l : List Line). line ∷ l) (are_left ticket reply waiting row answered.1)
+
+-- the oldest line, where it is answered, and the others
+pub record Fronts (lines rest : List Line) : Type 0 where
+  pub line : Line
+  pub were : lines ≡ line ∷ rest
+  pub answered : is_completed line ≡ true
+  pub retires : retired_text lines ≡ text line
+
+fronts : (lines rest : List Line) → rest ≡ drop 1 lines → can_retire lines ≡ true → Fronts lines rest
+fronts [] rest is next = absurd (true≢false (sym next))
+fronts (line ∷ lines) rest is next = record { line = line; were = ap (λ (l : List Line). line ∷ l) (sym is); answered = next; retires = refl }
+
+module _ (keeps : Type 0) where
+  module _ (s : Start) (p : SessionView) where
+    reads_on : (q : SessionView) → q.core.next ≡ p.core.next → (p.core.failed ≡ true → q.core.failed ≡ true) → q.left ≡ p.left → q.drained ≡ p.drained
+        → q.behind ≡ p.behind
+        → ((left : Option (List ℕ)) (drained : Bool) → SessionProgress keeps s p left drained → SessionProgress keeps s q left drained)
+        → (stop : Option ReadEnd) → ReadsOrHasEnded keeps s p stop → ReadsOrHasEnded keeps s q stop
+    reads_on q next failed left drained behind goes None h =
+        subst (λ (l : Option (List ℕ)). SessionProgress keeps s q l q.drained) (sym left)
+        (subst (λ (d : Bool). SessionProgress keeps s q p.left d) (sym drained) (goes p.left p.drained h))
+    reads_on q next failed left drained behind goes (Some stop) h = record {
+      left = h.left;
+      drained = h.drained;
+      gone = goes h.left h.drained h.gone;
+      why = subst (λ (b : Option (List ℕ)). IsReadEnd s.core.geometry q.core h.left h.drained b stop) (sym behind)
+          (why_on s.core.geometry p.core q.core h.left h.drained p.behind stop next failed h.why);
+    }
+
+    -- so much of the input is left, wherever it is
+    pub gone : (stop : Option ReadEnd) → ReadsOrHasEnded keeps s p stop → (left : Option (List ℕ)) × (drained : Bool) × SessionProgress keeps s p left drained
+    gone None h = (p.left, p.drained, h)
+    gone (Some stop) h = (h.left, h.drained, h.gone)
+
+    -- All that was answered in the output leads to the reorder buffer, whether it waits or not.
+    pub to_row : (left : Option (List ℕ)) (drained : Bool) → SessionProgress keeps s p left drained
+        → ServingProgress keeps (start_machine s) (machine p) p.row.lines s.input left drained (known_unless p.output_failed s.before) (known_unless p.output_failed (so_far p.sent p.out))
+    to_row left drained h =
+        retires_on keeps (start_machine s) (machine p) (h.waiting ++ p.row.lines) p.row.lines (known_unless p.output_failed p.sent) (known_unless p.output_failed (so_far p.sent p.out))
+        (retires_unless p.output_failed (h.waiting ++ p.row.lines) p.row.lines p.sent (so_far p.sent p.out)
+        (retires_waiting h.waiting p.row.lines p.out p.sent h.are_completed h.out_is)) s.input left drained (known_unless p.output_failed s.before) h.goes
+
+  -- ---- what being under way tells
+
+  pub holds_of : (o : Option Start) (p : SessionView) → SessionInvariantFrom keeps o p → Holds (machine p)
+  holds_of None p u = absurd u
+  holds_of (Some s) p u = u.holds
+
+  pub places_of : (o : Option Start) (p : SessionView) → SessionInvariantFrom keeps o p → length p.dispatch_seat.lent ≡ p.dispatch_seat.bench.slots
+  places_of None p u = absurd u
+  places_of (Some s) p u = u.places
+
+  pub knows_of : (o : Option Start) (p : SessionView) → SessionInvariantFrom keeps o p → IsTrue p.ended → IsAtEnd p.behind
+  knows_of None p u = absurd u
+  knows_of (Some s) p u = u.knows
+
+  pub idle_of : (o : Option Start) (p : SessionView) → SessionInvariantFrom keeps o p → p.row.lines ≡ [] → IsIdle (core_state_of p.core)
+  idle_of None p u none = absurd u
+  idle_of (Some s) p u none =
+      let k = gone s p p.stop u.reads in
+      idle_again keeps (start_machine s) (machine p) u.idle s.input k.0 k.1 (known_unless p.output_failed s.before) (known_unless p.output_failed (so_far p.sent p.out))
+      (subst (λ (l : List Line). ServingProgress keeps (start_machine s) (machine p) l s.input k.0 k.1 (known_unless p.output_failed s.before)
+      (known_unless p.output_failed (so_far p.sent p.out))) none (to_row s p k.0 k.1 k.2))
+
+  -- ---- steps
+
+  -- The machine goes on.
+  pub on_machine : (o : Option Start) (p : SessionView) (core : CoreView) (dispatch_seat : DispatchSeatView) → SessionInvariantFrom keeps o p
+      → IsInternal keeps (machine p) (with_lent core dispatch_seat.lent) → dispatch_seat.bench ≡ p.dispatch_seat.bench → length dispatch_seat.lent ≡ length p.dispatch_seat.lent
+      → SessionInvariantFrom keeps o (record p { core = core; dispatch_seat = dispatch_seat })
+  on_machine None p core dispatch_seat u k bench places = absurd u
+  on_machine (Some s) p core dispatch_seat u k bench places =
+      let q : SessionView = record p { core = core; dispatch_seat = dispatch_seat } in
+      record {
+        idle = u.idle;
+        sure = u.sure;
+        fits = u.fits;
+        holds = k.holds;
+        places = places ∙ u.places ∙ ap (λ (z : _). z.slots) (sym bench);
+        knows = u.knows;
+        reads = reads_on s p q (quiet_ticket keeps (machine p) (machine q) [] k.passes) (still_failed keeps (machine p) (machine q) [] [] k.passes)
+            refl refl refl
+            (λ left drained h. record {
+              waiting = h.waiting;
+              are_completed = h.are_completed;
+              out_is = h.out_is;
+              counted = h.counted;
+              bounded = h.bounded;
+              goes = quiet_goes_on keeps (machine p) (machine q) k.passes (h.waiting ++ p.row.lines) (start_machine s) s.input left drained
+                  (known_unless p.output_failed s.before) (known_unless p.output_failed p.sent) h.goes;
+            }) p.stop u.reads;
+      }
+
+  -- A message is answered, and so is its line in the reorder buffer.
+  pub on_answer : (o : Option Start) (p : SessionView) (core : CoreView) (row : ReorderBufferView) (ticket : ℕ) (reply : Reply) → SessionInvariantFrom keeps o p
+      → Holds (with_lent core p.dispatch_seat.lent) × RunsBetween keeps (machine p) (with_lent core p.dispatch_seat.lent) [] ((ticket, reply) ∷ [])
+      → row.lines ≡ map (complete_one ticket reply) p.row.lines → row.slots ≡ p.row.slots
+      → SessionInvariantFrom keeps o (record p { core = core; row = row })
+  on_answer None p core row ticket reply u k is slots = absurd u
+  on_answer (Some s) p core row ticket reply u k is slots =
+      let q : SessionView = record p { core = core; row = row } in
+      let replies = (ticket, reply) ∷ [] in
+      record {
+        idle = u.idle;
+        sure = u.sure;
+        fits = subst (λ (n : ℕ). n ≤ s.core.slots) (sym slots) u.fits;
+        holds = k.0;
+        places = u.places;
+        knows = u.knows;
+        reads = reads_on s p q (quiet_ticket keeps (machine p) (machine q) replies k.1) (still_failed keeps (machine p) (machine q) [] replies k.1)
+            refl refl refl
+            (λ left drained h. record {
+              waiting = h.waiting;
+              are_completed = h.are_completed;
+              out_is = h.out_is;
+              counted = let counted = h.counted in omega (arith, counted, ap length is, length-map p.row.lines (complete_one ticket reply));
+              bounded = let bounded = h.bounded in omega (arith, bounded, slots);
+              goes = subst (λ (l : List Line). ServingProgress keeps (start_machine s) (machine q) l s.input left drained (known_unless p.output_failed s.before)
+                  (known_unless p.output_failed p.sent))
+                  (are_left ticket reply h.waiting p.row.lines h.are_completed ∙ ap (λ (l : List Line). h.waiting ++ l) (sym is))
+                  (answered_goes_on keeps (machine p) (machine q) ticket reply k.1 (h.waiting ++ p.row.lines) (start_machine s) s.input left drained
+                  (known_unless p.output_failed s.before) (known_unless p.output_failed p.sent) h.goes);
+            }) p.stop u.reads;
+      }
+
+  -- The oldest line of the reorder buffer waits to be told.
+  on_add_text : (o : Option Start) (p : SessionView) (row : ReorderBufferView) (out : List ℕ) → SessionInvariantFrom keeps o p
+      → row.lines ≡ drop 1 p.row.lines → can_retire p.row.lines ≡ true → out ≡ p.out ++ retired_text p.row.lines → row.slots ≡ p.row.slots
+      → SessionInvariantFrom keeps o (record p { row = row; out = out })
+  on_add_text None p row out u is next added slots = absurd u
+  on_add_text (Some s) p row out u is next added slots =
+      let f = fronts p.row.lines row.lines is next in
+      let one = f.line ∷ [] in
+      record {
+        idle = u.idle;
+        sure = u.sure;
+        fits = subst (λ (n : ℕ). n ≤ s.core.slots) (sym slots) u.fits;
+        holds = u.holds;
+        places = u.places;
+        knows = u.knows;
+        reads = reads_on s p (record p { row = row; out = out }) refl (λ x. x) refl refl refl
+            (λ left drained h. record {
+              waiting = h.waiting ++ one;
+              are_completed = all_join (λ line. is_completed line ≡ true) h.waiting one h.are_completed (f.answered, tt);
+              out_is = added ∙ ap (λ (l : List ℕ). l ++ retired_text p.row.lines) h.out_is
+                  ∙ ap (λ (l : List ℕ). joined (map text h.waiting) ++ l) (f.retires ∙ sym (append-nil (text f.line))) ∙ sym (texts_both h.waiting one);
+              counted = let counted = h.counted in omega (arith, counted, ap length f.were, length-append h.waiting one);
+              bounded = let bounded = h.bounded in omega (arith, bounded, slots);
+              goes = subst (λ (l : List Line). ServingProgress keeps (start_machine s) (machine p) l s.input left drained (known_unless p.output_failed s.before)
+                  (known_unless p.output_failed p.sent))
+                  (ap (λ (l : List Line). h.waiting ++ l) f.were ∙ sym (append_assoc h.waiting one row.lines)) h.goes;
+            }) p.stop u.reads;
+      }
+
+  -- So it does where it is answered, and else nothing moves.
+  pub on_retire_front : (o : Option Start) (p : SessionView) (row : ReorderBufferView) (out : List ℕ) (retired : Bool) → SessionInvariantFrom keeps o p
+      → retired ≡ can_retire p.row.lines → MatchBool retired (out ≡ p.out ++ retired_text p.row.lines) (out ≡ p.out)
+      → MatchBool retired (row.lines ≡ drop 1 p.row.lines) (row ≡ p.row) → row.slots ≡ p.row.slots
+      → SessionInvariantFrom keeps o (record p { row = row; out = out })
+  on_retire_front o p row out true u next added left slots = on_add_text o p row out u left (sym next) added slots
+  on_retire_front o p row out false u next added left slots =
+      subst (λ (r : ReorderBufferView). SessionInvariantFrom keeps o (record p { row = r; out = out })) (sym left)
+      (subst (λ (l : List ℕ). SessionInvariantFrom keeps o (record p { out = l })) (sym added) u)
+
+  -- All that waits is told.
+  pub on_send : (o : Option Start) (p : SessionView) (out : List ℕ) (sent : Option (List ℕ)) (n : ℕ) → SessionInvariantFrom keeps o p
+      → out ≡ [] → Appends p.sent sent p.out → n ≡ length p.row.lines
+      → SessionInvariantFrom keeps o (record p { out = out; sent = sent; open_lines = n })
+  on_send None p out sent n u none appends are = absurd u
+  on_send (Some s) p out sent n u none appends are = record {
+    idle = u.idle;
+    sure = u.sure;
+    fits = u.fits;
+    holds = u.holds;
+    places = u.places;
+    knows = u.knows;
+    reads = reads_on s p (record p { out = out; sent = sent; open_lines = n }) refl (λ x. x) refl refl refl
+        (λ left drained h. record {
+          waiting = [];
+          are_completed = tt;
+          out_is = none;
+          counted = omega (arith, are);
+          bounded = let counted = h.counted in
+              let bounded = h.bounded in
+              omega (arith, are, counted, bounded);
+          goes = retires_on keeps (start_machine s) (machine p) (h.waiting ++ p.row.lines) p.row.lines (known_unless p.output_failed p.sent)
+              (known_unless p.output_failed sent)
+              (retires_unless p.output_failed (h.waiting ++ p.row.lines) p.row.lines p.sent sent (record {
+                retired = h.waiting;
+                were = refl;
+                are_completed = h.are_completed;
+                output = subst (λ (l : List ℕ). Appends p.sent sent l) h.out_is appends;
+              })) s.input left drained (known_unless p.output_failed s.before) h.goes;
+        }) p.stop u.reads;
+  }
+
+  -- It could not be told.
+  pub on_break : (o : Option Start) (p : SessionView) (sent : Option (List ℕ)) → SessionInvariantFrom keeps o p
+      → SessionInvariantFrom keeps o (record p { sent = sent; output_failed = true })
+  on_break None p sent u = absurd u
+  on_break (Some s) p sent u = record {
+    idle = u.idle;
+    sure = u.sure;
+    fits = u.fits;
+    holds = u.holds;
+    places = u.places;
+    knows = u.knows;
+    reads = reads_on s p (record p { sent = sent; output_failed = true }) refl (λ x. x) refl refl refl
+        (λ left drained h. record {
+          waiting = h.waiting;
+          are_completed = h.are_completed;
+          out_is = h.out_is;
+          counted = h.counted;
+          bounded = h.bounded;
+          goes = forgets keeps (start_machine s) (machine p) (h.waiting ++ p.row.lines) s.input left drained (known_unless p.output_failed s.before)
+              (known_unless p.output_failed p.sent) h.goes;
+        }) p.stop u.reads;
+  }
+
+  -- What waits may be told, where the core is as it always is.
+  pub may_send : (o : Option Start) (p : SessionView) → SessionInvariantFrom keeps o p → p.output_failed ≡ false → (p.core.failed ≡ false → p.core.doubt ≡ [])
+      → (keeps → RecoversNow p.core) → MaySend keeps o p.sent p.core p.out
+  may_send None p u whole none recovers = absurd u
+  may_send (Some s) p u whole none recovers =
+      let k = gone s p p.stop u.reads in
+      let h = k.2 in
+      record {
+        idle = u.idle;
+        sure = u.sure;
+        next = h.waiting;
+        row = p.row.lines;
+        served = has_served keeps (start_machine s) (machine p) u.idle (h.waiting ++ p.row.lines) s.input k.0 k.1 s.before p.sent
+            (subst (λ (b : Bool). ServingProgress keeps (start_machine s) (machine p) (h.waiting ++ p.row.lines) s.input k.0 k.1 (known_unless b s.before)
+            (known_unless b p.sent)) whole h.goes) none recovers;
+        are_completed = h.are_completed;
+        bytes_are = h.out_is;
+      }
+
+  -- ---- lines that are read
+
+  -- From a place where it reads, to what was read: how the start sees it.
+  pub reading : (s : Start) (p : SessionView) → p.stop ≡ None → SessionInvariant keeps s p → SessionProgress keeps s p p.left p.drained
+  reading s p is u = subst (λ (o : Option ReadEnd). ReadsOrHasEnded keeps s p o) is u.reads
+
+  module _ (p : SessionView) (core : CoreView) (row : ReorderBufferView) (n : ℕ) (left : Option (List ℕ)) (drained ended : Bool)
+      (behind : Option (List ℕ)) (none : p.stop ≡ None) (slots : row.slots ≡ p.row.slots)
+      (more : n + length p.row.lines ≡ p.open_lines + length row.lines) (few : n ≤ p.row.slots) (knows : IsTrue ended → IsAtEnd behind) where
+    abbrev next : SessionView
+    next = record p { core = core; row = row; open_lines = n; left = left; drained = drained; ended = ended; behind = behind }
+
+    counted_next : (waiting : List Line) → p.open_lines ≡ length waiting + length p.row.lines → n ≡ length waiting + length row.lines
+    counted_next waiting counted = omega (arith, counted, more)
+
+    bounded_next : n ≤ row.slots
+    bounded_next = omega (arith, few, slots)
+
+    reads_next : (s : Start) → SessionInvariant keeps s p → Holds (machine next) → SessionProgress keeps s next left drained → SessionInvariant keeps s next
+    reads_next s u holds gone = record {
+      idle = u.idle;
+      sure = u.sure;
+      fits = subst (λ (n : ℕ). n ≤ s.core.slots) (sym slots) u.fits;
+      holds = holds;
+      places = u.places;
+      knows = knows;
+      reads = subst (λ (x : Option ReadEnd). ReadsOrHasEnded keeps s next x) (sym none) gone;
+    }
+
+    module _ (known : Line) (pushed : row.lines ≡ p.row.lines ++ known ∷ []) (going : p.drained ≡ false) (closes : IsClosed p.left drained) where
+      at_end : (waiting : List Line) → (waiting ++ p.row.lines) ++ known ∷ [] ≡ waiting ++ row.lines
+      at_end waiting = append_assoc waiting p.row.lines (known ∷ []) ∙ ap (λ (l : List Line). waiting ++ l) (sym pushed)
+
+      -- A line is read.
+      pub on_line : (o : Option Start) (line : List ℕ) → SessionInvariantFrom keeps o p → IsTaken keeps (machine p) (machine next) (message_of line) known
+          → IfSome p.left (λ bs. GivesLine line bs left) → SessionInvariantFrom keeps o next
+      on_line None line u t found = absurd u
+      on_line (Some s) line u t found =
+          let h = reading s p none u in
+          let sent = known_unless p.output_failed p.sent in
+          reads_next s u t.holds (record {
+            waiting = h.waiting;
+            are_completed = h.are_completed;
+            out_is = h.out_is;
+            counted = counted_next h.waiting h.counted;
+            bounded = bounded_next;
+            goes = subst (λ (l : List Line). ServingProgress keeps (start_machine s) (machine next) l s.input left drained (known_unless p.output_failed s.before) sent)
+                (at_end h.waiting)
+                (line_goes_on keeps (start_machine s) (machine p) (machine next) (h.waiting ++ p.row.lines) known s.input p.left left p.drained drained
+                (known_unless p.output_failed s.before) sent u.idle going closes line t found h.goes);
+          })
+
+      -- One that is too long is read.
+      pub on_long_line : (o : Option Start) → SessionInvariantFrom keeps o p → IsTaken keeps (machine p) (machine next) None known
+          → IfSome p.left (λ bs. PassesLine bs left) → SessionInvariantFrom keeps o next
+      on_long_line None u t found = absurd u
+      on_long_line (Some s) u t found =
+          let h = reading s p none u in
+          let sent = known_unless p.output_failed p.sent in
+          reads_next s u t.holds (record {
+            waiting = h.waiting;
+            are_completed = h.are_completed;
+            out_is = h.out_is;
+            counted = counted_next h.waiting h.counted;
+            bounded = bounded_next;
+            goes = subst (λ (l : List Line). ServingProgress keeps (start_machine s) (machine next) l s.input left drained (known_unless p.output_failed s.before) sent)
+                (at_end h.waiting)
+                (long_line_goes_on keeps (start_machine s) (machine p) (machine next) (h.waiting ++ p.row.lines) known s.input p.left left p.drained drained
+                (known_unless p.output_failed s.before) sent u.idle going closes t found h.goes);
+          })
+
+    -- No more is read for this reason.
+    pub on_stop : (o : Option Start) (stop : ReadEnd) → SessionInvariantFrom keeps o p → IsInternal keeps (machine p) (machine next) → row.lines ≡ p.row.lines
+        → IsReadEnd p.core.geometry core p.left p.drained behind stop → SessionInvariantFrom keeps o (record next { stop = Some stop })
+    on_stop None stop u k same why = absurd u
+    on_stop (Some s) stop u k same why =
+        let h = reading s p none u in
+        let sent = known_unless p.output_failed p.sent in
+        record {
+          idle = u.idle;
+          sure = u.sure;
+          fits = subst (λ (n : ℕ). n ≤ s.core.slots) (sym slots) u.fits;
+          holds = k.holds;
+          places = u.places;
+          knows = knows;
+          reads = record {
+            left = p.left;
+            drained = p.drained;
+            gone = record {
+              waiting = h.waiting;
+              are_completed = h.are_completed;
+              out_is = h.out_is;
+              counted = counted_next h.waiting h.counted;
+              bounded = bounded_next;
+              goes = subst (λ (l : List Line). ServingProgress keeps (start_machine s) (machine next) l s.input p.left p.drained (known_unless p.output_failed s.before) sent)
+                  (ap (λ (l : List Line). h.waiting ++ l) (sym same))
+                  (quiet_goes_on keeps (machine p) (machine next) k.passes (h.waiting ++ p.row.lines) (start_machine s) s.input p.left p.drained
+                  (known_unless p.output_failed s.before) sent h.goes);
+            };
+            why = subst (λ (y : Geometry). IsReadEnd y core p.left p.drained behind stop) h.goes.serving.passes.geometry why;
+          };
+        }
+
+  -- The next ticket is behind those of the reorder buffer.
+  pub follows : (o : Option Start) (p : SessionView) → p.stop ≡ None → SessionInvariantFrom keeps o p
+      → AreConsecutive (with_tickets p.row.lines ++ Pending p.core.next ∷ [])
+  follows None p none u = absurd u
+  follows (Some s) p none u =
+      let h = to_row s p p.left p.drained (reading s p none u) in
+      next_follows keeps (start_machine s) (machine p) h.taken h.retired p.row.lines h.serving
+
+  -- Where fewer lines are open than there are slots, the reorder buffer has room for a further one.
+  pub has_place : (o : Option Start) (p : SessionView) → SessionInvariantFrom keeps o p → p.open_lines < p.row.slots → length p.row.lines < p.row.slots
+  has_place None p u room = absurd u
+  has_place (Some s) p u room =
+      let k = gone s p p.stop u.reads in
+      let counted = k.2.counted in
+      omega (arith, counted, room)
+
+  -- Where the reorder buffer has room for a line, its message isn't refused for want of a slot.
+  pub has_slot : (o : Option Start) (p : SessionView) (m : Msg) → p.stop ≡ None → SessionInvariantFrom keeps o p → length p.row.lines < p.row.slots
+      → (arrive p.core.geometry (core_state_of p.core) m).0 ≢ ArriveRefused arrivals.Full
+  has_slot None p m none u room = absurd u
+  has_slot (Some s) p m none u room =
+      let fits = u.fits in
+      finds_a_slot keeps (start_machine s) (machine p) u.idle p.row.lines s.input p.left p.drained (known_unless p.output_failed s.before)
+      (known_unless p.output_failed (so_far p.sent p.out)) m (to_row s p p.left p.drained (reading s p none u)) (omega (arith, room, fits))
+
+-- ---- where it begins
+
+pub begins_at : (keeps : Type 0) (o : Option Start) (s : Start) (p : SessionView) → o ≡ Some s → SessionInvariant keeps s p → SessionInvariantFrom keeps o p
+begins_at keeps o s p is u = subst (λ (o : Option Start). SessionInvariantFrom keeps o p) (sym is) u
+
+pub begun : (keeps : Type 0) (o : Option Start) (s : Start) (p : SessionView) → o ≡ Some s → SessionInvariantFrom keeps o p → SessionInvariant keeps s p
+begun keeps o s p is u = subst (λ (o : Option Start). SessionInvariantFrom keeps o p) is u

@@ -1,0 +1,164 @@
+-- What was told is on the device: what a crash leaves since any event of a run, and that each line that was written is of a message
+-- that was logged.
+use Rattle.std.proofs.Common.{◌≡◌, ℕ, zero, suc, ◌≤◌, Bool, true, List, [], ◌∷◌, ◌++◌, Option, Some, None, refl, ap, sym, ◌∙◌, subst, length, take, drop, map, inl, inr, ⊎_elim, append_assoc, arith}
+use Rattle.std.specs.Prelude.{if◌then◌else◌}
+use Rattle.std.specs.List.{AllByRecursion, Contains}
+use Rattle.std.proofs.lemmas.Bool.{true≢false}
+use Rattle.std.proofs.lemmas.List.{length-map, take_all}
+use Rattle.affinity.specs.declared.geometry.Geometry.{Geometry}
+use Rattle.disk.proofs.Moments.{counts_now}
+use Rattle.disk.specs.Device.{IsCrashImage, Medium}
+use Rattle.disk.specs.Moments.{left_since, moment}
+use Rattle.legal_runs.proofs.Answering.{run_told}
+use Rattle.legal_runs.proofs.Arrivals.{run_ascending}
+use Rattle.legal_runs.proofs.Crashes.{went_first}
+use Rattle.legal_runs.proofs.Elements.{contains_in, holds_of, in_contained}
+use Rattle.legal_runs.proofs.SerialLogs.{answered_came, left_in_order, logged_begins, one_message, still_serial}
+use Rattle.legal_runs.proofs.SerialReplies.{IsIn, in_left, in_right}
+use Rattle.legal_runs.specs.Events.{Event, Hands, loggable}
+use Rattle.legal_runs.specs.Laws.{AreAscending, IsIdle, IsSerialLog, ticket_replies}
+use Rattle.legal_runs.specs.Runs.{answered, answered_messages, arrived, arrives, last, went}
+use Rattle.legal_runs.specs.CoreState.{Entry, Replied, entry}
+use Rattle.runs.specs.Machine.{MachineView, machine_of}
+use Rattle.runs.specs.Stages.{Stage, RecoversForRun, device_after, events_of}
+use Rattle.messages.specs.Grammar.{message_of}
+use Rattle.messages.specs.declared.Msg.{Msg}
+use Rattle.messages.specs.declared.Reply.{Reply}
+use Rattle.meaning.specs.Serial.{fold}
+use Rattle.meaning.specs.State.{State}
+use Rattle.scheduler.specs.CoreView.{CoreView, core_state_of}
+use Rattle.serving.specs.Ends.{HasRunLines, HasServed, committed_in}
+use Rattle.serving.specs.Lines.{Completed, AreKnown, IsKnown, Line, NoMessage, OutOfRange, Pending, admitted, admitted_in, is_completed, next_ticket, text, ticketed}
+use Rattle.serving.specs.Logged.{AreInLog, HoldsLog, IsInLog}
+use Rattle.serving.proofs.Tickets.{ticketed-append}
+
+-- ---- what a crash leaves
+
+arrived_parted : (events : List Event) (k : ℕ) → arrived (take k events) ++ arrived (drop k events) ≡ arrived events
+arrived_parted events zero = refl
+arrived_parted [] (suc k) = refl
+arrived_parted (event ∷ events) (suc k) =
+    append_assoc (arrives event.step event.outcome) (arrived (take k events)) (arrived (drop k events))
+    ∙ ap (λ es. arrives event.step event.outcome ++ es) (arrived_parted events k)
+
+module _ (keeps : Type 0) (start : MachineView) (new : CoreView) (input : Option (List ℕ)) (taken : List (List ℕ)) (stages : List Stage)
+    (idle : IsIdle (core_state_of start.core)) (none : start.core.doubt ≡ []) (r : HasRunLines keeps start new input taken stages) where
+  abbrev g : Geometry
+  g = start.core.geometry
+
+  abbrev w : Hands
+  w = machine_of start
+
+  abbrev events : List Event
+  events = events_of stages
+
+  -- What recovers to the run since event k holds all that was logged by then.
+  holds_since : (k : ℕ) (c : List ℕ) → RecoversForRun g w events k c → HoldsLog g (committed_in start.core) (arrived events) (went w (take k events)) c
+  holds_since k c s =
+      let after = s.left.after in
+      let found = left_in_order g w events after s.left.log r.legal idle none s.left.is_log in
+      let some = take found.0 (last w (take after events)).core.ran in
+      let first = went_first w events k after s.left.since in
+      let whole : went w (take after events) ++ some ≡ went w (take k events) ++ (first.0 ++ some) =
+      ap (λ (l : List Replied). l ++ some) first.1 ∙ append_assoc (went w (take k events)) first.0 some in
+      let all = arrived_parted events after in
+      let serial : IsSerialLog g (committed_in start.core) (arrived events) (went w (take after events) ++ some) =
+      subst (λ (es : List Entry). IsSerialLog g (committed_in start.core) es (went w (take after events) ++ some)) all
+      (still_serial g (committed_in start.core) (arrived (take after events)) (arrived (drop after events)) (went w (take after events) ++ some)
+      (subst AreAscending (sym all) (run_ascending g w events r.legal)) found.1) in
+      record {
+        more = first.0 ++ some;
+        serial = subst (IsSerialLog g (committed_in start.core) (arrived events)) whole serial;
+        recovers = s.is ∙ ap (λ (x : State). Some x) s.left.state
+            ∙ ap (λ (ms : List Msg). Some (fold g (committed_in start.core) ms)) (found.2 ∙ ap loggable whole);
+      }
+
+  -- So does what a crash leaves since event k ended.
+  pub holds_logged : keeps → (k : ℕ) (c : List ℕ) → k ≤ length stages
+      → left_since new.medium (moment (device_after start.core.medium (take k stages))) c
+      → HoldsLog g (committed_in start.core) (ticketed start.core.next (admitted g taken)) (went w (take k events)) c
+  holds_logged kept k c le since =
+      subst (λ (es : List Entry). HoldsLog g (committed_in start.core) es (went w (take k events)) c) r.arrived_are
+      (holds_since k c (r.crash kept k c le since))
+
+  -- And in the end all that was logged.
+  pub holds_all : keeps → (c : List ℕ) → IsCrashImage new.medium c
+      → HoldsLog g (committed_in start.core) (ticketed start.core.next (admitted g taken)) (went w events) c
+  holds_all kept c left =
+      let n = length stages in
+      let at_end : device_after start.core.medium (take n stages) ≡ new.medium =
+      ap (λ (ss : List Stage). device_after start.core.medium ss) (take_all n stages (omega arith)) ∙ r.device in
+      let since : left_since new.medium (moment (device_after start.core.medium (take n stages))) c =
+      subst (λ (m : Medium). left_since new.medium (moment m) c) (sym at_end) (counts_now new.medium (moment new.medium) c (omega arith) left) in
+      let long : length events ≤ n = omega (arith, length-map stages (λ (s : Stage). s.event)) in
+      subst (λ (es : List Event). HoldsLog g (committed_in start.core) (ticketed start.core.next (admitted g taken)) (went w es) c) (take_all n events long)
+      (holds_logged kept n c (omega arith) since)
+
+-- ---- the lines
+
+module _ (g : Geometry) (replies : List (ℕ × Reply)) (log : List Replied) (whole : List Entry)
+    (logged : (ticket : ℕ) (m : Msg) (reply : Reply) → IsIn (ticket, m) whole → Contains replies (ticket, reply) → Contains log (ticket, m, reply)) where
+  one_kept : (n : ℕ) (o : Option Msg) (ls : List (List ℕ)) (line : Line)
+      → ((e : Entry) → IsIn e (ticketed n (admitted_in g o ++ admitted g ls)) → IsIn e whole)
+      → IsKnown g replies n o line → is_completed line ≡ true → IsInLog g log n o (text line)
+  one_kept n None ls NoMessage among k is = refl
+  one_kept n None ls OutOfRange among k is = absurd k
+  one_kept n None ls (Pending t) among k is = absurd k
+  one_kept n None ls (Completed t reply) among k is = absurd k
+  one_kept n (Some m) ls NoMessage among k is = absurd k
+  one_kept n (Some m) ls OutOfRange among k is = inl (k, refl)
+  one_kept n (Some m) ls (Pending t) among k is = absurd (true≢false (sym is))
+  one_kept n (Some m) ls (Completed t reply) among k is =
+      let asks : (admitted_in g (Some m) ++ admitted g ls) ≡ m ∷ admitted g ls = ap (λ (b : Bool). (if b then m ∷ [] else []) ++ admitted g ls) k.0 in
+      let its = among (n, m) (subst (λ (ms : List Msg). IsIn (n, m) (ticketed n ms)) (sym asks) (inl refl)) in
+      inr (k.0, (reply, refl, logged n m reply its (subst (λ (t' : ℕ). Contains replies (t', reply)) k.1 k.2)))
+
+  are_kept : (n : ℕ) (ls : List (List ℕ)) (retired row : List Line) → ((e : Entry) → IsIn e (ticketed n (admitted g ls)) → IsIn e whole)
+      → AreKnown g replies n ls (retired ++ row) → AllByRecursion (λ line. is_completed line ≡ true) retired → AreInLog g log n ls (map text retired)
+  are_kept n ls [] row among k all = tt
+  are_kept n [] (line ∷ retired) row among k all = absurd k
+  are_kept n (l ∷ ls) (line ∷ retired) row among k all =
+      let ms = admitted_in g (message_of l) in (
+        one_kept n (message_of l) ls line among k.0 all.0,
+        are_kept (next_ticket n ms) ls retired row
+            (λ e is. among e (subst (IsIn e) (sym (ticketed-append n ms (admitted g ls))) (in_right e (ticketed n ms) (ticketed (next_ticket n ms) (admitted g ls)) is)))
+            k.1 all.1,
+      )
+
+-- the message that was answered so
+said_of : (as' : List Replied) (p : ℕ × Reply) → IsIn p (ticket_replies as') → (m : Msg) × IsIn (p.0, m, p.1) as'
+said_of [] p is = absurd is
+said_of (a ∷ as') p is = ⊎_elim
+    (λ (e : p ≡ (a.0, a.2)). (a.1, inl (λ i. ((e i).0, a.1, (e i).1))))
+    (λ later. let h = said_of as' p later in (h.0, inr h.1)) is
+
+module _ (keeps : Type 0) (start : MachineView) (new : CoreView) (row : List Line) (input before written : Option (List ℕ))
+    (idle : IsIdle (core_state_of start.core)) (h : HasServed keeps start new row input before written) where
+  abbrev run_log : List Replied
+  run_log = went (machine_of start) (events_of h.stages)
+
+  -- A message of the input that was told a reply by its ticket was logged with it.
+  was_logged : (ticket : ℕ) (m : Msg) (reply : Reply) → IsIn (ticket, m) (ticketed start.core.next (admitted start.core.geometry h.taken))
+      → Contains (answered (events_of h.stages)) (ticket, reply) → Contains run_log (ticket, m, reply)
+  was_logged ticket m reply asks told =
+      let g = start.core.geometry in
+      let w = machine_of start in
+      let events = events_of h.stages in
+      let came = arrived events in
+      let one = said_of (answered_messages w events) (ticket, reply)
+      (subst (IsIn (ticket, reply)) (sym (run_told g w events h.run.legal)) (in_contained (answered events) (ticket, reply) told)) in
+      let its : IsIn (ticket, one.0) came =
+      in_contained came (ticket, one.0)
+      (holds_of (λ (a : Replied). Contains came (entry a)) (answered_messages w events) (answered_came g w events h.run.legal idle) (ticket, one.0, reply) one.1) in
+      let same : one.0 ≡ m = ap (λ (e : Entry). e.1)
+      (one_message came (run_ascending g w events h.run.legal) (ticket, one.0) (ticket, m) its
+      (subst (IsIn (ticket, m)) (sym h.run.arrived_are) asks) refl) in
+      contains_in run_log (ticket, m, reply)
+      (subst (λ (l : List Replied). IsIn (ticket, m, reply) l) (sym (logged_begins g w events h.run.legal idle))
+      (in_left (ticket, m, reply) (answered_messages w events) (last w events).core.logged
+      (subst (λ (m' : Msg). IsIn (ticket, m', reply) (answered_messages w events)) same one.1)))
+
+  -- Each line that was written is kept in the log of the run.
+  pub written_are_kept : AreInLog start.core.geometry run_log start.core.next h.taken (map text h.retired)
+  written_are_kept = are_kept start.core.geometry (answered (events_of h.stages)) run_log
+      (ticketed start.core.next (admitted start.core.geometry h.taken)) was_logged start.core.next h.taken h.retired row (λ e is. is) h.known h.are_completed

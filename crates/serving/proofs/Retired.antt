@@ -1,0 +1,20 @@
+-- What the line at the front of the reorder buffer says.
+use Rattle.std.proofs.Common.{◌≡◌, ◌+◌, true, false, List, [], ◌∷◌, drop, length, refl, ap, sym, arith}
+use Rattle.std.proofs.lemmas.Bool.{true≢false}
+use Rattle.serving.specs.Lines.{Completed, Line, NoMessage, OutOfRange, Pending, is_completed, text}
+use Rattle.reorder_buffer.specs.ReorderBuffer.{can_retire, retired_text}
+
+pub one_less : (row rest : List Line) → rest ≡ drop 1 row → can_retire row ≡ true → length rest + 1 ≡ length row
+one_less [] rest is next = absurd (true≢false (sym next))
+one_less (line ∷ row) rest is next = let same = ap (λ (l : List Line). length l) is in omega (arith, same)
+
+silent_line : (line : Line) → is_completed line ≡ false → text line ≡ []
+silent_line NoMessage not = absurd (true≢false not)
+silent_line OutOfRange not = absurd (true≢false not)
+silent_line (Pending ticket) not = refl
+silent_line (Completed ticket reply) not = absurd (true≢false not)
+
+-- Nothing is written where it isn't answered.
+pub silent : (row : List Line) → can_retire row ≡ false → retired_text row ≡ []
+silent [] not = refl
+silent (line ∷ row) not = silent_line line not

@@ -1,0 +1,160 @@
+-- One step of a run, behind those before it.
+use Rattle.std.proofs.Common.{◌≡◌, ℕ, Bool, List, [], ◌∷◌, ◌++◌, Result, Ok, Err, refl, ap, sym, ◌∙◌, subst, take, append-nil, false, true, ◌≤◌, ◌+◌, add-zero, zero, suc, arith, Option}
+use Rattle.std.specs.Prelude.{OnErr, drop, length, if◌then◌else◌}
+use Rattle.affinity.specs.declared.geometry.Geometry.{Geometry}
+use Rattle.legal_runs.proofs.Failures.{failure_lasts}
+use Rattle.legal_runs.specs.Events.{Event, Hands, batch}
+use Rattle.legal_runs.specs.Laws.{moves_what_is_out}
+use Rattle.legal_runs.specs.Runs.{IsLegal, answers, arrives, last}
+use Rattle.legal_runs.specs.CoreState.{Entry, CoreState}
+use Rattle.legal_runs.specs.declared.outcomes.CoreFault.{CoreFault}
+use Rattle.legal_runs.specs.declared.outcomes.CoreFault.TheVariants as faults
+use Rattle.legal_runs.specs.declared.outcomes.Outcome.{Outcome}
+use Rattle.legal_runs.specs.declared.outcomes.Outcome.TheVariants as outcomes
+use Rattle.legal_runs.specs.declared.outcomes.PointRefusal.{PointRefusal}
+use Rattle.legal_runs.specs.declared.outcomes.Step.{Step}
+use Rattle.legal_runs.specs.declared.outcomes.Step.TheVariants as steps
+use Rattle.runs.proofs.Events.{core_holds, core_step}
+use Rattle.runs.specs.Machine.{MachineView, machine_of}
+use Rattle.runs.specs.Steps.{IsCoreStep, IsMachineStep}
+use Rattle.runs.specs.declared.hands.Holding.{Holding}
+use Rattle.messages.specs.declared.Reply.{Reply}
+use Rattle.scheduler.specs.Calls.{CountsFailure, IsCalled, IsLogStep, log_rose, log_outcome, point_rose, step_outcome}
+use Rattle.scheduler.specs.CoreView.{CoreView, RecoversThroughout, core_state_of}
+use Rattle.serving.specs.Lines.{Line, admitted, ticketed}
+use Rattle.serving.specs.Progress.{ServingProgress}
+use Rattle.serving.specs.Runs.{Holds, IsInternal, RunsBetween}
+use Rattle.serving.proofs.Chain.{passes_on}
+
+counted : (b : Bool) (old new : ℕ) → CountsFailure b old new → new ≡ old + (0 + (if b then 1 else 0))
+counted true old new h = h
+counted false old new h = h ∙ sym (add-zero old)
+
+module _ (keeps : Type 0) (old new : MachineView) (step : Step) (outcome : Outcome) (k : IsMachineStep keeps old new step outcome) where
+  abbrev event : Event
+  event = record { step = step; outcome = outcome; rose = k.rose; state_after = machine_of new }
+
+  -- A step is A segment of a run.
+  pub step_passes : RunsBetween keeps old new (arrives step outcome) (answers outcome)
+  step_passes = record {
+    stages = record { event = event; medium = new.core.medium } ∷ [];
+    legal = (k.allowed, tt);
+    ends = refl;
+    geometry = k.geometry;
+    come_are = append-nil (arrives step outcome);
+    reply_pairs_are = append-nil (answers outcome);
+    device = refl;
+    failures = counted k.rose old.core.medium.faults new.core.medium.faults k.failures;
+    any_moment = λ kept. (k.any_moment kept, tt);
+  }
+
+-- A stretch in which nothing arrives and nothing is answered leaves what is known of the lines.
+pub quiet_goes_on : (keeps : Type 0) (old new : MachineView) → RunsBetween keeps old new [] [] → (row : List Line) (start : MachineView)
+    (input left : Option (List ℕ)) (ended : Bool) (before written : Option (List ℕ)) → ServingProgress keeps start old row input left ended before written
+    → ServingProgress keeps start new row input left ended before written
+quiet_goes_on keeps old new p row start input left ended before written h =
+    let come = ticketed start.core.next (admitted start.core.geometry h.taken) in
+    let s = h.serving in
+    record {
+      taken = h.taken;
+      retired = h.retired;
+      takes = h.takes;
+      serving = record {
+        reply_pairs = s.reply_pairs;
+        passes = subst (λ (es : List Entry). RunsBetween keeps start new es s.reply_pairs) (append-nil come)
+            (subst (λ (l : List (ℕ × Reply)). RunsBetween keeps start new (come ++ []) l) (append-nil s.reply_pairs)
+            (passes_on keeps start old new come [] s.reply_pairs [] s.passes p));
+        known = s.known;
+        answered = s.answered;
+      };
+      output = h.output;
+    }
+
+-- A failed device has failed for good.
+run_fails : (g : Geometry) (old : Hands) (events : List Event) → IsLegal g old events → old.core.failed ≡ true
+    → (last old events).core.failed ≡ true
+run_fails g old [] legal failed = failed
+run_fails g old (event ∷ events) legal failed = run_fails g event.state_after events legal.1 (failure_lasts g old event legal.0 failed).failed
+
+pub still_failed : (keeps : Type 0) (old new : MachineView) (come : List Entry) (reply_pairs : List (ℕ × Reply)) → RunsBetween keeps old new come reply_pairs
+    → old.core.failed ≡ true → new.core.failed ≡ true
+still_failed keeps old new come reply_pairs p failed =
+    ap (λ (w : Hands). w.core.failed) (sym p.ends) ∙ run_fails old.core.geometry (machine_of old) _ p.legal failed
+
+-- A step of the core alone, in which nothing arrives or is answered, and nothing goes out or comes back.
+pub core_is_quiet : (keeps : Type 0) (old new : CoreView) (step : Step) (outcome : Outcome) → IsCoreStep keeps old new step outcome
+    → moves_what_is_out step ≡ false → arrives step outcome ≡ [] → answers outcome ≡ [] → (hands : List Holding)
+    → Holds (record { core = old; hands = hands }) → IsInternal keeps (record { core = old; hands = hands }) (record { core = new; hands = hands })
+core_is_quiet keeps old new step outcome k still none_come none_told hands h =
+    let was : MachineView = record { core = old; hands = hands } in
+    let now : MachineView = record { core = new; hands = hands } in
+    record {
+      holds = core_holds keeps old new hands step outcome h k still;
+      passes = subst (λ (es : List Entry). RunsBetween keeps was now es []) none_come
+          (subst (λ (l : List (ℕ × Reply)). RunsBetween keeps was now (arrives step outcome) l) none_told
+          (step_passes keeps was now step outcome (core_step keeps old new hands step outcome h k)));
+    }
+
+-- ---- logs
+
+no_answer_of_log : (r : Result ℕ CoreFault) → answers (log_outcome r) ≡ []
+no_answer_of_log (Ok count) = refl
+no_answer_of_log (Err why) = refl
+
+pub log_is_quiet : (keeps : Type 0) (old new : CoreView) (n : ℕ) (r : Result ℕ CoreFault)
+    → IsCalled old.geometry (core_state_of old) (core_state_of new) (steps.Log n) (log_outcome r) (log_rose r) → new.geometry ≡ old.geometry
+    → CountsFailure (log_rose r) old.medium.faults new.medium.faults → (keeps → RecoversThroughout (batch (core_state_of old) n) old new)
+    → (hands : List Holding) → Holds (record { core = old; hands = hands })
+    → IsInternal keeps (record { core = old; hands = hands }) (record { core = new; hands = hands })
+log_is_quiet keeps old new n r called geometry counts moments = core_is_quiet keeps old new (steps.Log n) (log_outcome r)
+    (record { rose = log_rose r; called = called; geometry = geometry; failures = counts; any_moment = moments }) refl refl (no_answer_of_log r)
+
+none_behind_all : {A : Type 0} (n : ℕ) (xs : List A) → length xs ≤ n → drop n xs ≡ []
+none_behind_all zero [] le = refl
+none_behind_all (suc n) [] le = refl
+none_behind_all zero (x ∷ xs) le = absurd (omega (arith, le))
+none_behind_all (suc n) (x ∷ xs) le = none_behind_all n xs (omega (arith, le))
+
+all_in_front : {A : Type 0} (n : ℕ) (xs : List A) → length xs ≤ n → take n xs ≡ xs
+all_in_front zero [] le = refl
+all_in_front (suc n) [] le = refl
+all_in_front zero (x ∷ xs) le = absurd (omega (arith, le))
+all_in_front (suc n) (x ∷ xs) le = ap (λ l. x ∷ l) (all_in_front n xs (omega (arith, le)))
+
+pub log_fails : (g : Geometry) (old new : CoreState) (n : ℕ) (r : Result ℕ CoreFault) → IsLogStep g old new n r → OnErr r (new.failed ≡ true)
+log_fails g old new n (Ok count) h = tt
+log_fails g old new n (Err faults.Device) h = ap (λ (w : CoreState). w.failed) h.2
+log_fails g old new n (Err faults.Failed) h = ap (λ (w : CoreState). w.failed) h.1 ∙ h.0
+
+-- ---- steps of a point
+
+no_answer_of_point : {T : Type 0} (made : T → Outcome) → ((x : T) → answers (made x) ≡ []) → (r : Result T PointRefusal)
+    → answers (step_outcome made r) ≡ []
+no_answer_of_point made none (Ok x) = none x
+no_answer_of_point made none (Err why) = refl
+
+module _ (keeps : Type 0) (old new : CoreView) (geometry : new.geometry ≡ old.geometry) (moments : keeps → RecoversThroughout [] old new) where
+  abbrev IsStepOf : Step → Outcome → Bool → Type 0
+  IsStepOf step outcome rose = IsCalled old.geometry (core_state_of old) (core_state_of new) step outcome rose → CountsFailure rose old.medium.faults new.medium.faults
+      → (hands : List Holding) → Holds (record { core = old; hands = hands })
+      → IsInternal keeps (record { core = old; hands = hands }) (record { core = new; hands = hands })
+
+  pub point_is_quiet : (r : Result (Unit {0}) PointRefusal) → IsStepOf steps.Point (step_outcome (λ _. outcomes.Pointed) r) (point_rose r)
+  point_is_quiet r called counts = core_is_quiet keeps old new steps.Point (step_outcome (λ _. outcomes.Pointed) r)
+      (record { rose = point_rose r; called = called; geometry = geometry; failures = counts; any_moment = moments }) refl refl
+      (no_answer_of_point (λ _. outcomes.Pointed) (λ _. refl) r)
+
+  pub cut_is_quiet : (r : Result (Unit {0}) PointRefusal) → IsStepOf steps.Cut (step_outcome (λ _. outcomes.Cut) r) (point_rose r)
+  cut_is_quiet r called counts = core_is_quiet keeps old new steps.Cut (step_outcome (λ _. outcomes.Cut) r)
+      (record { rose = point_rose r; called = called; geometry = geometry; failures = counts; any_moment = moments }) refl refl
+      (no_answer_of_point (λ _. outcomes.Cut) (λ _. refl) r)
+
+  pub piece_is_quiet : (r : Result ℕ PointRefusal) → IsStepOf steps.Piece (step_outcome outcomes.Left r) (point_rose r)
+  piece_is_quiet r called counts = core_is_quiet keeps old new steps.Piece (step_outcome outcomes.Left r)
+      (record { rose = point_rose r; called = called; geometry = geometry; failures = counts; any_moment = moments }) refl refl
+      (no_answer_of_point outcomes.Left (λ _. refl) r)
+
+  pub flip_is_quiet : (r : Result (Unit {0}) PointRefusal) → IsStepOf steps.Flip (step_outcome (λ _. outcomes.Flipped) r) (point_rose r)
+  flip_is_quiet r called counts = core_is_quiet keeps old new steps.Flip (step_outcome (λ _. outcomes.Flipped) r)
+      (record { rose = point_rose r; called = called; geometry = geometry; failures = counts; any_moment = moments }) refl refl
+      (no_answer_of_point (λ _. outcomes.Flipped) (λ _. refl) r)

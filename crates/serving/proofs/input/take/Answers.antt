@@ -1,0 +1,58 @@
+-- The lemmas on a line that is taken with its message, if it has one.
+use Rattle.std.proofs.Common.{◌∙◌, ◌++◌, ◌∷◌, [], ℕ, Err, Ok, ap, refl, subst, sym}
+use Rattle.legal_runs.specs.declared.outcomes.ArriveRefusal.TheVariants as arrivals
+use Rattle.reorder_buffer.specs.ReorderBuffer.{AreConsecutive, with_tickets}
+use Rattle.messages.specs.Grammar.{message_of}
+use Rattle.scheduler.specs.Calls.{ArrivesByLine}
+use Rattle.serving.specs.Lines.{NoMessage, OutOfRange, Pending}
+use Rattle.serving.proofs.Taken.{comes_as, next_of_line}
+use Rattle.serving.proofs.input.take.Goals as goal
+
+pub returns-in-Ok-Some-clause-takes : goal.returns-in-Ok-Some-clause-takes
+returns-in-Ok-Some-clause-takes g c hands h =
+    let came = comes_as g.D.Disk.keeps c.args.core.now c.arrive_line.new.self c.know_recovery.ensures.no_doubt c.know_recovery.ensures.now
+    c.arrive_line.ensures.geometry c.arrive_line.ensures.untouched hands h (message_of c.args.line.now) c.arrive_line.result _
+    c.arrive_line.ensures.arrives (c.in-Ok-Some.is ∙ ap Ok c.in-Ok-Some.field-0-is) in
+    (Pending c.in-Ok-Some.ticket, came, c.push.ensures.lines)
+
+pub returns-in-Ok-None-clause-takes : goal.returns-in-Ok-None-clause-takes
+returns-in-Ok-None-clause-takes g c hands h =
+    let came = comes_as g.D.Disk.keeps c.args.core.now c.arrive_line.new.self c.know_recovery.ensures.no_doubt c.know_recovery.ensures.now
+    c.arrive_line.ensures.geometry c.arrive_line.ensures.untouched hands h (message_of c.args.line.now) c.arrive_line.result _
+    c.arrive_line.ensures.arrives (c.in-Ok-None.is ∙ ap Ok c.in-Ok-None.field-0-is) in
+    (NoMessage, came, c.push-in-Ok-None.ensures.lines)
+
+pub returns-in-Err-Range-clause-takes : goal.returns-in-Err-Range-clause-takes
+returns-in-Err-Range-clause-takes g c hands h =
+    let came = comes_as g.D.Disk.keeps c.args.core.now c.arrive_line.new.self c.know_recovery.ensures.no_doubt c.know_recovery.ensures.now
+    c.arrive_line.ensures.geometry c.arrive_line.ensures.untouched hands h (message_of c.args.line.now) c.arrive_line.result _
+    c.arrive_line.ensures.arrives (c.in-Err-Range.is ∙ ap Err c.in-Err-Range.field-0-is) in
+    (OutOfRange, came, c.push-in-Err-Range.ensures.lines)
+
+pub returns-in-Err-Exhausted-clause-takes : goal.returns-in-Err-Exhausted-clause-takes
+returns-in-Err-Exhausted-clause-takes g c hands h =
+    let came = comes_as g.D.Disk.keeps c.args.core.now c.arrive_line.new.self c.know_recovery.ensures.no_doubt c.know_recovery.ensures.now
+    c.arrive_line.ensures.geometry c.arrive_line.ensures.untouched hands h (message_of c.args.line.now) c.arrive_line.result _
+    c.arrive_line.ensures.arrives (c.in-Err-Exhausted.is ∙ ap Err c.in-Err-Exhausted.field-0-is) in
+    (came.0, arrivals.Exhausted, came.1, came.2, refl, refl)
+
+pub returns-in-Err-Full-clause-takes : goal.returns-in-Err-Full-clause-takes
+returns-in-Err-Full-clause-takes g c hands h =
+    let came = comes_as g.D.Disk.keeps c.args.core.now c.arrive_line.new.self c.know_recovery.ensures.no_doubt c.know_recovery.ensures.now
+    c.arrive_line.ensures.geometry c.arrive_line.ensures.untouched hands h (message_of c.args.line.now) c.arrive_line.result _
+    c.arrive_line.ensures.arrives (c.in-Err-Full.is ∙ ap Err c.in-Err-Full.field-0-is) in
+    (came.0, arrivals.Full, came.1, came.2, refl, refl)
+
+pub returns-in-Err-Failed-clause-takes : goal.returns-in-Err-Failed-clause-takes
+returns-in-Err-Failed-clause-takes g c hands h =
+    let came = comes_as g.D.Disk.keeps c.args.core.now c.arrive_line.new.self c.know_recovery.ensures.no_doubt c.know_recovery.ensures.now
+    c.arrive_line.ensures.geometry c.arrive_line.ensures.untouched hands h (message_of c.args.line.now) c.arrive_line.result _
+    c.arrive_line.ensures.arrives (c.in-Err-Failed.is ∙ ap Err c.in-Err-Failed.field-0-is) in
+    (came.0, arrivals.Failed, came.1, came.2, refl, refl)
+
+pub push-requires-clause-order : goal.push-requires-clause-order
+push-requires-clause-order g c ticket is =
+    let old = c.args.core.now in
+    let next = next_of_line old c.arrive_line.new.self (message_of c.args.line.now) c.in-Ok-Some.ticket
+    (subst (ArrivesByLine old c.arrive_line.new.self (message_of c.args.line.now)) (c.in-Ok-Some.is ∙ ap Ok c.in-Ok-Some.field-0-is) c.arrive_line.ensures.arrives) in
+    subst (λ (t : ℕ). AreConsecutive (with_tickets c.args.row.now.lines ++ Pending t ∷ [])) (sym next) c.requires.order

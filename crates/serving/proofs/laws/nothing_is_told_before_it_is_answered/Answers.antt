@@ -1,6 +1,0 @@
--- While all messages are inside none was answered, so no line that may go out is a message's reply.
-use Rattle.serving.proofs.Silence.{no_reply, nothing_done}
-use Rattle.serving.proofs.laws.nothing_is_told_before_it_is_answered.Goals as goal
-
-pub returns : goal.returns
-returns g c = record { none = no_reply g.D.Disk.keeps; done = nothing_done g.D.Disk.keeps }

@@ -1,0 +1,6 @@
+-- The lemma of stretches.
+use Rattle.serving.proofs.Chain.{passes_on}
+use Rattle.serving.proofs.laws.segments_join.Goals as goal
+
+pub returns : goal.returns
+returns g c = passes_on g.D.Disk.keeps

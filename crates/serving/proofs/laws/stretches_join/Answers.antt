@@ -1,6 +1,0 @@
--- The lemma of stretches.
-use Rattle.serving.proofs.Chain.{passes_on}
-use Rattle.serving.proofs.laws.stretches_join.Goals as goal
-
-pub returns : goal.returns
-returns g c = passes_on g.D.Disk.keeps

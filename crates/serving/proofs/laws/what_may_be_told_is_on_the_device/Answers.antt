@@ -1,6 +1,0 @@
--- Each line that may go out is of a logged message, or needs no log, so each crash image holds it.
-use Rattle.serving.proofs.Holding.{holds_told}
-use Rattle.serving.proofs.laws.what_may_be_told_is_on_the_device.Goals as goal
-
-pub returns : goal.returns
-returns g c = holds_told g.D.Disk.keeps

@@ -1,0 +1,39 @@
+-- The lemmas on what goes out; and the session stays under way.
+use Rattle.std.proofs.Common.{◌<◌, ℕ, None, ap, subst, ◌∙◌}
+use Rattle.std.specs.Prelude.{is_none, position}
+use Rattle.std.proofs.lemmas.List.Quantifiers.{position-Some}
+use Rattle.atomic_table.specs.Seated.{TableId}
+use Rattle.scheduler.specs.CoreView.{core_state_of}
+use Rattle.serving.specs.Lending.{DispatchesTo}
+use Rattle.serving.specs.Session.{SessionView}
+use Rattle.serving.proofs.Sending.{as_many, goes_to, sends}
+use Rattle.serving.proofs.Invariant.{holds_of, on_machine, places_of}
+use Rattle.serving.proofs.session.Session.dispatch_to.Goals as goal
+
+pub offer_granted-requires-clause-place : goal.offer_granted-requires-clause-place
+offer_granted-requires-clause-place g c =
+    let old = c.self.inside in
+    let first = ap (λ (p : SessionView). position is_none p.dispatch_seat.lent) c.self.view_is ∙ c.requires.first in
+    subst (λ (n : ℕ). c.args.k < n) (places_of g.D.Disk.keeps _ _ c.self.invariant.0 ∙ ap (λ (b : TableId). b.slots) c.self.invariant.1)
+    (position-Some is_none old.dispatch_seat.lent c.args.k None first).0
+
+pub offer_granted-requires-clause-first : goal.offer_granted-requires-clause-first
+offer_granted-requires-clause-first g c = ap (λ (p : SessionView). position is_none p.dispatch_seat.lent) c.self.view_is ∙ c.requires.first
+
+pub invariant_of-self : goal.invariant_of-self
+invariant_of-self g c =
+    let old = c.self.inside in
+    let lent = old.dispatch_seat.lent in
+    let granted = c.grant-granted.ensures in
+    let first = ap (λ (p : SessionView). position is_none p.dispatch_seat.lent) c.self.view_is ∙ c.requires.first in
+    let quiet = sends g.D.Disk.keeps old.core c.grant-granted.new.self lent c.know_recovery.ensures.no_doubt c.know_recovery.ensures.now granted.geometry
+    granted.untouched (holds_of g.D.Disk.keeps _ _ c.self.invariant.0) c.args.k first _ _ _ granted.state_after c.offer_granted.ensures.lends in (
+      on_machine g.D.Disk.keeps _ _ _ _ c.self.invariant.0 quiet c.offer_granted.ensures.bench (as_many c.args.k lent _ _ _ c.offer_granted.ensures.lends),
+      c.offer_granted.ensures.bench ∙ c.self.invariant.1,
+    )
+
+pub returns-clause-goes : goal.returns-clause-goes
+returns-clause-goes g c =
+    let new = c.grant-granted.new.self in
+    subst (λ (p : SessionView). DispatchesTo p.core.geometry c.args.k (core_state_of p.core) p.dispatch_seat.lent (core_state_of new) c.offer_granted.new.dispatch_seat.lent c.offer_granted.result)
+    c.self.view_is (goes_to c.args.k _ _ _ _ _ (core_state_of new) _ c.grant-granted.ensures.state_after c.offer_granted.ensures.lends)

@@ -1,0 +1,20 @@
+-- The line waits where it is answered, and the session stays under way.
+use Rattle.std.proofs.Common.{◌∙◌, ap}
+use Rattle.serving.specs.Session.{SessionView}
+use Rattle.serving.proofs.Invariant.{on_retire_front}
+use Rattle.serving.proofs.session.Session.retire_first.Goals as goal
+
+pub invariant_of-self : goal.invariant_of-self
+invariant_of-self g c =
+    let retired = c.retire_front-retired.ensures in
+    (on_retire_front g.D.Disk.keeps _ _ _ _ _ c.self.invariant.0 retired.next retired.retired retired.left retired.slots, c.self.invariant.1)
+
+pub returns-clause-moves : goal.returns-clause-moves
+returns-clause-moves g c =
+    let sent = c.in_ok-flush_if_full.ensures.moves in
+    (ap (λ (p : SessionView). p.stop) c.self.view_is ∙ sent.0, ap (λ (p : SessionView). p.output_failed) c.self.view_is ∙ sent.1)
+
+pub returns-clause-same : goal.returns-clause-same
+returns-clause-same g c =
+    let sent = c.in_ok-flush_if_full.ensures.same in
+    (ap (λ (p : SessionView). p.core) c.self.view_is ∙ sent.0, ap (λ (p : SessionView). p.dispatch_seat) c.self.view_is ∙ sent.2)

@@ -1,0 +1,13 @@
+-- The lines so far wait to be told; and how many are in the reorder buffer still.
+use Rattle.std.proofs.Common.{◌≡◌, length}
+use Rattle.serving.specs.Session.{KeepsStreams}
+use Rattle.serving.proofs.session.Session.retire_ready.Given as goal
+
+abbrev pub invariant-loop : goal.invariant-loop
+invariant-loop g l = record {
+  as_before : KeepsStreams l.initial.self l.self;
+  same : (l.self.core ≡ l.initial.self.core) × (l.self.dispatch_seat ≡ l.initial.self.dispatch_seat);
+}
+
+abbrev pub decreases-loop : goal.decreases-loop
+decreases-loop g l = length l.self.row.lines

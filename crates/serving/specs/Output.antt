@@ -1,0 +1,72 @@
+-- What a server may tell, and when.
+use Rattle.std.specs.Prelude.{◌≡◌, ◌⊎◌, ℕ, List, [], ◌++◌, map, replicate, Option, Some, None}
+use Rattle.std.specs.Io.KnownBytes.{Appends}
+use Rattle.std.specs.List.{AllByRecursion}
+use Rattle.checkpoint.specs.Header.{HasHeader}
+use Rattle.checkpoint.specs.Refusals.{refused}
+use Rattle.legal_runs.specs.Laws.{IsIdle}
+use Rattle.legal_runs.specs.CoreState.{Replied}
+use Rattle.runs.specs.Machine.{MachineView}
+use Rattle.messages.specs.Replies.{no_message, reply_line}
+use Rattle.messages.specs.declared.Refusal.TheVariants.{Range}
+use Rattle.messages.specs.declared.Reply.TheVariants.{Refused}
+use Rattle.meaning.specs.Output.{joined}
+use Rattle.scheduler.specs.CoreView.{CoreView, core_state_of}
+use Rattle.serving.specs.Ends.{AreFirst, HasServed, committed_in}
+use Rattle.serving.specs.Lines.{Completed, AreCompleted, Line, Pending, admitted, text, ticketed}
+use Rattle.serving.specs.Runs.{with_lent}
+use Rattle.serving.specs.Logged.{AreInLog, HoldsLog}
+
+-- where the call of a server begins: its core, how many jobs it may lend, its input, and what was sent before
+pub record Start : Type 0 where
+  pub core : CoreView
+  pub places : ℕ
+  pub input : Option (List ℕ)
+  pub before : Option (List ℕ)
+
+-- the core, of which nothing is lent
+abbrev pub start_machine : Start → MachineView
+start_machine s = with_lent s.core (replicate s.places None)
+
+-- What was told since the start is on a device of these bytes. It is lines for the first lines of the input; each that took a ticket is
+-- in a log with that reply; and the bytes recover to where the log leads from the state at the start, perhaps with more of the messages
+-- that arrived. They are opened again.
+pub record HoldsSent (s : Start) (sent : Option (List ℕ)) (bytes : List ℕ) : Type 0 where
+  pub taken : List (List ℕ)
+  pub first : AreFirst s.input taken
+  pub lines : List (List ℕ)
+  pub output : Appends s.before sent (joined lines)
+  pub log : List Replied
+  pub kept : AreInLog s.core.geometry log s.core.next taken lines
+  pub holds : HoldsLog s.core.geometry (committed_in s.core) (ticketed s.core.next (admitted s.core.geometry taken)) log bytes
+  pub header : HasHeader s.core.geometry bytes
+  pub not_refused : refused s.core.geometry bytes ≡ None
+
+-- These bytes may be told where this was told before. Since the start a legal run has led to the core as it is now, and a crash of its
+-- device leaves what holds all that was logged in that run. What was told are the first answers of the run, to the lines in order, and the
+-- bytes are the next ones.
+pub record MaySendFrom (keeps : Type 0) (s : Start) (sent : Option (List ℕ)) (now : CoreView) (bytes : List ℕ) : Type 0 where
+  -- at the start nothing was waiting, held or in doubt
+  pub idle : IsIdle (core_state_of s.core)
+  pub sure : s.core.doubt ≡ []
+  pub next : List Line
+  pub row : List Line
+  pub served : HasServed keeps (start_machine s) now (next ++ row) s.input s.before sent
+  pub are_completed : AreCompleted next
+  pub bytes_are : bytes ≡ joined (map text next)
+
+-- Before a call has begun there is no start, and nothing may be told.
+abbrev pub MaySend : Type 0 → Option Start → Option (List ℕ) → CoreView → List ℕ → Type 0
+MaySend keeps None sent now bytes = ⊥
+MaySend keeps (Some s) sent now bytes = MaySendFrom keeps s sent now bytes
+
+-- These bytes are lines, each of which tells that a line is no message, or that a message is out of range.
+abbrev pub TellsNoReply : List ℕ → Type 0
+TellsNoReply bytes = (ls : List (List ℕ)) × (bytes ≡ joined ls)
+    × AllByRecursion (λ line. (line ≡ no_message) ⊎ (line ≡ reply_line (Refused Range))) ls
+
+-- a line that is answered without a message: it is none, or one that is out of range
+abbrev pub HasNoReply : Line → Type 0
+HasNoReply (Pending ticket) = ⊥
+HasNoReply (Completed ticket reply) = ⊥
+HasNoReply _ = Unit {0}

@@ -1,0 +1,106 @@
+//! Consistency points of a session: when one is due, the one that begins then, and the one in progress, which is carried to its end.
+
+ghost use Rattle.std.specs.Prelude.{◌≡◌, ◌+◌, ℕ, false, [], None, Some, IfOk, MatchBool, OnOk};
+ghost use Rattle.legal_runs.specs.CoreState.{held};
+ghost use Rattle.scheduler.specs.CoreView.{core_state_of};
+ghost use Rattle.serving.specs.Session.{BeginsOrWaits, IsSessionStep, steps_left};
+
+use crate::session::{Halted, Session};
+use crate::output::ReplySink;
+use disk::Disk;
+use legal_runs::PointRefusal;
+use messages::Reply;
+use std::io::Read;
+
+/// When consistency points are due. A wrong count makes them at other times, which no contract forbids.
+#[derive(Clone, Copy)]
+pub(crate) struct CheckpointTrigger {
+    /// After how many records one is due; 0: only where the log has no room.
+    every: u64,
+    /// How many records were logged since the last one began.
+    since: u64,
+}
+
+impl CheckpointTrigger {
+    /// One in which nothing was logged yet.
+    pub(crate) fn new(every: u64) -> CheckpointTrigger {
+        CheckpointTrigger { every, since: 0 }
+    }
+
+    /// A message is answered so. Counts it if it changed something, and so was logged.
+    pub(crate) fn count(&mut self, reply: &Reply) {
+        if matches!(reply, Reply::Done) {
+            self.since = self.since.saturating_add(1);
+        }
+    }
+
+    /// A consistency point was to begin, and the core has answered so. It has begun, or will where no message is held any more; else the
+    /// device has failed.
+    fn begin(&mut self, cut: Result<(), PointRefusal>) -> Result<(), Halted>
+        ensures { BeginsOrWaits cut result }
+    {
+        match cut {
+            Ok(()) => {
+                self.since = 0;
+                Ok(())
+            }
+            Err(PointRefusal::Held) => Ok(()),
+            Err(_) => Err(Halted),
+        }
+    }
+
+    /// Whether one is due by the number of records. None is while one is in progress, of which so many pieces are left.
+    pub(crate) fn is_due(&self, left: Option<usize>) -> bool {
+        left.is_none() && self.every != 0 && self.since >= self.every
+    }
+}
+
+impl<'c, R: Read, D: Disk, L: ReplySink<D>> Session<'c, R, D, L> {
+    /// Takes the consistency point in progress a step on, if there is one: to its next piece or, where all are written, to its end.
+    /// Whether there was one.
+    pub(crate) fn advance_point(&mut self) -> Result<bool, Halted>
+        ensures moves { IsSessionStep self.old self.new result }
+        ensures same { (self.new.row ≡ self.old.row) × (self.new.out ≡ self.old.out) × (self.new.core.logged ≡ self.old.core.logged) }
+        ensures step { IfOk result (λ moved. MatchBool moved (steps_left self.new.core.left + 1 ≡ steps_left self.old.core.left)
+            (self.new.core.left ≡ None)) }
+    {
+        let Some(left) = self.core.left() else {
+            return Ok(false);
+        };
+        if left == 0 {
+            return match self.core.flip() {
+                Ok(()) => Ok(true),
+                Err(_) => Err(Halted),
+            };
+        }
+        match self.core.piece() {
+            Ok(_) => Ok(true),
+            Err(_) => Err(Halted),
+        }
+    }
+
+    /// Begins a consistency point, where none is in progress: it begins unless a message is held.
+    pub(crate) fn begin_point(&mut self) -> Result<(), Halted>
+        requires none { self.old.core.left ≡ None }
+        ensures moves { IsSessionStep self.old self.new result }
+        ensures begun { OnOk result (held (core_state_of self.new.core) ≡ [] → (n : ℕ) × (self.new.core.left ≡ Some n)) }
+    {
+        let cut = self.core.cut();
+        self.trigger.begin(cut)
+    }
+
+    /// Where no job is out and no message may go out or be read: takes the consistency point in progress a step on, or begins one where it
+    /// is due or a message lacks room in the log alone. Whether it did either.
+    pub(crate) fn step_point(&mut self, lacks_room: bool) -> Result<bool, Halted>
+        ensures moves { IsSessionStep self.old self.new result }
+    {
+        if self.advance_point()? {
+            return Ok(true);
+        }
+        if lacks_room || self.trigger.is_due(self.core.left()) {
+            self.begin_point()?;
+            return Ok(true);
+        }
+        Ok(false)
+    }
+}

@@ -1,0 +1,116 @@
+//! The loop of a session: lines are read and worked off, until no more is read and each is answered. Where the device or the output
+//! has failed, jobs that are out come back, and what can still be done is done.
+
+ghost use Rattle.std.specs.Prelude.{◌≡◌, Err, IfSome, MatchResult, None, OnOk, Some, [], false};
+ghost use Rattle.serving.specs.Serve.{HasEmptyLog};
+ghost use Rattle.serving.specs.Session.{EndsBy, HasFinished, HasHalted, IsSessionStep, end_of};
+ghost use Rattle.serving.specs.declared.session.ReadEnd.{ReadEnd};
+ghost use Rattle.serving.specs.declared.session.ReadEnd.TheVariants as ends_of_reading;
+
+use crate::gated_runtime::GatedRuntime;
+use crate::server::ServeFault;
+use crate::session::{Halted, Session, ReadEnd, or_halt};
+use crate::output::ReplySink;
+use disk::Disk;
+use std::io::Read;
+use std::sync::Wait;
+use workers::{DispatcherTask, Gate};
+
+/// What a server reports where no more was read for this reason; nothing, if there is none.
+fn reported_for(stop: Option<ReadEnd>) -> Result<(), ServeFault>
+    ensures { IfSome stop (λ why. result ≡ end_of why) }
+{
+    match stop {
+        Some(ReadEnd::EndOfInput) | None => Ok(()),
+        Some(ReadEnd::ReadFailed) => Err(ServeFault::Read),
+        Some(ReadEnd::TicketsExhausted) => Err(ServeFault::Exhausted),
+        Some(ReadEnd::DeviceFailed) => Err(ServeFault::Device),
+    }
+}
+
+impl<'c, R: Read, D: Disk, L: ReplySink<D>> Session<'c, R, D, L> {
+    /// Ends where something has failed: jobs that are out come back. What ran is logged, unless the device has failed; all that is
+    /// logged is answered; and the lines next in order are still written, unless the output has failed. Why the server ends then.
+    fn end_early<W: GatedRuntime>(&mut self, rt: &W) -> ServeFault
+        requires halted { HasHalted self.old }
+        ensures { EndsBy self.new (Err result) }
+    {
+        self.drain_workers(rt);
+        // A device that has failed logs nothing, and one that fails now changes nothing any more.
+        let _logged = self.log_what_ran();
+        match self.answer_and_flush(rt) {
+            Ok(()) => ServeFault::Device,
+            Err(_) => ServeFault::Write,
+        }
+    }
+
+    /// Why no more is read, where that is so, each line that was read is answered in the output, and no consistency point is in progress.
+    fn ended(&self) -> Option<ReadEnd>
+        ensures { IfSome result (λ stop. (self.now.stop ≡ Some stop) × (self.now.row.lines ≡ []) × (self.now.core.left ≡ None)) }
+    {
+        if self.row.len() == 0 && self.core.left().is_none() {
+            self.stop
+        } else {
+            None
+        }
+    }
+
+    /// Sends all that waits, and makes the last consistency point at the end of the input: nothing waits or is held then, and the log is
+    /// empty behind it. The device works then: nothing is left to log, and a log of nothing tells whether it has failed.
+    fn finish(&mut self, stop: ReadEnd) -> Result<(), Halted>
+        requires row { self.old.row.lines ≡ [] }
+        requires none { self.old.core.left ≡ None }
+        ensures moves { IsSessionStep self.old self.new result }
+        ensures all { OnOk result ((self.new.row.lines ≡ []) × (self.new.out ≡ []) × (self.new.output_failed ≡ false)) }
+        ensures works { OnOk result (self.new.core.failed ≡ false) }
+        ensures emptied { OnOk result (stop ≡ ends_of_reading.EndOfInput → D.keeps → HasEmptyLog self.new.core) }
+    {
+        self.log_what_ran()?;
+        self.flush_replies()?;
+        match stop {
+            ReadEnd::EndOfInput => or_halt(self.core.point()),
+            ReadEnd::ReadFailed | ReadEnd::TicketsExhausted | ReadEnd::DeviceFailed => Ok(()),
+        }
+    }
+
+    /// Reads lines and answers them, until no more is read and all that was is answered in the output.
+    fn serve_lines<W: GatedRuntime>(&mut self, rt: &W) -> Result<(), Halted>
+        ensures served { MatchResult result (λ _. (stop : ReadEnd) × HasFinished D.keeps self.new stop) (λ _. HasHalted self.new) }
+    {
+        let mut idle = false;
+        for _ in rt.forever() {
+            let read = self.read_more(idle);
+            let ended = self.ended();
+            if let Some(stop) = ended {
+                return self.finish(stop);
+            }
+            idle = self.advance(rt, read)?;
+        }
+        unreachable!()
+    }
+}
+
+impl<'c, R: Read, D: Disk, L: ReplySink<D>> DispatcherTask<Result<(), ServeFault>> for Session<'c, R, D, L> {
+    ghost use Rattle.std.specs.Prelude.{◌≡◌, OnOk, false};
+    ghost use Rattle.serving.specs.Serve.{HasEmptyLog};
+    ghost use Rattle.serving.specs.Session.{EndsBy};
+
+    ghost can_begin = { λ s. s.output_failed ≡ false };
+
+    ghost gives = { λ old new end. EndsBy new end × OnOk end (D.keeps → HasEmptyLog new.core) };
+
+    /// Serves line after line until the input ends, with a consistency point where one is due, and one at the end. All that was
+    /// answered is written when it returns, unless the output failed. Where several faults befall one call, one of the output goes
+    /// before one of the device, and that before the others.
+    fn run_task<T: Wait, G: Gate>(&mut self, rt: &T, gate: &G) -> Result<(), ServeFault> {
+        let rt = &(rt, gate);
+        match self.serve_lines(rt) {
+            Ok(()) => reported_for(self.stop),
+            Err(_) => Err(self.end_early(rt)),
+        }
+    }
+
+    fn stop_workers(&mut self) {
+        self.bench.stop(&mut self.dispatch_seat);
+    }
+}

@@ -1,0 +1,16 @@
+//! With what a session works beside its bench: the runtime of its call, with the gate that is told of the jobs.
+
+use std::sync::Wait;
+use workers::Gate;
+
+/// A runtime with the gate that is told of the jobs.
+pub(crate) trait GatedRuntime: Wait {
+    /// The message of this ticket was just answered.
+    fn answered(&self, ticket: u64);
+}
+
+impl<'g, T: Wait, G: Gate> GatedRuntime for (&'g T, &'g G) {
+    fn answered(&self, ticket: u64) {
+        self.1.answered(ticket);
+    }
+}

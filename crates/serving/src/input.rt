@@ -1,0 +1,122 @@
+//! Lines that are read: each is in the reorder buffer then, and its message in the core.
+
+ghost use Rattle.std.specs.Prelude.{◌≡◌, ◌<◌, ◌↔◌, ◌+◌, ◌++◌, List, [], ◌∷◌, IsTrue, None, OnErr, is_none, length};
+ghost use Rattle.messages.specs.Grammar.{message_of};
+ghost use Rattle.runs.specs.declared.hands.Holding.{Holding};
+ghost use Rattle.serving.specs.Lines.{Pending};
+ghost use Rattle.serving.specs.Reads.{TakesLine};
+ghost use Rattle.reorder_buffer.specs.ReorderBuffer.{AreConsecutive, with_tickets};
+ghost use Rattle.serving.specs.Runs.{Holds};
+
+use crate::session::{Session, ReadEnd};
+use crate::output::ReplySink;
+use disk::Disk;
+use legal_runs::ArriveRefusal;
+use reorder_buffer::{Line, ReorderBuffer};
+use message::Found;
+use scheduler::Core;
+use std::io::Read;
+
+/// Takes a line of these bytes into the reorder buffer, and its message, if it is one, into the core. One that is out of range takes no ticket. Or
+/// its message is refused, and this is why no more is read. Where the reorder buffer has a place for the line, the core has a slot for its message.
+fn take<D: Disk>(core: &mut Core<D>, row: &mut ReorderBuffer, line: &[u8]) -> Result<(), ReadEnd>
+    requires room { length row.old.lines < row.old.slots }
+    requires order { AreConsecutive (with_tickets row.old.lines ++ Pending core.old.next ∷ []) }
+    ensures takes { (hands : List Holding) → Holds (record { core = core.old; hands = hands })
+        → TakesLine D.keeps (record { core = core.old; hands = hands }) row.old.lines
+        (record { core = core.new; hands = hands }) row.new.lines (message_of line.now) result }
+    ensures slots { row.new.slots ≡ row.old.slots }
+    ensures same { OnErr result (row.new ≡ row.old) }
+{
+    core.know_recovery();
+    match core.arrive_line(line) {
+        Ok(Some(ticket)) => {
+            row.push(Line::Pending(ticket));
+            Ok(())
+        }
+        Ok(None) => {
+            row.push(Line::NoMessage);
+            Ok(())
+        }
+        Err(ArriveRefusal::Range) => {
+            row.push(Line::OutOfRange);
+            Ok(())
+        }
+        Err(ArriveRefusal::Exhausted) => Err(ReadEnd::TicketsExhausted),
+        Err(ArriveRefusal::Full) => Err(ReadEnd::DeviceFailed),
+        Err(ArriveRefusal::Failed) => Err(ReadEnd::DeviceFailed),
+    }
+}
+
+/// Whether a further line may be read: nothing has stopped it, and fewer lines are open than there are slots.
+fn may_read(stop: Option<ReadEnd>, open_lines: usize, slots: usize) -> bool
+    ensures { IsTrue result ↔ ((stop ≡ None) × (open_lines < slots)) }
+{
+    stop.is_none() && open_lines < slots
+}
+
+impl<'c, R: Read, D: Disk, L: ReplySink<D>> Session<'c, R, D, L> {
+    /// Reads the next line, if there is one, while fewer lines are open than there are slots: whether there was one. Else the session has
+    /// stopped.
+    fn read_next(&mut self) -> bool
+        requires reads { self.old.stop ≡ None }
+        requires room { self.old.open_lines < self.old.row.slots }
+        ensures reads { result ≡ is_none self.new.stop }
+        ensures whole { self.new.output_failed ≡ self.old.output_failed }
+        ensures slots { self.new.row.slots ≡ self.old.row.slots }
+        ensures longer { IsTrue result → length self.new.row.lines ≡ length self.old.row.lines + 1 }
+        ensures counted { IsTrue result → self.new.open_lines ≡ self.old.open_lines + 1 }
+    {
+        prove!(self.open_lines < self.row.slots());
+        if self.lines.is_drained() {
+            self.stop = Some(ReadEnd::EndOfInput);
+            return false;
+        }
+        match self.lines.next_line() {
+            Ok(Found::Line) => match take(&mut self.core, &mut self.row, self.lines.line()) {
+                Ok(()) => {
+                    self.open_lines += 1;
+                    true
+                }
+                Err(stop) => {
+                    self.stop = Some(stop);
+                    false
+                }
+            },
+            Ok(Found::TooLong) => {
+                self.row.push(Line::NoMessage);
+                self.open_lines += 1;
+                true
+            }
+            Ok(Found::End) => {
+                self.stop = Some(ReadEnd::EndOfInput);
+                false
+            }
+            Err(_) => {
+                self.stop = Some(ReadEnd::ReadFailed);
+                false
+            }
+        }
+    }
+
+    /// Whether a line is held that may be read.
+    pub(crate) fn can_read(&self) -> bool {
+        may_read(self.stop, self.open_lines, self.row.slots()) && self.lines.holds_line()
+    }
+
+    /// Reads lines that are held, while fewer lines are open than there are slots. Where it may wait, the next line is read first, also if
+    /// none is held: others may come with it, and a change is logged with theirs, not by itself. Whether there was one. None is read once
+    /// the session has stopped.
+    pub(crate) fn read_more(&mut self, may_wait: bool) -> bool
+        ensures whole { self.new.output_failed ≡ self.old.output_failed }
+    {
+        let mut read = false;
+        while may_read(self.stop, self.open_lines, self.row.slots())
+            && ((may_wait && !read) || self.lines.holds_line())
+            && self.read_next()
+        {
+            read = true;
+        }
+        read
+    }
+}

@@ -1,0 +1,135 @@
+//! Whom a server tells its lines, and what it tells: nothing but what a crash of the device can't take back.
+
+ghost use Rattle.std.specs.Prelude.{◌≡◌, ◌+◌, [], false, length, true, IfOk, IsFalse, IsTrue, OnOk};
+ghost use Rattle.message.specs.Waiting.{FitsReply};
+ghost use Rattle.scheduler.specs.CoreView.{core_state_of};
+ghost use Rattle.reorder_buffer.specs.ReorderBuffer.{can_retire};
+ghost use Rattle.serving.specs.Session.{KeepsStreams, IsSessionStep};
+
+use crate::gated_runtime::GatedRuntime;
+use crate::session::{Halted, Session};
+use disk::Disk;
+use message::WriteFault;
+use scheduler::Core;
+use std::io::Read;
+
+/// Whom a server tells its lines. Its condition binds each call when it is made, in every body, also in one that never returns: what
+/// is told was answered before, and whatever a crash leaves of the device then holds it.
+pub trait ReplySink<D: Disk> {
+    ghost use Rattle.std.specs.Prelude.{List, ℕ, Option, OnOk};
+    ghost use Rattle.std.specs.Io.KnownBytes.{Appends};
+    ghost use Rattle.serving.specs.Output.{MaySend, Start};
+
+    /// Where the call of the server began whose lines are sent, once it has.
+    ghost start: { Option Start };
+
+    /// What was told, if it is known.
+    ghost sent: { Self → Option (List ℕ) };
+
+    /// Tells lines, each with its newline, after those that were told before. The core is as it is now.
+    ///
+    /// # Errors
+    ///
+    /// `WriteFault` where they could not be told. What was told of them is unknown then.
+    fn send(&mut self, lines: &[u8], core: &Core<D>) -> Result<(), WriteFault>
+        requires may { MaySend D.keeps start (sent self.old) core.now lines.now }
+        ensures sent { OnOk result (Appends (sent self.old) (sent self.new) lines.now) };
+}
+
+impl<'c, R: Read, D: Disk, L: ReplySink<D>> Session<'c, R, D, L> {
+    /// Answers the message that was logged first, if there is one: its line in the reorder buffer has its reply then. Counts it for the points
+    /// if it changed something, saturating. Whether there was one.
+    pub(crate) fn answer_first<W: GatedRuntime>(&mut self, rt: &W) -> bool
+        ensures as_before { KeepsStreams self.old self.new }
+        ensures dispatch_seat { self.new.dispatch_seat ≡ self.old.dispatch_seat }
+        ensures state_after { core_state_of self.new.core ≡ record (core_state_of self.old.core) { logged = self.new.core.logged } }
+        ensures fewer { IsTrue result → length self.new.core.logged + 1 ≡ length self.old.core.logged }
+        ensures none { IsFalse result → self.new.core.logged ≡ [] }
+    {
+        self.core.know_recovery();
+        let first = self.core.answer();
+        let Some((ticket, reply)) = first else {
+            return false;
+        };
+        rt.answered(ticket);
+        self.trigger.count(&reply);
+        self.row.answer(ticket, reply);
+        true
+    }
+
+    /// Tells all that waits, unless it could not tell something before.
+    pub(crate) fn flush_replies(&mut self) -> Result<(), Halted>
+        ensures moves { IsSessionStep self.old self.new result }
+        ensures same { (self.new.core ≡ self.old.core) × (self.new.row ≡ self.old.row) × (self.new.dispatch_seat ≡ self.old.dispatch_seat) }
+        ensures none_waits { OnOk result (self.new.out ≡ []) }
+        ensures whole { OnOk result (self.new.output_failed ≡ false) }
+    {
+        if self.output_failed {
+            return Err(Halted);
+        }
+        if self.out.is_empty() {
+            return Ok(());
+        }
+        self.core.know_recovery();
+        match self.sink.send(self.out.waiting(), &self.core) {
+            Ok(()) => {
+                self.out.clear();
+                self.open_lines = self.row.len();
+                Ok(())
+            }
+            Err(_) => {
+                self.output_failed = true;
+                Err(Halted)
+            }
+        }
+    }
+
+    /// Tells all that waits where the longest answer has no room behind it.
+    fn flush_if_full(&mut self) -> Result<(), Halted>
+        ensures moves { IsSessionStep self.old self.new result }
+        ensures same { (self.new.core ≡ self.old.core) × (self.new.row ≡ self.old.row) × (self.new.dispatch_seat ≡ self.old.dispatch_seat) }
+        ensures room { OnOk result (FitsReply self.new.out) }
+    {
+        if self.out.has_room() {
+            Ok(())
+        } else {
+            self.flush_replies()
+        }
+    }
+
+    /// Lets the oldest line of the reorder buffer wait to be told, if it is answered: whether it is. It leaves the reorder buffer then.
+    fn retire_first(&mut self) -> Result<bool, Halted>
+        ensures moves { IsSessionStep self.old self.new result }
+        ensures same { (self.new.core ≡ self.old.core) × (self.new.dispatch_seat ≡ self.old.dispatch_seat) }
+        ensures fewer { IfOk result (λ retired. IsTrue retired → length self.new.row.lines + 1 ≡ length self.old.row.lines) }
+        ensures last { IfOk result (λ retired. IsFalse retired → can_retire self.new.row.lines ≡ false) }
+    {
+        self.flush_if_full()?;
+        let retired = self.row.retire_front(&mut self.out);
+        Ok(retired)
+    }
+
+    /// Lets the lines at the front of the reorder buffer wait to be told, up to the first that is not answered.
+    pub(crate) fn retire_ready(&mut self) -> Result<(), Halted>
+        ensures moves { IsSessionStep self.old self.new result }
+        ensures same { (self.new.core ≡ self.old.core) × (self.new.dispatch_seat ≡ self.old.dispatch_seat) }
+        ensures last { OnOk result (can_retire self.new.row.lines ≡ false) }
+    {
+        while self.retire_first()? {}
+        Ok(())
+    }
+
+    /// Answers all that is logged, and tells the lines that are next in order.
+    pub(crate) fn answer_and_flush<W: GatedRuntime>(&mut self, rt: &W) -> Result<(), Halted>
+        ensures moves { IsSessionStep self.old self.new result }
+        ensures dispatch_seat { self.new.dispatch_seat ≡ self.old.dispatch_seat }
+        ensures state_after { core_state_of self.new.core ≡ record (core_state_of self.old.core) { logged = [] } }
+        ensures none_waits { OnOk result (self.new.out ≡ []) }
+        ensures whole { OnOk result (self.new.output_failed ≡ false) }
+        ensures last { OnOk result (can_retire self.new.row.lines ≡ false) }
+    {
+        while self.answer_first(rt) {}
+        self.retire_ready()?;
+        self.flush_replies()
+    }
+}

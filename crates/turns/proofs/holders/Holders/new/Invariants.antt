@@ -1,6 +1,0 @@
--- No one stands at the numbers so far.
-use Rattle.std.proofs.Common.{◌≡◌, ◌≤◌, replicate, None, vec_capacity}
-use Rattle.turns.proofs.holders.Holders.new.Given as goal
-
-abbrev pub invariant-loop : goal.invariant-loop
-invariant-loop l = (l.places.items ≡ replicate l.counter None) × (l.numbers ≤ vec_capacity l.places)

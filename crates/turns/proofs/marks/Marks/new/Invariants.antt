@@ -1,6 +1,0 @@
--- There is no mark at the numbers so far.
-use Rattle.std.proofs.Common.{◌≡◌, ◌≤◌, replicate, None, vec_capacity}
-use Rattle.turns.proofs.marks.Marks.new.Given as goal
-
-abbrev pub invariant-loop : goal.invariant-loop
-invariant-loop l = (l.clear.items ≡ replicate l.counter None) × (l.numbers ≤ vec_capacity l.clear)

@@ -1,2 +1,0 @@
--- The words of what a command line asks for.
-pub mod Words

@@ -1,8 +1,0 @@
-//! The words of a call: which ones the program takes, and what they ask for.
-//!
-//! Nothing here knows what a command does: the numbers that the words give are handed on as they are.
-#![tactic(auto)]
-
-mod words;
-
-pub use words::{Request, ServiceNumbers, WordRefusal, read_words};

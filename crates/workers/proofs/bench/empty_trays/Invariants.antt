@@ -1,6 +1,0 @@
--- So many empty trays so far.
-use Rattle.std.proofs.Common.{◌≡◌, replicate, None}
-use Rattle.workers.proofs.bench.empty_trays.Given as goal
-
-abbrev pub invariant-loop-place : goal.invariant-loop-place
-invariant-loop-place l = l.trays.items ≡ replicate l._place None

@@ -1,0 +1,27 @@
+-- With the place's slot next in order the exchange is tried; if it fails, the row is turned on into its old order.
+use Rattle.std.proofs.Common.{ap, sym, ◌∙◌, set, ◌∷◌, None, Some}
+use Rattle.workers.specs.Steps.{Sat}
+use Rattle.workers.specs.Rule.{lent_at}
+use Rattle.workers.specs.Seats.{lent_of, spare, spare_from}
+use Rattle.workers.specs.declared.job_cell.CellContent.TheVariants.{Delivered}
+use Rattle.workers.specs.declared.seats.View.TheVariants.{Dispatcher}
+use Rattle.workers.proofs.Lending.{turned_to, counted, settles}
+use Rattle.workers.proofs.bench.try_collect.Goals as goal
+
+pub returns-then-collect-clause-won : goal.returns-then-collect-clause-won
+returns-then-collect-clause-won c = λ _. let m = c.args.seat.now.me in let k = c.args.k in let ls = lent_of m.0 in let d = c.requires.dispatch_seat in
+    let at = turned_to m c.turn_to.new.seat.me ls (spare 0 ls) (spare_from k ls) d.seat c.turn_to.ensures.slots in
+    let won = c.collect.ensures.won c.if-collect.true in
+    record {
+      job = won.0;
+      done = won.1;
+      asked = sym (ap (λ (y : Sat). lent_at (lent_of y.0) k) at) ∙ won.2;
+      run = won.3;
+      seat = won.4 ∙ ap (λ (y : Sat). (Dispatcher 0 (set (lent_of y.0) k None), (k, Some (Delivered won.1)) ∷ y.1)) at;
+    }
+
+pub returns-clause-lost : goal.returns-clause-lost
+returns-clause-lost c = λ _. let m = c.args.seat.now.me in let k = c.args.k in let ls = lent_of m.0 in let d = c.requires.dispatch_seat in
+    let at = turned_to m c.turn_to.new.seat.me ls (spare 0 ls) (spare_from k ls) d.seat c.turn_to.ensures.slots in
+    let still = c.collect.ensures.lost c.if-collect.false ∙ at in
+    settles k _ ls c.collect.new.seat.me c.turn_to-2.new.seat.me still c.turn_to-2.ensures.slots (counted _ ls d.flagged) ∙ sym d.seat

@@ -1,8 +1,0 @@
--- The word for the bell's number belongs to no place, so a store into it keeps the rule of the bench.
-use Rattle.std.proofs.Common.{rules, arith}
-use Rattle.workers.proofs.Keeps.{rings}
-use Rattle.workers.proofs.steps.lie_down.Goals as goal
-
-pub store-requires : goal.store-requires
-store-requires c = let w = c.requires.1.0 in
-    (search rules, omega arith, rings _ _ c.args.seat.now.me 5 (λ _. c.args.number) (omega arith))

@@ -1,0 +1,12 @@
+-- A cell, as its two rows make it.
+use Rattle.std.specs.Prelude.{List, [], ◌∷◌, Option, None, Some}
+use Rattle.parcel.specs.Run.{JobView}
+use Rattle.parcel.specs.declared.job.Done.{Done}
+use Rattle.workers.specs.declared.job_cell.CellContent.{CellContent}
+use Rattle.workers.specs.declared.job_cell.CellContent.TheVariants.{Offered, Delivered}
+
+-- a job before a result
+abbrev pub content_of : List JobView → List Done → Option CellContent
+content_of (job ∷ jobs) results = Some (Offered job)
+content_of [] (done ∷ results) = Some (Delivered done)
+content_of [] [] = None

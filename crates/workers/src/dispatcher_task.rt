@@ -1,0 +1,93 @@
+//! What the dispatcher does at a bench while workers run there.
+
+ghost use Rattle.std.specs.Prelude.{◌≡◌, All, IfOk, OnErr};
+
+use crate::bench::Bench;
+use crate::gate::Gate;
+use crate::seats::WorkSeat;
+use std::alloc::AllocError;
+use std::sync::Wait;
+use std::thread;
+use std::thread::{Scope, Threads};
+
+/// What the calling thread does at a bench while others work there, and what comes of it.
+pub trait DispatcherTask<E> {
+    /// Whether it can be begun.
+    ghost can_begin: { Self → Type 0 };
+
+    /// What comes of it, by how it was before and how it is then.
+    ghost gives: { Self → Self → E → Type 0 };
+
+    /// Does it.
+    fn run_task<T: Wait, G: Gate>(&mut self, rt: &T, gate: &G) -> E
+        requires { can_begin self.old }
+        ensures { gives self.old self.new result };
+
+    /// Tells the workers to end, those too that were started before one that couldn't be.
+    fn stop_workers(&mut self)
+        ensures { self.new ≡ self.old };
+}
+
+/// Tells the proof that what was lent through this reference is its owner's again.
+pub fn know_returned<T>(lent: &mut T)
+    ensures { lent.new ≡ lent.old }
+{
+    let _ = lent;
+}
+
+// Does a task that is lent while a worker works at each of these seats, and gives it back.
+fn run_borrowed_task<'s, 'm, T: Threads + Wait + Sync, G: Gate + Sync, E, S: DispatcherTask<E>, X>(
+    scope: &Scope<'s, X>,
+    bench: &'s Bench,
+    with: (&'s T, &'s G),
+    seats: Vec<WorkSeat>,
+    task: &'m mut S,
+) -> (Result<E, AllocError>, &'m mut S)
+    requires can_begin { S.can_begin task.now }
+    requires seats { All (λ w. w ≡ bench.now) seats.items }
+    ensures same { result.1.ghost_name ≡ task.entry.ghost_name }
+    ensures gives { IfOk result.0 (λ end. S.gives task.entry.now result.1.now end) }
+    ensures undone { OnErr result.0 (result.1.now ≡ task.entry.now) }
+{
+    let (rt, gate) = with;
+    let ended = match bench.start_all(rt, scope, seats, gate) {
+        Ok(()) => Ok(task.run_task(rt, gate)),
+        Err(why) => Err(why),
+    };
+    task.stop_workers();
+    (ended, task)
+}
+
+impl Bench {
+    /// Does a task while a worker works at each of these seats. All of them have ended when it returns.
+    ///
+    /// # Errors
+    ///
+    /// `AllocError` where a thread can't be started. The task is left undone then.
+    pub fn with_workers<'c, T: Threads + Wait + Sync, G: Gate + Sync, E, S: DispatcherTask<E>>(
+        &'c self,
+        rt: &'c T,
+        gate: &'c G,
+        seats: Vec<WorkSeat>,
+        task: &mut S,
+    ) -> Result<E, AllocError>
+        requires can_begin { S.can_begin task.old }
+        requires seats { All (λ w. w ≡ self.now) seats.items }
+        ensures gives { IfOk result (λ end. S.gives task.old task.new end) }
+        ensures undone { OnErr result (task.new ≡ task.old) }
+    {
+        let (ended, task) = thread::scope(
+            thread::scope_env(),
+            rt,
+            move |scope|
+                requires can_begin { S.can_begin task.now }
+                requires seats { All (λ w. w ≡ self.now) seats.items }
+                ensures same { result.1.ghost_name ≡ task.entry.ghost_name }
+                ensures gives { IfOk result.0 (λ end. S.gives task.entry.now result.1.now end) }
+                ensures undone { OnErr result.0 (result.1.now ≡ task.entry.now) }
+            { run_borrowed_task(scope, self, (rt, gate), seats, task) },
+        );
+        know_returned(task);
+        ended
+    }
+}

@@ -1,0 +1,110 @@
+//! How either side waits for the other. Waiting and waking decide nothing.
+ghost use Rattle.std.specs.Prelude.{◌≡◌};
+ghost use Rattle.workers.specs.Seats.{IsAtBench, IsBench};
+
+use crate::seats::Seat;
+use crate::steps::{self, Words};
+use crate::words::{DELIVERY_EVENT, SPINNERS, OFFER_EVENT, SLEEPERS, SLEPT_AT, low_half};
+use std::hint::spin_loop;
+use std::sync::Wait;
+use std::thread::yield_now;
+
+/// How often a worker looks at the event count of the offers in a row.
+const SPINS: usize = 64;
+
+/// How many such rows of looks it makes before it sleeps, and lets other threads go first after each: for
+/// longer than the dispatcher takes to write the replies of 32 lines, after which it offers again.
+const SPIN_ROUNDS: usize = 32;
+
+/// Sleeps while the event count of the deliveries has this number, and gives the one that it has then.
+pub fn wait_delivery<R: Wait>(words: &Words, seat: &mut Seat, rt: &R, seen: u64) -> u64
+    requires { IsAtBench words.now.table_id seat.old.table_id }
+    ensures { (seat.new.table_id ≡ seat.old.table_id) × (seat.new.me ≡ seat.old.me) }
+{
+    let mut number = words.peek(DELIVERY_EVENT);
+    if number != seen {
+        return number;
+    }
+    steps::announce_sleep(words, seat, seen);
+    for _ in rt.forever() {
+        number = words.peek(DELIVERY_EVENT);
+        if number != seen {
+            break;
+        }
+        words.park(rt, DELIVERY_EVENT, low_half(seen));
+    }
+    number
+}
+
+/// Rings the event count of the deliveries, and wakes the dispatcher if it sleeps at the number that the ring found: whether it does.
+pub fn signal_delivery(words: &Words, seat: &mut Seat) -> bool
+    requires { IsAtBench words.now.table_id seat.old.table_id }
+    ensures { (seat.new.table_id ≡ seat.old.table_id) × (seat.new.me ≡ seat.old.me) }
+{
+    let found = steps::ring(words, seat, DELIVERY_EVENT);
+    let sleeps = words.peek(SLEPT_AT) == found;
+    if sleeps {
+        words.wake_one(DELIVERY_EVENT);
+    }
+    sleeps
+}
+
+/// Wakes a worker that sleeps on the event count of the offers, unless one looks on there.
+pub fn wake_worker(words: &Words)
+    requires { IsBench words.now.table_id }
+{
+    if words.peek(SLEEPERS) != 0 && words.peek(SPINNERS) == 0 {
+        words.wake_one(OFFER_EVENT);
+    }
+}
+
+// Whether the event count of the offers has another number than this one within some looks.
+fn is_offered_now(words: &Words, seen: u64) -> bool
+    requires { IsBench words.now.table_id }
+{
+    for _ in 0..SPINS {
+        if words.peek(OFFER_EVENT) != seen {
+            return true;
+        }
+        spin_loop();
+    }
+    false
+}
+
+// Whether it has another one soon: other threads may go first meanwhile, if they wait for a processor.
+fn is_offered_soon(words: &Words, seen: u64) -> bool
+    requires { IsBench words.now.table_id }
+{
+    for _ in 0..SPIN_ROUNDS {
+        if is_offered_now(words, seen) {
+            return true;
+        }
+        yield_now();
+    }
+    false
+}
+
+/// Looks on for a while, and then sleeps, while the event count of the offers has this number.
+pub fn spin_then_sleep<R: Wait>(words: &Words, seat: &mut Seat, rt: &R, seen: u64)
+    requires { IsAtBench words.now.table_id seat.old.table_id }
+    ensures { (seat.new.table_id ≡ seat.old.table_id) × (seat.new.me ≡ seat.old.me) }
+{
+    steps::count_in(words, seat, SPINNERS);
+    let is_rung = is_offered_soon(words, seen);
+    steps::count_out(words, seat, SPINNERS);
+    if !is_rung {
+        sleep(words, seat, rt, seen);
+    }
+}
+
+/// Sleeps while the event count of the offers has this number.
+pub fn sleep<R: Wait>(words: &Words, seat: &mut Seat, rt: &R, seen: u64)
+    requires { IsAtBench words.now.table_id seat.old.table_id }
+    ensures { (seat.new.table_id ≡ seat.old.table_id) × (seat.new.me ≡ seat.old.me) }
+{
+    steps::count_in(words, seat, SLEEPERS);
+    if words.peek(OFFER_EVENT) == seen {
+        words.park(rt, OFFER_EVENT, low_half(seen));
+    }
+    steps::count_out(words, seat, SLEEPERS);
+}
