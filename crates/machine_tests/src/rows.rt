@@ -299,7 +299,7 @@ fn steps_come_out_so(rt: HostRuntime) -> Result<(), Fail> {
 }
 
 /// The last of these lives says on standard output where its first step comes and where its last one is over: in between no memory
-/// is asked for, which `by_hand/run calls` counts.
+/// is asked for, which `tests/run calls` counts.
 fn takes_memory_before_its_steps_alone(
     rt: &(impl Abort + Print),
     alloc: Global,

@@ -14,7 +14,7 @@ use Rattle.arena.proofs.RowLemmas.{chain-without, chain-moved_same, chain-moved_
 use Rattle.run_queue.specs.RunQueue.{has_slot, has_number, without_slot, CameBefore}
 use Rattle.run_queue.specs.Slots.{times_seated}
 use Rattle.run_queue.specs.Order.{Ascend}
-use Rattle.run_queue.specs.Queues.{Waiting, present, by_ticket, waiting_in, messages_in, IsQueued}
+use Rattle.run_queue.specs.Queues.{Waiting, present, by_ticket, waiting_in, queued_in, IsQueued}
 use Rattle.run_queue.specs.declared.queued_message.QueuedMessage.{QueuedMessage}
 use Rattle.run_queue.proofs.Seating.{times-cons_is, times-filter}
 use Rattle.run_queue.proofs.Sorting.{ascend-filter, ascend-last, order-come, order-leave, length-all, without-absent}
@@ -47,7 +47,7 @@ start-queued seats numbers parted = record {
   full = λ i below none. all_numbers 0 seats i (omega arith) (omega (arith, below, length-replicate {A = Option QueuedMessage} seats None));
   ascends = subst (λ (ts : List QueuedMessage). Ascend ts) (sym (start-waiting seats numbers)) tt;
   queued = λ n.
-      ap (λ (is : List ℕ). messages_in (empty_row seats numbers) is) (no_chain numbers n)
+      ap (λ (is : List ℕ). queued_in (empty_row seats numbers) is) (no_chain numbers n)
       ∙ ap (λ (ts : List QueuedMessage). filter (has_number n) ts) (sym (start-waiting seats numbers));
 }
 
@@ -78,7 +78,7 @@ unfolding head
 front-none row n q none =
     find-head (has_number n) (waiting_in row)
     ∙ ap head (sym (q.queued n))
-    ∙ ap (λ (is : List ℕ). head (messages_in row is)) (none_first (chain_at row n) none)
+    ∙ ap (λ (is : List ℕ). head (queued_in row is)) (none_first (chain_at row n) none)
 
 -- a slot of a queue has one
 pub chained-some : (row : Row QueuedMessage) (n i : ℕ) → IsQueued row → front_of row n ≡ Some i → (t : QueuedMessage) × (value_at row i ≡ Some t)
@@ -86,10 +86,10 @@ chained-some row n i q first = some_of (value_at row i) (chained-holds row i n q
 
 -- the queue is its first one, and the others
 queue-parts : (row : Row QueuedMessage) (n i : ℕ) (t : QueuedMessage) → IsQueued row → front_of row n ≡ Some i → value_at row i ≡ Some t
-    → filter (has_number n) (waiting_in row) ≡ t ∷ messages_in row (without i (chain_at row n))
+    → filter (has_number n) (waiting_in row) ≡ t ∷ queued_in row (without i (chain_at row n))
 queue-parts row n i t q first is =
     sym (q.queued n)
-    ∙ ap (λ (is : List ℕ). messages_in row is) (chain-front row i n q.parted first)
+    ∙ ap (λ (is : List ℕ). queued_in row is) (chain-front row i n q.parted first)
     ∙ ap (λ (o : Option QueuedMessage). present (o ∷ map (value_at row) (without i (chain_at row n)))) is
 
 pub front-some : (row : Row QueuedMessage) (n i : ℕ) → IsQueued row → front_of row n ≡ Some i → find (has_number n) (waiting_in row) ≡ value_at row i
@@ -181,15 +181,15 @@ module _ (row : Row QueuedMessage) (t : QueuedMessage) (i : ℕ) (rest : List �
         omega (arith, free, on-cons_other j i rest (λ same. other (sym same))))
   ]
 
-  others_on : (m : ℕ) → messages_in after (chain_at row m) ≡ messages_in row (chain_at row m)
+  others_on : (m : ℕ) → queued_in after (chain_at row m) ≡ queued_in row (chain_at row m)
   others_on m = ap present (map-other row.values i (Some t) (chain_at row m) (off_chains m))
 
-  push-queued_at : (m : ℕ) → messages_in after (chain_at after m) ≡ filter (has_number m) (waiting_in row ++ t ∷ [])
+  push-queued_at : (m : ℕ) → queued_in after (chain_at after m) ≡ filter (has_number m) (waiting_in row ++ t ∷ [])
   push-queued_at m = elim (cases_eq m n) [
-    | inl e ↦ subst (λ k. messages_in after (chain_at after k) ≡ filter (has_number k) (waiting_in row ++ t ∷ [])) (sym e) here
+    | inl e ↦ subst (λ k. queued_in after (chain_at after k) ≡ filter (has_number k) (waiting_in row ++ t ∷ [])) (sym e) here
     | inr other ↦ (let chain = chain-moved_other row.chains i n m other ∙ on-absent i (chain_at row m) (off_chains m) in
         let none : filter (has_number m) (t ∷ []) ≡ [] = rw (ne_eqb t.affinity.number m (λ same. other (sym same ∙ number))) refl in
-        ap (λ (is : List ℕ). messages_in after is) chain
+        ap (λ (is : List ℕ). queued_in after is) chain
         ∙ others_on m
         ∙ q.queued m
         ∙ sym (append-nil (filter (has_number m) (waiting_in row)))
@@ -197,15 +197,15 @@ module _ (row : Row QueuedMessage) (t : QueuedMessage) (i : ℕ) (rest : List �
         ∙ sym (filter-append (has_number m) (waiting_in row) (t ∷ [])))
   ]
     where
-      here : messages_in after (chain_at after n) ≡ filter (has_number n) (waiting_in row ++ t ∷ [])
+      here : queued_in after (chain_at after n) ≡ filter (has_number n) (waiting_in row ++ t ∷ [])
       here =
           let chain = chain-moved_same row.chains i n there ∙ ap (λ (is : List ℕ). is ++ i ∷ []) (on-absent i (chain_at row n) (off_chains n)) in
           let one : filter (has_number n) (t ∷ []) ≡ t ∷ [] = rw (eq-eqb t.affinity.number n number) refl in
           let last : present (map (value_at after) (i ∷ [])) ≡ t ∷ [] = ap (λ (o : Option QueuedMessage). present (o ∷ [])) has_it in
-          ap (λ (is : List ℕ). messages_in after is) chain
+          ap (λ (is : List ℕ). queued_in after is) chain
           ∙ ap present (map-append (value_at after) (chain_at row n) (i ∷ []))
           ∙ present-append (map (value_at after) (chain_at row n)) (map (value_at after) (i ∷ []))
-          ∙ ap (λ (ts : List QueuedMessage). messages_in after (chain_at row n) ++ ts) last
+          ∙ ap (λ (ts : List QueuedMessage). queued_in after (chain_at row n) ++ ts) last
           ∙ ap (λ (ts : List QueuedMessage). ts ++ t ∷ []) (others_on n ∙ q.queued n)
           ∙ ap (λ (ts : List QueuedMessage). filter (has_number n) (waiting_in row) ++ ts) (sym one)
           ∙ sym (filter-append (has_number n) (waiting_in row) (t ∷ []))
@@ -292,18 +292,18 @@ module _ (row : Row QueuedMessage) (n i : ℕ) (t : QueuedMessage) (q : IsQueued
   ]
 
   behind : List QueuedMessage
-  behind = messages_in row (without i (chain_at row n))
+  behind = queued_in row (without i (chain_at row n))
 
-  parts : filter (has_number n) (waiting_in row) ≡ t ∷ messages_in row (without i (chain_at row n))
+  parts : filter (has_number n) (waiting_in row) ≡ t ∷ queued_in row (without i (chain_at row n))
   parts = queue-parts row n i t q first is
 
   on_chain : 1 ≤ times_on i (chain_at row n)
   on_chain = front-chained row i n first
 
-  left_on : (m : ℕ) → messages_in later (chain_at later m) ≡ messages_in row (without i (chain_at row m))
+  left_on : (m : ℕ) → queued_in later (chain_at later m) ≡ queued_in row (without i (chain_at row m))
   left_on m =
       let none : times_on i (without i (chain_at row m)) ≡ 0 = gone (chain_at row m) in
-      ap (λ (is : List ℕ). messages_in later is) (chain-without row.chains i m)
+      ap (λ (is : List ℕ). queued_in later is) (chain-without row.chains i m)
       ∙ ap present (map-other row.values i None (without i (chain_at row m)) none)
     where
       gone : (is : List ℕ) → times_on i (without i is) ≡ 0
@@ -315,16 +315,16 @@ module _ (row : Row QueuedMessage) (n i : ℕ) (t : QueuedMessage) (q : IsQueued
 
   in_queue : 1 ≤ times_seated t.slot (filter (has_number n) (waiting_in row))
   in_queue = subst (λ (ts : List QueuedMessage). 1 ≤ times_seated t.slot ts) (sym parts)
-      (omega (arith, times-cons_is t.slot t (messages_in row (without i (chain_at row n))) refl))
+      (omega (arith, times-cons_is t.slot t (queued_in row (without i (chain_at row n))) refl))
 
-  pop-queued_at : (m : ℕ) → messages_in later (chain_at later m) ≡ filter (has_number m) (without_slot t.slot (waiting_in row))
+  pop-queued_at : (m : ℕ) → queued_in later (chain_at later m) ≡ filter (has_number m) (without_slot t.slot (waiting_in row))
   pop-queued_at m = elim (cases_eq m n) [
-    | inl e ↦ subst (λ k. messages_in later (chain_at later k) ≡ filter (has_number k) (without_slot t.slot (waiting_in row))) (sym e) here
+    | inl e ↦ subst (λ k. queued_in later (chain_at later k) ≡ filter (has_number k) (without_slot t.slot (waiting_in row))) (sym e) here
     | inr other ↦ (let none : times_seated t.slot (filter (has_number m) (waiting_in row)) ≡ 0 =
         omega (arith, times-two t.slot m n (waiting_in row) other, once t.slot, in_queue) in
         let off = chained-apart row i n m q.parted (λ same. other (sym same)) on_chain in
         left_on m
-        ∙ ap (λ (is : List ℕ). messages_in row is) (on-absent i (chain_at row m) off)
+        ∙ ap (λ (is : List ℕ). queued_in row is) (on-absent i (chain_at row m) off)
         ∙ q.queued m
         ∙ sym (without-absent t.slot (filter (has_number m) (waiting_in row)) none)
         ∙ sym (filters-turned (has_number m) (λ u. not (has_slot t.slot u)) (waiting_in row)))
@@ -333,15 +333,15 @@ module _ (row : Row QueuedMessage) (n i : ℕ) (t : QueuedMessage) (q : IsQueued
       few : times_seated t.slot (filter (has_number n) (waiting_in row)) ≤ 1
       few = omega (arith, times-filter (has_number n) t.slot (waiting_in row), once t.slot)
 
-      rest_without : times_seated t.slot (messages_in row (without i (chain_at row n))) ≡ 0
+      rest_without : times_seated t.slot (queued_in row (without i (chain_at row n))) ≡ 0
       rest_without =
           let all = subst (λ (ts : List QueuedMessage). times_seated t.slot ts ≤ 1) parts few in
-          omega (arith, all, times-cons_is t.slot t (messages_in row (without i (chain_at row n))) refl)
+          omega (arith, all, times-cons_is t.slot t (queued_in row (without i (chain_at row n))) refl)
 
-      drops : without_slot t.slot (t ∷ messages_in row (without i (chain_at row n))) ≡ messages_in row (without i (chain_at row n))
-      drops = rw (eq-eqb t.slot t.slot refl) (without-absent t.slot (messages_in row (without i (chain_at row n))) rest_without)
+      drops : without_slot t.slot (t ∷ queued_in row (without i (chain_at row n))) ≡ queued_in row (without i (chain_at row n))
+      drops = rw (eq-eqb t.slot t.slot refl) (without-absent t.slot (queued_in row (without i (chain_at row n))) rest_without)
 
-      here : messages_in later (chain_at later n) ≡ filter (has_number n) (without_slot t.slot (waiting_in row))
+      here : queued_in later (chain_at later n) ≡ filter (has_number n) (without_slot t.slot (waiting_in row))
       here =
           left_on n
           ∙ sym drops

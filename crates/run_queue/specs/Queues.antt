@@ -32,15 +32,15 @@ abbrev pub waiting_in : Row QueuedMessage → List QueuedMessage
 waiting_in row = by_ticket (present row.values)
 
 -- those in these slots
-abbrev pub messages_in : Row QueuedMessage → List ℕ → List QueuedMessage
-messages_in row slots = present (map (value_at row) slots)
+abbrev pub queued_in : Row QueuedMessage → List ℕ → List QueuedMessage
+queued_in row slots = present (map (value_at row) slots)
 
 -- The chain of each number has those that wait at it, in order.
 pub record IsQueued (row : Row QueuedMessage) : Type 0 where
   pub parted : IsParted row
   pub full : (i : ℕ) → i < capacity_of row → value_at row i ≡ None → 0 < times_on i row.free
   pub ascends : Ascend (waiting_in row)
-  pub queued : (n : ℕ) → messages_in row (chain_at row n) ≡ filter (has_number n) (waiting_in row)
+  pub queued : (n : ℕ) → queued_in row (chain_at row n) ≡ filter (has_number n) (waiting_in row)
 
 -- The first one at this number, if there is one, waits no longer.
 abbrev pub IsFirstGone : ℕ → Waiting → Waiting → Type 0

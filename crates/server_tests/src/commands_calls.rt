@@ -254,7 +254,7 @@ const SERVICE: &str = "
       --every <N>    Changes between consistency points, 0 to 1024; 0 makes them where the log is full [default: 0]
 ";
 
-/// Words that ask for help or the version, and a part of what is printed. `by_hand/run` looks at the kit and the logic in the version.
+/// Words that ask for help or the version, and a part of what is printed. `tests/run` looks at the kit and the logic in the version.
 const HELP: [(&str, &str); 24] = [
     ("waffd --help", "Usage: waffd "),
     ("waffd -h", "Usage: waffd "),

@@ -8,7 +8,7 @@ import subprocess
 import time
 
 import program
-from lives import COMMON, SMALL, Device, text_of
+from restarts import COMMON, SMALL, Device, text_of
 from meaning import options_of
 from program import (DEVICE_FAULT, NO_MEMORY, PATIENCE, READ_FAULT, WRITE_FAULT, bytes_of, check, check_each, is_beginning,
                      problem_of, put_bytes, run, same_bytes)

@@ -3,7 +3,7 @@ import os
 import struct
 import subprocess
 
-TOP = os.path.dirname(os.path.dirname(os.path.realpath(__file__)))
+TOP = os.path.dirname(os.path.dirname(os.path.dirname(os.path.realpath(__file__))))
 PROGRAM = os.environ.get("PROGRAM", os.path.join(TOP, "crates", "waffd", "out", "waffd"))
 PATIENCE = 10  # seconds to wait for a reply or an end
 LONGEST_RUN = 600  # seconds that a run may take
@@ -99,7 +99,7 @@ class Between:
     def __init__(self, folder, source):
         self.library = os.path.join(folder, source + ".so")
         self.mark = os.path.join(folder, "happened")
-        path = os.path.join(TOP, "by_hand", source)
+        path = os.path.join(TOP, "tests", "inject", source)
         subprocess.run(["cc", "-Wall", "-shared", "-fPIC", "-O1", "-o", self.library, path, "-ldl"], check=True)
 
     def env(self, **turns):

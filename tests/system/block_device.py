@@ -13,7 +13,7 @@ import time
 from urllib.parse import quote
 
 import program
-from lives import GREATEST
+from restarts import GREATEST
 from meaning import options_of
 from program import PATIENCE, TOP, check, put_bytes, run
 
