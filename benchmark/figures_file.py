@@ -55,7 +55,7 @@ def programs_of(row):
 
 
 class Figures:
-    """What the file tells: of the run, and each row with the values of its programs."""
+    """What the file has: of the run, and each row with the values of its programs."""
 
     def __init__(self, told):
         self.told = told

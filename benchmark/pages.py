@@ -13,7 +13,7 @@ COLUMNS = 140
 MAIN = "waffd 2"  # the default number of workers
 MOST_SHOWN = 256  # slots
 LOGGED = 521  # bytes of a change in the log: its record and its gate
-BUSY = 0.5  # a load from which times say little
+BUSY = 0.5  # a load from which times mean little
 QUICK = "**Of a short run, which shows the form of the figures and says little:** "
 PART = re.compile(r"(<!-- figures: (\w+) -->\n)(.*?)^(( *)<!-- end of figures -->)", re.S | re.M)
 
@@ -91,7 +91,7 @@ def of_table(figures):
 
 
 def of_others(figures):
-    """What the table doesn't tell."""
+    """What the table doesn't show."""
     peaks, firsts, floors, sizes = [], [], [], []
     for geometry in GEOMETRIES:
         peaks.append(span([figures.median(served(geometry, mix, slots), program, "peak MB")

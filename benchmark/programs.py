@@ -13,7 +13,7 @@ IN_MEMORY = "/dev/shm"
 ROOM = 2 << 30  # bytes for inputs and outputs
 LONGEST_RUN = 300  # seconds
 
-# What counts.c tells of a run: microseconds, kilobytes, calls and bytes.
+# What counts.c writes of a run: microseconds, kilobytes, calls and bytes.
 COUNTS = ("wall", "cpu", "peak", "syncs", "writes", "written", "reads", "read", "first", "first_cpu")
 
 

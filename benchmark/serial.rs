@@ -1,5 +1,5 @@
 //! An ordinary serial server over `BTreeMap`s, unproved: what `waffd plain` is measured against.
-//! It gives the same bytes for the same input, at the default geometry; another one is said when this is compiled, by the
+//! It gives the same bytes for the same input, at the default geometry; another one is given when this is compiled, by the
 //! environment (AGGREGATES=4 VOLUMES=8 ..). benchmark/serve/server.rs takes its messages from here.
 
 use std::collections::{BTreeMap, BTreeSet};
@@ -81,7 +81,7 @@ fn bytes<const N: usize>(word: &[u8]) -> Option<[u8; N]> {
     (all < 16).then_some(block)
 }
 
-/// The numbers that the words say, where there are just so many.
+/// The numbers that the words give, where there are just so many.
 pub fn numbers<'a, const N: usize>(words: &mut impl Iterator<Item = &'a [u8]>) -> Option<[u16; N]> {
     let mut all = [0; N];
     for n in &mut all {

@@ -1,4 +1,4 @@
-/* Stands between a program and the GNU C library, and counts what the program asks of its files; standard input and both
+/* Lies between a program and the GNU C library, and counts what the program asks of its files; standard input and both
  * outputs apart. At its end one line goes to the file that COUNTS names:
  *
  *     WALL CPU PEAK SYNCS WRITES WRITTEN READS READ FIRST FIRST_CPU
@@ -35,7 +35,7 @@ static long cpu(void) {
     return (spent.ru_utime.tv_sec + spent.ru_stime.tv_sec) * 1000000 + spent.ru_utime.tv_usec + spent.ru_stime.tv_usec;
 }
 
-/* The peak of this program's memory. What getrusage tells may be that of the shell that started it. */
+/* The peak of this program's memory. What getrusage reports may be that of the shell that started it. */
 static long peak(void) {
     static char text[8192];
     int file = open("/proc/self/status", O_RDONLY | O_CLOEXEC);

@@ -1,5 +1,5 @@
 //! Writes lines of input for the benchmark of `waffd serve`: `lines MIX COUNT GEOMETRY`. The same lines each time.
-//! MIX is `fill`, which makes all that the others use and tells nothing by COUNT; `write`: full blocks, uniformly over all
+//! MIX is `fill`, which makes all that the others use and ignores COUNT; `write`: full blocks, uniformly over all
 //! stripes; `read`: full blocks; or `mixed`. GEOMETRY is `default` or `greatest`.
 
 #[path = "../random.rs"]

@@ -1,10 +1,10 @@
 //! An ordinary durable server, unproved: what `waffd serve` is measured beside. It has its messages of
 //! benchmark/serial.rs, and a log of the lines that changed something, which it reads again at its start. It takes as many
-//! lines as may be open, as far as they are there, runs them, makes one write and one sync of the changes among them, and
+//! lines as may be outstanding, as far as they are there, runs them, makes one write and one sync of the changes among them, and
 //! replies. It makes no checkpoints, so its log holds all changes.
 //!
 //!     server make LOG BYTES          makes a log for so many bytes
-//!     server batch LOG LINES         serves with so many open lines
+//!     server batch LOG LINES         serves with so many outstanding lines
 //!     server stripe LOG LINES        the same, but a change keeps its stripe until it is logged
 //!     server twice LOG LINES         the same, and the head of a batch is written and synced behind its lines, as `waffd` does
 //!                                    with its records and gates
@@ -22,7 +22,7 @@ use std::io::{self, BufRead, BufReader, BufWriter, Read, Stdin, StdoutLock, Writ
 use std::os::unix::fs::FileExt;
 use std::time::Instant;
 
-/// How many bytes of a batch tell its length and its sum.
+/// How many bytes of a batch have its length and its sum.
 const HEAD: usize = 16;
 
 struct Log {
@@ -246,7 +246,7 @@ struct Open {
     reply: Vec<u8>,
 }
 
-/// Runs each open line that no earlier one is in the way of.
+/// Runs each outstanding line that no earlier one blocks.
 fn run_open(server: &mut Server, log: &mut Log, row: &mut VecDeque<Open>, kept: &mut Kept) -> io::Result<()> {
     kept.clear();
     for open in row {

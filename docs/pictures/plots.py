@@ -1,4 +1,4 @@
-"""Plots of the figures of benchmark/figures.json: how fast, and with how many syncs, at each number of open lines.
+"""Plots of the figures of benchmark/figures.json: how fast, and with how many syncs, at each number of outstanding lines.
 
 Each line has a form of points and of dashes of its own and its name at its end, so that none is known by its color alone.
 """
@@ -106,7 +106,7 @@ class Panel:
             self.canvas.text(x, self.bottom + 19, str(slots), size=12, at="middle", color=GRAY)
         self.canvas.line((self.left, self.top), (self.left, self.bottom), (self.right, self.bottom), arrow=False, color=GRAY)
         self.canvas.text(self.left - TICKS, self.top - 14, unit, size=12, color=GRAY)
-        self.canvas.text((self.left + self.right) / 2, self.bottom + 37, "open lines (slots)", size=12, at="middle", color=GRAY)
+        self.canvas.text((self.left + self.right) / 2, self.bottom + 37, "outstanding lines (slots)", size=12, at="middle", color=GRAY)
 
     def curve(self, program, values):
         """The medians of a program as a line, each with a bar from the least to the greatest value."""
@@ -150,8 +150,8 @@ READERS = ("waffd 1", "waffd 2", "waffd 4", "batch")
 
 
 def speed(figures):
-    """Lines a second at each number of open lines."""
-    canvas = Canvas("Speed at each number of open lines", 622)
+    """Lines a second at each number of outstanding lines."""
+    canvas = Canvas("Speed at each number of outstanding lines", 622)
     for row, geometry in enumerate(GEOMETRIES):
         for column, (mix, programs) in enumerate((("write", WRITERS), ("read", READERS))):
             place = (MARGIN + column * WIDTH / 2, 10 + 288 * row, 184)
@@ -162,8 +162,8 @@ def speed(figures):
 
 
 def syncs(figures):
-    """Syncs for 1,000 changes at each number of open lines."""
-    canvas = Canvas("Syncs for 1,000 changes at each number of open lines", 382)
+    """Syncs for 1,000 changes at each number of outstanding lines."""
+    canvas = Canvas("Syncs for 1,000 changes at each number of outstanding lines", 382)
     for column, geometry in enumerate(GEOMETRIES):
         place = (MARGIN + column * WIDTH / 2, 10, 230)
         panel(canvas, figures, place, (geometry, "write", "syncs"), "syncs for 1,000 changes, logarithmic", f"Writes, {geometry} geometry",

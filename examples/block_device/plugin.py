@@ -2,7 +2,7 @@
 
     nbdkit python plugin.py device=FILE [waffd=PROGRAM]
 
-The README beside this file tells how to format the file, how to use the disk, and what it promises. Three parts: where the
+The README beside this file shows how to format the file, how to use the disk, and what it promises. Three parts: where the
 sectors lie, the server with the lines that it hasn't answered yet, and the calls that nbdkit makes.
 """
 import collections
@@ -21,7 +21,7 @@ API_VERSION = 2  # of nbdkit
 # ---- where the sectors lie
 #
 # The device has 256 stripes of 64 blocks, and each sector is a block. A log write takes up to 64 changes, of which no two
-# are of one stripe. So 64 sectors in a row lie in the 64 stripes of one aggregate and go with one log write, and the next
+# are of one stripe. So 64 consecutive sectors lie in the 64 stripes of one aggregate and go with one log write, and the next
 # 64 lie in the same stripes, so that few of them have to be written anew by a consistency point.
 
 SECTOR = 512
@@ -29,7 +29,7 @@ AGGREGATES, VOLUMES, STRIPES, WIDTH, QUOTA = 4, 8, 8, 64, 64
 STRIPES_OF_AN_AGGREGATE = VOLUMES * STRIPES
 SECTORS_OF_AN_AGGREGATE = STRIPES_OF_AN_AGGREGATE * QUOTA
 DISK_SIZE = AGGREGATES * SECTORS_OF_AN_AGGREGATE * SECTOR
-GEOMETRY = "geometry 4 8 8 64 64 256 64 1024"  # as `waffd show` tells it
+GEOMETRY = "geometry 4 8 8 64 64 256 64 1024"  # as `waffd show` prints it
 
 # Block b of file f lies in stripe (f + b / 64) % 8. A file has 256 blocks: those of file 0 fill the stripes 0 to 3, and
 # those of file 4 the stripes 4 to 7.
@@ -98,7 +98,7 @@ class Server:
     def __init__(self, program, device):
         self._child = started(program, device)
         self._fault = None
-        self._lock = threading.Lock()  # a request is open, its lines are to be written, and there is no fault: at once
+        self._lock = threading.Lock()  # a request is outstanding, its lines are to be written, and there is no fault: at once
         self._open_requests = collections.deque()  # in the order of their lines
         self._to_write = queue.SimpleQueue()  # texts of whole lines; None is the end of the input
         self._threads = [threading.Thread(target=work, daemon=True) for work in (self._write_lines, self._read_replies)]
@@ -107,7 +107,7 @@ class Server:
 
     def ask(self, lines):
         """Sends the lines in one piece, and returns their replies once all have come. Where the server ends before that,
-        or has ended, it says so by a fault: nobody waits for a reply that can't come."""
+        or has ended, it reports that by a fault: nobody waits for a reply that can't come."""
         request = Request(len(lines))
         text = "".join(line + "\n" for line in lines).encode()
         with self._lock:
@@ -140,7 +140,7 @@ class Server:
             thread.join()
 
     def _write_lines(self):
-        # Where the server has ended, a write or the close fails. The other thread tells of that.
+        # Where the server has ended, a write or the close fails. The other thread reports that.
         with contextlib.suppress(OSError), self._child.stdin as lines:
             for text in iter(self._to_write.get, None):
                 lines.write(text)
@@ -165,7 +165,7 @@ class Server:
             request.is_over.set()
 
     def _end(self):
-        """Tells all who wait, and all who will ask, why there is no reply."""
+        """Reports to all who wait, and all who will ask, why there is no reply."""
         status = self._child.wait()
         faults = self._child.stderr.read().decode(errors="replace").strip()
         with self._lock:
@@ -327,5 +327,5 @@ def zero(handle, count, offset, flags):
 
 
 def flush(handle, flags):
-    # What was answered is on the device already. A server that has ended is told of all the same.
+    # What was answered is on the device already. A server that has ended is reported all the same.
     handle.check()

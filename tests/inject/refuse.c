@@ -1,4 +1,4 @@
-/* Stands between a program and the GNU C library. It refuses one request for memory, or one and all behind
+/* Lies between a program and the GNU C library. It refuses one request for memory, or one and all behind
  * it, or one for a thread, or fails one read of standard input or one write of standard output. The
  * environment says which, counted from 1: REFUSE_ONE, REFUSE_FROM, REFUSE_THREAD, FAIL_READ, FAIL_WRITE. Once
  * it has happened it makes the file that HAPPENED names. Where a program writes the lines FROM_HERE and TO_HERE

@@ -1,4 +1,4 @@
-/* Stands between a program and the GNU C library at the calls of its device: the reads and writes at a place of a
+/* Lies between a program and the GNU C library at the calls of its device: the reads and writes at a place of a
  * file, and the syncs. The environment says what happens, and at which call, counted from 1:
  *
  *   STOP_CALL        at that write or sync the process is killed, and what was written since the last sync is torn
@@ -23,7 +23,7 @@
 
 enum tear { OLD, NEW, FIRST_PART, EITHER_BYTE, EITHER_SECTOR, EITHER_WRITE, ZEROS, ONES, SEVENTY_SEVENS, GATES, ANY };
 
-/* A write since the last sync, and what stood there before. */
+/* A write since the last sync, and what was there before. */
 struct span {
     int file;
     off_t at;
@@ -191,7 +191,7 @@ ssize_t write(int file, const void *from, size_t length) {
     return syscall(SYS_write, file, from, length);
 }
 
-/* The numbers stand in the file itself, since a program may end without a word. */
+/* The numbers are in the file itself, since a program may end without a word. */
 __attribute__((constructor)) static void open_counts(void) {
     const char *path = getenv("COUNTS");
     if (!path)

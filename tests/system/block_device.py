@@ -26,7 +26,7 @@ READ, WRITE, FLUSH, TRIM, ZERO = 0, 1, 3, 4, 6  # requests of NBD
 EIO, EINVAL = 5, 22
 
 LONGEST_FIO = 120  # seconds that fio may take
-FIO_LIVES = 1.5  # seconds from its start to the kill; it writes for four
+FIO_RUNS = 1.5  # seconds from its start to the kill; it writes for four
 KILLS = 40
 DEPTH = 64  # requests in flight
 LONGEST = 24  # sectors of a request
@@ -142,7 +142,7 @@ class Client:
         return self.answer()[1:]
 
     def wait_for_end(self):
-        """Until nbdkit tells that the server, which was killed, has ended. A read may be answered before."""
+        """Until nbdkit reports that the server, which was killed, has ended. A read may be answered before."""
         while self.ask(READ, 0, SECTOR)[0] != EIO:
             pass
 
@@ -187,14 +187,14 @@ def try_fio(disk):
 
 
 def try_fio_cut(disk):
-    """What fio wrote before the kill it can't tell from what it was to write. But each sector is a whole one of its own."""
+    """What fio wrote before the kill it can't distinguish from what it was to write. But each sector is a whole one of its own."""
     check("fio fills the disk by sectors", disk.fio("--rw=randwrite", "--bs=512"))
-    killing = threading.Timer(FIO_LIVES, disk.kill)
+    killing = threading.Timer(FIO_RUNS, disk.kill)
     killing.start()
     began = time.monotonic()
     problem = disk.fio("--rw=randwrite", "--bs=512", "--do_verify=0", f"--rate=,{DISK_SIZE // 4}")
     killing.join()
-    took = time.monotonic() - began - FIO_LIVES
+    took = time.monotonic() - began - FIO_RUNS
     is_told = problem is not None and "Input/output error" in problem and took < PATIENCE
     check("the server is killed while fio writes, and fio ends with EIO", None if is_told else f"{took:.0f} s, {problem}")
     check("fio finds each sector whole, and at its place", disk.fio("--rw=read", "--bs=512"))
@@ -273,7 +273,7 @@ class Load:
         self.in_flight[number] = first, data
 
     def take(self):
-        """Takes an answer. Where it says that all was done, the sectors hold what was asked."""
+        """Takes an answer. Where it reports that all was done, the sectors hold what was asked."""
         number, error, _ = self.client.answer()
         first, data = self.in_flight.pop(number)
         if error not in (0, EIO):
@@ -284,7 +284,7 @@ class Load:
                 del self.open[at]
         return error
 
-    def life(self):
+    def run_until_killed(self):
         """Requests until the server is killed. How many got an error."""
         self.connect()
         for _ in range(self.random.randrange(MOST_ANSWERS)):
@@ -313,7 +313,7 @@ def try_kills(disk):
     errors, problem = 0, None
     for number in range(KILLS):
         try:
-            errors += load.life()
+            errors += load.run_until_killed()
             problem = load.problem()
         except (OSError, RuntimeError) as error:
             problem = repr(error)

@@ -152,7 +152,7 @@ def changes_of(g, state, line):
 
 
 def lines_that_read(g):
-    """Lines whose replies tell the whole state."""
+    """Lines whose replies give the whole state."""
     found = ["summary"]
     for a, v in itertools.product(range(g.aggregates), range(g.volumes)):
         found += [f"usage {a} {v}", f"list {a} {v}", f"label {a} {v}"]
@@ -161,10 +161,10 @@ def lines_that_read(g):
 
 
 def state_of_replies(g, replies):
-    """The state that the replies to these lines tell."""
+    """The state that the replies to these lines give."""
     state = empty_state(g)
     replies = iter(replies)
-    next(replies)  # the summary says no more than the others
+    next(replies)  # the summary gives no more than the others
     for a, v in itertools.product(range(g.aggregates), range(g.volumes)):
         usage, files, label = next(replies), next(replies), next(replies)
         if usage != "error volume":
@@ -219,7 +219,7 @@ class Search:
         self.g, self.lines, self.answered, self.left = g, lines, answered, left
         self.state = dict(start)
         self.logged = []  # the places of the lines in the log
-        self.undone = []  # what stood before, of each piece that was set
+        self.undone = []  # what was there before, of each piece that was set
         self.waiting = []  # the places in the tree where a message isn't in the log
         self.turns = []  # where another way may be tried
 
@@ -242,7 +242,7 @@ class Search:
         return at + 1
 
     def walk(self, at):
-        """Goes on from this line. Says whether it came to the state that was left."""
+        """Goes on from this line. Whether it came to the state that was left."""
         while at < len(self.lines) and () not in self.waiting:
             message, pieces = changes_of(self.g, self.state, self.lines[at])
             if message is None:

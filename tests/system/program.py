@@ -103,7 +103,7 @@ class Between:
         subprocess.run(["cc", "-Wall", "-shared", "-fPIC", "-O1", "-o", self.library, path, "-ldl"], check=True)
 
     def env(self, **turns):
-        """What the environment of a run has to say, so that this happens."""
+        """What the environment of a run has to have, so that this happens."""
         return {"LD_PRELOAD": self.library, "HAPPENED": self.mark, **{name: str(value) for name, value in turns.items()}}
 
     def happened(self):

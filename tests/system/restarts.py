@@ -1,4 +1,4 @@
-"""Lives of a device: `serve` is killed in one life, and the next life has to have each change that was answered; and
+"""Restarts on a device: `serve` is killed in one run, and the next run has to have each change that was acknowledged; and
 long random inputs, beside the serial server."""
 import os
 import random
@@ -82,10 +82,10 @@ def plain(g, lines):
     return replies_of(run(["plain", *options_of(g)], text_of(lines)), "plain")
 
 
-# ---- one life that is killed
+# ---- one run that is killed
 
 
-class Life:
+class KilledRun:
     """One run of `serve` for a client that sends some lines, takes some replies, and rests now and then."""
 
     def __init__(self, words, lines, seed, env=None):
@@ -115,7 +115,7 @@ class Life:
         return bool(piece)
 
     def step(self):
-        """Sends or takes something, or rests; says whether more may come."""
+        """Sends or takes something, or rests. Whether more may come."""
         sends = [] if self.child.stdin.closed else [self.child.stdin]
         takes, sends, _ = select.select([self.child.stdout], sends, [], 0.05)
         if self.random.randrange(4) == 0:
@@ -124,7 +124,7 @@ class Life:
             self.child.stdin.close()
         return not takes or self.take()
 
-    def live(self, seconds):
+    def run_for(self, seconds):
         """Until it ends, or is killed after so long. Then the replies that are still on their way are taken too."""
         end = time.monotonic() + seconds
         alive = True
@@ -142,7 +142,7 @@ class Life:
 
 
 class Device:
-    """A device in a file and the state that it stands for, as far as the replies have told."""
+    """A device in a file and the state to which it recovers, as far as the replies report it."""
 
     def __init__(self, folder, server):
         self.g, self.workers, self.slots, self.every = server
@@ -158,12 +158,12 @@ class Device:
         return ["serve", path, "--workers", str(self.workers), "--slots", str(self.slots), "--every", str(self.every)]
 
     def read_state(self):
-        """The replies of the next life to the lines that read all, on a copy: so this file stays as it was left."""
+        """The replies of the next run to the lines that read all, on a copy: so this file stays as it was left."""
         shutil.copyfile(self.path, self.copy)
-        return replies_of(run(self.words(self.copy), text_of(lines_that_read(self.g))), "the next life")
+        return replies_of(run(self.words(self.copy), text_of(lines_that_read(self.g))), "the next run")
 
     def judge(self, lines, output, whole):
-        """What is wrong with what came out for these lines and with what the next life tells, or None."""
+        """What is wrong with what came out for these lines and with what the next run answers, or None."""
         made = lines_that_make(self.g, self.state)
         wanted = text_of(plain(self.g, made + lines)[len(made):])
         if not wanted.startswith(output) or (whole and output != wanted):
@@ -175,52 +175,52 @@ class Device:
         if logged is None:
             return f"of {answered} lines that were answered a change is missing, or what is there none has made"
         if plain(self.g, made + logged + lines_that_read(self.g))[len(made + logged):] != told:
-            return "the serial server tells of another state"
+            return "the serial server has another state"
         self.state = left
         return None
 
-    def life(self, lines, seed, seconds, env=None):
-        """One life; the status and what was wrong."""
-        life = Life(self.words(self.path), lines, seed, env)
-        status, faults = life.live(seconds)
+    def run_once(self, lines, seed, seconds, env=None):
+        """One run; the status and what was wrong."""
+        served = KilledRun(self.words(self.path), lines, seed, env)
+        status, faults = served.run_for(seconds)
         if status not in (0, -9) or faults:
             return status, f"status {status}, {faults!r:.200}"
         try:
-            return status, self.judge(lines, life.output, status == 0)
-        except RuntimeError as error:  # the next life did not end well
+            return status, self.judge(lines, served.output, status == 0)
+        except RuntimeError as error:  # the next run did not end well
             return status, str(error)
 
 
-def try_lives(folder, server, count, stop, name):
-    """Lives of one device until so many were killed. `stop` says how each ends: its environment and the seconds after
+def try_restarts(folder, server, count, stop, name):
+    """Runs on one device until so many were killed. `stop` gives how each ends: its environment and the seconds after
     which it is killed, if it hasn't come to its end by then."""
     device = Device(folder, server)
     drawing = Drawing(str(server), device.g)
     killed, number, problem = 0, 0, None
-    most = max(LIVES_A_KILL * count, 100)
+    most = max(RUNS_A_KILL * count, 100)
     while killed < count:
         number += 1
         lines = drawing.lines(drawing.random.choice((20, 400, 4000)))
         env, seconds = stop(device, drawing.random, lines, number)
-        status, problem = device.life(lines, number, seconds, env)
+        status, problem = device.run_once(lines, number, seconds, env)
         killed += status == -9
         if problem is not None:
-            problem = f"life {number}: {problem}"
+            problem = f"run {number}: {problem}"
             shutil.copyfile(device.path, "/tmp/waffd_device_with_a_problem")
             break
         if number == most and killed < count:
             problem = "they are over before they are killed"
             break
-    check(f"{killed} of {number} lives {name}: {device.name()}", problem)
+    check(f"{killed} of {number} runs {name}: {device.name()}", problem)
 
 
-# ---- how lives end
+# ---- how runs end
 
-# That are killed, over all servers: a quarter at a random moment, a quarter in a call of the device, and half with torn writes.
-LIVES = 800
-LEAST_LIVES = 4 * len(SERVERS)
-LIVES_A_KILL = 10  # at most, and a hundred where few are to be killed
-LONGEST_LIFE = 60
+# Runs that are killed, over all servers: a quarter at a random moment, a quarter in a call of the device, and half with torn writes.
+RESTARTS = 800
+LEAST_RESTARTS = 4 * len(SERVERS)
+RUNS_A_KILL = 10  # at most, and a hundred where few are to be killed
+LONGEST_RUN = 60
 
 
 def killed_at_random(device, chance, lines, number):
@@ -236,7 +236,7 @@ def stopped_by(between, tears):
         run(device.words(device.copy), text_of(lines), between.env(COUNTS=counts))
         changes = program.counts_in(counts)[1]
         at = chance.randrange(1, changes + 1)
-        return between.env(STOP_CALL=at, TEAR=chance.choice(tears), SEED=chance.randrange(1, 1 << 30)), LONGEST_LIFE
+        return between.env(STOP_CALL=at, TEAR=chance.choice(tears), SEED=chance.randrange(1, 1 << 30)), LONGEST_RUN
 
     return stop
 
@@ -245,15 +245,15 @@ AS_WRITTEN = (1,)  # a number of stop.c's list: all that was written stays
 TORN = tuple(range(11))
 
 
-def try_kills(folder, between, lives_wanted):
-    """Lives of each server, as many of each as of the next."""
-    count = lives_wanted // LEAST_LIVES
+def try_kills(folder, between, restarts_wanted):
+    """Runs of each server, as many of each as of the next."""
+    count = restarts_wanted // LEAST_RESTARTS
     for server in SERVERS:
-        try_lives(folder, server, count, killed_at_random, "killed at a random moment")
+        try_restarts(folder, server, count, killed_at_random, "killed at a random moment")
     for server in SERVERS:
-        try_lives(folder, server, count, stopped_by(between, AS_WRITTEN), "killed in a call of the device")
+        try_restarts(folder, server, count, stopped_by(between, AS_WRITTEN), "killed in a call of the device")
     for server in SERVERS:
-        try_lives(folder, server, 2 * count, stopped_by(between, TORN), "killed so, with torn writes")
+        try_restarts(folder, server, 2 * count, stopped_by(between, TORN), "killed so, with torn writes")
 
 
 # ---- long random inputs
@@ -290,5 +290,5 @@ def problem_of_long(device, lines, end):
     wanted = plain(device.g, lines + reads)
     if end[1] != text_of(wanted[:len(lines)]):
         return "it answered other than the serial server"
-    told = replies_of(run(device.words(device.path), text_of(reads)), "the next life")
-    return None if told == wanted[len(lines):] else "the next life tells of another state"
+    told = replies_of(run(device.words(device.path), text_of(reads)), "the next run")
+    return None if told == wanted[len(lines):] else "the next run has another state"

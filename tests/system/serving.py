@@ -18,7 +18,7 @@ REPLIES = b"done\ndone\ndone\nblock 6162\n"
 EACH_KIND = (b"makevol 0 0\ncreate 0 0 0\ncreate 0 0 1\nwrite 0 0 0 0 6162\nlist 0 0\nusage 0 0\nsummary\n"
              b"setlabel 0 0 6162\nlabel 0 0\nseal 0 0\nunseal 0 0\npunch 0 0 0 0\nread 0 0 0 0\ndelete 0 0 1\ndropvol 0 0\n")
 MOST_REQUESTS = 10000
-LEAST_REQUESTS = 10  # for memory, of a server: what is read, the row of lines, the core, the bench and the answers among them
+LEAST_REQUESTS = 10  # for memory, of a server: what is read, the reorder buffer, the core, the bench and the answers among them
 LEAST_CALLS = 50  # of the device, while some thirty changes are logged
 
 # Places of the small device: the root zone, the two images, and the first record of each half with its gate.
@@ -45,7 +45,7 @@ class File:
         put_bytes(self.path, self.formatted)
 
     def shown(self):
-        """What `show` tells, but for the geometry and the version."""
+        """What `show` prints, but for the geometry and the version."""
         return run(["show", self.path])[1].decode().splitlines()[1:4]
 
     def problem(self, area, records, summary):
@@ -123,8 +123,8 @@ def try_streams(folder):
     def served(name, status, output, faults, given=MADE, **streams):
         file.format()
         check(f"serve, {name}", problem_of(file.serve(given, **streams), status, output, faults))
-        next_life = problem_of(file.serve(b"summary\n"), 0, lambda text: text.startswith(b"summary "), b"")
-        check("and the next life goes on", next_life)
+        next_run = problem_of(file.serve(b"summary\n"), 0, lambda text: text.startswith(b"summary "), b"")
+        check("and the next run goes on", next_run)
 
     served("standard input closed", 1, b"", READ_FAULT, closed=[0])
     served("standard output closed", 1, b"", WRITE_FAULT, closed=[1])
@@ -207,7 +207,7 @@ LINES_A_CALL = 4  # at least, of reads of the input and of writes of the output
 
 def try_calls(folder, between):
     """How many calls of the system piped input takes. What is answered is written before a wait for the workers, so how
-    many writes there are is the scheduler's; so is how often threads wait for one another, which is told alone."""
+    many writes there are is the scheduler's; so is how often threads wait for one another, which is only printed."""
     source, counts = os.path.join(folder, "lines"), os.path.join(folder, "counts")
     volumes = range(COMMON.volumes)
     made = [line for v in volumes for line in (f"makevol 0 {v}", f"create 0 {v} 0")]
@@ -290,7 +290,7 @@ def try_refused(folder, between):
 
 # ---- what a file holds
 
-# What is set in a device that was just formatted, and what is told of it.
+# What is set in a device that was just formatted, and how it is reported.
 DAMAGED = (
     ("not formatted", (0, 0)), ("not formatted", (1, 0)), ("bad geometry", (8, 5)), ("bad geometry", (24, 1)),
     ("bad version", (IMAGE_0, 0)), ("bad version", (IMAGE_0, 3)), ("bad version", (IMAGE_0 + 1, 1)), ("bad version", (ROOT, 1)),
@@ -336,12 +336,12 @@ def try_files(folder, refusing):
         end = file.serve(three, "--every", str(every))
         check(f"three changes, every {every}", problem_of(end, 0, b"done\ndone\ndone\n", b""))
         check("are in the last point", file.problem(area, 0, "1 1 1"))
-        check("and in the next life", problem_of(file.serve(b"read 0 0 0 0\nsummary\n"), 0, b"block 6162\nsummary 1 1 1\n", b""))
+        check("and in the next run", problem_of(file.serve(b"read 0 0 0 0\nsummary\n"), 0, b"block 6162\nsummary 1 1 1\n", b""))
     file.format()
     end = refusing.run("FAIL_READ", 2, ["serve", file.path], MADE + b"dropvol")
     check("serve where the second read fails", problem_of(end, 1, REPLIES, READ_FAULT))
     check("leaves the changes in the log", file.problem(1, 3, "1 1 1"))
-    check("and in the next life", problem_of(file.serve(b"read 0 0 0 0\n"), 0, b"block 6162\n", b""))
+    check("and in the next run", problem_of(file.serve(b"read 0 0 0 0\n"), 0, b"block 6162\n", b""))
     put_bytes(file.path, file.formatted + b"more" * 1000)
     check("serve on a longer file", problem_of(file.serve(MADE), 0, REPLIES, b""))
     check("leaves what is behind", None if bytes_of(file.path)[8840:] == b"more" * 1000 else "other bytes")

@@ -55,7 +55,8 @@ fits_in_volume g a v (suc (suc n) ∷ p) h = absurd h
 earlier : (v w e : ℕ) → v < w → v * e + e ≤ w * e
 earlier v w e h = row_fits v e w e h (omega arith)
 
-children : (base e v w first count other : ℕ) (r : Bool) → FitsIn (base + v * e) e first count → base + w * e ≤ other → other < base + w * e + e → (v ≡ w → r ≡ (nat_le first other && nat_lt other (first + count))) → ((v == w) && r) ≡ (nat_le first other && nat_lt other (first + count))
+children : (base e v w first count other : ℕ) (r : Bool) → FitsIn (base + v * e) e first count → base + w * e ≤ other → other < base + w * e + e
+    → (v ≡ w → r ≡ (nat_le first other && nat_lt other (first + count))) → ((v == w) && r) ≡ (nat_le first other && nat_lt other (first + count))
 children base e v w first count other r fits low high same = ⊎_elim
     (λ (equal : v ≡ w). let inner : r ≡ (nat_le first other && nat_lt other (first + count)) = same equal in grind (arith, nat_tests))
     (λ apart. ⊎_elim

@@ -1,5 +1,5 @@
--- The numbers of a server, and the stripe of a block. A geometry carries the proof that each of its numbers is in range, as
--- `g.stripes_range`.
+-- Statement for clients: The numbers of a server, and the stripe of a block. A geometry carries the proof that each of its numbers is in
+-- range, as `g.stripes_range`.
 use Rattle.std.specs.Prelude.{ℕ, ◌+◌, ◌/◌, ◌%◌, List, [], ◌∷◌}
 use Rattle.std.proofs.Common.{lit≤}
 use Rattle.affinity.specs.declared.geometry.Geometry.{Geometry}

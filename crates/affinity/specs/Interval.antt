@@ -1,15 +1,15 @@
--- Affinities as numbers. The tree of a server is numbered in preorder: each affinity comes before all that lie below it, and these are the
--- numbers from its own up to its end.
+-- Statement for engineers: Affinities as numbers. The tree of a server is numbered in preorder: each affinity comes before all that lie
+-- below it, and these are the numbers from its own up to its end.
 use Rattle.std.specs.Prelude.{◌≡◌, ℕ, zero, suc, ◌+◌, ◌*◌, ◌<◌, [], ◌∷◌, Bool, ◌&&◌, nat_le, nat_lt}
 use Rattle.affinity.specs.Path.{Path}
 use Rattle.affinity.specs.declared.geometry.Geometry.{Geometry}
 
--- the number of an affinity, and the first number behind those below it
+-- the number of an affinity, and the first number after those below it
 pub record Interval : Type 0 where
   pub number : ℕ
   pub end : ℕ
 
--- how many affinities a volume has, itself, its Volume Logical with the stripes, and its label
+-- how many affinities a volume has: itself, its Volume Logical with the stripes, and its label
 abbrev pub volume_size : Geometry → ℕ
 volume_size g = 3 + g.stripes
 

@@ -1,5 +1,5 @@
--- The ranges of a geometry's numbers. They stand apart from Geometry.antt, since `Geometry` keeps them in ghost fields, and a ghost field
--- can cite no module that names its struct.
+-- Statement for engineers: The ranges of a geometry's numbers. They are not in Geometry.antt, since `Geometry` keeps them in ghost fields,
+-- and a ghost field can cite no module that names its struct.
 use Rattle.std.specs.Prelude.{ℕ, ◌≤◌, List, [], ◌∷◌}
 
 -- from `least` to `most`, both included

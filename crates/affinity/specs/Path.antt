@@ -1,4 +1,4 @@
--- Paths name the affinities of a server: each begins with the paths of those above it.
+-- Statement for clients: Paths name the affinities of a server: each begins with the paths of those above it.
 use Rattle.std.specs.Prelude.{ℕ, Bool, true, false, ◌&&◌, ◌||◌, ◌==◌, List, [], ◌∷◌}
 
 abbrev pub Path : Type 0

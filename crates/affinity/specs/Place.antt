@@ -1,4 +1,4 @@
--- Where a message belongs, by its kind and its four numbers: aggregate, volume, file and block.
+-- Statement for clients: Where a message belongs, by its kind and its four numbers: aggregate, volume, file and block.
 use Rattle.std.specs.Prelude.{ℕ, Bool, true, false, ◌&&◌, nat_lt, List, [], ◌∷◌, take}
 use Rattle.affinity.specs.Geometry.{group}
 use Rattle.affinity.specs.Kind.{number_count}

@@ -17,7 +17,7 @@ pub struct Geometry {
     /// Stripes of each volume, 1 to 8.
     pub stripes: u16,
 
-    /// Blocks in a row that lie in one stripe, before the file goes on in the next one, 1 to 64.
+    /// Consecutive blocks in one stripe, before the file goes on in the next one, 1 to 64.
     pub width: u16,
 
     /// Files of each volume, 1 to 64.
@@ -112,8 +112,8 @@ impl Geometry {
     }
 }
 
-/// One aggregate of 4 volumes of 16 files of 64 blocks, in 4 stripes of runs of 4 blocks that hold
-/// 64 blocks each, and log halves of 256 records.
+/// One aggregate of 4 volumes of 16 files of 64 blocks, in 4 stripes of width 4 that hold 64 blocks
+/// each, and log halves of 256 records.
 impl Default for Geometry {
     ghost use Rattle.std.specs.Prelude.{◌≡◌};
     ghost use Rattle.affinity.specs.Geometry.{standard};

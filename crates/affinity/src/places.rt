@@ -25,7 +25,7 @@ pub enum Place {
 }
 
 /// The stripe of its volume to which block `b` of file `f` belongs. Runs of `width` blocks go to
-/// the stripes in turn, and each file begins one stripe after the file before it.
+/// one stripe after another, and each file begins one stripe after the file before it.
 pub fn group_of(g: &Geometry, f: u16, b: u16) -> u16
     ensures value { result ≡ group g.now f b }
     ensures below { result < g.now.stripes }

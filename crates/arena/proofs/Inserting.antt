@@ -133,7 +133,7 @@ module _ (slots nodes slot before : ℕ) (next previous next' previous' : ℕ �
           subst Q (sym (ring-other end outside below n)) (other_way end outside below n))
     ]
 
-    -- the slot stands once more in the lists, and each other as often as before
+    -- the slot is once more in the lists, and each other as often as before
     count : (i : ℕ) → times i (concat (rings next' slots nodes)) ≡ times i (slot ∷ concat (rings next slots nodes))
     count i =
         let long : list < length (rings next slots nodes) = omega (arith, length-table (ring next slots) slots (nodes - slots)) in

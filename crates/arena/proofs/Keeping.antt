@@ -26,7 +26,7 @@ unlinked-free x rest chains once =
     let others = without_all-absent x chains (omega arith) in
     cc
 
--- what holds of each number that stands in a list holds along the list
+-- what holds of each number that is in a list holds along the list
 pub each-from_times : (P : ℕ → Type 0) (xs : List ℕ) → ((i : ℕ) → 0 < times i xs → P i) → AllByRecursion P xs
 each-from_times P [] each = tt
 each-from_times P (x ∷ xs) each =

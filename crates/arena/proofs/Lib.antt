@@ -1,9 +1,9 @@
--- ---- for the crates above: how often a slot stands in lists, the parts of a row after each call, and
+-- ---- for the crates above: how often a slot is in lists, the parts of a row after each call, and
 -- what a caller needs of chains and parts
 pub mod Times
 pub mod Parts
 pub mod RowLemmas
--- ---- this crate's own: that the links stand for lists, and that the arena keeps its row by them
+-- ---- this crate's own: that the links are those of lists, and that the arena keeps its row by them
 mod Ways
 mod Unlinking
 mod Alone

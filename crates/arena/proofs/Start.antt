@@ -8,7 +8,7 @@ use Rattle.arena.specs.Linked.{IsWay, ring, table, rings, IsLinked, next_at_star
 use Rattle.arena.proofs.Times.{times-append, times-cons_is, times-cons_other, length-numbers}
 use Rattle.arena.proofs.Ways.{AreSlots, walk-way}
 
--- how often a number stands among numbers in a row
+-- how often a number is among consecutive numbers
 times-low : (i first count : ℕ) → i < first → times i (numbers_from first count) ≡ 0
 times-low i first zero low = refl
 times-low i first (suc count) low =

@@ -1,4 +1,4 @@
--- How often a number stands in lists that were joined, or that lost a number.
+-- How often a number is in lists that were joined, or that lost a number.
 use Rattle.std.proofs.Common.{◌≡◌, ◌≢◌, ℕ, zero, suc, ◌+◌, ◌<◌, ◌≤◌, true, false, List, [], ◌∷◌, ◌++◌, map, length, eqb, refl, sym, ap, ◌∙◌, inl, inr, arith, ◌==◌, slice_set, slice_index_or}
 use Rattle.std.proofs.lemmas.Bool.{eq-eqb, ne_eqb}
 use Rattle.std.proofs.lemmas.Bool.Decides.{eqb_tells}
@@ -6,7 +6,7 @@ use Rattle.std.proofs.lemmas.Map.Steps.{length-le_from_distinct_below}
 use Rattle.std.specs.List.{concat, AllByRecursion, IsDistinct, list_any}
 use Rattle.arena.specs.Lists.{times, without, numbers_from}
 
--- so many numbers in a row
+-- so many consecutive numbers
 pub length-numbers : (first count : ℕ) → length (numbers_from first count) ≡ count
 length-numbers first zero = refl
 length-numbers first (suc count) = omega (arith, length-numbers (suc first) count)
@@ -120,7 +120,7 @@ apart-from_times i (x ∷ xs) none = elim (eqb_tells x i) [
   | inr n ↦ (ne_eqb i x (λ same. n.1 (sym same)), apart-from_times i xs (sym (times-cons_other i x xs n.1) ∙ none))
 ]
 
--- numbers that each stand once in a list are distinct
+-- numbers that are each once in a list are distinct
 pub distinct-from_times : (xs : List ℕ) → ((i : ℕ) → times i xs ≤ 1) → IsDistinct eqb xs
 unfolding IsDistinct
 distinct-from_times [] once = tt

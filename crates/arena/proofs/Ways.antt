@@ -44,7 +44,7 @@ pub slots-append : (slots i : ℕ) (xs : List ℕ) → AreSlots slots xs → i <
 slots-append slots i [] inside within = (within, tt)
 slots-append slots i (x ∷ xs) inside within = (inside.0, slots-append slots i xs inside.1 within)
 
--- a number that is no slot stands in no list of slots
+-- a number that is no slot is in no list of slots
 pub times-no_slot : (slots i : ℕ) (xs : List ℕ) → AreSlots slots xs → slots ≤ i → times i xs ≡ 0
 times-no_slot slots i [] inside outside = refl
 times-no_slot slots i (x ∷ xs) inside outside =

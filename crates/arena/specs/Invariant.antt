@@ -1,4 +1,4 @@
--- How an `Arena` keeps its row. No public clause cites this module.
+-- Inner: How an `Arena` keeps its row.
 use Rattle.std.specs.Prelude.{◌≡◌, ℕ, ◌<◌, List, [], ◌∷◌, length, Option}
 use Rattle.arena.specs.Linked.{Linked}
 use Rattle.arena.specs.Row.{Row, IsParted}

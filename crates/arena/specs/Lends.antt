@@ -1,4 +1,4 @@
--- What an `Arena` ends as, where a `&mut` to one of its values is returned.
+-- Inner: What an `Arena` ends as, where a `&mut` to one of its values is returned.
 use Rattle.std.specs.Prelude.{ℕ, Option}
 use Rattle.std.specs.Borrow.{Lends, LendsIf, Fml, RattleType, MutBor}
 use Rattle.arena.specs.Row.{Row, with_value}

@@ -1,4 +1,4 @@
--- How lists of slots stand in two rows of numbers. No public clause cites this module.
+-- Inner: How two arrays of numbers keep lists of slots.
 use Rattle.std.specs.Prelude.{◌≡◌, ◌≢◌, ℕ, zero, suc, ◌+◌, ◌-◌, ◌<◌, ◌≤◌, List, [], ◌∷◌, nat_lt, nat_le, ◌==◌, if◌then◌else◌, slice_index_or}
 use Rattle.std.specs.List.{concat}
 use Rattle.arena.specs.Lists.{times}
@@ -12,7 +12,7 @@ pub record Linked : Type 0 where
 abbrev pub list_at : Linked → ℕ → List ℕ
 list_at m k = slice_index_or m.lists k []
 
--- the slots on the way from a node, until a node that is no slot
+-- the slots on the way from a node, up to a node that is no slot
 abbrev pub walk : (ℕ → ℕ) → ℕ → ℕ → ℕ → List ℕ
 walk next slots zero node = []
 walk next slots (suc steps) node = if nat_lt node slots then node ∷ walk next slots steps (next node) else []
@@ -35,7 +35,7 @@ abbrev pub IsWay : (ℕ → ℕ) → ℕ → List ℕ → ℕ → Type 0
 IsWay next a [] z = next a ≡ z
 IsWay next a (x ∷ xs) z = (next a ≡ x) × IsWay next x xs z
 
--- at the start, the node behind a node: the first list has all slots in order, and the others are empty
+-- at the start, the node after a node: the first list has all slots in order, and the others are empty
 abbrev pub next_at_start : ℕ → ℕ → ℕ
 next_at_start slots node = if nat_lt node slots then node + 1 else (if node == slots then 0 else node)
 
@@ -43,7 +43,7 @@ next_at_start slots node = if nat_lt node slots then node + 1 else (if node == s
 abbrev pub previous_at_start : ℕ → ℕ → ℕ
 previous_at_start slots node = if node == 0 then slots else (if nat_le node slots then node - 1 else node)
 
--- each number that is on a list is a slot, and stands there once
+-- each number that is on a list is a slot, and is there once
 pub record IsWellLinked (m : Linked) : Type 0 where
   pub once : (i : ℕ) → times i (concat m.lists) ≤ 1
   pub within : (i : ℕ) → 0 < times i (concat m.lists) → i < m.slots

@@ -1,12 +1,12 @@
--- Words on lists of slot numbers.
+-- Statement for engineers: Words on lists of slot numbers.
 use Rattle.std.specs.Prelude.{ℕ, zero, suc, Bool, not, List, [], ◌∷◌, filter, Option, Some, None, nat_lt, ◌==◌, if◌then◌else◌}
 
--- how often a number stands in a list
+-- how often a number is in a list
 abbrev pub times : ℕ → List ℕ → ℕ
 times i [] = 0
 times i (x ∷ xs) = if x == i then suc (times i xs) else times i xs
 
--- whether a number stands in a list
+-- whether a number is in a list
 abbrev pub is_on : ℕ → List ℕ → Bool
 is_on i xs = nat_lt 0 (times i xs)
 
@@ -24,12 +24,12 @@ abbrev pub first_of : List ℕ → Option ℕ
 first_of [] = None
 first_of (x ∷ xs) = Some x
 
--- the number behind i in a list
+-- the number after i in a list
 abbrev pub behind : ℕ → List ℕ → Option ℕ
 behind i [] = None
 behind i (x ∷ xs) = if x == i then first_of xs else behind i xs
 
--- the number behind i in the first of these lists that has i
+-- the number after i in the first of these lists that has i
 abbrev pub behind_in : ℕ → List (List ℕ) → Option ℕ
 behind_in i [] = None
 behind_in i (xs ∷ lists) = if is_on i xs then behind i xs else behind_in i lists

@@ -1,4 +1,4 @@
--- What a contract sees of an `Arena`, and what each of its calls does.
+-- Statement for engineers: What a contract sees of an `Arena`, and what each of its calls does.
 use Rattle.std.specs.Prelude.{◌≡◌, ℕ, ◌<◌, ◌≤◌, Bool, not, ◌&&◌, List, [], ◌∷◌, ◌++◌, map, filter, length, replicate, Option, Some, None, is_some, is_none, IsTrue, Result, Ok, Err, nat_lt, if◌then◌else◌, slice_index_or, slice_set, refl}
 use Rattle.std.specs.List.{concat}
 use Rattle.std.specs.Coded.{Coded, code_by, coded×, coded_ℕ, coded_list, coded_option}
@@ -53,9 +53,9 @@ module _ {T : Type 0} where
   abbrev pub aside : Row T → List ℕ
   aside m = filter (λ i. not (is_on i (listed m))) (numbers_from 0 (capacity_of m))
 
-  -- The free list, the chains and the slots aside part the slots. A free slot holds no value, and a slot on a chain does.
+  -- The free list, the chains and the slots aside partition the slots. A free slot holds no value, and a slot on a chain does.
   pub record IsParted (m : Row T) : Type 0 where
-    -- each number below the capacity stands once in all parts together, and no other number does
+    -- each number below the capacity is once in all parts together, and no other number is
     pub parts : (i : ℕ) → times i (listed m ++ aside m) ≡ (if nat_lt i (capacity_of m) then 1 else 0)
     pub once : (i : ℕ) → times i (listed m) ≤ 1
     pub within : (i : ℕ) → 0 < times i (listed m) → i < capacity_of m
@@ -81,7 +81,7 @@ module _ {T : Type 0} where
   abbrev pub after_put : Row T → T → Row T
   after_put m value = put_into m m.free value
 
-  -- the first slot of a chain, and the slot behind one on its chain
+  -- the first slot of a chain, and the slot after one on its chain
   abbrev pub front_of : Row T → ℕ → Option ℕ
   front_of m c = first_of (chain_at m c)
 

@@ -1,4 +1,4 @@
-//! A fixed row of slots with chains through them. All memory is taken at the start.
+//! A fixed array of slots with chains through them. All memory is taken at the start.
 #![tactic(auto)]
 
 ghost use Rattle.std.specs.Prelude.{◌≡◌, ◌+◌, ◌<◌, length, slice_set, slice_index_or, IsTrue, IsSome, IfOk, Some, option_copied, vec_len};
@@ -17,7 +17,7 @@ use std::mem;
 /// The number, among the lists of `Links`, of the list of free slots. Chain `c` is list `c + 1`.
 const FREE: usize = 0;
 
-/// A fixed row of slots. A slot is free, on exactly one chain, or aside: claimed, and on no chain.
+/// A fixed array of slots. A slot is free, on exactly one chain, or aside: claimed, and on no chain.
 ///
 /// A claimed slot holds a value or has it lent out, and a slot whose value is out is aside.
 /// Each call but `with_capacity` takes no memory, and leaves all unchanged where it refuses.
@@ -152,7 +152,7 @@ impl<T> Arena<T> {
         self.links.lists() - 1
     }
 
-    /// Puts a value into the first free slot, which is aside then, and answers its number. Where no
+    /// Puts a value into the first free slot, which is aside then, and gives its number. Where no
     /// slot is free it hands the value back.
     pub fn put(&mut self, value: T) -> Result<usize, T>
         ensures answer { result ≡ put_answer self.old value }
@@ -193,7 +193,7 @@ impl<T> Arena<T> {
         }
     }
 
-    /// Makes a slot the last of a chain, whether it was on a chain or aside. Answers `false`, and
+    /// Makes a slot the last of a chain, whether it was on a chain or aside. Gives `false`, and
     /// changes nothing, where the slot holds no value or there is no such chain.
     pub fn move_to(&mut self, i: usize, c: usize) -> bool
         ensures answer { result ≡ can_move self.old i c }
@@ -209,7 +209,7 @@ impl<T> Arena<T> {
     }
 
     /// Gives the value of a slot out, and takes the slot off its chain. It stays claimed, until
-    /// `restore` brings the value back. Answers `None`, and changes nothing, where `get` does.
+    /// `restore` brings the value back. Gives `None`, and changes nothing, where `get` does.
     pub fn lend(&mut self, i: usize) -> Option<T>
         ensures answer { result ≡ value_at self.old i }
         ensures row { self.new ≡ after_lend self.old i }
@@ -236,7 +236,7 @@ impl<T> Arena<T> {
         Ok(())
     }
 
-    /// Takes the value out of a slot, which becomes the first free one. Answers `None`, and changes
+    /// Takes the value out of a slot, which becomes the first free one. Gives `None`, and changes
     /// nothing, where `get` does.
     pub fn take(&mut self, i: usize) -> Option<T>
         ensures answer { result ≡ value_at self.old i }

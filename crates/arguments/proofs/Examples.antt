@@ -4,7 +4,7 @@ use Rattle.affinity.specs.Geometry.{standard}
 use Rattle.clap.proofs.OnLiterals.{clap_on_literals}
 use Rattle.arguments.specs.Arguments.{AsksFormat, AsksHelp, AsksNoService, AsksOutOfRange, AsksPlain, AsksServeWith, AsksShow, AsksVersion, IsWrong}
 
--- two names are told apart by it
+-- two names are distinguished by it
 abbrev first_letter : Option (List ℕ) → ℕ
 first_letter (Some (letter ∷ name)) = letter
 first_letter _ = 0

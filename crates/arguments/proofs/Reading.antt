@@ -1,4 +1,4 @@
--- What an error of `clap` says of the words.
+-- What an error of `clap` means for the words.
 use Rattle.std.proofs.Common.{◌≡◌, ◌∙◌, refl, sym, ap, inl, inr, List, []}
 use Rattle.std.specs.Prelude.{Err, Ok, Result}
 use Rattle.clap.specs.Words.{HasKind, IsAmong, Text, kind_of, subcommand_of}
@@ -27,7 +27,7 @@ holds_by words error kind.DisplayHelp is h = (among words error kind.DisplayHelp
 holds_by words error kind.DisplayVersion is h = (among words error kind.DisplayVersion is (λ e. cc) h, ap is_mistake is)
 holds_by words error k is h = (among words error k is (λ e. cc) h, ap is_mistake is)
 
--- an error of one of the kinds that the words may have stands for what they ask, or for a reason
+-- an error of one of the kinds that the words may have means what they ask, or a reason
 pub holds : (words : List Text) (error : Error) → HasKind (findings words) error → Holds words (answer_of error)
 holds words error h = holds_by words error (kind_of error) refl h
 

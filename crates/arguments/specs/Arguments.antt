@@ -1,4 +1,4 @@
--- What the words of a call ask for. `clap` reads them, by its rules for the commands and options that stand here.
+-- Statement for engineers: What the words of a call ask for. `clap` reads them, by its rules for the commands and options below.
 use Rattle.std.specs.Prelude.{◌≡◌, ◌≢◌, ◌&&◌, ◌⊎◌, ℕ, Bool, true, false, List, [], ◌∷◌, fold, length, Option, Some, None, option_and_then, option_map, unwrap_or, Result, Ok, Err, codes, if◌then◌else◌, nat_lt, ℤ, pos}
 use Rattle.std.specs.Char.{digit_value}
 use Rattle.std.specs.List.{list_all}
@@ -73,7 +73,7 @@ bare = on_top (λ s. record s { has_version = true; subcommand_required = true; 
 abbrev pub waffd : App
 waffd = with_subcommand (with_subcommand (with_subcommand (with_subcommand bare plain.top) format.top) show.top) serve.top
 
--- ---- what the words say
+-- ---- what the words give
 
 -- the number that decimal digits write, with a plus before them or none, below 2^16
 abbrev pub number_of : Text → Option ℕ
@@ -111,7 +111,7 @@ service_in rows =
     ∷ number_in rows (codes "every") 0
     ∷ []
 
--- the file of the device; no words pass that don't tell it
+-- the file of the device; no words pass that don't give it
 abbrev pub device_in : List Row → Text
 device_in rows = unwrap_or (first_of (codes "device") rows) []
 
@@ -119,7 +119,7 @@ device_in rows = unwrap_or (first_of (codes "device") rows) []
 abbrev pub findings : List Text → Kinds
 findings words = fault_of waffd words
 
--- whether the text that tells of it goes to the standard error: it does, but for help and the version
+-- whether the text printed of it goes to the standard error: it does, but for help and the version
 abbrev pub is_mistake : ErrorKind → Bool
 is_mistake DisplayHelp = false
 is_mistake DisplayVersion = false
@@ -203,7 +203,7 @@ abbrev pub AsksVersion : List Text → Type 0
 AsksVersion words = findings words ≡ DisplayVersion ∷ []
 
 -- The words ask for no command: they ask for help or the version, or there are mistakes in them. Behind the word `help` there may be a
--- mistake or none, and `clap` tells which.
+-- mistake or none, and `clap` decides which.
 abbrev pub AsksNoService : List Text → Type 0
 AsksNoService words = findings words ≢ []
 
@@ -229,7 +229,7 @@ IsReason words (Words error) = IsAmong (kind_of error) (findings words) × (is_m
 IsReason words OutOfMemory = Unit {0}
 IsReason words GeometryOutOfRange = AsksOutOfRange words
 
--- what an error of `clap` stands for, by its kind
+-- what an error of `clap` means, by its kind
 abbrev pub answer_by : Error → ErrorKind → Result Request WordRefusal
 answer_by error kind.OutOfMemory = Err OutOfMemory
 answer_by error DisplayHelp = Ok (Help error)

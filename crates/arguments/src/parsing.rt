@@ -13,7 +13,7 @@ use std::alloc::{AllocError, Global};
 /// What `--version` prints behind the program's name: its version, and the kit and the logic with which it is proved.
 const VERSION: &str = "0.1.0 (proved with rattle-kit-13f, logic dac8208d650f15bf)";
 
-// What help says of the commands.
+// What help prints of the commands.
 const PLAIN: &str = "Answers the messages on standard input, one line each, from an empty state on";
 
 const FORMAT: &str = "Makes a device of an empty state in a file, instead of a file that is there";
@@ -23,10 +23,10 @@ const SERVE: &str =
 
 const SHOW: &str = "Tells what the device in a file holds, and leaves it as it is";
 
-/// What help says of the file of a device.
+/// What help prints of the file of a device.
 const DEVICE: &str = "The file of the device";
 
-/// The options of a geometry, in the order of its numbers: the name of each, and what help says of it.
+/// The options of a geometry, in the order of its numbers: the name of each, and what help prints of it.
 const NUMBERS: [(&str, &str); 8] = [
     ("aggregates", "Aggregates, 1 to 4 [default: 1]"),
     ("volumes", "Volumes of each aggregate, 1 to 8 [default: 4]"),
@@ -47,7 +47,7 @@ const NUMBERS: [(&str, &str); 8] = [
     ),
 ];
 
-// What help says of the options of a service.
+// What help prints of the options of a service.
 const WORKERS: &str = "Threads that run messages, 0 to 64 [default: 2]";
 
 const SLOTS: &str = "Lines that are read and not answered yet, 1 to 1024 [default: 16]";
@@ -75,7 +75,7 @@ pub enum Request<'a> {
     Plain(Geometry),
     /// Make a device of this geometry in the file of this path.
     Format(&'a str, Geometry),
-    /// Tell what the device in the file of this path holds.
+    /// Print what the device in the file of this path holds.
     Show(&'a str),
     /// Serve standard input to standard output with the device in the file of this path.
     Serve(&'a str, ServiceNumbers),
@@ -84,7 +84,7 @@ pub enum Request<'a> {
 /// Why the words give no request.
 #[derive(Drop)]
 pub enum WordRefusal {
-    /// `clap` says what is wrong with them.
+    /// `clap` reports what is wrong with them.
     Words(clap::Error),
     /// There was no memory to read them.
     OutOfMemory,
@@ -100,7 +100,7 @@ impl From<AllocError> for WordRefusal {
     }
 }
 
-/// What an error of `clap` stands for: help or the version, a mistake in the words, or want of memory.
+/// What an error of `clap` means: help or the version, a mistake in the words, or want of memory.
 fn answered<'a>(error: clap::Error) -> Result<Request<'a>, WordRefusal>
     ensures { result ≡ answer_of error }
 {
@@ -137,7 +137,7 @@ fn number_within<'a>(alloc: Global, name: &'a str, help: &'a str, least: i64, mo
         .help(help)
 }
 
-/// The argument that tells the file of a device. It has to be given.
+/// The argument that gives the file of a device. It has to be given.
 fn device<'a>(alloc: Global) -> Arg<'a>
     ensures rule { rule_of result ≡ device_rule }
     ensures local { result.global ≡ false }

@@ -37,9 +37,11 @@ none_behind g h None = refl
 none_behind g h (Some x) = refl
 
 -- by the records of the named half, where there are none behind
-pub refused_alone : (g : Geometry) (c : List ℕ) (n : ℕ) (x : State) → HasHeader g c → device_size (layout_of g) ≤ length c → n ≡ named_area (layout_of g) c → are_chained (layout_of g) c ≡ false → image_fault g (part_bytes (layout_of g) (image n) c) ≡ None
+pub refused_alone : (g : Geometry) (c : List ℕ) (n : ℕ) (x : State) → HasHeader g c → device_size (layout_of g) ≤ length c → n
+    ≡ named_area (layout_of g) c → are_chained (layout_of g) c ≡ false → image_fault g (part_bytes (layout_of g) (image n) c) ≡ None
     → read g (part_bytes (layout_of g) (image n) c) ≡ Some x → (chain (layout_of g) n c == 1) ≡ false → refused g c ≡ records_fault g x n (front (layout_of g) n c)
 refused_alone g c n x head long named one good decoded shut =
     past_chain g c head long n named good x decoded one
     ∙ ap (λ (t : Bool). fault_or_later (BadRecord n) (first_bad_record g 0 (Some x) (front (layout_of g) n c)) (behind g x n c t (run (means g) (Some x) (front (layout_of g) n c)))) shut
-    ∙ ap (λ (o : Option OpenFault). fault_or_later (BadRecord n) (first_bad_record g 0 (Some x) (front (layout_of g) n c)) o) (none_behind g (other n) (run (means g) (Some x) (front (layout_of g) n c)))
+    ∙ ap (λ (o : Option OpenFault). fault_or_later (BadRecord n) (first_bad_record g 0 (Some x) (front (layout_of g) n c)) o)
+    (none_behind g (other n) (run (means g) (Some x) (front (layout_of g) n c)))

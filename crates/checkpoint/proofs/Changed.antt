@@ -1,4 +1,4 @@
--- Stretches of calls that write ranges of a device.
+-- Segments of calls that write ranges of a device.
 use Rattle.std.proofs.Common.{◌≡◌, ℕ, zero, suc, ◌+◌, ◌≤◌, List, [], ◌∷◌, ◌++◌, length, take, replicate, refl, ◌∙◌, ap, arith}
 use Rattle.std.proofs.lemmas.List.{length-replicate, replicate-append-replicate, take-replicate}
 use Rattle.disk.specs.Device.{Medium, SameOutside, overlaid}
@@ -11,7 +11,7 @@ pub changed_within : (w0 w1 : Medium) (a k at n : ℕ) → a ≤ at → at + n �
 changed_within w0 w1 a k at n below behind moments =
     weaker w0 w1 _ _ moments (λ c after. record { old = after.old; left = after.left; change = wider at n after.old c after.change a k below behind })
 
--- one stretch after another
+-- one segment after another
 pub changed_then : (w0 w1 w2 : Medium) (a k : ℕ) → ChangesOnly w0 w1 (SameOutside a k) → ChangesOnly w1 w2 (SameOutside a k) → ChangesOnly w0 w2 (SameOutside a k)
 changed_then w0 w1 w2 a k first second =
     then w0 w1 w2 _ first

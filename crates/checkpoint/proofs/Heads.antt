@@ -1,4 +1,4 @@
--- What the first bytes of a device and of an image tell.
+-- What the first bytes of a device and of an image show.
 use Rattle.std.proofs.Common.{◌≡◌, ℕ, zero, suc, ◌<◌, ◌≤◌, ◌&&◌, List, [], ◌++◌, length, take, drop, get_or, replicate, sym, ◌∙◌, ap, subst, arith}
 use Rattle.std.specs.List.{flat_map}
 use Rattle.std.specs.Str.{bytes_eq}

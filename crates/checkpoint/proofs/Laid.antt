@@ -1,4 +1,4 @@
--- What stands on a device that is laid out, and what it recovers to once its gate is open.
+-- What is on a device that is laid out, and what it recovers to once its gate is open.
 use Rattle.std.proofs.Common.{◌≡◌, ◌≢◌, ◌⊎◌, ℕ, zero, suc, ◌+◌, ◌-◌, ◌<◌, ◌≤◌, Bool, true, ◌&&◌, not, cond, eqb, List, [], ◌∷◌, ◌++◌, length, take, drop, get_or, replicate, Option, Some, None, inl, inr, ⊎_elim, refl, sym, ◌∙◌, ap, subst, arith}
 use Rattle.std.specs.Prelude.{nat_le, if◌then◌else◌}
 use Rattle.std.proofs.lemmas.Slice.Eq.{bytes_eq-Decides}
@@ -22,7 +22,7 @@ use Rattle.oplog.proofs.Slices.{slice_slice}
 use Rattle.meaning.specs.State.{State, empty}
 use Rattle.meaning.proofs.Kept.{empty_is_state}
 
--- ---- bytes that stand somewhere
+-- ---- bytes that are somewhere
 
 -- a change beside them
 pub has_kept : (a at n : ℕ) (bytes c torn : List ℕ) → (a + length bytes ≤ at) ⊎ (at + n ≤ a) → SameOutside at n c torn → Has c a bytes → Has torn a bytes
@@ -58,7 +58,7 @@ pub image_some : (g : Geometry) → 64 ≤ image_size g
 unfolding image_size
 image_some g = omega arith
 
--- the header, of its gate and what stands behind
+-- the header, of its gate and what comes after
 pub header_there : (g : Geometry) (c : List ℕ) → get_or c 0 0 ≡ 1 → Has c 1 (drop 1 (header_of g)) → slice c 0 64 ≡ header_of g
 header_there g [] is_open has = absurd (omega (arith, is_open))
 header_there g (x ∷ c) is_open has = λ i. is_open i ∷ has i
@@ -158,7 +158,8 @@ version_there g c at inside has =
 
 -- the ranges of an empty device, written one after the other
 pub laid_out : (g : Geometry) (c : List ℕ) → device_size (layout_of g) ≤ length c
-    → IsLaid g (overlaid (overlaid (overlaid (overlaid c 64 (replicate (64 + (64 + g.half)) 0)) (part_at (layout_of g) 3) (replicate (64 + g.half) 0)) (part_at (layout_of g) 4) (replicate (image_size g) 0)) (part_at (layout_of g) 4) (2 ∷ []))
+    → IsLaid g (overlaid (overlaid (overlaid (overlaid c 64 (replicate (64 + (64 + g.half)) 0)) (part_at (layout_of g) 3)
+    (replicate (64 + g.half) 0)) (part_at (layout_of g) 4) (replicate (image_size g) 0)) (part_at (layout_of g) 4) (2 ∷ []))
 laid_out g c long =
     let zeros_0 : List ℕ = replicate (64 + (64 + g.half)) 0 in
     let zeros_1 : List ℕ = replicate (64 + g.half) 0 in

@@ -56,7 +56,8 @@ module _ (g : Geometry) (w0 : Medium) (whole : device_size (layout_of g) ≤ len
       weaker w0 w1 _ _ moments
       (λ c either. ⊎_elim (λ (left : IsCrashImage w0 c). inl left) (λ (shut : IsShut (length w0.now) c). inr (inl (shut_unformatted (length w0.now) c (omega (arith, whole)) shut))) either)
 
-  module _ (w1 w2 : Medium) (first : CrashImagesAre w0 w1 (λ c. IsCrashImage w0 c ⊎ IsShut (length w0.now) c)) (shut : IsShutNow (length w0.now) w1) (at k : ℕ) (behind : 1 ≤ at) (second : ChangesOnly w1 w2 (SameOutside at k)) where
+  module _ (w1 w2 : Medium) (first : CrashImagesAre w0 w1 (λ c. IsCrashImage w0 c ⊎ IsShut (length w0.now) c)) (shut : IsShutNow (length w0.now) w1)
+      (at k : ℕ) (behind : 1 ≤ at) (second : ChangesOnly w1 w2 (SameOutside at k)) where
     pub laid_moments : CrashImagesAre w0 w2 (FormatCrashImages g w0)
     laid_moments =
         then w0 w1 w2 _ (shut_moments w1 first)

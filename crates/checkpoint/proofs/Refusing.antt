@@ -121,7 +121,8 @@ module _ (g : Geometry) (x : State) (n : ℕ) (c : List ℕ) where
 pub head_refused : (g : Geometry) (bytes : List ℕ) (e : OpenFault) → IsFaultOfBytes (fault_if (not (has_head bytes)) BadVersion None) e → IsFaultOfBytes (image_fault g bytes) e
 head_refused g bytes = fault_from _ _ (first_if (not (has_head bytes)) BadVersion (fault_or_later BadPiece (first_bad_piece g bytes) None))
 
-pub pieces_refused : (g : Geometry) (bytes : List ℕ) → has_head bytes ≡ true → (e : OpenFault) → IsFaultOfBytes (fault_or_later BadPiece (first_bad_piece g bytes) None) e → IsFaultOfBytes (image_fault g bytes) e
+pub pieces_refused : (g : Geometry) (bytes : List ℕ) → has_head bytes ≡ true → (e : OpenFault)
+    → IsFaultOfBytes (fault_or_later BadPiece (first_bad_piece g bytes) None) e → IsFaultOfBytes (image_fault g bytes) e
 pieces_refused g bytes head = fault_from _ _ (λ e is. ap (λ (t : Bool). fault_if (not t) BadVersion (fault_or_later BadPiece (first_bad_piece g bytes) None)) head ∙ is)
 
 -- ---- a device
@@ -200,7 +201,7 @@ module _ (g : Geometry) (c : List ℕ) (head : HasHeader g c) (long : device_siz
           ∙ ap (λ (t : Bool). if t then run (means g) (read g bytes) (in_force (layout_of g) n c) else None) laid_out
           ∙ ap (λ (o : Option State). run (means g) o (in_force (layout_of g) n c)) decoded ∙ ran
 
--- ---- what is told of it
+-- ---- what is reported of it
 
 pub shown : (c : List ℕ) (l : Loaded) (s : Shown) → IsLoaded c l → ShowsLoaded l s → IsShown c s
 shown c l s is told = record {
@@ -228,7 +229,7 @@ loaded g c l same head sound area version records state = record {
 
 -- ---- of which half a bad record is
 
--- the head and the pieces of an image tell of no record
+-- the faults of the head and the pieces of an image are of no record
 pub image_half : (n : ℕ) (t : Bool) (o : Option ℕ) (e : OpenFault) → IsFaultOfBytes (fault_if t BadVersion (fault_or_later BadPiece o None)) e → IsOfHalf n e
 image_half n true o (BadRecord h i) is = cc
 image_half n false None (BadRecord h i) is = cc
@@ -242,7 +243,7 @@ image_half n t o BadVersion is = tt
 image_half n t o (BadPiece k) is = tt
 image_half n t o BadChain is = tt
 
--- nor do the chain bytes
+-- nor is the fault of the chain bytes
 pub chain_half : (n : ℕ) (t : Bool) (e : OpenFault) → IsFaultOfBytes (fault_if t BadChain None) e → IsOfHalf n e
 chain_half n true (BadRecord h i) is = cc
 chain_half n false (BadRecord h i) is = cc
@@ -255,7 +256,7 @@ chain_half n t BadVersion is = tt
 chain_half n t (BadPiece k) is = tt
 chain_half n t BadChain is = tt
 
--- the records of a half tell of one of that half
+-- the fault of the records of a half is of one of that half
 pub records_half : (n : ℕ) (o : Option ℕ) (e : OpenFault) → IsFaultOfBytes (fault_or_later (BadRecord n) o None) e → IsOfHalf n e
 records_half n None (BadRecord h i) is = cc
 records_half n (Some k) (BadRecord h i) is = sym (ap half_in is)

@@ -78,7 +78,8 @@ module _ (g : Geometry) (l : Layout) (h : ℕ) (c : List ℕ) (x0 : State) where
     first = before.first ∙ ap (λ (rs : List (List ℕ)). first_bad_record g i (Some x) rs) (next i few) ∙ good_here g h i x (record_at l h i c) (drop (i + 1) (front l h c)) y is;
   }
 
-  pub bad_at : (i : ℕ) (x : State) → i < length (front l h c) → IsAt i x → (e : OpenFault) → IsFaultOfBytes (record_fault g x h i (record_at l h i c)) e → IsFaultOfBytes (records_fault g x0 h (front l h c)) e
+  pub bad_at : (i : ℕ) (x : State) → i < length (front l h c) → IsAt i x → (e : OpenFault)
+      → IsFaultOfBytes (record_fault g x h i (record_at l h i c)) e → IsFaultOfBytes (records_fault g x0 h (front l h c)) e
   bad_at i x few before =
       fault_from _ _
       (λ e is.

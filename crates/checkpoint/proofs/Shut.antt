@@ -71,7 +71,7 @@ shut_unformatted n c long shut =
 pub begun : (m : Medium) → CrashImagesAre m m (λ c. IsCrashImage m c ⊎ IsShut (length m.now) c)
 begun m = started m _ (λ c left. inl left)
 
--- what one read of the first byte tells
+-- what one read of the first byte shows
 pub first_read : (now out : List ℕ) → length out ≡ 1 → out ≡ slice_range now 0 (0 + length out) → get_or now 0 0 ≡ get_or out 0 0
 first_read now out one is =
     sym (get_or-take 1 now 0 0 (omega arith)) ∙ sym (ap (λ (n : ℕ). get_or (take (0 + n - 0) (drop 0 now)) 0 0) one) ∙ sym (ap (λ (l : List ℕ). get_or l 0 0) is)

@@ -1,4 +1,4 @@
--- What a crash leaves while a device is made, and what stands on it step by step.
+-- Statement for engineers: What a crash leaves while a device is made, and what is on it step by step.
 use Rattle.std.specs.Prelude.{◌≡◌, ◌≢◌, ◌⊎◌, ◌+◌, ◌-◌, ℕ, List, ◌∷◌, length, drop, get_or, replicate, Some}
 use Rattle.affinity.specs.declared.geometry.Geometry.{Geometry}
 use Rattle.checkpoint.specs.Header.{header_of}
@@ -21,7 +21,7 @@ pub record IsShut (n : ℕ) (c : List ℕ) : Type 0 where
 abbrev pub IsShutNow : ℕ → Medium → Type 0
 IsShutNow n m = (c : List ℕ) → IsCrashImage m c → IsShut n c
 
--- These bytes stand there.
+-- These bytes are there.
 abbrev pub Has : List ℕ → ℕ → List ℕ → Type 0
 Has c at bytes = slice c at (length bytes) ≡ bytes
 

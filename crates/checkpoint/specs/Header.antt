@@ -1,4 +1,4 @@
--- The header of a device: that it is formatted, and the numbers of its server.
+-- Format for operators: The header of a device: that it is formatted, and the numbers of its server.
 use Rattle.std.specs.Prelude.{◌≡◌, ℕ, Bool, List, [], ◌∷◌, ◌++◌, take, replicate}
 use Rattle.std.specs.List.{flat_map}
 use Rattle.std.specs.Str.{bytes_eq}

@@ -1,4 +1,4 @@
--- Reading a device into a tree: what its steps answer, and what they leave.
+-- Statement for engineers: Reading a device into a tree: what its steps answer, and what they leave.
 use Rattle.std.specs.Prelude.{◌≡◌, ◌≤◌, ℕ, ◌+◌, Bool, false, not, ◌&&◌, ◌==◌, if◌then◌else◌, List, [], length, Option, Some, None, is_none, Result, Ok, Err}
 use Rattle.affinity.specs.declared.geometry.Geometry.{Geometry}
 use Rattle.checkpoint.specs.declared.fault.OpenFault.{OpenFault}
@@ -15,19 +15,19 @@ use Rattle.device_map.specs.Layout.{Layout, device_size, image, layout_of, other
 use Rattle.oplog.specs.Recovery.{named_area, run}
 use Rattle.meaning.specs.State.{State}
 
--- A call adds one to the count of the device's failures exactly where it answers `Device`.
+-- A call adds one to the count of the device's failures exactly where it reports `Device`.
 abbrev pub CountsOpenFault : {T : Type 0} → Result T OpenFault → ℕ → ℕ → Type 0
 CountsOpenFault (Ok _) old new = new ≡ old
 CountsOpenFault (Err Device) old new = new ≡ old + 1
 CountsOpenFault (Err _) old new = new ≡ old
 
--- What every step of opening does to its device: it counts a failure exactly where it answers `Device`, and the device
+-- What every step of opening does to its device: it counts a failure exactly where it reports `Device`, and the device
 -- stays as long as it was.
 abbrev pub IsOpeningCall : {T : Type 0} → Result T OpenFault → Medium → Medium → Type 0
 IsOpeningCall result old new = CountsOpenFault result old.faults new.faults × (length new.now ≡ length old.now)
 
--- This fault is the one that the bytes of a device with a header give. Of a device that fails and of want of memory
--- they tell nothing.
+-- This fault is the one that the bytes of a device with a header give. They show neither a device that fails nor want of
+-- memory.
 abbrev pub IsFaultOfBytes : Option OpenFault → OpenFault → Type 0
 IsFaultOfBytes given Device = Unit {0}
 IsFaultOfBytes given OutOfMemory = Unit {0}
@@ -48,7 +48,7 @@ abbrev pub IsOfHalf : ℕ → OpenFault → Type 0
 IsOfHalf half (BadRecord h i) = h ≡ half
 IsOfHalf half fault = Unit {0}
 
--- what a fault of the log is to the one who opens the device
+-- what a fault of the log is to whoever opens the device
 abbrev pub fault_of_log : LogFault → OpenFault
 fault_of_log log.Device = Device
 fault_of_log (log.BadRecord h i) = BadRecord h i
@@ -57,7 +57,7 @@ fault_of_log (log.BadRecord h i) = BadRecord h i
 abbrev pub record_fault : Geometry → State → ℕ → ℕ → List ℕ → Option OpenFault
 record_fault g x h i bytes = fault_if (is_none (apply g x bytes)) (BadRecord h i) None
 
--- the fault of the first of these records of half h that can't be run where it stands
+-- the fault of the first of these records of half h that can't be run where it is
 abbrev pub records_fault : Geometry → State → ℕ → List (List ℕ) → Option OpenFault
 records_fault g x h records = fault_or_later (BadRecord h) (first_bad_record g 0 (Some x) records) None
 
@@ -69,7 +69,7 @@ image_fault g bytes = fault_if (not (has_head bytes)) BadVersion (fault_or_later
 abbrev pub are_chained : Layout → List ℕ → Bool
 are_chained l c = (chain l 0 c == 1) && (chain l 1 c == 1)
 
--- the fault of the first record in force that can't be run where it stands, from a state on, with area n for the named one
+-- the fault of the first record in force that can't be run where it is, from a state on, with area n as the named one
 abbrev pub in_force_fault : Geometry → State → ℕ → List ℕ → Option OpenFault
 in_force_fault g x n c =
     let l = layout_of g in

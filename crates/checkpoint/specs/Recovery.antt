@@ -1,4 +1,4 @@
--- What a device recovers to: the state of its named image, with the records in force run on it.
+-- Statement for operators: What a device recovers to: the state of its named image, with the records in force run on it.
 use Rattle.std.specs.Prelude.{ℕ, Bool, ◌&&◌, if◌then◌else◌, List, Option, Some, None}
 use Rattle.std.specs.Str.{bytes_eq}
 use Rattle.affinity.specs.declared.geometry.Geometry.{Geometry}
@@ -20,7 +20,7 @@ abbrev pub apply_decoded : Geometry → State → List ℕ → Option Msg → Op
 apply_decoded g x bytes None = None
 apply_decoded g x bytes (Some m) = if is_record_there g x bytes m then Some (next_state g x m) else None
 
--- what becomes of a state by the record with these bytes; none where they are no record that can stand there
+-- the state after the record with these bytes; none where they are no record that can be run there
 abbrev pub apply : Geometry → State → List ℕ → Option State
 apply g x bytes = apply_decoded g x bytes (message_in_fields bytes)
 

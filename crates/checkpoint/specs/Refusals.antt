@@ -1,4 +1,4 @@
--- Which devices are refused, and why.
+-- Statement for operators: Which devices are refused, and why.
 use Rattle.std.specs.Prelude.{◌≡◌, ◌≢◌, ◌⊎◌, ◌<◌, ◌≤◌, ℕ, zero, suc, Bool, not, ◌&&◌, ◌==◌, nat_lt, if◌then◌else◌, List, [], ◌∷◌, length, take, Option, Some, None, is_some}
 use Rattle.affinity.specs.declared.geometry.Geometry.{Geometry}
 use Rattle.checkpoint.specs.declared.fault.OpenFault.{OpenFault}
@@ -17,11 +17,11 @@ abbrev pub first_bad : (ℕ → Bool) → ℕ → ℕ → Option ℕ
 first_bad is_good i zero = None
 first_bad is_good i (suc n) = if is_good i then first_bad is_good (suc i) n else Some i
 
--- the least piece of an image that isn't the one of what the image says
+-- the least piece of an image that isn't the one of what the image decodes to
 abbrev pub first_bad_piece : Geometry → List ℕ → Option ℕ
 first_bad_piece g bytes = first_bad (is_good g bytes) 0 (piece_count g)
 
--- Of records that are run on a state: the number of the first that can't stand where it does, counted from i.
+-- Of records that are run on a state: the number of the first that can't be run, counted from i.
 abbrev pub first_bad_record : Geometry → ℕ → Option State → List (List ℕ) → Option ℕ
 first_bad_record g i None rs = None
 first_bad_record g i (Some x) [] = None
@@ -71,7 +71,7 @@ pub record IsRefusedWith (c : List ℕ) (fault : OpenFault) : Type 0 where
   pub header : HasHeader geometry c
   pub is : refused geometry c ≡ Some fault
 
--- This fault is the answer to these bytes. Of a device that fails and of want of memory they tell nothing.
+-- This fault is the answer to these bytes. They show neither a device that fails nor want of memory.
 abbrev pub IsRefused : List ℕ → OpenFault → Type 0
 IsRefused c Device = Unit {0}
 IsRefused c OutOfMemory = Unit {0}

@@ -1,4 +1,4 @@
--- What is loaded from a device, and what is told of it.
+-- Statement for engineers: What is loaded from a device, and what is reported of it.
 use Rattle.std.specs.Prelude.{◌≡◌, ℕ, List, Some, None, length}
 use Rattle.checkpoint.specs.declared.inspecting.Shown.{Shown}
 use Rattle.checkpoint.specs.declared.loading.Loaded.{Loaded}
@@ -22,7 +22,7 @@ pub record IsLoaded (c : List ℕ) (l : Loaded) : Type 0 where
   pub records : l.records ≡ length (in_force (layout_of l.tree.geometry) l.area c)
   pub state : holds l.tree.geometry c ≡ Some (state_in l.tree)
 
--- This is told of what was loaded.
+-- This is reported of what was loaded.
 pub record ShowsLoaded (l : Loaded) (s : Shown) : Type 0 where
   pub geometry : s.geometry ≡ l.tree.geometry
   pub area : s.area ≡ l.area
@@ -30,7 +30,7 @@ pub record ShowsLoaded (l : Loaded) (s : Shown) : Type 0 where
   pub version : s.version ≡ l.version
   pub summary : s.summary ≡ reply_to l.tree.geometry (state_in l.tree) Summary
 
--- This is what a device with these bytes holds: it isn't refused, and recovers to a state of which the summary is told.
+-- This is what a device with these bytes holds: it isn't refused, and recovers to a state of which the summary is reported.
 pub record IsShown (c : List ℕ) (s : Shown) : Type 0 where
   -- the numbers are those of its header
   pub header : HasHeader s.geometry c

@@ -1,4 +1,4 @@
--- The version of the image that a device names.
+-- Format for engineers: The version of the image that a device names.
 use Rattle.std.specs.Prelude.{ℕ, List}
 use Rattle.affinity.specs.declared.geometry.Geometry.{Geometry}
 use Rattle.image.specs.Image.{version_in}

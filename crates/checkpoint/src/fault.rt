@@ -58,7 +58,7 @@ pub enum OpenFault {
     /// The chain bytes of both halves are 1.
     #[error("bad chain")]
     BadChain,
-    /// This record, named by its half and its number there, is in force and can't stand there.
+    /// This record, given by its half and its number there, is in force and can't be run there.
     #[error("bad record {0} {1}")]
     BadRecord(usize, usize),
 }

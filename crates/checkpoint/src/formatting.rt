@@ -28,7 +28,7 @@ use std::alloc::{AllocError, Global};
 /// How many zeros are written at a time, at most.
 const ZEROS_AT_A_TIME: usize = 65536;
 
-/// A row of zeros. `AllocError` where there is no memory.
+/// Some zeros. `AllocError` where there is no memory.
 fn zeros(alloc: Global, count: usize) -> Result<Vec<u8>, AllocError>
     requires { 0 < count }
     ensures zeros { IfOk result (λ z. z.items ≡ replicate (length z.items) 0) }
@@ -66,8 +66,8 @@ fn is_open(gate: u8) -> bool
     gate == OPEN
 }
 
-/// Shuts the gate of the header where it is open. Any other first byte stays, since a torn write of
-/// it might open the gate of a device that was shut.
+/// Shuts the gate of the header where it is open. Any other first byte stays, since a torn write to
+/// it might open a gate that was shut.
 fn shut_gate<D: Disk>(disk: &mut D) -> Result<(), DiskFault>
     requires { 0 < length (D.medium disk.old).now }
     ensures any_moment { D.keeps → CrashImagesAre (D.medium disk.old) (D.medium disk.new)

@@ -10,7 +10,7 @@ use device_map::HEADER_SIZE;
 /// The gate byte of a formatted device.
 pub(crate) const OPEN: u8 = 1;
 
-/// With what a formatted device begins.
+/// What a formatted device begins with.
 pub(crate) const MARKS_OF_FORMAT: [u8; 8] = [OPEN, b'W', b'A', b'F', b'F', b'S', b'R', b'V'];
 
 /// The header of a device of this geometry.

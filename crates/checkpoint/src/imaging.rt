@@ -17,8 +17,8 @@ use disk::Disk;
 use image::layout::{piece_count, piece_size};
 use parcel::{Tree, read_piece, read_piece_1};
 
-/// Takes in bytes as piece `n` of an image of this version. `BadPiece` exactly where they are none of a state that has
-/// what the tree has.
+/// Takes in bytes as piece `n` of an image of this version. `BadPiece` exactly where they are not that piece of a state that
+/// has what the tree has.
 fn take_piece(tree: &mut Tree, version: u8, n: usize, piece: &[u8]) -> Result<(), OpenFault>
     requires whole { IsWholeTree tree.old }
     requires known { is_version version ≡ true }
@@ -45,8 +45,8 @@ fn take_piece(tree: &mut Tree, version: u8, n: usize, piece: &[u8]) -> Result<()
     Ok(())
 }
 
-/// Reads the pieces of an image with a head into a new tree, through a buffer. `BadPiece` exactly where one of them
-/// isn't that of what the image says, of the first of these; then the tree isn't of use any more.
+/// Reads the pieces of an image with a head into a new tree, through a buffer. `BadPiece` exactly where one of them isn't
+/// that of what the image decodes to, with the first such piece; then the tree isn't of use any more.
 pub(crate) fn read_pieces<D: Disk>(
     disk: &mut D,
     tree: &mut Tree,

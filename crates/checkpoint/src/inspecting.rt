@@ -22,7 +22,7 @@ pub struct Shown {
     pub area: usize,
     /// How many records are in force.
     pub records: usize,
-    /// What `summary` is answered in the state that the device recovers to.
+    /// The reply to `summary` in the state that the device recovers to.
     pub summary: Reply,
     /// The version of the named image.
     pub version: u8,
@@ -51,7 +51,7 @@ fn show(loaded: Loaded) -> Shown
     }
 }
 
-/// Tells what a device holds, and hands it back. It is only read: what a read gives, and what a crash may leave now or
+/// Reports what a device holds, and hands it back. It is only read: what a read gives, and what a crash may leave now or
 /// might have left at any moment, is as before.
 ///
 /// It is refused exactly where its bytes are, with the first fault in the order of the tests: length, marks, geometry,

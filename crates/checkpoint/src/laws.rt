@@ -1,4 +1,4 @@
-//! What holds of devices by the definitions: a law. No function here does anything; its contract is the law.
+//! What holds of devices by the definitions: a law. The function here does nothing; its contract is the law.
 ghost use Rattle.std.specs.Prelude.{◌≡◌, ℕ, List, Some, None};
 ghost use Rattle.affinity.specs.declared.geometry.Geometry.{Geometry};
 ghost use Rattle.checkpoint.specs.Header.{HasHeader};

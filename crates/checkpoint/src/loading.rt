@@ -34,7 +34,7 @@ use std::alloc::Global;
 pub(crate) struct Loaded {
     /// The state that the device recovers to.
     pub tree: Tree,
-    /// The log, with the named half for the current one and no room.
+    /// The log, with the named half as the current one and no room.
     pub log: Halves,
     /// The area that is named.
     pub area: usize,
@@ -127,7 +127,7 @@ pub struct Named {
 }
 
 /// Loads what the named area holds by itself: its image is read into an empty tree, and the records of its half are run
-/// on it. The log names that half then, with no room. The device is only read.
+/// on it. The log then names that half, with no room. The device is only read.
 ///
 /// The device has a header and all its parts. It is refused exactly where its bytes are, for any fault but a bad record
 /// of the other half: `BadVersion`, `BadPiece`, `BadChain`, `BadRecord`, in the order of the tests. `Device` exactly where

@@ -1,4 +1,4 @@
--- What was told is kept: from the run behind it, and what the core says of its device at the end.
+-- What was sent is kept: from the run behind it, and what the core promises of its device at the end.
 use Rattle.std.proofs.Common.{ℕ, List, [], ◌++◌, map, Option, subst}
 use Rattle.std.specs.Prelude.{Result, Ok, Err}
 use Rattle.checkpoint.proofs.Fine.{fine, head}

@@ -58,7 +58,7 @@ module _ (keeps : Type 0) (s : Service) (old : Medium) (start now : CoreView) (e
     incarnation = let behind = run_behind keeps (machine_at_start s start) now input before written end served.run in is_incarnation fresh header recovered_before behind.0 behind.1 behind.2;
   }
 
--- such a service is one that has lived
+-- such a service crashes safely
 pub has_lived : (keeps : Type 0) (s : Service) (old new : Medium) (end : Result (Unit {0}) ServeFault) (input left before written : Option (List ℕ))
     → HasServedBy keeps s old new end input left before written → CrashesSafely keeps s old new (as_fault end) input left before written
 has_lived keeps s old new (Ok _) input left before written h = (Ok tt, refl, h)
@@ -87,7 +87,7 @@ recovers_for keeps now none leaves bytes = record {
 
 -- ---- each end, in the words of the serial server
 
--- no record of the log is in force, of the device as it comes back
+-- no record of the log is in force, of the device as it is given back
 no_records : (now : CoreView) (g : Geometry) (new : Medium) → now.geometry ≡ g → new ≡ now.medium → HasEmptyLog now → HasNoRecords g new
 no_records now g new same back none = rw (back, ← same) none
 
@@ -116,7 +116,7 @@ module _ (keeps : Type 0) (s : Service) (old new : Medium) (end : Result (Unit {
   served_nothing same unread unwritten =
       (went (ap (λ (c : CoreView). c.geometry) same) (ap (λ (c : CoreView). c.failed) same ∙ h.fresh.works), ap committed_in same, unread, unwritten)
 
--- what a service says of each of its ends
+-- what a service promises of each of its ends
 pub ends_on_device : (keeps : Type 0) (s : Service) (old new : Medium) (end : Result (Unit {0}) ServeFault) (input left before written : Option (List ℕ))
     → (h : HasServedBy keeps s old new end input left before written) → (h.now.failed ≡ false → h.now.doubt ≡ []) → AreBytes new.now
     → EndsOnDevice keeps s old new (as_fault end) input left before written

@@ -129,12 +129,12 @@ opened_then (Err ends.NoWorkers) f h = f h
 opened_then (Err ends.NoTicketLeft) f h = f h
 opened_then (Err (ends.Format fault)) f h = f h
 
--- ---- two lives
+-- ---- two incarnations
 
 some_same : {x y : State} → ◌≡◌ {A = Option State} (Some x) (Some y) → x ≡ y
 some_same e = cc
 
--- A device that recovers to this state was opened with this geometry, and for this state.
+-- A device that recovers to this state was opened with this geometry, and from this state.
 opened_so : (g h : Geometry) (x y : State) (old : Medium) → holds g old.now ≡ Some x → RecoveredTo (Unit {0}) old h y → (h ≡ g) × (y ≡ x)
 opened_so g h x y old recovers recovered_before =
     let same : h ≡ g = one_geometry h g old.now (recovered_before.header tt) x recovers in

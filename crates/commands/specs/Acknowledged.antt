@@ -1,4 +1,4 @@
--- What was told is kept: the promise of a service on a device, in words of its lines and of what a crash leaves.
+-- Statement for operators: What was sent is kept: the promise of a service on a device, in words of its lines and of what a crash leaves.
 use Rattle.std.specs.Prelude.{◌≡◌, ℕ, List, Option, None, Result, Err}
 use Rattle.std.specs.Io.KnownBytes.{Appends}
 use Rattle.affinity.specs.declared.geometry.Geometry.{Geometry}
@@ -15,8 +15,8 @@ use Rattle.commands.specs.Serving.{RecoveredTo}
 use Rattle.commands.specs.declared.faults.Fault.{Fault}
 use Rattle.commands.specs.declared.faults.Fault.TheVariants.{Write, Open}
 
--- The device recovered to a state, and the output has these lines for the first lines of the input. A log has each message that was told
--- a reply by its ticket, with that reply. The bytes recover to where the log leads from that state, perhaps with more of the messages
+-- The device recovered to a state, and the output has these lines for the first lines of the input. A log has each message whose reply
+-- was sent, by its ticket, with that reply. The bytes recover to where the log leads from that state, perhaps with more of the messages
 -- that were taken, and they are opened again.
 pub record HoldsAcknowledged (old : Medium) (input before written : Option (List ℕ)) (bytes : List ℕ) : Type 0 where
   pub geometry : Geometry
@@ -38,7 +38,7 @@ UnlessUnsent (Err Write) before written P = Unit {0}
 UnlessUnsent (Err (Open fault)) before written P = written ≡ before
 UnlessUnsent _ before written P = P
 
--- What was told when a service ended is held by whatever a crash leaves then.
+-- What was sent when a service ended is held by whatever a crash leaves then.
 abbrev pub KeepsAcknowledged : Type 0 → Medium → Medium → Result (Unit {0}) Fault → Option (List ℕ) → Option (List ℕ)
     → Option (List ℕ) → Type 0
 KeepsAcknowledged keeps old new end input before written =

@@ -1,4 +1,4 @@
--- How a call ends, and with which status.
+-- Statement for engineers: How a call ends, and with which status.
 use Rattle.std.specs.Prelude.{◌≡◌, ◌⊎◌, ℕ, List, Option, Result, Ok, Err}
 use Rattle.affinity.specs.declared.geometry.Geometry.{Geometry}
 use Rattle.commands.specs.Ends.{EndsMaking, EndsServing, EndsShowing}
@@ -44,7 +44,7 @@ EndsPlain g status input left old new = (end : Result (Unit {0}) Fault) × (stat
 abbrev pub EndsFormat : Geometry → ℕ → Option (List ℕ) → Option (List ℕ) → Type 0
 EndsFormat g status old new = (end : Result (Unit {0}) Fault) × (status ≡ status_at end) × EndsMaking g end old new
 
--- The telling of what a device holds came to an end that has this status.
+-- The printing of what a device holds came to an end that has this status.
 abbrev pub EndsShow : ℕ → Option (List ℕ) → Option (List ℕ) → Type 0
 EndsShow status old new = (end : Result (Unit {0}) Fault) × (status ≡ status_at end) × EndsShowing end old new
 

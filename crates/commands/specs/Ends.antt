@@ -1,4 +1,4 @@
--- How a command ends: what was written, and what was read.
+-- Statement for engineers: How a command ends: what was written, and what was read.
 use Rattle.std.specs.Prelude.{◌≡◌, ℕ, List, Option, Result, Ok, Err}
 use Rattle.std.specs.Io.KnownBytes.{Appends, IsAtEnd}
 use Rattle.affinity.specs.declared.geometry.Geometry.{Geometry}
@@ -21,8 +21,8 @@ EndsServing g (Err Write) input left old new = Unit {0}
 EndsServing g (Err OutOfMemory) input left old new = WritesOutput input old new (IsBeginning g empty)
 EndsServing g (Err _) input left old new = ⊥
 
--- A device was made and its length told, or it was not made and nothing was written. A failed write leaves open what was written. What the
--- file holds is open.
+-- A device was made and its length printed, or it was not made and nothing was written. A failed write leaves open what was written. What
+-- the file holds is open.
 abbrev pub EndsMaking : Geometry → Result (Unit {0}) Fault → Option (List ℕ) → Option (List ℕ) → Type 0
 EndsMaking g (Ok _) old new = Appends old new (formatted_line g)
 EndsMaking g (Err Write) old new = Unit {0}
@@ -32,7 +32,7 @@ EndsMaking g (Err (Format formatting.TooShort)) old new = ⊥
 EndsMaking g (Err (Format fault)) old new = new ≡ old
 EndsMaking g (Err _) old new = ⊥
 
--- What a device holds was told, or nothing was. A failed write leaves open what was written.
+-- What a device holds was printed, or nothing was. A failed write leaves open what was written.
 abbrev pub EndsShowing : Result (Unit {0}) Fault → Option (List ℕ) → Option (List ℕ) → Type 0
 EndsShowing (Ok _) old new = (shown : Shown) × Appends old new (shown_lines shown)
 EndsShowing (Err Write) old new = Unit {0}
@@ -41,7 +41,7 @@ EndsShowing (Err OutOfMemory) old new = new ≡ old
 EndsShowing (Err (Open fault)) old new = new ≡ old
 EndsShowing (Err _) old new = ⊥
 
--- The same where the device has these bytes: what is sent is what it holds, and a refusal is that of its bytes.
+-- The same where the device has these bytes: what is printed is what it holds, and a refusal is that of its bytes.
 abbrev pub ShowsBytes : List ℕ → Result (Unit {0}) Fault → Option (List ℕ) → Option (List ℕ) → Type 0
 ShowsBytes bytes (Ok _) old new = (shown : Shown) × IsShown bytes shown × Appends old new (shown_lines shown)
 ShowsBytes bytes (Err (Open fault)) old new = IsRefused bytes fault

@@ -1,4 +1,4 @@
--- The exit status of each fault.
+-- Statement for operators: The exit status of each fault.
 use Rattle.std.specs.Prelude.{ℕ, Result, Ok, Err}
 use Rattle.std.specs.declared.io.ErrorKind.{ErrorKind}
 use Rattle.std.specs.declared.io.ErrorKind.TheVariants as kind

@@ -1,4 +1,4 @@
--- The lines that commands print: a word, and numbers behind it.
+-- Format for engineers: The lines that commands print: a word, and numbers behind it.
 use Rattle.std.specs.Prelude.{ℕ, List, [], ◌∷◌, ◌++◌, codes}
 use Rattle.std.specs.List.{flat_map}
 use Rattle.affinity.specs.Geometry.{numbers_of}

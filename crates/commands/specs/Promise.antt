@@ -1,4 +1,4 @@
--- What a service promises its client over a crash: bytes in, bytes out.
+-- Statement for clients: What a service promises its client over a crash: bytes in, bytes out.
 use Rattle.std.specs.Prelude.{◌≡◌, ℕ, List, Option, None, Result, Err, OnOk}
 use Rattle.affinity.specs.declared.geometry.Geometry.{Geometry}
 use Rattle.disk.specs.Device.{IsCrashImage, Medium}

@@ -1,4 +1,4 @@
--- The service that words ask for.
+-- Statement for engineers: The service that words ask for.
 use Rattle.std.specs.Prelude.{◌≡◌, ℕ, List, [], ◌∷◌, codes, min}
 use Rattle.clap.specs.Words.{Text}
 use Rattle.commands.specs.Serving.{numbers_of_service}

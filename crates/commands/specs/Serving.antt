@@ -1,4 +1,5 @@
--- What it is to serve a device: what was written when the service ends, what the device recovers to then, and what a crash meanwhile leaves.
+-- Statement for operators: What it is to serve a device: what was written at its end, what the device recovers to then, and what a crash
+-- meanwhile leaves.
 use Rattle.std.specs.Prelude.{◌≡◌, ◌≢◌, ◌⊎◌, ◌↔◌, ◌+◌, ◌≤◌, ℕ, List, [], ◌∷◌, length, take, replicate, Option, Some, None, Result, Ok, Err}
 use Rattle.std.specs.Io.KnownBytes.{IsAtEnd}
 use Rattle.affinity.specs.declared.geometry.Geometry.{Geometry}
@@ -68,9 +69,9 @@ abbrev pub HasServedNothing : Type 0 → Medium → Medium → Option (List ℕ)
 HasServedNothing keeps old new input left before written = (w : Went keeps old new) × (w.end ≡ w.start) × (left ≡ input)
     × (written ≡ before)
 
--- What each end says.
--- No fault: the input has ended, and the output is that of the serial server for all of it, from the state for which the device
--- stood. The device recovers to the state where that server is then, with no record in force.
+-- What each end promises.
+-- No fault: the input has ended, and the output is that of the serial server for all of it, from the state to which the device
+-- recovered. The device recovers to the state where that server is then, with no record in force.
 -- A failed read: just the lines that were read whole are answered, and the device recovers to the state behind them. No ticket left:
 -- just the lines before one whose message is in range.
 -- A failed device: the first lines of the serial server's output. A failed write: it is open what was written.
@@ -118,8 +119,8 @@ run_behind keeps start now input before written (Err serve_faults.Exhausted) h =
 run_behind keeps start now input before written (Err serve_faults.NoWorkers) h = (h.taken, h.stages, h.run)
 run_behind keeps start now input before written (Err serve_faults.OutOfMemory) h = (h.taken, h.stages, h.run)
 
--- With this run it is a incarnation of the device, in the sense of the law of lives in `machine`, for every k: it was opened, it made the run,
--- and the crash comes at any moment since event k ended.
+-- With this run it is an incarnation of the device, in the sense of the law of incarnations in `runs`, for every k: it was opened, it made
+-- the run, and the crash comes at any crash point since event k ended.
 abbrev pub IsIncarnation : Service → CoreView → Medium → Medium → List Stage → Type 0
 IsIncarnation s start old new stages = (k : ℕ) → k ≤ length stages → IsRunIncarnation (record {
   began = old;
@@ -147,8 +148,8 @@ pub record HasServedBy (keeps : Type 0) (s : Service) (old new : Medium) (end : 
 
 -- So it was; or the device could not be opened. A crash while it is opened leaves what recovers to the same, or is refused for the
 -- same fault.
-abbrev pub CrashesSafely : Type 0 → Service → Medium → Medium → Result (Unit {0}) Fault → Option (List ℕ) → Option (List ℕ) → Option (List ℕ)
-    → Option (List ℕ) → Type 0
+abbrev pub CrashesSafely : Type 0 → Service → Medium → Medium → Result (Unit {0}) Fault → Option (List ℕ) → Option (List ℕ)
+    → Option (List ℕ) → Option (List ℕ) → Type 0
 CrashesSafely keeps s old new (Err (Open fault)) input left before written = keeps → OpeningCrashImages old new
 CrashesSafely keeps s old new end input left before written =
     (ended : Result (Unit {0}) ServeFault) × (end ≡ as_fault ended) × HasServedBy keeps s old new ended input left before written

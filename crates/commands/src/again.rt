@@ -1,4 +1,4 @@
-//! The promise of a service over a crash, in bytes alone: what went into two lives of a device, and what came out.
+//! The promise of a service over a crash, in bytes alone: what went into two incarnations of a device, and what came out.
 ghost use Rattle.std.specs.Prelude.{◌≡◌, ◌≢◌, ◌<◌, IfOk, IfErr};
 ghost use Rattle.checkpoint.specs.Recovery.{holds};
 ghost use Rattle.commands.specs.Promise.{GoesOn};
@@ -10,8 +10,8 @@ ghost use Rattle.meaning.specs.State.{empty};
 
 use crate::faults::Fault;
 use crate::serve::serve_on;
-use crate::service::Service;
 use crate::serve_stopped::serve_stopped;
+use crate::service::Service;
 use affinity::Geometry;
 use checkpoint::{device_len, format};
 use disk::{MemDisk, Torn};
@@ -34,7 +34,7 @@ fn made(alloc: Global, geometry: Geometry) -> Result<MemDisk, Fault>
 }
 
 /// Makes a device in memory, and answers the lines of `r` on `w` with it until its n-th call, whichever that is. The device stops there,
-/// and a crash tears what was not synced. Then answers the lines of `next_r` on `next_w` with what the crash left. It says how both
+/// and a crash tears what was not synced. Then answers the lines of `next_r` on `next_w` with what the crash left. It answers how both
 /// ended. At `Err` there was no device: nothing was read or written.
 pub fn serve_again<T: Threads + Wait + Sync, R: Read, W: Write, S: Read, V: Write>(
     rt: &T,

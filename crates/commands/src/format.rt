@@ -23,8 +23,8 @@ fn formatted_text(alloc: Global, geometry: &Geometry) -> Result<Vec<u8>, AllocEr
 }
 
 /// Makes a device of this geometry in the file of this path, instead of a file that is there, and
-/// prints its length on `w`. At a fault other than a write's nothing is. What the file then holds
-/// no contract sees, since none knows whether a file keeps its bytes.
+/// prints its length on `w`. At a fault other than a write's nothing is printed. No contract sees
+/// what the file then holds, since none knows whether a file keeps its bytes.
 pub fn format_device<T: Files<File = File>, W: Write>(
     rt: &T,
     alloc: Global,

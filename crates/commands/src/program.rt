@@ -8,20 +8,20 @@ ghost use Rattle.affinity.specs.declared.geometry.Geometry.{Geometry};
 ghost use Rattle.commands.specs.Serving.{numbers_of_service};
 ghost use Rattle.commands.specs.declared.service.Service.{Service};
 
-use crate::plain::answer_input;
 use crate::faults::Fault;
 use crate::format::format_device;
-use crate::serve::serve_device;
+use crate::plain::answer_input;
 use crate::reports::{WRONG_WORDS, report};
+use crate::serve::serve_device;
 use crate::service::Service;
 use crate::show::show_device;
+use arguments::{Request, ServiceNumbers, WordRefusal, read_words};
 use std::alloc::Global;
 use std::fs::File;
 use std::io::{Read, Write};
 use std::rt::Files;
 use std::sync::Wait;
 use std::thread::Threads;
-use arguments::{Request, ServiceNumbers, WordRefusal, read_words};
 
 /// The service that has these numbers, with 64 workers where more are given.
 fn service_of(numbers: ServiceNumbers) -> Service

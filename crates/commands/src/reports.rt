@@ -10,7 +10,7 @@ use std::io::{ErrorKind, Write};
 /// The exit status where the words are wrong.
 pub const WRONG_WORDS: u8 = 2;
 
-/// What is said of words that are not UTF-8. `clap` says so elsewhere, but here it takes text alone.
+/// What is printed of words that are not UTF-8. `clap` prints it elsewhere, but here it takes text alone.
 const NOT_TEXT: &str = "error: invalid UTF-8 was detected in one or more arguments
 
 For more information, try '--help'.

@@ -53,7 +53,7 @@ fn serve_core<T: Threads + Wait + Sync, R: Read, W: Write, D: Disk + Drop>(
     }
 }
 
-/// Opens a device and answers the lines of `r` on `w` with it, from the state for which it stands. The device comes back as it
+/// Opens a device and answers the lines of `r` on `w` with it, from the state to which it recovers. The device is given back as it
 /// was left.
 pub fn serve_on<T: Threads + Wait + Sync, R: Read, W: Write, D: Disk + Drop>(
     rt: &T,
@@ -81,8 +81,8 @@ pub fn serve_on<T: Threads + Wait + Sync, R: Read, W: Write, D: Disk + Drop>(
     (core.into_disk(), as_fault(end))
 }
 
-/// Answers the lines of `r` on `w` with the device in the file of this path, from the state for which it stands. The file has to be
-/// one that may be written. No contract sees what it then holds: what is said of its device holds where files keep their bytes.
+/// Answers the lines of `r` on `w` with the device in the file of this path, from the state to which it recovers. The file has to be
+/// one that may be written. No contract sees what it then holds: what is promised of its device holds where files keep their bytes.
 pub fn serve_device<T: Files<File = File> + Threads + Wait + Sync, R: Read, W: Write>(
     rt: &T,
     alloc: Global,

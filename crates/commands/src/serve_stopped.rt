@@ -1,4 +1,4 @@
-//! The promise of a service, with the moment as a variable: a device in memory that stops at any call, and then crashes.
+//! The promise of a service, with the crash point as a variable: a device in memory that stops at any call, and then crashes.
 ghost use Rattle.std.specs.Prelude.{◌≡◌, ◌<◌};
 ghost use Rattle.disk.specs.Memory.{medium_of, memory_of};
 ghost use Rattle.disk.specs.Torn.{HasBytes};
@@ -17,7 +17,7 @@ use std::sync::Wait;
 use std::thread::Threads;
 
 /// Serves with a device that stops at its n-th call from now on, and crashes it. So the condition `stops` ties n to the device that is
-/// served: no clause of the return sees the fuse of a device that has crashed.
+/// served: no clause of the return sees the injected fault of a device that has crashed.
 fn serve_and_crash<T: Threads + Wait + Sync, R: Read, W: Write>(
     rt: &T,
     alloc: Global,

@@ -1,5 +1,5 @@
--- The map of a device: six parts in a row, that are header, root zone, half 0, half 1, image 0, image 1. All sizes and
--- places count bytes.
+-- Format for operators: The map of a device: six parts in a row, that are header, root zone, half 0, half 1, image 0, image 1. All sizes
+-- and places count bytes.
 use Rattle.std.specs.Prelude.{ℕ, zero, suc, ◌+◌, ◌-◌, ◌*◌, List, [], ◌∷◌, take, drop, get_or}
 use Rattle.affinity.specs.declared.geometry.Geometry.{Geometry}
 

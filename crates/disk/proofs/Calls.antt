@@ -27,7 +27,8 @@ module _ (old mid new : Medium) (P : List ℕ → Type 0) (so_far : CrashImagesA
 
   module _ (at : ℕ) (bytes : List ℕ) (inside : at + length bytes ≤ length mid.now) (are : AreBytes mid.now) where
     -- A write, whatever it answers: what a crash before it may leave, with anything in the range, has P.
-    pub after_write : (r : Result (Unit {0}) DiskFault) → Writes at bytes r mid new → ((c torn : List ℕ) → IsCrashImage mid c → SameOutside at (length bytes) c torn → P torn) → CrashImagesAre old new P
+    pub after_write : (r : Result (Unit {0}) DiskFault) → Writes at bytes r mid new
+        → ((c torn : List ℕ) → IsCrashImage mid c → SameOutside at (length bytes) c torn → P torn) → CrashImagesAre old new P
     after_write (Ok _) writes here =
         next old mid new P so_far (ap (λ (m : Medium). m.past) writes.ok)
         (λ c left.
@@ -45,5 +46,6 @@ module _ (old mid new : Medium) (P : List ℕ → Type 0) (so_far : CrashImagesA
         (same_but_range at (length bytes) mid.now new.now mid.unsynced c inside fails.bytes are left'))
 
     -- The same of a device of which nothing is unsynced: what a read gives, with anything in the range, has P.
-    pub after_calm_write : IsSynced mid → (r : Result (Unit {0}) DiskFault) → Writes at bytes r mid new → ((torn : List ℕ) → SameOutside at (length bytes) mid.now torn → P torn) → CrashImagesAre old new P
+    pub after_calm_write : IsSynced mid → (r : Result (Unit {0}) DiskFault) → Writes at bytes r mid new
+        → ((torn : List ℕ) → SameOutside at (length bytes) mid.now torn → P torn) → CrashImagesAre old new P
     after_calm_write calm r writes here = after_write r writes (λ c torn left. subst (λ (d : List ℕ). SameOutside at (length bytes) d torn → P torn) (sym (calm_left mid c calm left)) (here torn))

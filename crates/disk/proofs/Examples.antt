@@ -63,7 +63,7 @@ torn_at_the_end = inl (lit≤ tt, record { same = (refl, tt); bytes = below (7 �
 no_greater_one_at_any_moment : left_since twice 0 (1 ∷ 256 ∷ []) → ⊥
 no_greater_one_at_any_moment left = let second : 256 < 256 = bytes_since twice 0 (1 ∷ 256 ∷ []) left 1 0 (lit< tt) in omega (arith, second)
 
--- the two unsynced places get what they are told by their place, and by how many lie below them
+-- what the two unsynced places get depends on their place, and on how many lie below them
 torn_by_place : torn_from (λ place below. slice_index (10 ∷ 20 ∷ 30 ∷ []) place) 0 0 (false ∷ true ∷ true ∷ []) (1 ∷ 2 ∷ 3 ∷ []) ≡ 1 ∷ 20 ∷ 30 ∷ []
 torn_by_place = refl
 

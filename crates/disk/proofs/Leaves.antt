@@ -11,7 +11,7 @@ same_itself (b ∷ now) [] = same_itself now []
 same_itself (b ∷ now) (true ∷ unsynced) = same_itself now unsynced
 same_itself (b ∷ now) (false ∷ unsynced) = (refl, same_itself now unsynced)
 
--- the device as it stands is one of those that a crash may leave
+-- the device as it is now is one of those that a crash may leave
 pub itself : (now : List ℕ) (unsynced : List Bool) → AreBytes now → IsTornFrom now unsynced now
 itself now unsynced are = record { same = same_itself now unsynced; bytes = are }
 
@@ -68,7 +68,8 @@ back_same (suc n) (b ∷ now) [] (x ∷ c) left = subst (λ (l : List Bool). Sam
 back_same (suc n) (b ∷ now) (true ∷ unsynced) (x ∷ c) left = back_same n now unsynced c left
 back_same (suc n) (b ∷ now) (false ∷ unsynced) (x ∷ c) left = back_same n now unsynced c left.1
 
-joined_same : (n : ℕ) (now : List ℕ) (unsynced : List Bool) (c : List ℕ) → SameButUnsynced (take n now) (take n unsynced) (take n c) → SameButUnsynced (drop n now) (drop n unsynced) (drop n c) → SameButUnsynced now unsynced c
+joined_same : (n : ℕ) (now : List ℕ) (unsynced : List Bool) (c : List ℕ) → SameButUnsynced (take n now) (take n unsynced) (take n c)
+    → SameButUnsynced (drop n now) (drop n unsynced) (drop n c) → SameButUnsynced now unsynced c
 joined_same zero now unsynced c front back = back
 joined_same (suc n) [] unsynced [] front back = tt
 joined_same (suc n) [] unsynced (x ∷ c) front back = absurd front
@@ -83,7 +84,8 @@ joined_same (suc n) (b ∷ now) (false ∷ unsynced) (x ∷ c) front back = (fro
 pub range_kept : (at n : ℕ) (m : Medium) (c : List ℕ) → take n (drop at m.unsynced) ≡ replicate n false → IsCrashImage m c → take n (drop at c) ≡ take n (drop at m.now)
 range_kept at n m c calm left =
     let within = front_same n (drop at m.now) (drop at m.unsynced) (drop at c) (back_same at m.now m.unsynced c left.same) in
-    kept_same (take n (drop at m.now)) n (take n (drop at c)) (omega (arith, length-take n (drop at m.now))) (subst (λ (l : List Bool). SameButUnsynced (take n (drop at m.now)) l (take n (drop at c))) calm within)
+    kept_same (take n (drop at m.now)) n (take n (drop at c)) (omega (arith, length-take n (drop at m.now)))
+    (subst (λ (l : List Bool). SameButUnsynced (take n (drop at m.now)) l (take n (drop at c))) calm within)
 
 along : {now now' : List ℕ} {unsynced unsynced' : List Bool} {c c' : List ℕ} → now ≡ now' → unsynced ≡ unsynced' → c ≡ c' → SameButUnsynced now unsynced c → SameButUnsynced now' unsynced' c'
 along {now} {now'} {unsynced} {unsynced'} {c} {c'} e f g left =
@@ -95,7 +97,8 @@ put_back at n old c = overlaid c at (take n (drop at old))
 
 -- One write of n bytes, done or failed: a crash after it leaves what a crash before it might have left, but for the
 -- range.
-module _ (at n : ℕ) (old now : List ℕ) (unsynced : List Bool) (c : List ℕ) (inside : at + n ≤ length old) (outside : SameOutside at n old now) (are : AreBytes old) (left : IsTornFrom now (marked unsynced at n) c) where
+module _ (at n : ℕ) (old now : List ℕ) (unsynced : List Bool) (c : List ℕ) (inside : at + n ≤ length old) (outside : SameOutside at n old now)
+    (are : AreBytes old) (left : IsTornFrom now (marked unsynced at n) c) where
   range-size : length (take n (drop at old)) ≡ n
   range-size = simp (length-take, length-drop) (omega (arith, inside))
 

@@ -7,7 +7,8 @@ use Rattle.disk.proofs.Outside.{covered, same_back, same_both, wider}
 use Rattle.disk.proofs.Overlays.{length-overlaid, overlaid_outside, marked_outside}
 
 -- The range from a to e grows to the one from b to f, which holds n places from `at` on.
-module _ (a e b f at n : ℕ) (m : Medium) (kept : List ℕ) (ordered : a ≤ e) (from : b ≤ at) (to : at + n ≤ f) (inside : f ≤ length m.now) (grows : (a ≡ e) ⊎ ((b ≤ a) × (e ≤ f))) (holds : HoldsUnsynced a e m kept) where
+module _ (a e b f at n : ℕ) (m : Medium) (kept : List ℕ) (ordered : a ≤ e) (from : b ≤ at) (to : at + n ≤ f) (inside : f ≤ length m.now)
+    (grows : (a ≡ e) ⊎ ((b ≤ a) × (e ≤ f))) (holds : HoldsUnsynced a e m kept) where
   marks : SameOutside b (f - b) (replicate (length m.now) false) (marked m.unsynced at n)
   marks =
       same_both b (f - b) (replicate (length m.now) false) m.unsynced (marked m.unsynced at n)

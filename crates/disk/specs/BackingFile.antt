@@ -1,4 +1,4 @@
--- What a device answers where its file answers this.
+-- Statement for engineers: What a device answers where its file answers this.
 use Rattle.std.specs.Prelude.{Result, Ok, Err}
 use Rattle.disk.specs.declared.fault.DiskFault.{DiskFault}
 use Rattle.disk.specs.declared.fault.DiskFault.TheVariants.{Device}

@@ -1,4 +1,4 @@
--- A device of bytes: what its calls do to it, and what a crash may leave of it.
+-- Statement for operators: A device of bytes: what its calls do to it, and what a crash may leave of it.
 use Rattle.std.specs.Prelude.{◌≡◌, ℕ, zero, suc, ◌+◌, ◌<◌, All, Bool, true, false, List, [], ◌∷◌, length, take, drop, replicate, slice_range, Result, Ok, Err, OnOk, IsErrOf}
 use Rattle.disk.specs.declared.fault.DiskFault.{DiskFault}
 use Rattle.disk.specs.declared.fault.DiskFault.TheVariants.{OutOfRange, Device}
@@ -36,7 +36,7 @@ pub record IsTornFrom (now : List ℕ) (unsynced : List Bool) (c : List ℕ) : T
   pub same : SameButUnsynced now unsynced c
   pub bytes : AreBytes c
 
--- what a crash may leave of the device as it stands
+-- what a crash may leave of the device as it is now
 abbrev pub IsCrashImage : Medium → List ℕ → Type 0
 IsCrashImage m c = IsTornFrom m.now m.unsynced c
 
@@ -75,7 +75,8 @@ found bytes = record { now = bytes; unsynced = replicate (length bytes) true; pa
 
 -- after a write
 abbrev pub written : ℕ → List ℕ → Medium → Medium
-written at bytes m = record { now = overlaid m.now at bytes; unsynced = marked m.unsynced at (length bytes); past = moments m; faults = m.faults }
+written at bytes m =
+    record { now = overlaid m.now at bytes; unsynced = marked m.unsynced at (length bytes); past = moments m; faults = m.faults }
 
 -- after a sync: a crash leaves what a read gives
 abbrev pub synced : Medium → Medium
@@ -85,7 +86,7 @@ synced m = record { now = m.now; unsynced = replicate (length m.now) false; past
 abbrev pub failed : Medium → Medium
 failed m = record { now = m.now; unsynced = m.unsynced; past = m.past; faults = m.faults + 1 }
 
--- A write of n bytes failed: its range counts as written, and what a read gives there is open.
+-- A write of n bytes failed: its range counts as written, and what a read gives there is unspecified.
 pub record FailsToWrite (at n : ℕ) (old new : Medium) : Type 0 where
   pub bytes : SameOutside at n old.now new.now
   pub unsynced : new.unsynced ≡ marked old.unsynced at n

@@ -1,4 +1,4 @@
--- What the calls of a device make of its shadow. No public clause cites this module.
+-- Inner: What the calls of a device make of its ghost device.
 use Rattle.std.specs.Prelude.{ℕ, ◌+◌, List, [], ◌∷◌, ◌++◌, length, replicate}
 use Rattle.disk.specs.declared.ghost_device.Call.{Call}
 use Rattle.disk.specs.declared.ghost_device.Call.TheVariants.{Begun, Wrote, Lost, Synced, Failed, Zeroed, Found}

@@ -1,4 +1,4 @@
--- A device in memory as contracts see it, and what each call and a crash make of it.
+-- Statement for engineers: A device in memory as contracts see it, and what each call and a crash make of it.
 use Rattle.std.specs.Prelude.{ℕ, ◌+◌, ◌-◌, ◌^◌, min, if◌then◌else◌, nat_lt, List, length, Result, Ok, Err}
 use Rattle.disk.specs.declared.fault.DiskFault.{DiskFault}
 use Rattle.disk.specs.declared.fault.DiskFault.TheVariants.{OutOfRange, Device}
@@ -15,14 +15,20 @@ pub record Memory : Type 0 where
   pub medium : Medium
   -- what the last sync left
   pub kept : List ℕ
-  -- at a unsynced offset, the byte that was last asked to be written there
+  -- at an unsynced offset, the byte of the last write there, even if it failed
   pub asked : List ℕ
   pub injected_fault : InjectedFault
   -- the reads, writes and syncs so far
   pub calls : ℕ
 
 abbrev pub memory_of : MemDisk → Memory
-memory_of d = record { medium = d.ghost_device.medium; kept = d.kept.items; asked = d.asked.items; injected_fault = d.meter.injected_fault; calls = d.meter.calls }
+memory_of d = record {
+  medium = d.ghost_device.medium;
+  kept = d.kept.items;
+  asked = d.asked.items;
+  injected_fault = d.meter.injected_fault;
+  calls = d.meter.calls;
+}
 
 abbrev pub medium_of : MemDisk → Medium
 medium_of d = d.ghost_device.medium

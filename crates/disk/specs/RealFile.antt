@@ -1,4 +1,4 @@
--- A file as a device.
+-- Statement for engineers: A file as a device.
 use Rattle.std.specs.Prelude.{◌≡◌, ◌+◌, ℕ, List, length, slice_range}
 use Rattle.std.specs.declared.io.ErrorKind.{ErrorKind}
 use Rattle.std.specs.declared.io.ErrorKind.TheVariants.{OutOfMemory as NoMemory}
@@ -23,7 +23,7 @@ read_gives keeps at out now = absurd keeps
 abbrev pub file_medium : FileBacked (HostFile File) → Medium
 file_medium d = d.file.ghost_device.medium
 
--- the fault that is told of an error of the system
+-- the fault that is reported for an error of the system
 abbrev pub fault_of : ErrorKind → FileFault
 fault_of NoMemory = OutOfMemory
 fault_of _ = Device

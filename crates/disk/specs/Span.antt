@@ -1,4 +1,4 @@
--- The range that a sync looks at.
+-- Inner: The range that a sync looks at.
 use Rattle.std.specs.Prelude.{ℕ, ◌-◌, ◌≤◌, false, List, length, replicate}
 use Rattle.disk.specs.Device.{Medium, SameOutside}
 

@@ -1,4 +1,4 @@
--- What each kind of crash leaves at the unsynced offsets.
+-- Statement for clients: What each kind of crash leaves at the unsynced offsets.
 use Rattle.std.specs.Prelude.{ℕ, ◌+◌, ◌%◌, ◌<◌, Bool, true, false, List, [], ◌∷◌, length, slice_index}
 use Rattle.disk.specs.declared.torn.Torn.{Torn}
 use Rattle.disk.specs.declared.torn.Torn.TheVariants.{Old, New, Fill, Mixed}

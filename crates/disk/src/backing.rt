@@ -5,7 +5,7 @@ ghost use Rattle.disk.specs.BackingFile.{device_result};
 
 use std::io;
 
-/// A positioned file of a fixed length: three calls, each in `medium` once it has answered. What each does is said by the words of the
+/// A positioned file of a fixed length: three calls, each in `medium` once it has answered. What each does is stated in the words of the
 /// device's own contract.
 pub trait BackingFile {
     /// The file as a device has it: its bytes, which of them are unsynced, and its past.

@@ -1,5 +1,5 @@
-//! What a device or a file answers where it does not do what it was asked.
-/// What a call of a device answers where it does not do what it was asked.
+//! Faults: what a device or a file answers where a call of it isn't carried out.
+/// What a call of a device answers where it isn't carried out.
 #[derive(Clone, Copy, Debug, PartialEq, Eq)]
 pub enum DiskFault {
     /// The range leaves the device, which was not touched.

@@ -1,4 +1,4 @@
-//! A file of the system as a device.
+//! Trusted: a file of the system as a device.
 ghost use Rattle.std.specs.Prelude.{◌≡◌, IfOk, replicate};
 ghost use Rattle.std.specs.IoError.{error_kind};
 ghost use Rattle.disk.specs.Device.{begun, found};
@@ -24,7 +24,7 @@ impl From<io::Error> for FileFault {
     }
 }
 
-/// A file as a device. Whether it keeps its bytes no contract says: then a read gives what was written, and what was
+/// A file as a device. No contract states that it keeps its bytes. If it does, a read gives what was written, and what was
 /// synced is there after a crash.
 pub type FileDisk = FileBacked<HostFile<File>>;
 

@@ -1,4 +1,4 @@
-//! A file of the system.
+//! Trusted: a file of the system.
 ghost use Rattle.std.specs.Prelude.{◌≡◌, ◌<◌, ◌^◌, length, replicate};
 ghost use Rattle.disk.specs.Device.{AreBytes, begun, found};
 
@@ -26,7 +26,11 @@ impl<T: FileExt + OpenFile + Drop> HostFile<T> {
     {
         let mut ghost_device = GhostDevice::new();
         ghost_device.note(&Call::Zeroed(size), &[]);
-        HostFile { file, size, ghost_device }
+        HostFile {
+            file,
+            size,
+            ghost_device,
+        }
     }
 
     /// A file of this length, of which nothing counts as synced.
@@ -35,12 +39,16 @@ impl<T: FileExt + OpenFile + Drop> HostFile<T> {
     {
         let mut ghost_device = GhostDevice::new();
         ghost_device.note(&Call::Found(size), &[]);
-        HostFile { file, size, ghost_device }
+        HostFile {
+            file,
+            size,
+            ghost_device,
+        }
     }
 }
 
-/// Each method makes one call of the system, and then notes it with its answer. That it makes the call that it notes, and gives the
-/// answer that the system gave, no contract says: these three methods are trusted.
+/// Each method makes one call of the system, and then notes it with its answer. No contract states that it makes the call
+/// that it notes, and gives the answer that the system gave: these three methods are trusted.
 impl<T: FileExt + OpenFile + Drop> BackingFile for HostFile<T> {
     ghost use Rattle.disk.specs.RealFile.{FileKeeps};
 

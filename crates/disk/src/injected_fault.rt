@@ -1,4 +1,4 @@
-//! Fuses, by which a test lets calls of a device in memory fail, and the count of these calls.
+//! Injected faults, by which a test lets calls of a device in memory fail, and the count of these calls.
 ghost use Rattle.std.specs.Prelude.{◌≡◌, ◌+◌, ◌-◌, ◌^◌, min};
 ghost use Rattle.disk.specs.declared.injected_fault.InjectedFault.TheVariants.{Off};
 
@@ -29,10 +29,11 @@ impl Meter {
         }
     }
 
-    /// Counts a call, and says whether it is to fail.
+    /// Counts a call, and returns whether it is to fail.
     pub(crate) fn spend(&mut self) -> bool
         ensures blown { result ≡ is_blown self.old.injected_fault }
-        ensures after { self.new ≡ record { injected_fault = burned self.old.injected_fault; calls = min (self.old.calls + 1) (2 ^ 64 - 1) } }
+        ensures after { self.new
+            ≡ record { injected_fault = burned self.old.injected_fault; calls = min (self.old.calls + 1) (2 ^ 64 - 1) } }
     {
         self.calls = self.calls.saturating_add(1);
         match self.injected_fault {

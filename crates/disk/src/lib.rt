@@ -2,7 +2,7 @@
 //!
 //! `Disk` is the contract that durable code rests on. `MemDisk` keeps it, and can fail and crash on purpose.
 //! `FileBacked` is a file behind a device, proved over the three calls of `BackingFile`. `FileDisk` is that over a file of the
-//! system, of which no contract can say whether it keeps its bytes.
+//! system, of which no contract can state that it keeps its bytes.
 #![tactic(auto)]
 
 mod backed;
@@ -10,11 +10,11 @@ mod backing;
 mod device;
 mod fault;
 mod file;
-mod injected_fault;
+mod ghost_device;
 mod host;
+mod injected_fault;
 mod memory;
 mod ranges;
-mod ghost_device;
 mod span;
 mod torn;
 

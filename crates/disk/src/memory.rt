@@ -6,9 +6,9 @@ ghost use Rattle.disk.specs.Device.{AreBytes, IsCrashImage, Reads, Writes, Syncs
 ghost use Rattle.disk.specs.Span.{HoldsUnsynced};
 ghost use Rattle.disk.specs.Torn.{HasBytes};
 
+use crate::ghost_device::{Call, GhostDevice};
 use crate::injected_fault::{InjectedFault, Meter};
 use crate::ranges::{clear, mark, overlay, refresh, start_of};
-use crate::ghost_device::{Call, GhostDevice};
 use crate::span::Span;
 use crate::torn::tear;
 use crate::{Disk, DiskFault, Torn};
@@ -20,7 +20,7 @@ pub struct MemDisk {
     bytes: Vec<u8>,
     // What the last sync left.
     kept: Vec<u8>,
-    // At a unsynced offset, the byte that was last asked to be written there.
+    // At an unsynced offset, the byte of the last write there, even if it failed.
     asked: Vec<u8>,
     unsynced: Vec<bool>,
     // Outside it nothing is unsynced, and `kept` has the same bytes.
@@ -74,7 +74,7 @@ impl MemDisk {
         self.bytes.as_slice()
     }
 
-    /// Lets the n-th call from now on fail, and later ones go on. The injected fault that was set before counts no more.
+    /// Lets the n-th call from now on fail, and later ones go on. An injected fault that was set before counts no more.
     pub fn fail_at(&mut self, n: u64)
         requires { 0 < n }
         ensures { memory_of self.new ≡ record (memory_of self.old) { injected_fault = FailAt n } }
@@ -82,7 +82,7 @@ impl MemDisk {
         self.meter.injected_fault = InjectedFault::FailAt(n);
     }
 
-    /// Lets the n-th call from now on fail, and all later ones. The injected fault that was set before counts no more.
+    /// Lets the n-th call from now on fail, and all later ones. An injected fault that was set before counts no more.
     pub fn stop_at(&mut self, n: u64)
         requires { 0 < n }
         ensures { memory_of self.new ≡ record (memory_of self.old) { injected_fault = StopAt n } }
@@ -121,8 +121,8 @@ impl MemDisk {
         }
     }
 
-    /// A device as a crash would leave this one now, with its injected faults off and no calls. This one goes on. `AllocError` where there is no
-    /// memory.
+    /// A device as a crash would leave this one now, with its injected faults off and no calls. This one goes on. `AllocError` where
+    /// there is no memory.
     pub fn crashed(&self, alloc: Global, torn: &Torn) -> Result<MemDisk, AllocError>
         requires { HasBytes torn.now }
         ensures after { IfOk result (λ d. memory_of d ≡ made (crashed torn.now (memory_of self.now))) }

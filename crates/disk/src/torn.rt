@@ -7,7 +7,7 @@ ghost use Rattle.disk.specs.Torn.{HasBytes, torn_byte, torn_from};
 pub enum Torn {
     /// The bytes of the last sync.
     Old,
-    /// The bytes that were last asked to be written there.
+    /// The bytes of the last write there.
     New,
     /// This byte.
     Fill(u8),

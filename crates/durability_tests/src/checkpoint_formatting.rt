@@ -157,7 +157,7 @@ fn is_one_of(rt: &impl Abort, bytes: &[u8], old: &[u8], new: &[u8], made: bool) 
     holds(rt, bytes == new || !made && (bytes == old || shut));
 }
 
-/// Where the n-th call fails, that is answered exactly if there are as many calls, and the device is one of those.
+/// Where the n-th call fails, that is reported exactly if there are as many calls, and the device is one of those.
 fn may_fail(
     rt: &impl Abort,
     alloc: Global,

@@ -94,7 +94,7 @@ fn records_and_images_are_told(rt: HostRuntime) -> Result<(), Fail> {
     Ok(())
 }
 
-/// Behind a cut a record that is none: nothing is changed where it is told.
+/// After a cut a record that is none: nothing is changed where it is reported.
 #[test]
 fn a_bad_record_behind_a_cut_is_told(rt: HostRuntime) -> Result<(), Fail> {
     let device = device(rt.alloc(), &[(128, 1), (2340, 1)])?;
@@ -109,7 +109,8 @@ fn a_bad_record_behind_a_cut_is_told(rt: HostRuntime) -> Result<(), Fail> {
     Ok(())
 }
 
-/// Where a request of `inspect` for memory is refused, the device had one call, a read of its header, and the same call tells.
+/// Where a request of `inspect` for memory is refused, the device had one call, a read of its header, and the next try
+/// reports.
 #[test]
 fn a_device_is_inspected_at_the_next_try(rt: HostRuntime) -> Result<(), Fail> {
     let alloc = rt.alloc();

@@ -11,7 +11,7 @@ use std::alloc::Global;
 /// One volume of one file of four blocks, each in a stripe of its own, and eight records in a half.
 pub(crate) const FLAT: [u16; 8] = [1, 1, 4, 1, 1, 4, 1, 8];
 
-/// A device, what leads to the state that it stands for, and what is done to a server on it.
+/// A device, what leads to the state to which it recovers, and what is done to a server on it.
 #[derive(Drop)]
 pub(crate) struct Script {
     pub(crate) numbers: [u16; 8],
@@ -22,7 +22,7 @@ pub(crate) struct Script {
     pub(crate) acts: &'static [Act],
 }
 
-/// A script with what may be found on its device: after so many of its changes, the server answers that.
+/// A script, and the answers that may be found on its device: those of a server after so many of its changes.
 #[derive(Drop)]
 pub(crate) struct Play<'a> {
     script: &'a Script,

@@ -1,4 +1,4 @@
-//! Lives of a server, which the device ends at any call.
+//! Incarnations of a server, which the device ends at any call.
 use crate::common::{SMALL, counts};
 use crate::journal_acting::{Play, Script};
 use harness::{Act, Wrong, sweep};
@@ -79,8 +79,8 @@ fn cuts_survive(rt: HostRuntime) -> Result<(), Fail> {
     Ok(survives(&rt, rt.alloc(), &CUTS, calls)?)
 }
 
-/// A device whose named image, of version 1, has a volume, and that a cut was in progress on: half 0 has file 0 of it,
-/// and half 1 after it a block of that file.
+/// A device with a cut in progress, whose named image, of version 1, has a volume: half 0 has file 0 of it, and half 1
+/// after it a block of that file.
 const INTERRUPTED: Script = Script {
     numbers: SMALL,
     changes: &[

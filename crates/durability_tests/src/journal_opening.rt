@@ -109,7 +109,7 @@ fn the_sync_comes_first(rt: HostRuntime) -> Result<(), Fail> {
     Ok(())
 }
 
-/// Where a device isn't as it was formatted, what leads to the state that it stands for, and the area that is named once
+/// Where a device isn't as it was formatted, what leads to the state to which it recovers, and the area that is named once
 /// it is opened: the one that wasn't before, but after a cut the same.
 const OPENED: [(&[(usize, u8)], &[&str], usize); 11] = [
     (&[], &[], 1),
@@ -187,8 +187,8 @@ fn what_a_device_recovers_for_is_opened(rt: HostRuntime) -> Result<(), Fail> {
     Ok(())
 }
 
-/// A cut was in progress, and the record after it is none. Then what the first bytes of the volume's piece are in image 1
-/// once it is refused: whether the volume is made, and of which files.
+/// A cut was in progress, and the record after it is none. Then the first bytes of the volume's piece in image 1 once it is
+/// refused: whether the volume is made, and of which files.
 const BAD_BEHIND: [(&[(usize, u8)], [u8; 2]); 2] = [
     (&[(128, 1), (2340, 1)], [0, 0]),
     // Image 0 has the volume, and the record of half 0 makes its file 1.
@@ -229,7 +229,7 @@ impl Trial for Refusal {
     }
 }
 
-/// It stays refused whatever call fails, and then area 1 is named, with what the cut froze.
+/// It stays refused whatever call fails, and then area 1 is named, with the snapshot of the cut.
 fn stays_refused(
     rt: &impl Abort,
     alloc: Global,

@@ -143,8 +143,8 @@ fn counted_by(alloc: Global) -> Result<MemDisk, Wrong> {
     Ok(server.into_device().0)
 }
 
-/// What three writes leave of a file of which the device stopped at the write of their gates, which were torn: they are
-/// open, shut and open.
+/// What three writes to a file leave where the device stopped at the write of their gates, which were torn: they are open,
+/// shut and open.
 fn torn_writes(alloc: Global) -> Result<MemDisk, Wrong> {
     let mut device = device_with(alloc, FLAT, &[])?;
     device.stop_at(calls_of_file(alloc)?.saturating_add(3));
@@ -170,7 +170,7 @@ fn a_torn_batch_leaves_its_beginning(rt: HostRuntime) -> Result<(), Fail> {
     ];
     act_all(alloc, &mut server, &more)?;
     let (device, _) = server.into_device();
-    // What lies after the gates of the first life is not in force.
+    // What lies after the gates of the first incarnation is not in force.
     let device = device.crash(torn(alloc, OLD)?);
     let lines = ["makevol 0 0", "create 0 0 0", "write 0 0 0 3 64"];
     is_found(&rt, alloc, FLAT, device, &lines)?;

@@ -63,7 +63,7 @@ fn chain_halves<D: Disk>(disk: &mut D, log: &mut Halves) -> Result<(), LogFault>
     Ok(())
 }
 
-/// Appends these, if there is room and the log keeps them, and tells whether it did.
+/// Appends these, if there is room and the log keeps them, and gives whether it did.
 fn appends<D: Disk>(disk: &mut D, log: &mut Halves, messages: &[Msg]) -> bool
     requires sound { log.old.failed ≡ false }
     requires whole { HasParts log.old (D.medium disk.old) }
@@ -137,7 +137,7 @@ impl Server {
         }
     }
 
-    /// Writes past the log, and tells whether it went well.
+    /// Writes past the log, and gives whether it went well.
     pub(crate) fn writes(&mut self, at: u64, bytes: &[u8]) -> bool {
         self.disk.write_at(at, bytes).is_ok()
     }

@@ -8,7 +8,7 @@ use std::test::Fail;
 /// Servers, and where the halves and the images of each lie, the sizes of both, and the length.
 const LAYOUTS: [([u16; 8], [u64; 7]); 3] = [
     (SMALL, [128, 2276, 4424, 6632, 2148, 2208, 8840]),
-    // the numbers where nothing is said
+    // the default numbers
     (
         [1, 4, 4, 4, 16, 64, 64, 256],
         [128, 133_568, 267_008, 799_808, 133_440, 532_800, 1_332_608],

@@ -1,4 +1,4 @@
--- What a dispatcher has lent, as far as its next offers need it.
+-- Inner: What a dispatcher has lent, as far as its next offers need it.
 use Rattle.std.specs.Prelude.{◌≡◌, ℕ, List, Option, IfSome}
 use Rattle.affinity.specs.declared.geometry.Geometry.{Geometry}
 use Rattle.parcel.specs.Run.{JobView}

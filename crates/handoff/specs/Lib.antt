@@ -1,2 +1,2 @@
--- The words of what a dispatcher has lent.
+-- The definition of what a dispatcher has lent.
 pub mod Lent

@@ -7,7 +7,7 @@ mod trips;
 use std::{env, io};
 use trips::make_trips;
 
-/// How many workers, and how many round trips: the words that the program was called with.
+/// How many workers, and how many round trips: the arguments of the program.
 fn numbers(rt: &HostRuntime) -> io::Result<Option<(u16, u64)>> {
     let words: Vec<String> = env::args(rt)?.collect(rt.alloc())?;
     let [_, workers, trips] = words.as_slice() else {

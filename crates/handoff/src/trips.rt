@@ -39,7 +39,7 @@ fn reading(tree: &mut Tree, k: u16) -> Option<Job>
     Some(Job::new(g, 0, read, STANDING, written.into_parcels()))
 }
 
-// Offers a job. Says whether the place took it.
+// Offers a job. Returns whether the place took it.
 #[inline(always)]
 fn offer(bench: &Bench, dispatch_seat: &mut DispatchSeat, g: &Geometry, k: usize, job: Job) -> bool
     requires bench { (dispatch_seat.old.bench ≡ bench.now) × (k < bench.now.slots) }
@@ -51,8 +51,13 @@ fn offer(bench: &Bench, dispatch_seat: &mut DispatchSeat, g: &Geometry, k: usize
     bench.offer(dispatch_seat, k, job).is_ok()
 }
 
-// Offers a job at each place. Says whether there is one for each.
-fn offer_first(bench: &Bench, dispatch_seat: &mut DispatchSeat, tree: &mut Tree, places: u16) -> bool
+// Offers a job at each place. Returns whether there is one for each.
+fn offer_first(
+    bench: &Bench,
+    dispatch_seat: &mut DispatchSeat,
+    tree: &mut Tree,
+    places: u16,
+) -> bool
     requires bench { (dispatch_seat.old.bench ≡ bench.now) × (places ≡ bench.now.slots) }
     requires lent { AreOfGeometry tree.old.geometry dispatch_seat.old.lent }
     ensures bench { (dispatch_seat.new.bench ≡ dispatch_seat.old.bench) × (tree.new.geometry ≡ tree.old.geometry) }
@@ -70,8 +75,8 @@ fn offer_first(bench: &Bench, dispatch_seat: &mut DispatchSeat, tree: &mut Tree,
     true
 }
 
-// Takes the result at a place, if it is there, and offers its message and its parcels again. Says
-// whether a block was read there.
+// Takes the result at a place, if it is there, and offers its message and its parcels again.
+// Returns whether a block was read there.
 fn trip(bench: &Bench, dispatch_seat: &mut DispatchSeat, g: &Geometry, k: usize) -> bool
     requires bench { (dispatch_seat.old.bench ≡ bench.now) × (k < bench.now.slots) }
     requires lent { AreOfGeometry g.now dispatch_seat.old.lent }
@@ -88,7 +93,7 @@ fn trip(bench: &Bench, dispatch_seat: &mut DispatchSeat, g: &Geometry, k: usize)
     offer(bench, dispatch_seat, g, k, job) && was_read
 }
 
-// Looks at each place once. Says how many round trips ended.
+// Tries each place once. Returns how many round trips ended.
 fn round(bench: &Bench, dispatch_seat: &mut DispatchSeat, g: &Geometry, places: usize) -> u64
     requires bench { (dispatch_seat.old.bench ≡ bench.now) × (places ≡ bench.now.slots) }
     requires lent { AreOfGeometry g.now dispatch_seat.old.lent }
@@ -157,7 +162,14 @@ pub fn make_trips<R: Threads + Wait + Sync>(
             bench.start(rt, scope, &mut dispatch_seat, seats, gate)?;
             let all = offer_first(bench, &mut dispatch_seat, &mut tree, workers);
             if all {
-                go_round(rt, bench, &mut dispatch_seat, &tree.geometry(), places, trips);
+                go_round(
+                    rt,
+                    bench,
+                    &mut dispatch_seat,
+                    &tree.geometry(),
+                    places,
+                    trips,
+                );
             }
             bench.stop(&mut dispatch_seat);
             Ok(all)

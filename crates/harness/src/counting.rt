@@ -14,7 +14,7 @@ pub struct Counts {
 
 /// A device that passes each call on to another one, and counts it.
 ///
-/// Contracts know nothing of what it keeps. So a call that asks what the device recovers to asks nothing here, and tests
+/// Contracts know nothing of what it keeps. So a call that has requirements on the recovered state has none here, and tests
 /// can make it without a proof of what they are about to find out.
 #[derive(Drop)]
 pub struct Counting<D: Disk> {

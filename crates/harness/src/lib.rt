@@ -1,8 +1,8 @@
 //! What tests of durable crates share: trials on a device that fails, stops and crashes at each of its calls.
 //!
-//! A `Trial` does something on a device in memory. `sweep` lets it meet a fault at each call of the device in turn, and a
-//! crash of each kind after it, opens what is left, once whole and once stopped at each call of that too, and looks
-//! whether what a server tells then is allowed. What it should tell comes from the serial server, by `expected`.
+//! A `Trial` does something on a device in memory. `sweep` injects a fault at each call of the device, with a crash of each
+//! kind after it. It opens what is left, once whole and once stopped at each call of that too, and checks whether what a
+//! server answers then is allowed. What it should answer comes from the serial server, by `expected`.
 #![tactic(auto)]
 
 mod counting;

@@ -110,7 +110,7 @@ impl<D: Disk> Server<D> {
         self.journal.cut(&self.tree).map_err(|_| Halt::Failed)
     }
 
-    /// Writes a piece of a cut, and tells how many are left.
+    /// Writes a piece of a cut, and gives how many are left.
     pub fn piece(&mut self) -> Result<usize, Halt> {
         if self.journal.failed() || self.journal.left().is_none() {
             return Err(Halt::Unfit);
@@ -181,7 +181,7 @@ impl<D: Disk> Server<D> {
     }
 }
 
-/// Runs these messages, and tells whether all were done.
+/// Runs these messages, and gives whether all were done.
 fn carry_out(tree: &mut Tree, messages: &[Msg]) -> bool
     requires whole { IsWholeTree tree.old }
     ensures whole { IsWholeTree tree.new }

@@ -11,7 +11,7 @@ use parcel::Tree;
 use plain::serve_plain;
 use std::alloc::{AllocError, Global};
 
-/// What a server is asked so that it tells all that it holds: `summary` first, then of each volume `usage`, `list` and
+/// What a server is asked so that it answers all that it holds: `summary` first, then of each volume `usage`, `list` and
 /// `label`, and each block of each of its files.
 #[derive(Drop)]
 pub struct Questions {
@@ -130,7 +130,7 @@ fn end_of(output: &[u8], count: usize) -> usize {
     }
 }
 
-/// What the serial server answers to these lines, from the empty state on, and what it tells to these questions then.
+/// What the serial server answers to these lines, from the empty state on, and then to these questions.
 pub fn answers_and_told(
     alloc: Global,
     g: &Geometry,
@@ -153,7 +153,7 @@ pub fn answers_and_told(
     Ok((answers.to_vec(alloc)?, told.to_vec(alloc)?))
 }
 
-/// What the serial server tells to these questions once it has carried out these lines, from the empty state on. `Unfit`
+/// What the serial server answers to these questions once it has carried out these lines, from the empty state on. `Unfit`
 /// where one of them isn't done.
 pub fn expected(
     alloc: Global,

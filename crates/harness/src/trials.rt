@@ -36,7 +36,7 @@ pub struct Ended {
 /// What is found on a device that is opened.
 #[derive(Debug, Drop, PartialEq, Eq)]
 pub enum OpenedDevice {
-    /// It is opened, and the server tells this.
+    /// It is opened, and the server answers this.
     Tells(Vec<u8>),
     /// It is refused.
     Refuses(OpenFault),
@@ -44,13 +44,13 @@ pub enum OpenedDevice {
 
 /// Something that is done on a device which may fail at any of its calls.
 pub trait Trial {
-    /// What a server is asked that is found on the device.
+    /// What the server that is found on the device is asked.
     fn questions(&self) -> &Questions;
 
     /// The device on which it begins.
     fn device(&self, alloc: Global) -> Result<MemDisk, Wrong>;
 
-    /// Does it on this device, until it ends or a call says that the device has failed.
+    /// Does it on this device, until it ends or a call reports that the device has failed.
     fn run(&self, alloc: Global, device: MemDisk) -> Result<Ended, Wrong>;
 
     /// Whether a crash after this much progress may leave this.
@@ -73,7 +73,7 @@ pub enum Wrong {
     /// There was no memory.
     OutOfMemory,
 
-    /// The trial's rows do not fit this server.
+    /// The trial does not fit this server.
     Unfit,
 
     /// It doesn't end.
@@ -201,7 +201,7 @@ fn reopen_at(
     Ok(false)
 }
 
-/// Opens a device of the bytes that the first crash left, stopped at each of its calls, and opens it again behind a crash of each
+/// Opens a device of the bytes that the first crash left, stopped at each of its calls, and opens it again after a crash of each
 /// kind: what was seen of it is found each time.
 pub fn reopen(
     alloc: Global,
@@ -261,7 +261,7 @@ impl<T: Trial> Stops<'_, T> {
         }
     }
 
-    /// Makes the trial on a device of which this call fails, and reports a fault that isn't answered.
+    /// Makes the trial on a device of which this call fails, and fails where that fault is not reported.
     fn make(&self, first: Crash) -> Result<Ended, Wrong>
         requires { 0 < first.call }
     {

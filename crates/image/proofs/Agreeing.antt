@@ -39,7 +39,7 @@ entries_same g x y a v s same = λ i. joined_below g.files (λ f. joined_below g
     each f b false off = no_entry_if (x.files (a, v, f)) f b (x.blocks (a, v, f, b))
         ∙ sym (no_entry_if (y.files (a, v, f)) f b (y.blocks (a, v, f, b)))
 
--- ---- what pieces say
+-- ---- what pieces decode to
 
 module _ (version : ℕ) (g : Geometry) (ps qs : ℕ → List ℕ) where
   volume_same : (a v : ℕ) → ps (volume_piece_number g a v) ≡ qs (volume_piece_number g a v)
@@ -58,7 +58,7 @@ module _ (version : ℕ) (g : Geometry) (ps qs : ℕ → List ℕ) where
       (λ i. entry_if (has_volume g (a, v) && has_file_in (first i) f) f b
       (if has_volume g (a, v) then block_in g (there i) f b else None))))
 
-  -- a piece depends on what is said by itself and by its volume's piece
+  -- a piece depends on what itself and its volume's piece decode to
   pub piece_same : (n : ℕ) → ps (volume_piece_number g (aggregate_of g n) (volume_of g n))
       ≡ qs (volume_piece_number g (aggregate_of g n) (volume_of g n)) → ps n ≡ qs n
       → piece_of version g (decoded_by version g ps) n ≡ piece_of version g (decoded_by version g qs) n
@@ -72,7 +72,7 @@ module _ (version : ℕ) (g : Geometry) (ps qs : ℕ → List ℕ) where
           sym (ap (λ (p : ℕ). volume_piece_number g (aggregate_of g n) (volume_of g n) + p) part) ∙ number_there g n in
           stripe_same (aggregate_of g n) (volume_of g n) s first (ap ps number ∙ here ∙ sym (ap qs number))
 
--- ---- pieces of which nothing is said
+-- ---- pieces that decode to nothing
 
 nothing_joined : (n : ℕ) (h : ℕ → List BlockEntry) → ((i : ℕ) → h i ≡ []) → joined_below n h ≡ []
 nothing_joined zero h none = refl

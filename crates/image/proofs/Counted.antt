@@ -13,7 +13,7 @@ use Rattle.stripe.specs.Entries.{entry_in, entries_in}
 use Rattle.stripe.specs.Stripe.{BlockEntry, content_at}
 use Rattle.image.proofs.Measures.{all-take, all-drop}
 
--- ---- what bytes say are blocks, and not too many
+-- ---- what bytes decode to are blocks, and not too many
 
 pub entries_are_blocks : (n : ℕ) (bytes : List ℕ) → length bytes ≡ n * 520 → AllByRecursion (λ b. b < 256) bytes
     → AllByRecursion (λ (e : BlockEntry). IsBlock e.content) (entries_in n bytes)

@@ -23,7 +23,8 @@ module _ {X : Type 0} (f : ℕ → List X) (size : ℕ → ℕ) (sized : (i : �
       (λ (no_less : count ≤ n).
       let last : n ≡ count = omega (arith, below, no_less) in
       subst (λ (k : ℕ). take (size k) (drop (sum_below k size) (joined_below count f ++ (f count ++ rest))) ≡ f k) (sym last)
-      (ap (λ (l : List X). take (size count) l) (drop_at (joined_below count f) (f count ++ rest) (sum_below count size) (length-joined count f size (λ i few. sized i))) ∙ take_at (f count) rest (size count) (sized count)))
+      (ap (λ (l : List X). take (size count) l) (drop_at (joined_below count f) (f count ++ rest) (sum_below count size)
+      (length-joined count f size (λ i few. sized i))) ∙ take_at (f count) rest (size count) (sized count)))
       (cases_lt n count)
 
 -- ---- the pieces of an image
@@ -42,8 +43,10 @@ module _ (g : Geometry) (a v : ℕ) (in_aggregates : a < g.aggregates) (in_volum
   pub is_piece : (p : ℕ) → p < pieces_of_volume g → (a * g.volumes + v) * pieces_of_volume g + p < piece_count g
   is_piece p part =
       let volume : a * g.volumes + v < g.volumes * g.aggregates = mul-add-lt a g.volumes v g.aggregates in_aggregates in_volumes in
-      let piece : (a * g.volumes + v) * pieces_of_volume g + p < pieces_of_volume g * (g.volumes * g.aggregates) = mul-add-lt (a * g.volumes + v) (pieces_of_volume g) p (g.volumes * g.aggregates) volume part in
-      subst (λ (k : ℕ). (a * g.volumes + v) * pieces_of_volume g + p < k) (mul_comm (pieces_of_volume g) (g.volumes * g.aggregates) ∙ ap (λ (k : ℕ). k * pieces_of_volume g) (mul_comm g.volumes g.aggregates)) piece
+      let piece : (a * g.volumes + v) * pieces_of_volume g + p < pieces_of_volume g * (g.volumes * g.aggregates) = mul-add-lt (a * g.volumes + v)
+      (pieces_of_volume g) p (g.volumes * g.aggregates) volume part in
+      subst (λ (k : ℕ). (a * g.volumes + v) * pieces_of_volume g + p < k)
+      (mul_comm (pieces_of_volume g) (g.volumes * g.aggregates) ∙ ap (λ (k : ℕ). k * pieces_of_volume g) (mul_comm g.volumes g.aggregates)) piece
 
   pub piece_there : (version : ℕ) (x : State) (p : ℕ) → p < pieces_of_volume g → piece_of version g x ((a * g.volumes + v) * pieces_of_volume g + p) ≡ part_piece version g x a v p
   piece_there version x p part = λ i. part_piece version g x (aggregate_there g a v p part in_volumes i) (volume_there g a v p part in_volumes i) (part_there g a v p part i)

@@ -1,4 +1,4 @@
--- What pieces say is a state of the right sizes, whatever they say; and it is a state where each of them is that of what they say.
+-- Pieces decode to a state of the right sizes, whatever they are; and it is a state where each of them is that of what they decode to.
 use Rattle.std.proofs.Common.{◌≡◌, ℕ, suc, ◌+◌, ◌*◌, ◌-◌, ◌^◌, ◌<◌, ◌≤◌, Bool, true, false, ◌&&◌, List, [], length, drop, Option, Some, None, is_some, IfSome, refl, sym, ◌∙◌, ap, subst, arith, ⊎_elim, true≢false, length-take, length-drop}
 use Rattle.std.specs.Prelude.{◌==◌, nat_lt, if◌then◌else◌}
 use Rattle.std.specs.List.{AllByRecursion, flat_map}
@@ -110,9 +110,9 @@ module _ (version : ℕ) (g : Geometry) (pieces : ℕ → List ℕ)
     quota = λ a v s. let most = entries_most g (decoded_by version g pieces) a v s in let few = few_blocks a v s in omega (arith, most, few);
   }
 
--- ---- pieces that spell what they say
+-- ---- pieces that spell what they decode to
 
--- a file that a number of bits tells is below their count
+-- a file that a number of bits has is below their count
 bit_within : (n : ℕ) (t : ℕ → Bool) (f : ℕ) → has_file (number_of n t) f ≡ true → f < n
 bit_within n t f on =
     ⊎_elim
@@ -173,7 +173,7 @@ module _ (version : ℕ) (g : Geometry) (pieces : ℕ → List ℕ) (sized : (n 
           )
       by false made on = absurd (omega (arith, bit_within 0 (λ f. false) k.2 on))
 
-  -- every entry of a stripe has its file and stands within the numbers
+  -- every entry of a stripe has its file and is within the numbers
   entry_within : (a v s : ℕ) → AllByRecursion
       (λ (e : BlockEntry). (e.block < g.blocks) × ((decoded_by version g pieces).files (a, v, e.file) ≡ true))
       (stripe_entries g (decoded_by version g pieces) a v s)

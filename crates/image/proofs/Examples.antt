@@ -120,7 +120,7 @@ bytes_behind_the_label = refl
 
 -- ---- piece by piece
 
--- what the first n pieces say
+-- what the first n pieces decode to
 abbrev decoded_of : ℕ → List ℕ → Reply
 decoded_of n bytes = reply_to small (decoded_before 2 small bytes n) AskSummary
 

@@ -89,11 +89,18 @@ state_is_measured g x is = record {
 pub length-stripe_bytes : (quota : ℕ) (es : List BlockEntry) → AllByRecursion IsSpellable es → length es ≤ quota → length (stripe_bytes quota es) ≡ quota * 520
 length-stripe_bytes quota es good most =
     let long = length-entries es good in
-    omega (arith, long, most, length-append (flat_map entry_bytes es) (replicate (quota * 520 - length (flat_map entry_bytes es)) 0), length-replicate {A = ℕ} (quota * 520 - length (flat_map entry_bytes es)) 0)
+    omega (
+      arith,
+      long,
+      most,
+      length-append (flat_map entry_bytes es) (replicate (quota * 520 - length (flat_map entry_bytes es)) 0),
+      length-replicate {A = ℕ} (quota * 520 - length (flat_map entry_bytes es)) 0,
+    )
 
 length-label : (version : ℕ) (label : Option (List ℕ)) → IfSome label (AreSizedBytes 32) → length (label_bytes version label) ≡ 32
 length-label version label is =
-    let by : (b : Bool) → length (if b then unwrap_or label no_label else no_label) ≡ 32 = λ b. elim b as (λ b. length (if b then unwrap_or label no_label else no_label) ≡ 32) [ true ↦ of_label label is | false ↦ refl ] in
+    let by : (b : Bool) → length (if b then unwrap_or label no_label else no_label)
+    ≡ 32 = λ b. elim b as (λ b. length (if b then unwrap_or label no_label else no_label) ≡ 32) [ true ↦ of_label label is | false ↦ refl ] in
     by (version == 2)
   where
     of_label : (label : Option (List ℕ)) → IfSome label (AreSizedBytes 32) → length (unwrap_or label no_label) ≡ 32
@@ -103,7 +110,8 @@ length-label version label is =
 pub length-volume_piece : (version : ℕ) (g : Geometry) (x : State) → IsMeasured g x → (a v : ℕ) → length (volume_piece version g x a v) ≡ 64
 length-volume_piece version g x is a v = by (x.made (a, v))
   where
-    by : (b : Bool) → length (if b then 1 ∷ one_if (x.sealed (a, v)) ∷ [] ++ replicate 6 0 ++ little_bytes 8 (file_bits g x a v) ++ label_bytes version (x.labels (a, v)) ++ replicate 16 0 else replicate 64 0) ≡ 64
+    by : (b : Bool) → length (if b then 1 ∷ one_if (x.sealed (a, v)) ∷ [] ++ replicate 6 0 ++ little_bytes 8 (file_bits g x a v)
+        ++ label_bytes version (x.labels (a, v)) ++ replicate 16 0 else replicate 64 0) ≡ 64
     by true = omega (arith, length-append (label_bytes version (x.labels (a, v))) (replicate 16 0), length-label version (x.labels (a, v)) (is.label_content (a, v)))
     by false = refl
 

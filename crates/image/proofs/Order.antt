@@ -47,7 +47,9 @@ module _ (g : Geometry) (x : State) (a v s : ℕ) where
   row f b = entry_if (x.files (a, v, f) && (group g f b == s)) f b (x.blocks (a, v, f, b))
 
   of_file : (f : ℕ) → AllByRecursion (λ (e : BlockEntry). Unit {0} × (e.file ≡ f)) (joined_below g.blocks (row f))
-  of_file f = all_joined (λ (e : BlockEntry). Unit {0} × (e.file ≡ f)) g.blocks (row f) (λ b few. one_of (λ (e : BlockEntry). Unit {0} × (e.file ≡ f)) (x.files (a, v, f) && (group g f b == s)) f b (x.blocks (a, v, f, b)) (λ content. (tt, refl)))
+  of_file f = all_joined (λ (e : BlockEntry). Unit {0} × (e.file ≡ f)) g.blocks (row f)
+      (λ b few. one_of (λ (e : BlockEntry). Unit {0} × (e.file ≡ f)) (x.files (a, v, f) && (group g f b == s)) f b (x.blocks (a, v, f, b))
+      (λ content. (tt, refl)))
 
   file_ascends : (f : ℕ) → IsAscending (joined_below g.blocks (row f))
   file_ascends f =
@@ -83,7 +85,8 @@ module _ (g : Geometry) (x : State) (is : IsState g x) (a v s f b : ℕ) where
               let parts = and_parts (f == i) (b == j) on in
               let file : f ≡ i = eqb-true f i parts.0 in
               let block : b ≡ j = eqb-true b j parts.1 in
-              let off : (x.files (a, v, i) && (group g i j == s)) ≡ false = no_part (x.files (a, v, i)) (group g i j == s) (ne_eqb (group g i j) s (λ same. other ((λ k. group g (file k) (block k)) ∙ same))) in
+              let off : (x.files (a, v, i) && (group g i j == s)) ≡ false = no_part (x.files (a, v, i)) (group g i j == s)
+              (ne_eqb (group g i j) s (λ same. other ((λ k. group g (file k) (block k)) ∙ same))) in
               ap (λ (t : Bool). content_at (entry_if t i j (x.blocks (a, v, i, j))) f b) off
             where
               no_part : (p q : Bool) → q ≡ false → (p && q) ≡ false

@@ -62,7 +62,8 @@ module _ (f b : ℕ) where
       (λ (less : k < n). (λ i. or_else (one_joined n k h others less i) (others n (λ is. omega (arith, is, less)) i)) ∙ none_or (content_at (h k) f b))
       (λ (no_less : n ≤ k).
       let last : k ≡ n = omega (arith, below, no_less) in
-      (λ i. or_else (none_joined n h (λ j few. others j (λ is. omega (arith, is, few, last))) i) (content_at (h n) f b)) ∙ or_none (content_at (h n) f b) ∙ ap (λ (j : ℕ). content_at (h j) f b) (sym last))
+      (λ i. or_else (none_joined n h (λ j few. others j (λ is. omega (arith, is, few, last))) i) (content_at (h n) f b))
+      ∙ or_none (content_at (h n) f b) ∙ ap (λ (j : ℕ). content_at (h j) f b) (sym last))
       (cases_lt k n)
 
   -- an entry of another block
@@ -90,19 +91,25 @@ module _ (g : Geometry) (x : State) (is : IsState g x) where
       let none_out : (b < g.blocks → ⊥) ⊎ (f < g.files → ⊥) → None ≡ x.blocks (a, v, f, b) = λ out. absent (x.blocks (a, v, f, b)) refl out in
       ⊎_elim
       (λ (file : f < g.files).
-      one_joined f b g.files f (λ i. joined_below g.blocks (row i)) (λ i other. none_joined f b g.blocks (row i) (λ j few. elsewhere f b (x.files (a, v, i) && (group g i j == s)) i j (x.blocks (a, v, i, j)) (ap (λ (t : Bool). t && (b == j)) (ne_eqb f i (λ same. other (sym same)))))) file
+      one_joined f b g.files f (λ i. joined_below g.blocks (row i)) (λ i other. none_joined f b g.blocks (row i)
+      (λ j few. elsewhere f b (x.files (a, v, i) && (group g i j == s)) i j (x.blocks (a, v, i, j))
+      (ap (λ (t : Bool). t && (b == j)) (ne_eqb f i (λ same. other (sym same)))))) file
       ∙ ⊎_elim
       (λ (block : b < g.blocks).
-      one_joined f b g.blocks b (row f) (λ j other. elsewhere f b (x.files (a, v, f) && (group g f j == s)) f j (x.blocks (a, v, f, j)) (and_right' (f == f) (b == j) (ne_eqb b j (λ same. other (sym same))))) block
+      one_joined f b g.blocks b (row f) (λ j other. elsewhere f b (x.files (a, v, f) && (group g f j == s)) f j (x.blocks (a, v, f, j))
+      (and_right' (f == f) (b == j) (ne_eqb b j (λ same. other (sym same))))) block
       ∙ here f b (x.files (a, v, f) && (group g f b == s)) (x.blocks (a, v, f, b))
       ∙ ap (λ (t : Bool). if x.files (a, v, f) && t then x.blocks (a, v, f, b) else None) (eq-eqb s s refl)
       ∙ only_files a v f b (x.blocks (a, v, f, b)) (x.files (a, v, f)) refl refl)
       (λ (no_block : g.blocks ≤ b).
-      none_joined f b g.blocks (row f) (λ j few. elsewhere f b (x.files (a, v, f) && (group g f j == s)) f j (x.blocks (a, v, f, j)) (and_right' (f == f) (b == j) (ne_eqb b j (λ same. omega (arith, same, few, no_block)))))
+      none_joined f b g.blocks (row f) (λ j few. elsewhere f b (x.files (a, v, f) && (group g f j == s)) f j (x.blocks (a, v, f, j))
+      (and_right' (f == f) (b == j) (ne_eqb b j (λ same. omega (arith, same, few, no_block)))))
       ∙ none_out (inl (λ small. omega (arith, small, no_block))))
       (cases_lt b g.blocks))
       (λ (no_file : g.files ≤ f).
-      none_joined f b g.files (λ i. joined_below g.blocks (row i)) (λ i few. none_joined f b g.blocks (row i) (λ j below. elsewhere f b (x.files (a, v, i) && (group g i j == s)) i j (x.blocks (a, v, i, j)) (ap (λ (t : Bool). t && (b == j)) (ne_eqb f i (λ same. omega (arith, same, few, no_file))))))
+      none_joined f b g.files (λ i. joined_below g.blocks (row i)) (λ i few. none_joined f b g.blocks (row i)
+      (λ j below. elsewhere f b (x.files (a, v, i) && (group g i j == s)) i j (x.blocks (a, v, i, j))
+      (ap (λ (t : Bool). t && (b == j)) (ne_eqb f i (λ same. omega (arith, same, few, no_file))))))
       ∙ none_out (inr (λ small. omega (arith, small, no_file))))
       (cases_lt f g.files)
     where
@@ -135,14 +142,16 @@ module _ (g : Geometry) (x : State) (a v : ℕ) where
   pub made_decoded : (version : ℕ) → (get_or (volume_piece version g x a v) 0 0 == 1) ≡ x.made (a, v)
   made_decoded version = by (x.made (a, v))
     where
-      by : (t : Bool) → (get_or (if t then 1 ∷ one_if (x.sealed (a, v)) ∷ [] ++ replicate 6 0 ++ little_bytes 8 (file_bits g x a v) ++ label_bytes version (x.labels (a, v)) ++ replicate 16 0 else replicate 64 0) 0 0 == 1) ≡ t
+      by : (t : Bool) → (get_or (if t then 1 ∷ one_if (x.sealed (a, v)) ∷ [] ++ replicate 6 0 ++ little_bytes 8 (file_bits g x a v)
+          ++ label_bytes version (x.labels (a, v)) ++ replicate 16 0 else replicate 64 0) 0 0 == 1) ≡ t
       by true = refl
       by false = refl
 
   pub sealed_decoded : (version : ℕ) → (get_or (volume_piece version g x a v) 1 0 == 1) ≡ (x.made (a, v) && x.sealed (a, v))
   sealed_decoded version = by (x.made (a, v)) (x.sealed (a, v))
     where
-      by : (t u : Bool) → (get_or (if t then 1 ∷ one_if u ∷ [] ++ replicate 6 0 ++ little_bytes 8 (file_bits g x a v) ++ label_bytes version (x.labels (a, v)) ++ replicate 16 0 else replicate 64 0) 1 0 == 1) ≡ (t && u)
+      by : (t u : Bool) → (get_or (if t then 1 ∷ one_if u ∷ [] ++ replicate 6 0 ++ little_bytes 8 (file_bits g x a v)
+          ++ label_bytes version (x.labels (a, v)) ++ replicate 16 0 else replicate 64 0) 1 0 == 1) ≡ (t && u)
       by true true = refl
       by true false = refl
       by false u = refl
@@ -150,13 +159,15 @@ module _ (g : Geometry) (x : State) (a v : ℕ) where
   pub number_decoded : (version : ℕ) → bytes_at 8 8 (volume_piece version g x a v) ≡ little_bytes 8 (if x.made (a, v) then file_bits g x a v else 0)
   number_decoded version = by (x.made (a, v))
     where
-      by : (t : Bool) → bytes_at 8 8 (if t then 1 ∷ one_if (x.sealed (a, v)) ∷ [] ++ replicate 6 0 ++ little_bytes 8 (file_bits g x a v) ++ label_bytes version (x.labels (a, v)) ++ replicate 16 0 else replicate 64 0) ≡ little_bytes 8 (if t then file_bits g x a v else 0)
+      by : (t : Bool) → bytes_at 8 8 (if t then 1 ∷ one_if (x.sealed (a, v)) ∷ [] ++ replicate 6 0 ++ little_bytes 8 (file_bits g x a v)
+          ++ label_bytes version (x.labels (a, v)) ++ replicate 16 0 else replicate 64 0) ≡ little_bytes 8 (if t then file_bits g x a v else 0)
       by true = refl
       by false = refl
 
   label_there : (label : List ℕ) → length label ≡ 32 → x.made (a, v) ≡ true → x.labels (a, v) ≡ Some label → bytes_at 16 32 (volume_piece 2 g x a v) ≡ label
   label_there label long made has =
-      ap (λ (t : Bool). bytes_at 16 32 (if t then 1 ∷ one_if (x.sealed (a, v)) ∷ [] ++ replicate 6 0 ++ little_bytes 8 (file_bits g x a v) ++ label_bytes 2 (x.labels (a, v)) ++ replicate 16 0 else replicate 64 0)) made
+      ap (λ (t : Bool). bytes_at 16 32 (if t then 1 ∷ one_if (x.sealed (a, v)) ∷ [] ++ replicate 6 0 ++ little_bytes 8 (file_bits g x a v)
+      ++ label_bytes 2 (x.labels (a, v)) ++ replicate 16 0 else replicate 64 0)) made
       ∙ ap (λ (o : Option (List ℕ)). take 32 (label_bytes 2 o ++ replicate 16 0)) has
       ∙ take_at label (replicate 16 0) 32 long
 
@@ -211,8 +222,11 @@ module _ (g : Geometry) (x : State) (is : IsState g x) where
       if_there (has_volume g (k.0, k.1)) _ (x.blocks k)
       (λ there.
       let parts = and_parts (nat_lt k.0 g.aggregates) (nat_lt k.1 g.volumes) there in
-      ap (λ (l : List ℕ). content_at (entries_in g.quota l) k.2 k.3) (stripe_again g k.0 k.1 (ltb-true k.0 g.aggregates parts.0) (ltb-true k.1 g.volumes parts.1) 2 x (state_is_measured g x is) s (mod-lt (k.2 + k.3 / g.width) g.stripes_range.0))
-      ∙ ap (λ (es : List BlockEntry). content_at es k.2 k.3) (entries_again (stripe_entries g x k.0 k.1 s) (entries_good g x (state_is_measured g x is) k.0 k.1 s) g.quota (g.quota * 520 - length (flat_map entry_bytes (stripe_entries g x k.0 k.1 s))) ((state_is_measured g x is).quota k.0 k.1 s))
+      ap (λ (l : List ℕ). content_at (entries_in g.quota l) k.2 k.3) (stripe_again g k.0 k.1 (ltb-true k.0 g.aggregates parts.0)
+      (ltb-true k.1 g.volumes parts.1) 2 x (state_is_measured g x is) s (mod-lt (k.2 + k.3 / g.width) g.stripes_range.0))
+      ∙ ap (λ (es : List BlockEntry). content_at es k.2 k.3) (entries_again (stripe_entries g x k.0 k.1 s)
+      (entries_good g x (state_is_measured g x is) k.0 k.1 s) g.quota
+      (g.quota * 520 - length (flat_map entry_bytes (stripe_entries g x k.0 k.1 s))) ((state_is_measured g x is).quota k.0 k.1 s))
       ∙ entries_hold g x is k.0 k.1 k.2 k.3)
       (λ some. has (k.0, k.1) (is.files (k.0, k.1, k.2) (is.blocks k some).1).1)
 

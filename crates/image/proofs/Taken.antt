@@ -1,4 +1,4 @@
--- Pieces that are taken in one after the other say what they say together.
+-- Pieces that are taken in one after the other decode to the same as together.
 use Rattle.std.proofs.Common.{◌≡◌, ◌≢◌, ℕ, zero, suc, ◌+◌, ◌<◌, ◌≤◌, Bool, true, false, ◌&&◌, List, [], replicate, Option, None, refl, sym, ◌∙◌, ap, arith, ⊎_elim, true≢false}
 use Rattle.std.specs.Prelude.{◌==◌, nat_lt, if◌then◌else◌}
 use Rattle.std.proofs.lemmas.Bool.{cases_lt, and_parts, and_from, lt-ltb, ltb-true, eqb-true, eq-eqb, false_from_ne_true}
@@ -34,7 +34,7 @@ first_more g pieces n i other =
     (λ (no_less : n ≤ i). first_behind g pieces n i no_less ∙ sym (first_behind g pieces (suc n) i (omega (arith, no_less, other))))
     (cases_lt i n)
 
--- ---- zeros say nothing
+-- ---- zeros decode to nothing
 
 pub no_entries : (n k : ℕ) → entries_in n (replicate k 0) ≡ []
 no_entries zero k = refl
@@ -54,7 +54,7 @@ no_block_in_zeros g pieces n a v s f b behind =
     ap (λ (l : List ℕ). block_in g l f b) (first_behind g pieces n (stripe_piece_number g a v s) behind)
     ∙ ap (λ es. content_at es f b) (no_entries g.quota (piece_size g (stripe_piece_number g a v s)))
 
--- ---- a field that is told where its volume is there
+-- ---- a field that is decoded where its volume is there
 
 pub and_same : (h p q : Bool) → (h ≡ true → p ≡ q) → (h && p) ≡ (h && q)
 and_same true p q same = same refl
@@ -222,7 +222,7 @@ module _ (version : ℕ) (g : Geometry) (pieces : ℕ → List ℕ) (n : ℕ) (b
         labels = λ k. if has_volume g k then label_in version (same_first s k part i) else None;
       }
 
--- what the first n pieces say, taken in one after the other
+-- what the first n pieces decode to, taken in one after the other
 pub taken : (version : ℕ) (g : Geometry) (bytes : List ℕ) (n : ℕ) → n ≤ piece_count g
     → decoded_before version g bytes n ≡ decoded_by version g (first_of g (piece_in g bytes) n)
 taken version g bytes zero few = none_before version g (piece_in g bytes)

@@ -51,10 +51,10 @@ module _ (g : Geometry) (bytes : List ℕ) (are : AreSizedBytes (piece_at g (pie
       (length-replicate (piece_size g i) 0, all-zeros (piece_size g i)))
       (cases_lt i n)
 
--- ---- what the first pieces say
+-- ---- what the first pieces decode to
 
 module _ (version : ℕ) (g : Geometry) (bytes : List ℕ) where
-  -- A piece is that of what the image says where it is that of what is said so far.
+  -- A piece is that of what the image decodes to where it is that of what is decoded so far.
   so_far : (n i : ℕ) → i < n → piece_of version g (decoded_state version g bytes) i
       ≡ piece_of version g (decoded_by version g (first_of g (piece_in g bytes) n)) i
   so_far n i less =

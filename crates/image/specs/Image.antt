@@ -1,5 +1,5 @@
--- An image: a head with the version, then the pieces of a state. A state is written in one way, and bytes are an image exactly where they
--- are the image of what they say.
+-- Format for operators: An image: a head with the version, then the pieces of a state. A state is written in one way, and bytes are an
+-- image exactly where they are the image of what they decode to.
 use Rattle.std.specs.Prelude.{◌≡◌, ℕ, zero, suc, ◌<◌, Bool, true, ◌&&◌, ◌||◌, ◌==◌, if◌then◌else◌, List, ◌∷◌, ◌++◌, get_or, replicate, Option, Some, None}
 use Rattle.std.specs.Str.{bytes_eq}
 use Rattle.affinity.specs.declared.geometry.Geometry.{Geometry}
@@ -25,22 +25,23 @@ version_in bytes = get_or bytes 0 0
 abbrev pub piece_in : Geometry → List ℕ → ℕ → List ℕ
 piece_in g bytes n = bytes_at (piece_at g n) (piece_size g n) bytes
 
--- what the bytes of an image say
+-- what the bytes of an image decode to
 abbrev pub decoded_state : ℕ → Geometry → List ℕ → State
 decoded_state version g bytes = decoded_by version g (piece_in g bytes)
 
 abbrev pub is_version : ℕ → Bool
 is_version version = (version == 1) || (version == 2)
 
--- They are the image of what they say.
+-- They are the image of what they decode to.
 abbrev pub is_image : Geometry → List ℕ → Bool
-is_image g bytes = let version = version_in bytes in is_version version && bytes_eq bytes (image_of version g (decoded_state version g bytes))
+is_image g bytes = let version = version_in bytes in is_version version
+    && bytes_eq bytes (image_of version g (decoded_state version g bytes))
 
 -- the state of an image, if these bytes are one
 abbrev pub read : Geometry → List ℕ → Option State
 read g bytes = if is_image g bytes then Some (decoded_state (version_in bytes) g bytes) else None
 
--- Piece n is that of what the image says.
+-- Piece n is that of what the image decodes to.
 abbrev pub is_good : Geometry → List ℕ → ℕ → Bool
 is_good g bytes n = let version = version_in bytes in bytes_eq (piece_in g bytes n) (piece_of version g (decoded_state version g bytes) n)
 
@@ -50,7 +51,7 @@ has_head bytes = let version = version_in bytes in is_version version && bytes_e
 
 -- ---- piece by piece
 
--- the state that the first n pieces say, taken in one after the other
+-- the state that the first n pieces decode to, taken in one after the other
 abbrev pub decoded_before : ℕ → Geometry → List ℕ → ℕ → State
 decoded_before version g bytes zero = empty
 decoded_before version g bytes (suc n) = with_piece version g (decoded_before version g bytes n) n (piece_in g bytes n)

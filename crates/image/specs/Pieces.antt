@@ -1,4 +1,4 @@
--- The pieces of an image: for each volume one of its marks, files and label, and one for each of its stripes.
+-- Format for operators: The pieces of an image: for each volume one of its flags, files and label, and one for each of its stripes.
 use Rattle.std.specs.Prelude.{ℕ, zero, suc, ◌+◌, ◌*◌, ◌/◌, ◌%◌, Bool, true, ◌&&◌, ◌==◌, nat_lt, if◌then◌else◌, List, [], ◌∷◌, ◌++◌, take, drop, get_or, replicate, unwrap_or, Option, Some, None}
 use Rattle.affinity.specs.Geometry.{group}
 use Rattle.affinity.specs.declared.geometry.Geometry.{Geometry}
@@ -51,7 +51,7 @@ piece_at g n = image_head_size + sum_below n (piece_size g)
 
 -- ---- how a state is spelled
 
--- the lists of the numbers below n, one behind the other
+-- the lists of the numbers below n, one after the other
 abbrev pub joined_below : {X : Type 0} → ℕ → (ℕ → List X) → List X
 joined_below zero f = []
 joined_below (suc n) f = joined_below n f ++ f n
@@ -68,7 +68,7 @@ stripe_entries g x a v s = joined_below g.files
 abbrev pub stripe_piece : Geometry → State → ℕ → ℕ → ℕ → List ℕ
 stripe_piece g x a v s = stripe_bytes g.quota (stripe_entries g x a v s)
 
--- The label stands in images of version 2. In those of version 1 there are zeros.
+-- Images of version 2 have the label. Those of version 1 have zeros there.
 abbrev pub label_bytes : ℕ → Option (List ℕ) → List ℕ
 label_bytes version label = if version == 2 then unwrap_or label no_label else no_label
 
@@ -88,7 +88,7 @@ part_piece version g x a v (suc s) = stripe_piece g x a v s
 abbrev pub piece_of : ℕ → Geometry → State → ℕ → List ℕ
 piece_of version g x n = part_piece version g x (aggregate_of g n) (volume_of g n) (part_of g n)
 
--- ---- what bytes say, whatever else they spell
+-- ---- what bytes decode to, whatever else they spell
 
 -- n bytes from a place on
 abbrev pub bytes_at : ℕ → ℕ → List ℕ → List ℕ
@@ -97,7 +97,7 @@ bytes_at at n bytes = take n (drop at bytes)
 abbrev pub has_volume : Geometry → VolumeKey → Bool
 has_volume g k = nat_lt k.0 g.aggregates && nat_lt k.1 g.volumes
 
--- what the bytes of a volume's piece say: whether it is made, whether it is sealed, which files it has, and its label
+-- what the bytes of a volume's piece decode to: whether it is made, whether it is sealed, which files it has, and its label
 abbrev pub is_made_in : List ℕ → Bool
 is_made_in bytes = get_or bytes 0 0 == 1
 
@@ -110,11 +110,11 @@ has_file_in bytes f = has_file (little_number 8 (bytes_at 8 8 bytes)) f
 abbrev pub label_in : ℕ → List ℕ → Option (List ℕ)
 label_in version bytes = if is_made_in bytes then Some (if version == 2 then bytes_at 16 32 bytes else no_label) else None
 
--- what the bytes of a stripe's piece say of a block
+-- the block that the bytes of a stripe's piece decode to
 abbrev pub block_in : Geometry → List ℕ → ℕ → ℕ → Option Block
 block_in g bytes f b = content_at (entries_in g.quota bytes) f b
 
--- the state that pieces say, where these are the bytes of each
+-- the state that pieces decode to, where these are the bytes of each
 abbrev pub decoded_by : ℕ → Geometry → (ℕ → List ℕ) → State
 decoded_by version g pieces =
     let of_volume : VolumeKey → List ℕ = λ k. pieces (volume_piece_number g k.0 k.1) in
@@ -126,7 +126,7 @@ decoded_by version g pieces =
       labels = λ k. if has_volume g k then label_in version (of_volume k) else None;
     }
 
--- ---- a state with what the bytes of one piece say, in the place of what it had there
+-- ---- a state with what the bytes of one piece decode to, in the place of what it had there
 
 abbrev pub with_volume_piece : ℕ → State → ℕ → ℕ → List ℕ → State
 with_volume_piece version x a v bytes =

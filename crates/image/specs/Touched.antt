@@ -1,4 +1,4 @@
--- Which pieces of an image a message may change.
+-- Statement for engineers: Which pieces of an image a message may change.
 use Rattle.std.specs.Prelude.{ℕ, suc, Bool, true, false, ◌&&◌, ◌==◌}
 use Rattle.affinity.specs.Geometry.{group}
 use Rattle.affinity.specs.declared.geometry.Geometry.{Geometry}

@@ -1,4 +1,4 @@
-//! An image says what it spells, and a state is spelled in one way: laws of the definitions alone.
+//! An image decodes to the state that it spells, and a state is spelled in one way: laws of the definitions alone.
 //! No function here does anything; its contract is the law.
 
 ghost use Rattle.std.specs.Prelude.{◌≡◌, ◌<◌, ◌≤◌, ◌↔◌, ℕ, suc, true, false, List, Some, None, is_some, length, if◌then◌else◌, ◌==◌};
@@ -19,7 +19,7 @@ pub fn a_state_is_read_again()
     ensures { (g : Geometry) (x : State) → IsState g x → read g (image_of 2 g x) ≡ Some x }
 {}
 
-/// Bytes that are read as a state are its image, in the version that their first byte tells.
+/// Bytes that are read as a state are its image, in the version that their first byte gives.
 pub fn an_image_is_its_spelling()
     ensures { (g : Geometry) (bytes : List ℕ) (x : State) → read g bytes ≡ Some x → bytes ≡ image_of (version_in bytes) g x }
 {}
@@ -31,8 +31,8 @@ pub fn what_is_read_is_a_state()
 {}
 
 /// The pieces of an image can be taken in one after the other, and what was taken in so far shows whether the
-/// last one is good. What good pieces say so far is a state, with no block of a volume before the volume's piece.
-/// An image is read exactly where its head and all its pieces are good, as what these say one after the other.
+/// last one is good. Good pieces so far decode to a state, with no block of a volume before the volume's piece.
+/// An image is read exactly where its head and all its pieces are good, as the state that these decode to in order.
 pub fn an_image_is_read_piece_by_piece()
     ensures state { (g : Geometry) (bytes : List ℕ) → AreSizedBytes (piece_at g (piece_count g)) bytes
         → (n : ℕ) → n ≤ piece_count g → AreGood g bytes n → IsState g (decoded_before (version_in bytes) g bytes n) }
@@ -47,7 +47,7 @@ pub fn an_image_is_read_piece_by_piece()
         → is_some (read g bytes) ≡ true → (has_head bytes ≡ true) × AreGood g bytes (piece_count g) }
 {}
 
-/// Each piece of an image has its size and stands at its place, and the last one ends where the part of a device ends that an image is.
+/// Each piece of an image has its size and is at its place, and the last one ends where the image's part of a device ends.
 pub fn an_image_is_cut_into_its_pieces()
     ensures pieces { (version : ℕ) (g : Geometry) (x : State) → IsState g x → (n : ℕ) → n < piece_count g
         → piece_in g (image_of version g x) n ≡ piece_of version g x n }

@@ -1,5 +1,5 @@
 //! The map of an image: how many pieces it has, how long each one is, and what it begins with. The map of a device has the sizes that
-//! every image has; which piece is of what stands in `specs/Pieces.antt`.
+//! every image has; which piece is of what is defined in `specs/Pieces.antt`.
 
 ghost use Rattle.std.specs.Prelude.{◌≡◌, ◌*◌, ◌<◌, ◌≤◌};
 ghost use Rattle.image.specs.Image.{image_head};

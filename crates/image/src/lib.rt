@@ -1,8 +1,8 @@
 //! What an image of a server's state is, byte for byte: how a state is spelled in pieces, and how it
 //! is read again.
 //!
-//! The definitions stand in `specs/`, and the laws that they obey are the contracts of the functions of
-//! `laws`, which do nothing. `layout` is the map of an image, and `touched` tells which pieces a message may change.
+//! The definitions are in `specs/`, and the laws that they obey are the contracts of the functions of
+//! `laws`, which do nothing. `layout` is the map of an image, and `touched` gives the pieces that a message may change.
 #![tactic(auto)]
 
 pub mod laws;

@@ -1,4 +1,4 @@
--- How many writes the marked pieces of an image take.
+-- How many writes the dirty pieces of an image take.
 use Rattle.std.specs.Prelude.{if◌then◌else◌, ◌==◌}
 use Rattle.std.specs.Result.{MatchResult, is_err}
 use Rattle.std.proofs.Common.{◌≡◌, ⊎_elim, ℕ, suc, ◌+◌, ◌/◌, ◌<◌, ◌≤◌, Bool, true, false, List, [], ◌∷◌, length, drop, get_or, Result, Ok, Err, refl, sym, ◌∙◌, ap, arith, true≢false}
@@ -20,7 +20,7 @@ use Rattle.device_map.specs.Layout.{layout_of}
 use Rattle.oplog.specs.Recovery.{named_area}
 use Rattle.meaning.specs.State.{State}
 
--- ---- rows
+-- ---- flags
 some_runs : count_runs (true ∷ true ∷ false ∷ true ∷ []) ≡ 2
 some_runs = refl
 
@@ -53,8 +53,9 @@ runs_begun dirty start = record { begun = λ some. absurd (omega (arith, some));
 piece_next : (dirty : List Bool) (n : ℕ) (is : Bool) → n < length dirty → get_or dirty n true ≡ is → drop n dirty ≡ is ∷ drop (n + 1) dirty
 piece_next dirty n is few here = drop_more dirty n true few ∙ ap (λ (b : Bool). b ∷ drop (n + 1) dirty) here
 
--- A piece that isn't marked ends a run, which is written then.
-pub run_closed : (dirty : List Bool) (n from at from' at' start now now' : ℕ) → n < length dirty → get_or dirty n true ≡ false → from' ≡ at' → (from < at → now' ≡ now + 1) → (at ≤ from → now' ≡ now) → RunsLeft dirty n from at start now → RunsLeft dirty (n + 1) from' at' start now'
+-- A clean piece ends a run, which is written then.
+pub run_closed : (dirty : List Bool) (n from at from' at' start now now' : ℕ) → n < length dirty → get_or dirty n true ≡ false → from' ≡ at'
+    → (from < at → now' ≡ now + 1) → (at ≤ from → now' ≡ now) → RunsLeft dirty n from at start now → RunsLeft dirty (n + 1) from' at' start now'
 run_closed dirty n from at from' at' start now now' few off ends wrote kept left =
     let next = piece_next dirty n false few off in
     let after : runs_after true (drop n dirty) ≡ runs_after false (drop (n + 1) dirty) = ap (runs_after true) next in
@@ -68,8 +69,9 @@ run_closed dirty n from at from' at' start now now' few off ends wrote kept left
           (cases_lt from at);
     }
 
--- A marked piece begins a run, or goes on with it.
-pub run_goes_on : (dirty : List Bool) (n from at from' at' start now now' : ℕ) → n < length dirty → get_or dirty n true ≡ true → from' ≡ from → at < at' → from ≤ at → now' ≡ now → RunsLeft dirty n from at start now → RunsLeft dirty (n + 1) from' at' start now'
+-- A dirty piece begins a run, or goes on with it.
+pub run_goes_on : (dirty : List Bool) (n from at from' at' start now now' : ℕ) → n < length dirty → get_or dirty n true ≡ true → from' ≡ from
+    → at < at' → from ≤ at → now' ≡ now → RunsLeft dirty n from at start now → RunsLeft dirty (n + 1) from' at' start now'
 run_goes_on dirty n from at from' at' start now now' few on begins rises order same left =
     let next = piece_next dirty n true few on in
     let after : runs_after true (drop n dirty) ≡ runs_after true (drop (n + 1) dirty) = ap (runs_after true) next in
@@ -92,7 +94,8 @@ run_failed dirty n from at start now new left wrote kept =
     (cases_lt from at)
 
 -- No piece is left, and the last run is written.
-pub run_ended : (dirty : List Bool) (n from at start now new : ℕ) → length dirty ≤ n → RunsLeft dirty n from at start now → (from < at → new ≡ now + 1) → (at ≤ from → new ≡ now) → new ≡ start + count_runs dirty
+pub run_ended : (dirty : List Bool) (n from at start now new : ℕ) → length dirty ≤ n → RunsLeft dirty n from at start now
+    → (from < at → new ≡ now + 1) → (at ≤ from → new ≡ now) → new ≡ start + count_runs dirty
 run_ended dirty n from at start now new all left wrote kept =
     let none : drop n dirty ≡ [] = drop_all n dirty all in
     let after : runs_after true (drop n dirty) ≡ 0 = ap (runs_after true) none in
@@ -141,7 +144,7 @@ finish_few g c = few (chain (layout_of g) (named_area (layout_of g) c) c == 1)
     few true = omega arith
     few false = omega arith
 
--- whether it finishes a cut is what the loading tells
+-- whether it finishes a cut is what the loading gives
 pub finish_is : (g : Geometry) (c : List ℕ) (area : ℕ) (told chained : Bool) (x : State) → told ≡ chained → NamedHolds g c area told x → finish_takes g c ≡ if chained then 4 else 0
 finish_is g c area told chained x is held =
     sym (ap (λ (b : Bool). if b then 4 else 0) (held.chain ∙ ap (λ (n : ℕ). chain (layout_of g) n c == 1) held.named)) ∙ ap (λ (b : Bool). if b then 4 else 0) is
@@ -150,5 +153,6 @@ finish_is g c area told chained x is held =
 pub opening_after : (r : Result Parts OpenFault) (w0 w1 w2 : Medium) → w1.now ≡ w0.now → moment w1 ≡ moment w0 + 1
     → MatchResult r (λ p. moment w2 ≡ moment w1 + (finish_takes p.halves.geometry w1.now + 6)) (λ e. moment w2 ≤ moment w1 + 10)
     → MatchResult r (λ p. moment w2 ≡ moment w0 + opening_takes p.halves.geometry w0.now) (λ e. moment w2 ≤ moment w0 + 11)
-opening_after (Ok p) w0 w1 w2 same one rest = let is : finish_takes p.halves.geometry w1.now ≡ finish_takes p.halves.geometry w0.now = ap (finish_takes p.halves.geometry) same in omega (arith, is, one, rest)
+opening_after (Ok p) w0 w1 w2 same one rest = let is : finish_takes p.halves.geometry w1.now
+    ≡ finish_takes p.halves.geometry w0.now = ap (finish_takes p.halves.geometry) same in omega (arith, is, one, rest)
 opening_after (Err e) w0 w1 w2 same one rest = omega (arith, one, rest)

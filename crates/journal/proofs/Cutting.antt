@@ -1,4 +1,4 @@
--- What a crash leaves at each moment of the beginning of a cut and of its end, and what stands afterwards.
+-- What a crash leaves at each moment of the beginning of a cut and of its end, and what is on the device afterwards.
 use Rattle.std.proofs.Common.{◌≡◌, ◌≢◌, ◌<◌, ◌≤◌, ℕ, true, false, eqb, List, [], ◌++◌, length, Option, is_some, Result, refl, sym, ◌∙◌, ap, subst, arith}
 use Rattle.std.proofs.lemmas.List.{append-nil}
 use Rattle.affinity.specs.declared.geometry.Geometry.{Geometry}
@@ -33,7 +33,8 @@ named_below g n h x m are recovers = subst (λ (k : ℕ). k < 2) (recovers m.now
 
 -- ---- the beginning
 
-module _ (g : Geometry) (n : ℕ) (x : Option State) (is_area : n < 2) (w0 w1 w2 : Medium) (recovers : IsStanding g n n x w0) (clears : ChangesOnly w0 w1 (IsSameButGates (layout_of g) (other n))) (cleared : Cleared (layout_of g) (other n) w0 w1)
+module _ (g : Geometry) (n : ℕ) (x : Option State) (is_area : n < 2) (w0 w1 w2 : Medium) (recovers : IsStanding g n n x w0)
+    (clears : ChangesOnly w0 w1 (IsSameButGates (layout_of g) (other n))) (cleared : Cleared (layout_of g) (other n) w0 w1)
     (chains : ChangesOnly w1 w2 (IsSameButChain (layout_of g) n)) where
   empty : (c : List ℕ) → IsCrashImage w1 c → (front (layout_of g) (other n) c ≡ []) × (chain (layout_of g) (other n) c ≢ 1)
   empty c left =
@@ -45,7 +46,8 @@ module _ (g : Geometry) (n : ℕ) (x : Option State) (is_area : n < 2) (w0 w1 w2
   pub chain_moments : CrashImagesAre w0 w2 (λ c. holds g c ≡ x)
   chain_moments =
       then w0 w1 w2 _ (clear_moments g n x is_area w0 w1 recovers clears)
-      (weaker w1 w2 _ _ (chain_by_area (means g) (layout_of g) n x w1 w2 is_area (clear_recovers g n x is_area w0 w1 recovers clears) empty chains) (λ c recovered_before. holds_by g _ _ x c recovered_before))
+      (weaker w1 w2 _ _ (chain_by_area (means g) (layout_of g) n x w1 w2 is_area (clear_recovers g n x is_area w0 w1 recovers clears) empty chains)
+      (λ c recovered_before. holds_by g _ _ x c recovered_before))
 
   module _ (are : AreBytes w1.now) (fits : device_size (layout_of g) ≤ length w0.now) (chained : Chained (layout_of g) n w1 w2) where
     pub begun_recovers : IsStanding g n (other n) x w2
@@ -60,7 +62,8 @@ module _ (g : Geometry) (n : ℕ) (x : Option State) (is_area : n < 2) (w0 w1 w2
     long_2 = chained.same.same.size
 
     pub begun_ready : IsReady (layout_of g) (other n) 0 w2
-    begun_ready = ready_kept (layout_of g) (other n) 0 (half n) w1 w2 (omega arith) (λ is. omega (arith, is, is_area)) (omega (arith, fits, long_1, long_2)) cleared.ready chained.same.same chained.calm
+    begun_ready = ready_kept (layout_of g) (other n) 0 (half n) w1 w2 (omega arith) (λ is. omega (arith, is, is_area))
+        (omega (arith, fits, long_1, long_2)) cleared.ready chained.same.same chained.calm
 
     pub begun_none : front (layout_of g) (other n) w2.now ≡ []
     begun_none =
@@ -91,7 +94,8 @@ module _ (g : Geometry) (n used : ℕ) (x : Option State) (bytes : List ℕ) (w0
   sync_moments w1 r syncs = weaker w0 w1 _ _ (after_sync w0 w0 w1 _ begun r syncs) (holds_by g n (other n) x)
 
   module _ (is_area : n < 2) (some : is_some x ≡ true) (is : image_in g (other n) w0 ≡ bytes) (behind : run_on g (read g bytes) (front (layout_of g) (other n) w0.now) ≡ x) (w2 : Medium) where
-    own_recovers : (c : List ℕ) → c ≡ w0.now → RecoversBy (means g) (layout_of g) n (other n) x c → (recovers_as (means g) (layout_of g) (other n) c ≡ x) × (eqb (chain (layout_of g) (other n) c) 1 ≡ false)
+    own_recovers : (c : List ℕ) → c ≡ w0.now → RecoversBy (means g) (layout_of g) n (other n) x c
+        → (recovers_as (means g) (layout_of g) (other n) c ≡ x) × (eqb (chain (layout_of g) (other n) c) 1 ≡ false)
     own_recovers c same recovered_before =
         let laid = laid_by g n x c recovered_before.is some in
         let shut = chain_other g n c is_area laid recovered_before.current in (

@@ -1,4 +1,4 @@
--- What a crash leaves at each moment while a cut that was in progress is finished, and what stands at its end.
+-- What a crash leaves at each moment while a cut that was in progress is finished, and what is on the device at its end.
 use Rattle.std.proofs.Common.{◌≡◌, ◌<◌, ℕ, true, false, eqb, cond, not, ◌&&◌, nat_le, List, ◌++◌, Option, None, sym, ◌∙◌, ap, arith}
 use Rattle.checkpoint.specs.Header.{is_header}
 use Rattle.checkpoint.specs.Recovery.{holds, means}

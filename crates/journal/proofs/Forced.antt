@@ -23,7 +23,8 @@ pub forced_alone : (g : Geometry) (n : ℕ) (x : Option State) (c : List ℕ) �
 forced_alone g n x c is_area recovered_before =
     ap (λ (k : ℕ). in_force (layout_of g) k c) recovered_before.named ∙ shut_force (layout_of g) n c (shut_by n (eqb (chain (layout_of g) n c) 1) is_area recovered_before.current)
 
-pub forced_both : (g : Geometry) (n : ℕ) (x : Option State) (c : List ℕ) → n < 2 → RecoversBy (means g) (layout_of g) n (other n) x c → records_in g c ≡ front (layout_of g) n c ++ front (layout_of g) (other n) c
+pub forced_both : (g : Geometry) (n : ℕ) (x : Option State) (c : List ℕ) → n < 2 → RecoversBy (means g) (layout_of g) n (other n) x c
+    → records_in g c ≡ front (layout_of g) n c ++ front (layout_of g) (other n) c
 forced_both g n x c is_area recovered_before =
     ap (λ (k : ℕ). in_force (layout_of g) k c) recovered_before.named
     ∙ ap (λ (t : Bool). cond t (front (layout_of g) n c ++ front (layout_of g) (other n) c) (front (layout_of g) n c)) (open_by n (eqb (chain (layout_of g) n c) 1) is_area recovered_before.current)
@@ -31,7 +32,8 @@ forced_both g n x c is_area recovered_before =
 -- ---- while something changes
 
 -- records are added to the current half
-pub forced_more : (g : Geometry) (n h : ℕ) (x : Option State) (more : List (List ℕ)) (a c : List ℕ) → n < 2 → h < 2 → RecoversBy (means g) (layout_of g) n h x a → HasMore (layout_of g) h more a c → records_in g c ≡ records_in g a ++ more
+pub forced_more : (g : Geometry) (n h : ℕ) (x : Option State) (more : List (List ℕ)) (a c : List ℕ) → n < 2 → h < 2
+    → RecoversBy (means g) (layout_of g) n h x a → HasMore (layout_of g) h more a c → records_in g c ≡ records_in g a ++ more
 forced_more g n h x more a c is_area is_half recovered_before has =
     ap (λ (k : ℕ). in_force (layout_of g) k c) (same_named (means g) (layout_of g) h more a c is_half has ∙ recovered_before.named)
     ∙ grown_force (means g) (layout_of g) h more a c is_half has n is_area recovered_before.current

@@ -38,7 +38,16 @@ all_put g x n at bytes all place size so_far =
 
 pub put_long : (at k : ℕ) (bytes part : List ℕ) → at + k ≤ length bytes → length part ≡ k → length (take at bytes ++ (part ++ drop k (drop at bytes))) ≡ length bytes
 put_long at k bytes part inside size =
-    omega (arith, inside, size, length-append (take at bytes) (part ++ drop k (drop at bytes)), length-append part (drop k (drop at bytes)), length-take-le at bytes (omega (arith, inside)), length-drop k (drop at bytes), length-drop at bytes)
+    omega (
+      arith,
+      inside,
+      size,
+      length-append (take at bytes) (part ++ drop k (drop at bytes)),
+      length-append part (drop k (drop at bytes)),
+      length-take-le at bytes (omega (arith, inside)),
+      length-drop k (drop at bytes),
+      length-drop at bytes,
+    )
 
 -- ---- a piece that is there already
 
@@ -53,7 +62,7 @@ rest_put at k bytes part inside size =
 pub rest_more : (at k : ℕ) (now old : List ℕ) → drop at now ≡ drop at old → drop (at + k) now ≡ drop (at + k) old
 rest_more at k now old same = sym (drop-drop k at now) ∙ ap (drop k) same ∙ drop-drop k at old
 
--- what a extent that isn't marked says of its piece
+-- what a clean extent shows of its piece
 pub piece_there : (g : Geometry) (x : State) (n : ℕ) (bytes : List ℕ) → extent_in g bytes n ≡ extent_of g x n → slice bytes (piece_at g n) (piece_size g n) ≡ piece_of 2 g x n
 piece_there g x zero bytes is = sym (drop-take 64 (piece_size g 0) bytes) ∙ ap (drop 64) is ∙ drop_at (image_head 2) (piece_of 2 g x 0) 64 refl
 piece_there g x (suc n) bytes is = is
@@ -73,7 +82,7 @@ headed g x dirty old new head rest right (suc n) few unmarked =
 
 -- ---- one piece after the other
 
--- The first pieces are those of a state, and the rest is as it was: where what isn't marked was right at first.
+-- The first pieces are those of a state, and the rest is as it was: where what is clean was right at first.
 pub record IsFrozenTo (g : Geometry) (x : State) (dirty : List Bool) (first : List ℕ) (n at : ℕ) (bytes : List ℕ) : Type 0 where
   pub place : at ≡ piece_at g n
   pub size : length bytes ≡ length first
@@ -85,7 +94,7 @@ module _ (g : Geometry) (x : State) (dirty : List Bool) (first : List ℕ) (n at
   inside : at + k ≤ length bytes
   inside = let in_image = piece_inside g n few in omega (arith, in_image, long, size, so_far.place, so_far.size)
 
-  -- a piece that is marked is spelled
+  -- a dirty piece is spelled
   pub put_one : (k' : ℕ) (part : List ℕ) → k' ≡ k → length part ≡ k → part ≡ piece_of 2 g x n → IsFrozenTo g x dirty first (n + 1) (at + k) (take at bytes ++ (part ++ drop k' (drop at bytes)))
   put_one k' part same size' is =
       subst (λ (j : ℕ). IsFrozenTo g x dirty first (n + 1) (at + k) (take at bytes ++ (part ++ drop j (drop at bytes)))) (sym same)
@@ -96,7 +105,7 @@ module _ (g : Geometry) (x : State) (dirty : List Bool) (first : List ℕ) (n at
         so_far = λ right. piece_put at k bytes part (omega (arith, inside)) size' ∙ one_more g x n (take at bytes) part (so_far.so_far right) is;
       })
 
-  -- one that isn't is there already
+  -- a clean one is there already
   pub pass_one : get_or dirty n true ≡ false → IsFrozenTo g x dirty first (n + 1) (at + k) bytes
   pass_one unmarked = record {
     place = (λ i. so_far.place i + size i) ∙ sym (piece_after g n);

@@ -1,4 +1,4 @@
--- The lemmas of this crate: what a crash leaves while the journal logs, makes a checkpoint or a cut, and is opened.
+-- The lemmas of this crate: what a crash leaves while the journal logs, makes a point or a cut, and is opened.
 mod Places
 mod Costs
 mod Runs

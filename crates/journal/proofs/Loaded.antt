@@ -82,7 +82,8 @@ module _ (g : Geometry) (c : List ℕ) (n : ℕ) (x : State) (is : NamedHolds g 
     pub behind_fine : refused g c ≡ None
     behind_fine = not_refused g c is.header is.whole n is.named is.sound is.first is.decoded is.one (both_sound g is.first n c x is.ran follows y more)
 
-pub unfinished_cut : (log : Log) (m : Medium) (x : State) (bytes : List ℕ) → NamedHolds log.geometry m.now log.named true x → IsSynced m → IsState log.geometry x → bytes ≡ image_of 2 log.geometry x → IsUnfinished log bytes m
+pub unfinished_cut : (log : Log) (m : Medium) (x : State) (bytes : List ℕ) → NamedHolds log.geometry m.now log.named true x → IsSynced m
+    → IsState log.geometry x → bytes ≡ image_of 2 log.geometry x → IsUnfinished log bytes m
 unfinished_cut log m x bytes is calm is_state spelled = record {
   calm = calm;
   laid = laid_out log.geometry m.now log.named x is;
@@ -108,7 +109,8 @@ not_off false is = absurd (true≢false is)
 abbrev pub loaded_log : Geometry → ℕ → Log
 loaded_log g n = renamed n (new_log g)
 
-pub held_after : (g : Geometry) (log : Log) (n : ℕ) (t u : Bool) (x : State) (w0 w1 : Medium) → log ≡ loaded_log g n → t ≡ u → moments w1 ≡ moments w0 → NamedHolds g w0.now n t x → NamedHolds log.geometry w1.now log.named u x
+pub held_after : (g : Geometry) (log : Log) (n : ℕ) (t u : Bool) (x : State) (w0 w1 : Medium) → log ≡ loaded_log g n → t ≡ u → moments w1
+    ≡ moments w0 → NamedHolds g w0.now n t x → NamedHolds log.geometry w1.now log.named u x
 held_after g log n t u x w0 w1 is chained only held =
     subst (λ (l : Log). NamedHolds l.geometry w1.now l.named u x) (sym is)
     (subst (λ (b : Bool). NamedHolds g w1.now n b x) chained (subst (λ (c : List ℕ). NamedHolds g c n t x) (sym (same_bytes w0 w1 only)) held))
@@ -124,8 +126,10 @@ kept_then p q r first second = record {
 }
 
 -- loaded with this log, of parts whose room has the sizes of a geometry
-pub are_loaded : (p q : Parts) (g : Geometry) (log : Log) (m : Medium) → q.halves ≡ log → log.geometry ≡ g → log.failed ≡ false → log.current ≡ log.named → IsWholeTree q.tree → q.tree.geometry ≡ g → KeepsRoom p q
-    → length p.frozen.items ≡ image_size g → length p.named_dirty.items ≡ piece_count g → length p.other_dirty.items ≡ piece_count g → AreAllDirty g p.other_dirty.items → device_size (layout_of g) ≤ length m.now → AreLoaded q m
+pub are_loaded : (p q : Parts) (g : Geometry) (log : Log) (m : Medium) → q.halves ≡ log → log.geometry ≡ g → log.failed ≡ false → log.current
+    ≡ log.named → IsWholeTree q.tree → q.tree.geometry ≡ g → KeepsRoom p q
+    → length p.frozen.items ≡ image_size g → length p.named_dirty.items ≡ piece_count g → length p.other_dirty.items ≡ piece_count g
+    → AreAllDirty g p.other_dirty.items → device_size (layout_of g) ≤ length m.now → AreLoaded q m
 are_loaded p q g log m is_log of fine together tree geometry room frozen named dirty all whole =
     let same : q.halves.geometry ≡ g = ap (λ (l : Log). l.geometry) is_log ∙ of in
     record {
@@ -143,7 +147,8 @@ are_loaded p q g log m is_log of fine together tree geometry room frozen named d
     }
 
 -- once the last point is made
-pub made : (p q r : Parts) (w2 w3 : Medium) → AreUnloaded p → q.halves.geometry ≡ p.tree.geometry → KeepsRoom p q → AreLoaded q w2 → KeepsRoom q r → r.tree ≡ q.tree → r.halves ≡ pointed q.halves → length w3.now ≡ length w2.now → IsMade r w3
+pub made : (p q r : Parts) (w2 w3 : Medium) → AreUnloaded p → q.halves.geometry ≡ p.tree.geometry → KeepsRoom p q → AreLoaded q w2 → KeepsRoom q r
+    → r.tree ≡ q.tree → r.halves ≡ pointed q.halves → length w3.now ≡ length w2.now → IsMade r w3
 made p q r w2 w3 taken same room loaded room' tree log long =
     let is : r.halves.geometry ≡ q.halves.geometry = ap (λ (l : Log). l.geometry) log in
     let kept = kept_then p q r room room' in
@@ -164,7 +169,8 @@ made p q r w2 w3 taken same room loaded room' tree log long =
 
 -- ---- in the words of contracts
 
-pub opened : (p : Parts) (old m : Medium) (j : JournalView) → IsMade p m → IsMadeOf old.now p m → IsWholeTree p.tree → j ≡ held_of p.halves p.named_dirty.items p.other_dirty.items None false m → IsOpened old j (state_in p.tree)
+pub opened : (p : Parts) (old m : Medium) (j : JournalView) → IsMade p m → IsMadeOf old.now p m → IsWholeTree p.tree → j
+    ≡ held_of p.halves p.named_dirty.items p.other_dirty.items None false m → IsOpened old j (state_in p.tree)
 opened p old m j made is whole same =
     subst (λ (h : JournalView). IsOpened old h (state_in p.tree)) (sym same)
     (record {
@@ -179,8 +185,10 @@ opened p old m j made is whole same =
       state = subst (λ (g : Geometry). IsState g (state_in p.tree)) (sym made.geometry) whole.state;
     })
 
-pub made_of : (p : Parts) (log : Log) (old w2 w3 : Medium) (frozen : List ℕ) → AreBytes w3.now → HasHeader p.tree.geometry old.now → refused p.tree.geometry old.now ≡ None → holds p.tree.geometry old.now ≡ Some (state_in p.tree)
-    → p.halves ≡ pointed log → p.tree.geometry ≡ log.geometry → p.frozen.items ≡ frozen → frozen ≡ image_of 2 p.tree.geometry (state_in p.tree) → IsWholeTree p.tree → AreAllDirty log.geometry p.other_dirty.items
+pub made_of : (p : Parts) (log : Log) (old w2 w3 : Medium) (frozen : List ℕ) → AreBytes w3.now → HasHeader p.tree.geometry old.now
+    → refused p.tree.geometry old.now ≡ None → holds p.tree.geometry old.now ≡ Some (state_in p.tree)
+    → p.halves ≡ pointed log → p.tree.geometry ≡ log.geometry → p.frozen.items ≡ frozen → frozen ≡ image_of 2 p.tree.geometry (state_in p.tree)
+    → IsWholeTree p.tree → AreAllDirty log.geometry p.other_dirty.items
     → IsAlone log w2 → holds log.geometry w2.now ≡ Some (state_in p.tree) → IsPointed log frozen w2 w3 → IsMadeOf old.now p w3
 made_of p log old w2 w3 frozen are head fine was is_log geometry items spelled whole all alone held made =
     let same : p.halves.geometry ≡ log.geometry = ap (λ (l : Log). l.geometry) is_log in
@@ -197,5 +205,6 @@ made_of p log old w2 w3 frozen are head fine was is_log geometry items spelled w
       sound =
           subst (λ (l : List ℕ). IsSoundJournal p.halves l p.named_dirty.items p.other_dirty.items p.due.items None w3) (sym items)
           (subst (λ (l : Log). IsSoundJournal l frozen p.named_dirty.items p.other_dirty.items p.due.items None w3) (sym is_log)
-          (opened_sound log frozen p.named_dirty.items p.other_dirty.items p.due.items w2 w3 (state_in p.tree) alone held is_state (spelled ∙ ap (λ (g : Geometry). image_of 2 g (state_in p.tree)) geometry) all are made));
+          (opened_sound log frozen p.named_dirty.items p.other_dirty.items p.due.items w2 w3 (state_in p.tree) alone held is_state
+          (spelled ∙ ap (λ (g : Geometry). image_of 2 g (state_in p.tree)) geometry) all are made));
     }

@@ -41,7 +41,8 @@ use Rattle.meaning.specs.State.{State, IsState}
 -- ---- messages and their records
 
 -- the record of a message that is carried out leads to the state after it
-applied : (g : Geometry) (x : State) (m : Msg) → message_in_fields (record_of m) ≡ Some m → is_in_range g m ≡ true → is_loggable m (reply_to g x m) ≡ true → apply g x (record_of m) ≡ Some (next_state g x m)
+applied : (g : Geometry) (x : State) (m : Msg) → message_in_fields (record_of m) ≡ Some m → is_in_range g m ≡ true → is_loggable m (reply_to g x m)
+    ≡ true → apply g x (record_of m) ≡ Some (next_state g x m)
 applied g x m says in_range loggable =
     let same : bytes_eq (record_of m) (record_of m) ≡ true = (bytes_eq-Decides (record_of m) (record_of m)).1 refl in
     ap (apply_decoded g x (record_of m)) says ∙ (λ i. cond (same i && in_range i && loggable i) (Some (next_state g x m)) None)
@@ -85,13 +86,15 @@ carried_state : (g : Geometry) (x : State) (ms : List Msg) → IsState g x → A
 carried_state g x [] is out = is
 carried_state g x (m ∷ ms) is out = carried_state g (next_state g x m) ms (step_kept g x m is out.0) out.3
 
-pub fresh_more : (g : Geometry) (x : State) (ms : List Msg) (old new : List Bool) (bytes : List ℕ) → IsState g x → AreCarriedOut g x ms → DirtiesTouched g ms old new → IsFresh g (Some x) old bytes → IsFresh g (Some (fold g x ms)) new bytes
+pub fresh_more : (g : Geometry) (x : State) (ms : List Msg) (old new : List Bool) (bytes : List ℕ) → IsState g x → AreCarriedOut g x ms
+    → DirtiesTouched g ms old new → IsFresh g (Some x) old bytes → IsFresh g (Some (fold g x ms)) new bytes
 fresh_more g x ms old new bytes is_state out touched fresh y is n few unmarked =
     let kept = (touched n few).0 unmarked in
     fresh x refl n few kept.0 ∙ sym (all_stay g x ms n is_state out kept.1) ∙ ap (λ (o : Option State). extent_of g (unwrap_or o x) n) is
 
 -- the journal's facts, in the words of contracts
-pub committed_of : {a b : List Bool} → (log : Log) (frozen : List ℕ) (named others due : List Bool) (left : Option ℕ) (failed : Bool) (m : Medium) → IsSoundJournal log frozen named others due left m → IsCommitted (held_of log a b left failed m)
+pub committed_of : {a b : List Bool} → (log : Log) (frozen : List ℕ) (named others due : List Bool) (left : Option ℕ) (failed : Bool) (m : Medium)
+    → IsSoundJournal log frozen named others due left m → IsCommitted (held_of log a b left failed m)
 committed_of log frozen named others due left failed m sound = record {
   some = sound.some;
   each = λ c gone. holds_by log.geometry log.named log.current (holds log.geometry m.now) c (sound.recovers c gone);
@@ -113,7 +116,8 @@ coming_used log used frozen (Some k) m = refl
 
 -- ---- logging
 
-module _ (log : Log) (frozen : List ℕ) (named others due : List Bool) (left : Option ℕ) (ms : List Msg) (w0 w1 : Medium) (are : AreBytes w0.now) (sound : IsSoundJournal log frozen named others due left w0) where
+module _ (log : Log) (frozen : List ℕ) (named others due : List Bool) (left : Option ℕ) (ms : List Msg) (w0 w1 : Medium) (are : AreBytes w0.now)
+    (sound : IsSoundJournal log frozen named others due left w0) where
   is_area : log.named < 2
   is_area = named_below log.geometry log.named log.current (holds log.geometry w0.now) w0 are sound.recovers
 
@@ -218,7 +222,8 @@ pub touched_along : (g g' : Geometry) (ms : List Msg) (old old' new new' : List 
 touched_along g g' ms old old' new new' same was is touched =
     subst (λ (x : Geometry). DirtiesTouched x ms old' new') same (subst (λ (l : List Bool). DirtiesTouched g ms l new') was (subst (λ (l : List Bool). DirtiesTouched g ms old l) (sym is) touched))
 
-pub log_kept : (log new : Log) (frozen : List ℕ) (named others due named' others' : List Bool) (left : Option ℕ) (ms : List Msg) (w0 w1 : Medium) → new ≡ record log { used = log.used + length ms } → AreBytes w0.now → AreBytes w1.now
+pub log_kept : (log new : Log) (frozen : List ℕ) (named others due named' others' : List Bool) (left : Option ℕ) (ms : List Msg) (w0 w1 : Medium)
+    → new ≡ record log { used = log.used + length ms } → AreBytes w0.now → AreBytes w1.now
     → IsSoundJournal log frozen named others due left w0 → ((x : State) → holds log.geometry w0.now ≡ Some x → AreCarriedOut log.geometry x ms) → HasAdded log ms w0 w1 → IsCutState log due left
     → DirtiesTouched log.geometry ms named named' → DirtiesTouched log.geometry ms others others' → IsSoundJournal new frozen named' others' due left w1
 log_kept log new frozen named others due named' others' left ms w0 w1 is are are' sound out has placed touched touched' =
@@ -226,8 +231,10 @@ log_kept log new frozen named others due named' others' left ms w0 w1 is are are
     subst (λ (l : Log). IsSoundJournal l frozen named' others' due left w1) (sym is)
     (log_sound log frozen named others due left ms w0 w1 are sound value.0 value.1 (out value.0 value.1) has are' named' others' placed touched touched')
 
-pub log_told : (log : Log) (frozen : List ℕ) (named others due : List Bool) (left : Option ℕ) (ms : List Msg) (w0 w1 : Medium) → AreBytes w0.now → AreBytes w1.now → IsSoundJournal log frozen named others due left w0
-    → ((x : State) → holds log.geometry w0.now ≡ Some x → AreCarriedOut log.geometry x ms) → HasAdded log ms w0 w1 → holds log.geometry w1.now ≡ option_map (λ x. fold log.geometry x ms) (holds log.geometry w0.now)
+pub log_told : (log : Log) (frozen : List ℕ) (named others due : List Bool) (left : Option ℕ) (ms : List Msg) (w0 w1 : Medium) → AreBytes w0.now
+    → AreBytes w1.now → IsSoundJournal log frozen named others due left w0
+    → ((x : State) → holds log.geometry w0.now ≡ Some x → AreCarriedOut log.geometry x ms) → HasAdded log ms w0 w1 → holds log.geometry w1.now
+    ≡ option_map (λ x. fold log.geometry x ms) (holds log.geometry w0.now)
 log_told log frozen named others due left ms w0 w1 are are' sound out has =
     let value = some_value (holds log.geometry w0.now) sound.some in
     log_committed log frozen named others due left ms w0 w1 are sound value.0 value.1 (out value.0 value.1) has are'

@@ -1,4 +1,4 @@
--- How the marked extents of an image are written, one run after another.
+-- How the dirty extents of an image are written, one run after another.
 use Rattle.std.proofs.Common.{◌≡◌, ◌≢◌, ⊎_elim, ℕ, suc, ◌+◌, ◌-◌, ◌<◌, ◌≤◌, Bool, true, false, List, ◌++◌, length, take, drop, get_or, refl, sym, ◌∙◌, ap, subst, arith, length-drop}
 use Rattle.std.proofs.lemmas.Bool.{cases_lt}
 use Rattle.std.proofs.lemmas.List.{drop-drop, take_all, length-take-le}
@@ -15,14 +15,15 @@ use Rattle.oplog.specs.Changes.{ChangesOnly, IsSameBut}
 use Rattle.device_map.specs.Layout.{slice, layout_of, image, image_size, part_at, part_size, device_size}
 use Rattle.oplog.proofs.Slices.{same_but_both, same_but_none, image_sized, part_inside}
 
--- ---- rows of bytes
+-- ---- lists of bytes
 
 -- the first of them are written, and the others are as they were
 pub record UpTo (from : ℕ) (bytes old new : List ℕ) : Type 0 where
   pub done : take from new ≡ take from bytes
   pub rest : drop from new ≡ drop from old
 
-run_up : (from d : ℕ) (bytes old now new : List ℕ) → from + d ≤ length bytes → from + d ≤ length now → UpTo from bytes old now → new ≡ overlaid now from (take d (drop from bytes)) → UpTo (from + d) bytes old new
+run_up : (from d : ℕ) (bytes old now new : List ℕ) → from + d ≤ length bytes → from + d ≤ length now → UpTo from bytes old now → new
+    ≡ overlaid now from (take d (drop from bytes)) → UpTo (from + d) bytes old new
 run_up from d bytes old now new few inside so_far is =
     let items : List ℕ = take d (drop from bytes) in
     let long : length items ≡ d = length-take-le d (drop from bytes) (omega (arith, length-drop from bytes, few)) in
@@ -36,7 +37,8 @@ run_up from d bytes old now new few inside so_far is =
       rest = behind ∙ sym (drop-drop d from now) ∙ ap (λ (l : List ℕ). drop d l) so_far.rest ∙ drop-drop d from old;
     }
 
-pub run_done : (from at : ℕ) (bytes old now new : List ℕ) → from ≤ at → at ≤ length bytes → at ≤ length now → UpTo from bytes old now → new ≡ overlaid now from (slice bytes from (at - from)) → UpTo at bytes old new
+pub run_done : (from at : ℕ) (bytes old now new : List ℕ) → from ≤ at → at ≤ length bytes → at ≤ length now → UpTo from bytes old now → new
+    ≡ overlaid now from (slice bytes from (at - from)) → UpTo at bytes old new
 run_done from at bytes old now new order few inside so_far is =
     let end : from + (at - from) ≡ at = omega (arith, order) in
     subst (λ (k : ℕ). UpTo k bytes old new) end (run_up from (at - from) bytes old now new (omega (arith, order, few)) (omega (arith, order, inside)) so_far is)
@@ -81,12 +83,14 @@ patch_begun g area bytes m = record {
   up_to = none_yet bytes (image_in g area m);
 }
 
-module _ (g : Geometry) (area from at : ℕ) (bytes : List ℕ) (w0 w w1 : Medium) (is_area : area < 2) (size : length bytes ≡ image_size g) (whole : device_size (layout_of g) ≤ length w0.now) (so_far : IsPatched g area from bytes w0 w)
+module _ (g : Geometry) (area from at : ℕ) (bytes : List ℕ) (w0 w w1 : Medium) (is_area : area < 2) (size : length bytes ≡ image_size g)
+    (whole : device_size (layout_of g) ≤ length w0.now) (so_far : IsPatched g area from bytes w0 w)
     (moments : ChangesOnly w w1 (IsSameBut (layout_of g) (image area))) where
   pub patch_moments : ChangesOnly w0 w1 (IsSameBut (layout_of g) (image area))
   patch_moments = part_then (layout_of g) (image area) w0 w w1 so_far.moments moments
 
-  module _ (order : from ≤ at) (inside : at ≤ image_size g) (same : IsSameBut (layout_of g) (image area) w.now w1.now) (written : image_in g area w1 ≡ overlaid (image_in g area w) from (slice bytes from (at - from))) where
+  module _ (order : from ≤ at) (inside : at ≤ image_size g) (same : IsSameBut (layout_of g) (image area) w.now w1.now)
+      (written : image_in g area w1 ≡ overlaid (image_in g area w) from (slice bytes from (at - from))) where
     pub patched : IsPatched g area at bytes w0 w1
     patched =
         let long = image_long g area w is_area (omega (arith, whole, so_far.same.size)) in
@@ -97,7 +101,9 @@ module _ (g : Geometry) (area from at : ℕ) (bytes : List ℕ) (w0 w w1 : Mediu
         }
 
 -- one extent more, that is there already
-pub patch_passed : (g : Geometry) (area n at end : ℕ) (bytes : List ℕ) (dirty : List Bool) (w0 w : Medium) → AgreeOnClean g dirty (image_in g area w0) bytes → n < piece_count g → get_or dirty n true ≡ false → at ≡ extent_at g n → end ≡ at + extent_size g n
+pub patch_passed : (g : Geometry) (area n at end : ℕ) (bytes : List ℕ) (dirty : List Bool) (w0 w : Medium)
+    → AgreeOnClean g dirty (image_in g area w0) bytes → n < piece_count g → get_or dirty n true ≡ false → at ≡ extent_at g n → end
+    ≡ at + extent_size g n
     → IsPatched g area at bytes w0 w → IsPatched g area end bytes w0 w
 patch_passed g area n at end bytes dirty w0 w agree few unmarked is ends so_far =
     record {
@@ -108,7 +114,8 @@ patch_passed g area n at end bytes dirty w0 w agree few unmarked is ends so_far 
     }
 
 -- all of it, and a sync
-pub patch_synced : (g : Geometry) (area : ℕ) (bytes : List ℕ) (w0 w w1 : Medium) → area < 2 → length bytes ≡ image_size g → device_size (layout_of g) ≤ length w0.now → IsPatched g area (image_size g) bytes w0 w → w1 ≡ synced w → Imaged g area bytes w0 w1
+pub patch_synced : (g : Geometry) (area : ℕ) (bytes : List ℕ) (w0 w w1 : Medium) → area < 2 → length bytes ≡ image_size g
+    → device_size (layout_of g) ≤ length w0.now → IsPatched g area (image_size g) bytes w0 w → w1 ≡ synced w → Imaged g area bytes w0 w1
 patch_synced g area bytes w0 w w1 is_area size whole so_far syncs =
     subst (λ (m : Medium). Imaged g area bytes w0 m) (sym syncs)
     (record {
@@ -124,7 +131,8 @@ along_patch g area from from' bytes w0 w w' same still so_far =
 -- ---- one extent
 
 -- one extent is written over, and each other one stays
-pub one_patched : (g : Geometry) (n at : ℕ) (bytes old new : List ℕ) → n < piece_count g → length bytes ≡ image_size g → length old ≡ image_size g → at ≡ extent_at g n → new ≡ overlaid old at (slice bytes at (extent_size g n)) → IsPatchedAt g n bytes old new
+pub one_patched : (g : Geometry) (n at : ℕ) (bytes old new : List ℕ) → n < piece_count g → length bytes ≡ image_size g → length old ≡ image_size g
+    → at ≡ extent_at g n → new ≡ overlaid old at (slice bytes at (extent_size g n)) → IsPatchedAt g n bytes old new
 one_patched g n at bytes old new few size size' place is =
     let inside = extent_inside g n few in
     let items : List ℕ = slice bytes at (extent_size g n) in

@@ -30,7 +30,8 @@ use Rattle.meaning.specs.State.{State}
 
 -- ---- how many are left
 
-pub piece_left : (log : Log) (due : List Bool) (left : Option ℕ) (n count : ℕ) → is_some left ≡ true → IsCutState log due left → n < length due → get_or due n false ≡ true → count ≡ count_dirty (set due n false) → option_map (λ l. l - 1) left ≡ Some count
+pub piece_left : (log : Log) (due : List Bool) (left : Option ℕ) (n count : ℕ) → is_some left ≡ true → IsCutState log due left → n < length due
+    → get_or due n false ≡ true → count ≡ count_dirty (set due n false) → option_map (λ l. l - 1) left ≡ Some count
 piece_left log due None n count some placed few dirty_at is = absurd (true≢false (sym some))
 piece_left log due (Some l) n count some placed few dirty_at is =
     let fewer = count_cleared due n few dirty_at in
@@ -38,7 +39,8 @@ piece_left log due (Some l) n count some placed few dirty_at is =
     ap (λ (k : ℕ). Some k) one
 
 -- one fewer, and those are the ones that are due then
-pub piece_counted : (log : Log) (due : List Bool) (left : Option ℕ) (n fewer : ℕ) → is_some left ≡ true → IsCutState log due left → n < length due → get_or due n false ≡ true → fewer ≡ unwrap_or left 0 - 1 → fewer ≡ count_dirty (set due n false)
+pub piece_counted : (log : Log) (due : List Bool) (left : Option ℕ) (n fewer : ℕ) → is_some left ≡ true → IsCutState log due left → n < length due
+    → get_or due n false ≡ true → fewer ≡ unwrap_or left 0 - 1 → fewer ≡ count_dirty (set due n false)
 piece_counted log due None n fewer some placed few dirty_at is = absurd (true≢false (sym some))
 piece_counted log due (Some l) n fewer some placed few dirty_at is = let one = count_cleared due n few dirty_at in omega (arith, one, is, placed.1)
 
@@ -61,7 +63,8 @@ pub record IsPieced (g : Geometry) (area n : ℕ) (bytes : List ℕ) (old new : 
   pub is : IsPatchedAt g n bytes (image_in g area old) (image_in g area new)
   pub ready : (h k : ℕ) → h < 2 → IsReady (layout_of g) h k old → IsReady (layout_of g) h k new
 
-pub pieced_along : (g g' : Geometry) (a a' n : ℕ) (bytes bytes' : List ℕ) (w0 w1 : Medium) → g ≡ g' → a ≡ a' → bytes ≡ bytes' → IsPieced g (other a) n bytes w0 w1 → IsPieced g' (other a') n bytes' w0 w1
+pub pieced_along : (g g' : Geometry) (a a' n : ℕ) (bytes bytes' : List ℕ) (w0 w1 : Medium) → g ≡ g' → a ≡ a' → bytes ≡ bytes'
+    → IsPieced g (other a) n bytes w0 w1 → IsPieced g' (other a') n bytes' w0 w1
 pieced_along g g' a a' n bytes bytes' w0 w1 same same' are held =
     subst (λ (l : List ℕ). IsPieced g' (other a') n l w0 w1) are (subst (λ (b : ℕ). IsPieced g' (other b) n bytes w0 w1) same' (subst (λ (x : Geometry). IsPieced x (other a) n bytes w0 w1) same held))
 
@@ -69,7 +72,8 @@ module _ (log : Log) (frozen : List ℕ) (named others due : List Bool) (left : 
   is_area : log.named < 2
   is_area = named_below log.geometry log.named log.current (holds log.geometry w0.now) w0 are sound.recovers
 
-  by_piece : ChangesOnly w0 w1 (IsSameBut (layout_of log.geometry) (image (other log.named))) → CrashImagesAre w0 w1 (RecoversBy (means log.geometry) (layout_of log.geometry) log.named log.current (holds log.geometry w0.now))
+  by_piece : ChangesOnly w0 w1 (IsSameBut (layout_of log.geometry) (image (other log.named)))
+      → CrashImagesAre w0 w1 (RecoversBy (means log.geometry) (layout_of log.geometry) log.named log.current (holds log.geometry w0.now))
   by_piece moments = image_by_area (means log.geometry) (layout_of log.geometry) log.named log.current (holds log.geometry w0.now) w0 w1 is_area sound.recovers moments
 
   pub piece_moments : ChangesOnly w0 w1 (IsSameBut (layout_of log.geometry) (image (other log.named))) → CrashImagesAre w0 w1 (λ c. holds log.geometry c ≡ holds log.geometry w0.now)
@@ -90,7 +94,8 @@ module _ (log : Log) (frozen : List ℕ) (named others due : List Bool) (left : 
     pub piece_records : ChangesOnly w0 w1 (IsSameBut (layout_of log.geometry) (image (other log.named))) → records_in log.geometry w1.now ≡ records_in log.geometry w0.now
     piece_records moments = each_forced moments w1.now (itself w1.now w1.unsynced are')
 
-    pub piece_sound : (n l count : ℕ) → left ≡ Some l → n < length due → IsPieced log.geometry (other log.named) n frozen w0 w1 → IsSoundJournal log frozen named others (set due n false) (Some count) w1
+    pub piece_sound : (n l count : ℕ) → left ≡ Some l → n < length due → IsPieced log.geometry (other log.named) n frozen w0 w1
+        → IsSoundJournal log frozen named others (set due n false) (Some count) w1
     piece_sound n l count is_left few pieced =
         let same = piece_same pieced.moments in
         let sound' = subst (λ (o : Option ℕ). IsSoundJournal log frozen named others due o w0) is_left sound in
@@ -111,7 +116,8 @@ module _ (log : Log) (frozen : List ℕ) (named others due : List Bool) (left : 
             behind = ap (λ (rs : List (List ℕ)). run_on log.geometry (read log.geometry frozen) rs) other_half.0 ∙ sound'.by_cut.behind ∙ sym same;
             written = λ i few' unmarked.
                 ⊎_elim
-                (λ (here : i ≡ n). ap (λ (j : ℕ). extent_in log.geometry (image_in log.geometry (other log.named) w1) j) here ∙ pieced.is.is ∙ sym (ap (λ (j : ℕ). extent_in log.geometry frozen j) here))
+                (λ (here : i ≡ n). ap (λ (j : ℕ). extent_in log.geometry (image_in log.geometry (other log.named) w1) j) here ∙ pieced.is.is
+                ∙ sym (ap (λ (j : ℕ). extent_in log.geometry frozen j) here))
                 (λ (elsewhere : i ≢ n). pieced.is.others i few' elsewhere ∙ sound'.by_cut.written i few' (sym (get_or-set_other due n i false true elsewhere) ∙ unmarked))
                 (cases_eq i n);
             version = sound'.by_cut.version;

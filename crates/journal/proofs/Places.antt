@@ -7,12 +7,12 @@ use Rattle.image.proofs.Joining.{whole_image}
 use Rattle.journal.specs.Extents.{extent_at, extent_size}
 use Rattle.device_map.specs.Layout.{image_size}
 
--- a extent ends where the next one begins
+-- an extent ends where the next one begins
 pub extent_next : (g : Geometry) (n : ℕ) → extent_at g (suc n) ≡ extent_at g n + extent_size g n
 extent_next g zero = omega arith
 extent_next g (suc n) = omega arith
 
--- the same where the next number is told by a sum
+-- the same where the next number is given by a sum
 part_some : (g : Geometry) (p : ℕ) → 0 < piece_part_size g p
 part_some g zero = omega arith
 part_some g (suc s) = let some : 1 ≤ g.quota = g.quota_range.0 in omega (arith, some)

@@ -1,4 +1,4 @@
--- Rows of marks, and what is known of an image by them.
+-- Dirty flags, and what is known of an image by them.
 use Rattle.std.proofs.Common.{◌≡◌, ◌≢◌, ◌↔◌, ⊎_elim, ℕ, zero, suc, ◌+◌, ◌<◌, ◌≤◌, Bool, true, false, ◌&&◌, List, [], ◌∷◌, ◌++◌, length, take, drop, get_or, set, refl, sym, ◌∙◌, ap, subst, arith, true≢false}
 use Rattle.std.specs.List.{AllByRecursion}
 use Rattle.std.proofs.lemmas.Bool.{cases_eq, cases_lt, eqb-true}
@@ -29,7 +29,7 @@ count_next t (false ∷ xs) (suc i) few is = count_next t xs i (omega (arith, fe
 pub count_after : (t : Bool) (xs : List Bool) (i : ℕ) → i < length xs → get_or xs i false ≡ t → count_dirty (take (i + 1) xs) ≡ one_if t + count_dirty (take i xs)
 count_after t xs i few is = let next : i + 1 ≡ suc i = omega arith in ap (λ (n : ℕ). count_dirty (take n xs)) next ∙ count_next t xs i few is
 
--- one number more before which no mark is set
+-- one number more before which no flag is set
 pub clear_next : (n : ℕ) (xs : List Bool) → get_or xs n false ≡ false → AreCleanBefore n xs → AreCleanBefore (n + 1) xs
 clear_next n xs off so_far i few =
     ⊎_elim (λ (less : i < n). so_far i less) (λ (more : n ≤ i). let here : i ≡ n = omega (arith, few, more) in ap (λ (k : ℕ). get_or xs k false) here ∙ off) (cases_lt i n)
@@ -50,7 +50,7 @@ count_most [] = omega arith
 count_most (true ∷ xs) = let most = count_most xs in omega (arith, most)
 count_most (false ∷ xs) = let most = count_most xs in omega (arith, most)
 
--- one mark fewer
+-- one flag fewer
 pub count_cleared : (xs : List Bool) (n : ℕ) → n < length xs → get_or xs n false ≡ true → suc (count_dirty (set xs n false)) ≡ count_dirty xs
 count_cleared [] n few is = absurd (omega (arith, few))
 count_cleared (true ∷ xs) zero few is = refl
@@ -64,7 +64,7 @@ no_dirty (true ∷ xs) n none few = absurd (omega (arith, none))
 no_dirty (false ∷ xs) zero none few = refl
 no_dirty (false ∷ xs) (suc n) none few = no_dirty xs n none (omega (arith, few))
 
--- Rows that agree in every extent are one row.
+-- Lists of bytes that agree in every extent are equal.
 module _ (g : Geometry) (xs ys : List ℕ) (agree : (n : ℕ) → n < piece_count g → extent_in g xs n ≡ extent_in g ys n) where
   first_agree : (n : ℕ) → n ≤ piece_count g → take (extent_at g n) xs ≡ take (extent_at g n) ys
   first_agree zero few = refl
@@ -79,7 +79,7 @@ module _ (g : Geometry) (xs ys : List ℕ) (agree : (n : ℕ) → n < piece_coun
       sym (take_all (extent_at g (piece_count g)) xs (omega (arith, long, end))) ∙ first_agree (piece_count g) (omega arith)
       ∙ take_all (extent_at g (piece_count g)) ys (omega (arith, long', end))
 
--- what is left of a row that is written over whole
+-- what is left of a list that is written over whole
 abbrev pub whole_items : {X : Type 0} → ℕ → List X → List X → List X
 whole_items len new old = take len (new ++ drop (length new) old)
 
@@ -87,9 +87,9 @@ pub whole_put : {X : Type 0} (len : ℕ) (new old : List X) → length new ≡ l
 whole_put len new old size size' =
     ap (λ l. take len (new ++ l)) (drop_all (length new) old (omega (arith, size))) ∙ ap (take len) (append-nil new) ∙ take_all len new (omega (arith, size'))
 
--- ---- marks of what messages touch
+-- ---- flags of what messages touch
 
--- one piece more is looked at: marked where the message touches it, and else as it was
+-- one piece more is looked at: dirty where the message touches it, else as it was
 pub record AreMarked (g : Geometry) (m : Msg) (k : ℕ) (old new : List Bool) : Type 0 where
   pub size : length new ≡ length old
   pub dirty_at : (i : ℕ) → i < k → (get_or new i true ≡ false) ↔ ((get_or old i true ≡ false) × (may_change g m i ≡ false))
@@ -180,15 +180,19 @@ all_looked g m k old new all so_far n few =
 pub no_message : (g : Geometry) (old : List Bool) → DirtiesTouched g [] old old
 no_message g old n few = ((λ unmarked. (unmarked, tt)), (λ both. both.0))
 
-pub message_more : (g : Geometry) (ms : List Msg) (i : ℕ) (d : Msg) (old mid new : List Bool) → i < length ms → DirtiesTouched g (take i ms) old mid → DirtiesTouched g (get_or ms i d ∷ []) mid new → DirtiesTouched g (take (i + 1) ms) old new
+pub message_more : (g : Geometry) (ms : List Msg) (i : ℕ) (d : Msg) (old mid new : List Bool) → i < length ms → DirtiesTouched g (take i ms) old mid
+    → DirtiesTouched g (get_or ms i d ∷ []) mid new → DirtiesTouched g (take (i + 1) ms) old new
 message_more g ms i d old mid new few so_far more n below =
     let first = so_far n below in
     let last = more n below in
     let spelled = take_more ms i d few in (
       (λ unmarked.
           let after = last.0 unmarked in
-          let before = first.0 after.0 in
-          (before.0, subst (λ (l : List Msg). AllByRecursion (λ m. may_change g m n ≡ false) l) (sym spelled) (all-append (λ m. may_change g m n ≡ false) (take i ms) (get_or ms i d ∷ []) before.1 after.1))),
+          let before = first.0 after.0 in (
+            before.0,
+            subst (λ (l : List Msg). AllByRecursion (λ m. may_change g m n ≡ false) l) (sym spelled)
+                (all-append (λ m. may_change g m n ≡ false) (take i ms) (get_or ms i d ∷ []) before.1 after.1),
+          )),
       (λ both.
           let parts = all-parts (λ m. may_change g m n ≡ false) (take i ms) (get_or ms i d ∷ []) (subst (λ (l : List Msg). AllByRecursion (λ m. may_change g m n ≡ false) l) spelled both.1) in
           last.1 (first.1 (both.0, parts.0), parts.1)),
@@ -204,7 +208,7 @@ by_false true false there back = back refl
 by_false false true there back = sym (there refl)
 by_false false false there back = refl
 
--- with no message the marks are as they were
+-- with no message the flags are as they were
 pub same_dirty : (g : Geometry) (ms : List Msg) (old new : List Bool) → length ms ≡ 0 → length old ≡ piece_count g → length new ≡ length old → DirtiesTouched g ms old new → new ≡ old
 same_dirty g [] old new none size same touched =
     ext_get_or true new old same

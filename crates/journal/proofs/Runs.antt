@@ -50,7 +50,8 @@ module _ (g : Geometry) (area start from n : ℕ) (is_area : area < 2) (place : 
         ready_beside (layout_of g) h k (image area) from n (start + from) w0 w1 (omega (arith, is_area)) (λ same. omega (arith, same, is_half)) (omega (arith, place))
         (omega (arith, inside, image_sized (layout_of g) area is_area)) touched ready
 
-pub run_written : (g : Geometry) (area start from : ℕ) (bytes : List ℕ) (w0 w1 : Medium) → area < 2 → start ≡ part_at (layout_of g) (image area) → from + length bytes ≤ image_size g → device_size (layout_of g) ≤ length w0.now
+pub run_written : (g : Geometry) (area start from : ℕ) (bytes : List ℕ) (w0 w1 : Medium) → area < 2 → start ≡ part_at (layout_of g) (image area)
+    → from + length bytes ≤ image_size g → device_size (layout_of g) ≤ length w0.now
     → w1.now ≡ overlaid w0.now (start + from) bytes → image_in g area w1 ≡ overlaid (image_in g area w0) from bytes
 run_written g area start from bytes w0 w1 is_area place inside whole is =
     ap (λ (l : List ℕ). part_bytes (layout_of g) (image area) l) is

@@ -42,21 +42,23 @@ module _ (g : Geometry) (x : Option State) (y : State) (frozen : List ℕ) (is :
   pub frozen_agrees : (dirty : List Bool) (bytes : List ℕ) → IsFresh g x dirty bytes → AgreeOnClean g dirty bytes frozen
   frozen_agrees dirty bytes fresh n few unmarked = fresh y is n few unmarked ∙ sym (frozen_is g y is_state n few) ∙ sym (ap (λ (l : List ℕ). extent_in g l n) spelled)
 
--- where all is marked there is nothing that has to be right
+-- where all is dirty there is nothing that has to be right
 pub all_right : (g h : Geometry) (y : State) (dirty : List Bool) (bytes : List ℕ) → g ≡ h → AreAllDirty h dirty → AreSpelled g y dirty bytes
 all_right g h y dirty bytes same all =
     subst (λ (z : Geometry). AreSpelled z y dirty bytes) (sym same) (λ n few unmarked. absurd (true≢false (sym (all n few) ∙ unmarked)))
 
 -- ---- of a journal with no cut in progress
 
--- what was frozen last, where it isn't marked
-pub frozen_right : (log : Log) (frozen : List ℕ) (named others due : List Bool) (left : Option ℕ) (w0 : Medium) (y : State) → left ≡ None → IsSoundJournal log frozen named others due left w0 → holds log.geometry w0.now ≡ Some y
+-- the last snapshot, where it is clean
+pub frozen_right : (log : Log) (frozen : List ℕ) (named others due : List Bool) (left : Option ℕ) (w0 : Medium) (y : State) → left ≡ None
+    → IsSoundJournal log frozen named others due left w0 → holds log.geometry w0.now ≡ Some y
     → (g : Geometry) (dirty : List Bool) (bytes : List ℕ) → g ≡ log.geometry → dirty ≡ named → bytes ≡ frozen → AreSpelled g y dirty bytes
 frozen_right log frozen named others due left w0 y alone sound is g dirty bytes same same' same'' =
     subst (λ (h : Geometry). AreSpelled h y dirty bytes) (sym same) (subst (λ (row : List Bool). AreSpelled log.geometry y row bytes) (sym same')
     (subst (λ (l : List ℕ). AreSpelled log.geometry y named l) (sym same'') (sound.frozen_fresh alone y is)))
 
-module _ (log : Log) (frozen frozen' : List ℕ) (named others due : List Bool) (left : Option ℕ) (w0 : Medium) (y : State) (alone : left ≡ None) (placed' : IsCutState log due left) (sound' : IsSoundJournal log frozen named others due left w0)
+module _ (log : Log) (frozen frozen' : List ℕ) (named others due : List Bool) (left : Option ℕ) (w0 : Medium) (y : State) (alone : left ≡ None)
+    (placed' : IsCutState log due left) (sound' : IsSoundJournal log frozen named others due left w0)
     (is : holds log.geometry w0.now ≡ Some y) (is_state : IsState log.geometry y) (spelled : frozen' ≡ image_of 2 log.geometry y) (are : AreBytes w0.now) where
   pub together : log.current ≡ log.named
   together = subst (λ (l : Option ℕ). IsCutState log due l) alone placed'
@@ -96,7 +98,8 @@ module _ (log : Log) (frozen frozen' : List ℕ) (named others due : List Bool) 
           state = λ x is'. sound.state x (sym same ∙ is');
           named_fresh =
               subst (λ (o : Option State). IsFresh log.geometry o named' (image_in log.geometry (other log.named) w1)) (sym same)
-              (subst (λ (l : List ℕ). IsFresh log.geometry (holds log.geometry w0.now) named' l) (sym made.is) (frozen_fresh log.geometry (holds log.geometry w0.now) y frozen' is is_state spelled named'));
+              (subst (λ (l : List ℕ). IsFresh log.geometry (holds log.geometry w0.now) named' l) (sym made.is)
+              (frozen_fresh log.geometry (holds log.geometry w0.now) y frozen' is is_state spelled named'));
           frozen_fresh = λ none.
               subst (λ (o : Option State). IsFresh log.geometry o named' frozen') (sym same) (frozen_fresh log.geometry (holds log.geometry w0.now) y frozen' is is_state spelled named');
           others_fresh =
@@ -143,8 +146,9 @@ pointed_version log bytes w0 w1 y are spelled made =
 
 -- ---- of a device that is opened
 
--- The last point of an opening wrote the whole image; nothing is known of the other one, whose pieces are all marked.
-pub opened_sound : (log : Log) (frozen : List ℕ) (named others due : List Bool) (w0 w1 : Medium) (y : State) → IsAlone log w0 → holds log.geometry w0.now ≡ Some y → IsState log.geometry y → frozen ≡ image_of 2 log.geometry y
+-- The last point of an opening wrote the whole image; nothing is known of the other one, whose pieces are all dirty.
+pub opened_sound : (log : Log) (frozen : List ℕ) (named others due : List Bool) (w0 w1 : Medium) (y : State) → IsAlone log w0
+    → holds log.geometry w0.now ≡ Some y → IsState log.geometry y → frozen ≡ image_of 2 log.geometry y
     → ((n : ℕ) → n < piece_count log.geometry → get_or others n true ≡ true) → AreBytes w1.now → IsPointed log frozen w0 w1 → IsSoundJournal (pointed log) frozen named others due None w1
 opened_sound log frozen named others due w0 w1 y alone is is_state spelled all are made =
     let same = holds_now log.geometry (other log.named) (other log.named) (holds log.geometry w0.now) w1 are made.at.recovers in

@@ -31,7 +31,7 @@ pub still_read : (g : Geometry) (w0 w1 : Medium) → IsSynced w0 → moments w1 
 still_read g w0 w1 calm only =
     same w0 w0 w1 _ (started w0 _ (λ c left. ap (holds g) (calm_left w0 c calm left))) only
 
--- one extent of calls after another, on the bytes that recover to the same
+-- one segment of calls after another, on the bytes that recover to the same
 pub still_then : (g : Geometry) (w0 w1 w2 : Medium) → AreBytes w1.now → RecoversStill g w0 w1 → RecoversStill g w1 w2 → RecoversStill g w0 w2
 still_then g w0 w1 w2 are first second =
     then w0 w1 w2 _ first
@@ -41,7 +41,8 @@ pub still_now : (g : Geometry) (w0 w1 : Medium) → AreBytes w1.now → Recovers
 still_now g w0 w1 are moments = leaves_now w0 w1 _ moments w1.now (itself w1.now w1.unsynced are)
 
 -- what recovers to the same by the geometry of the header, and is refused alike
-recovers_as : (g : Geometry) (before c : List ℕ) → HasHeader g before → device_size (layout_of g) ≤ length before → holds g c ≡ holds g before → ((fault : OpenFault) → refused g before ≡ Some fault → HasHeader g c × (refused g c ≡ Some fault)) → RecoversAs before c
+recovers_as : (g : Geometry) (before c : List ℕ) → HasHeader g before → device_size (layout_of g) ≤ length before → holds g c ≡ holds g before
+    → ((fault : OpenFault) → refused g before ≡ Some fault → HasHeader g c × (refused g c ≡ Some fault)) → RecoversAs before c
 recovers_as g before c head fits is alike = record {
   same = λ h x held.
       let one = one_geometry g h before head x held in
@@ -83,18 +84,21 @@ alike_read g w0 w1 head calm only =
     record { header = subst (λ (l : List ℕ). HasHeader g l) (sym is) head; refused = ap (λ (l : List ℕ). refused g l) is }))
     only
 
-pub alike_after : (g : Geometry) (w0 w1 w2 : Medium) → HasHeader g w0.now → IsSynced w0 → moments w1 ≡ moments w0 → CrashImagesAre w1 w2 (IsRefusedAlike g w1.now) → CrashImagesAre w0 w2 (IsRefusedAlike g w0.now)
+pub alike_after : (g : Geometry) (w0 w1 w2 : Medium) → HasHeader g w0.now → IsSynced w0 → moments w1 ≡ moments w0
+    → CrashImagesAre w1 w2 (IsRefusedAlike g w1.now) → CrashImagesAre w0 w2 (IsRefusedAlike g w0.now)
 alike_after g w0 w1 w2 head calm only later =
     then w0 w1 w2 _ (alike_read g w0 w1 head calm only)
     (weaker w1 w2 _ _ later (λ c is. record { header = is.header; refused = is.refused ∙ ap (λ (l : List ℕ). refused g l) (same_bytes w0 w1 only) }))
 
 -- one that is refused or not
-pub as_alike : (g : Geometry) (w0 w1 : Medium) → HasHeader g w0.now → device_size (layout_of g) ≤ length w0.now → RecoversStill g w0 w1 → CrashImagesAre w0 w1 (IsRefusedAlike g w0.now) → CrashImagesAre w0 w1 (RecoversAs w0.now)
+pub as_alike : (g : Geometry) (w0 w1 : Medium) → HasHeader g w0.now → device_size (layout_of g) ≤ length w0.now → RecoversStill g w0 w1
+    → CrashImagesAre w0 w1 (IsRefusedAlike g w0.now) → CrashImagesAre w0 w1 (RecoversAs w0.now)
 as_alike g w0 w1 head fits still alike =
     weaker w0 w1 _ _ (both_leave w0 w1 _ _ still alike) (λ c is. recovers_as g w0.now c head fits is.0 (λ fault was. (is.1.header, is.1.refused ∙ was)))
 
 -- one that isn't
-pub as_still : (g : Geometry) (w0 w1 : Medium) → HasHeader g w0.now → device_size (layout_of g) ≤ length w0.now → refused g w0.now ≡ None → RecoversStill g w0 w1 → CrashImagesAre w0 w1 (RecoversAs w0.now)
+pub as_still : (g : Geometry) (w0 w1 : Medium) → HasHeader g w0.now → device_size (layout_of g) ≤ length w0.now → refused g w0.now ≡ None
+    → RecoversStill g w0 w1 → CrashImagesAre w0 w1 (RecoversAs w0.now)
 as_still g w0 w1 head fits fine still = weaker w0 w1 _ _ still (λ c is. recovers_as g w0.now c head fits is (λ fault was. none_some (sym fine ∙ was)))
   where
     none_some : {T : Type 0} {fault : OpenFault} → None ≡ Some fault → T
@@ -184,7 +188,10 @@ unwritten_from BadChain w0 w1 w2 now from is = from is
 unwritten_from (BadRecord h i) w0 w1 w2 now from is =
     λ g head.
     let at_first = is g (subst (λ (c : List ℕ). HasHeader g c) (sym now) head) in
-    let names = ap (λ (c : List ℕ). named_area (layout_of g) c) now in ((λ here. from (at_first.0 (here ∙ sym names))), (λ behind. behind_from g h i w0 w1 w2 now (at_first.1 (λ here. behind (here ∙ names)))))
+    let names = ap (λ (c : List ℕ). named_area (layout_of g) c) now in (
+      (λ here. from (at_first.0 (here ∙ sym names))),
+      (λ behind. behind_from g h i w0 w1 w2 now (at_first.1 (λ here. behind (here ∙ names)))),
+    )
 
 pub unwritten_then : (w0 w1 w2 : Medium) → AreBytes w0.now → IsSynced w1 → w1.now ≡ w0.now → CrashImagesAre w0 w1 (IsCrashImage w0) → IsUnwritten w1 w2 → IsUnwritten w0 w2
 unwritten_then w0 w1 w2 are calm now first is = record {
@@ -222,7 +229,8 @@ pub leaves_read : (w0 w1 : Medium) → moments w1 ≡ moments w0 → (c : List �
 leaves_read w0 w1 only c left = subst (λ (l : List Bool). IsTornFrom w0.now l c) (same_unsynced w0 w1 only) (subst (λ (l : List ℕ). IsTornFrom l w1.unsynced c) (same_bytes w0 w1 only) left)
 
 -- once a cut was finished and the records behind it were run
-pub alone_finished : (log : Log) (w0 w1 w2 : Medium) (y : State) → AreBytes w2.now → RecoversStill log.geometry w0 w2 → holds log.geometry w0.now ≡ Some y → IsFinished log w0 w1 → moments w2 ≡ moments w1 → IsAlone (finished_now log) w2
+pub alone_finished : (log : Log) (w0 w1 w2 : Medium) (y : State) → AreBytes w2.now → RecoversStill log.geometry w0 w2 → holds log.geometry w0.now
+    ≡ Some y → IsFinished log w0 w1 → moments w2 ≡ moments w1 → IsAlone (finished_now log) w2
 alone_finished log w0 w1 w2 y are still held finished only =
     let now = still_now log.geometry w0 w2 are still in
     record {
@@ -242,7 +250,8 @@ if_err (Err e) P Q gives held = gives e held
 
 -- A record that can't be run is one of the half whose records are run, once the cut before it is finished: its area is named,
 -- and the device is refused for it as it was.
-pub bad_half : (g : Geometry) (h : ℕ) (o : Option ℕ) (w0 w2 : Medium) (e : OpenFault) → e ≢ OutOfMemory → IsFaultOfBytes (fault_or_later (BadRecord h) o None) e → HasHeader g w0.now → IsRefused w0.now e → IsRefusedAlike g w0.now w2.now
+pub bad_half : (g : Geometry) (h : ℕ) (o : Option ℕ) (w0 w2 : Medium) (e : OpenFault) → e ≢ OutOfMemory
+    → IsFaultOfBytes (fault_or_later (BadRecord h) o None) e → HasHeader g w0.now → IsRefused w0.now e → IsRefusedAlike g w0.now w2.now
     → named_area (layout_of g) w2.now ≡ h → read g (image_in g h w2) ≡ area_state g (named_area (layout_of g) w0.now) w0.now → IsSynced w2 → IsBad g h w0 w2 e
 bad_half g h o w0 w2 Device some is head why alike named image calm = tt
 bad_half g h o w0 w2 OutOfMemory some is head why alike named image calm = absurd (some refl)

@@ -36,7 +36,9 @@ laid_if false y x is some = absurd (true≢false (sym some ∙ ap is_some (sym i
 pub laid_by : (g : Geometry) (n : ℕ) (x : Option State) (c : List ℕ) → recovers_as (means g) (layout_of g) n c ≡ x → is_some x ≡ true → is_laid_out (means g) (layout_of g) c ≡ true
 laid_by g n x c is some = laid_if (is_laid_out (means g) (layout_of g) c) _ x is some
 
-pub as_other : (g : Geometry) (q : ℕ) (x : Option State) (bytes c : List ℕ) (rs : List (List ℕ)) → is_laid_out (means g) (layout_of g) c ≡ true → part_bytes (layout_of g) (image q) c ≡ bytes → in_force (layout_of g) q c ≡ rs → run_on g (read g bytes) rs ≡ x → recovers_as (means g) (layout_of g) q c ≡ x
+pub as_other : (g : Geometry) (q : ℕ) (x : Option State) (bytes c : List ℕ) (rs : List (List ℕ)) → is_laid_out (means g) (layout_of g) c ≡ true
+    → part_bytes (layout_of g) (image q) c ≡ bytes → in_force (layout_of g) q c ≡ rs → run_on g (read g bytes) rs ≡ x
+    → recovers_as (means g) (layout_of g) q c ≡ x
 as_other g q x bytes c rs laid is force leads = (λ i. cond (laid i) (run (means g) (read g (is i)) (force i)) None) ∙ leads
 
 -- ---- chains
@@ -74,7 +76,8 @@ and_last false b c is = absurd (true≢false (sym is))
 -- where the named half has a chain, the other one has none
 pub chain_other : (g : Geometry) (n : ℕ) (c : List ℕ) → n < 2 → is_laid_out (means g) (layout_of g) c ≡ true → current_of (layout_of g) n c ≡ other n → eqb (chain (layout_of g) (other n) c) 1 ≡ false
 chain_other g n c is_area laid follows =
-    let one : not (eqb (chain (layout_of g) 0 c) 1 && eqb (chain (layout_of g) 1 c) 1) ≡ true = and_last (is_header g (part_bytes (layout_of g) header c)) (nat_le (device_size (layout_of g)) (length c)) _ laid in
+    let one : not (eqb (chain (layout_of g) 0 c) 1 && eqb (chain (layout_of g) 1 c) 1)
+    ≡ true = and_last (is_header g (part_bytes (layout_of g) header c)) (nat_le (device_size (layout_of g)) (length c)) _ laid in
     by n is_area one (open_by n (eqb (chain (layout_of g) n c) 1) is_area follows)
   where
     by : (n : ℕ) → n < 2 → not (eqb (chain (layout_of g) 0 c) 1 && eqb (chain (layout_of g) 1 c) 1) ≡ true → eqb (chain (layout_of g) n c) 1 ≡ true → eqb (chain (layout_of g) (other n) c) 1 ≡ false

@@ -1,4 +1,4 @@
--- How many writes and syncs a point and an opening take.
+-- Statement for engineers: How many writes and syncs a point and an opening take.
 use Rattle.std.specs.Prelude.{ℕ, suc, ◌+◌, ◌/◌, ◌==◌, if◌then◌else◌, Bool, true, false, List, [], ◌∷◌}
 use Rattle.affinity.specs.declared.geometry.Geometry.{Geometry}
 use Rattle.image.specs.Pieces.{piece_count}
@@ -6,14 +6,14 @@ use Rattle.oplog.specs.Front.{chain}
 use Rattle.device_map.specs.Layout.{layout_of}
 use Rattle.oplog.specs.Recovery.{named_area}
 
--- how many runs of marked pieces begin among these, where the piece before them is marked or not
+-- how many runs of dirty pieces begin among these, where the piece before them is dirty or not
 abbrev pub runs_after : Bool → List Bool → ℕ
 runs_after before [] = 0
 runs_after before (false ∷ dirty) = runs_after false dirty
 runs_after false (true ∷ dirty) = suc (runs_after true dirty)
 runs_after true (true ∷ dirty) = runs_after true dirty
 
--- how many writes the marked pieces of an image take: those side by side go with one
+-- how many writes the dirty pieces of an image take: those side by side take one
 abbrev pub count_runs : List Bool → ℕ
 count_runs dirty = runs_after false dirty
 
@@ -21,7 +21,7 @@ count_runs dirty = runs_after false dirty
 abbrev pub point_takes : List Bool → ℕ
 point_takes dirty = count_runs dirty + 5
 
--- the most that it takes: where every other piece is marked, from the first one on
+-- the most that it takes: where every other piece is dirty, from the first one on
 abbrev pub longest_point : Geometry → ℕ
 longest_point g = (piece_count g + 1) / 2 + 5
 

@@ -1,4 +1,5 @@
--- Marks of a journal: for each of the two images, which of its pieces may be others than those of what is committed.
+-- Statement for engineers: The dirty flags of a journal: for each of the two images, which of its pieces may differ from those of what is
+-- committed.
 use Rattle.std.specs.Prelude.{◌≡◌, ◌↔◌, ◌<◌, ℕ, suc, Bool, true, false, List, [], ◌∷◌, get_or, length, replicate}
 use Rattle.std.specs.List.{AllByRecursion}
 use Rattle.affinity.specs.declared.geometry.Geometry.{Geometry}
@@ -12,13 +13,13 @@ pub record DirtyPieces : Type 0 where
   -- of the other one, as it is or will be once a cut is written
   pub others : List Bool
 
--- how many are marked
+-- how many are dirty
 abbrev pub count_dirty : List Bool → ℕ
 count_dirty [] = 0
 count_dirty (true ∷ dirty) = suc (count_dirty dirty)
 count_dirty (false ∷ dirty) = count_dirty dirty
 
--- Marks after these messages: a piece isn't marked exactly where it wasn't before and none of the messages touches it.
+-- The flags after these messages: a piece is clean exactly where it was before and none of the messages touches it.
 abbrev pub DirtiesTouched : Geometry → List Msg → List Bool → List Bool → Type 0
 DirtiesTouched g ms old new = (n : ℕ) → n < piece_count g
     → (get_or new n true ≡ false) ↔ ((get_or old n true ≡ false) × AllByRecursion (λ m. may_change g m n ≡ false) ms)
@@ -28,21 +29,21 @@ pub record AreBothTouched (g : Geometry) (ms : List Msg) (old new : DirtyPieces)
   pub named : DirtiesTouched g ms old.named new.named
   pub others : DirtiesTouched g ms old.others new.others
 
--- as many marks, none of them set
+-- as many flags, none of them set
 abbrev pub unmarked : List Bool → List Bool
 unmarked dirty = replicate (length dirty) false
 
--- ---- the marks after a step
+-- ---- the flags after a step
 
--- The other image was written and named: none of its pieces is marked. The image that was named keeps its marks.
+-- The other image was written and named: none of its pieces is dirty. The image that was named keeps its flags.
 abbrev pub pointed_dirty : DirtyPieces → DirtyPieces
 pointed_dirty dirty = record { named = unmarked dirty.others; others = dirty.named }
 
--- A cut has begun: the pieces of the other image that were marked are due, and then none is.
+-- A cut has begun: the pieces of the other image that were dirty are due, and no piece of it is dirty now.
 abbrev pub cut_dirty : DirtyPieces → DirtyPieces
 cut_dirty dirty = record { named = dirty.named; others = unmarked dirty.others }
 
--- The other image is named from now on: each keeps its marks.
+-- The other image is named from now on: each keeps its flags.
 abbrev pub flipped_dirty : DirtyPieces → DirtyPieces
 flipped_dirty dirty = record { named = dirty.others; others = dirty.named }
 

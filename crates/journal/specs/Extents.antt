@@ -1,4 +1,4 @@
--- An image as the extents in which it is written: its head with the first piece, then each other piece.
+-- Statement for engineers: An image as the extents in which it is written: its head with the first piece, then each other piece.
 use Rattle.std.specs.Prelude.{◌≡◌, ◌≢◌, ◌<◌, ◌+◌, ℕ, zero, suc, Bool, true, false, List, ◌++◌, get_or}
 use Rattle.affinity.specs.declared.geometry.Geometry.{Geometry}
 use Rattle.disk.specs.Device.{Medium, IsSynced}
@@ -8,7 +8,7 @@ use Rattle.oplog.specs.Changes.{IsSameBut}
 use Rattle.device_map.specs.Layout.{slice, layout_of, part_bytes, image}
 use Rattle.meaning.specs.State.{State}
 
--- where a extent begins in its image, and how many bytes it has
+-- where an extent begins in its image, and how many bytes it has
 abbrev pub extent_at : Geometry → ℕ → ℕ
 extent_at g zero = 0
 extent_at g (suc n) = piece_at g (suc n)
@@ -17,7 +17,7 @@ abbrev pub extent_size : Geometry → ℕ → ℕ
 extent_size g zero = 64 + piece_size g 0
 extent_size g (suc n) = piece_size g (suc n)
 
--- the bytes of a extent
+-- the bytes of an extent
 abbrev pub extent_in : Geometry → List ℕ → ℕ → List ℕ
 extent_in g bytes n = slice bytes (extent_at g n) (extent_size g n)
 
@@ -26,15 +26,15 @@ abbrev pub extent_of : Geometry → State → ℕ → List ℕ
 extent_of g x zero = image_head 2 ++ piece_of 2 g x 0
 extent_of g x (suc n) = piece_of 2 g x (suc n)
 
--- Two rows of bytes have the same in each extent that isn't marked.
+-- Two lists of bytes are the same in each clean extent.
 abbrev pub AgreeOnClean : Geometry → List Bool → List ℕ → List ℕ → Type 0
 AgreeOnClean g dirty xs ys = (n : ℕ) → n < piece_count g → get_or dirty n true ≡ false → extent_in g xs n ≡ extent_in g ys n
 
--- Each extent that isn't marked is the one of this state.
+-- Each clean extent is the one of this state.
 abbrev pub AreSpelled : Geometry → State → List Bool → List ℕ → Type 0
 AreSpelled g x dirty bytes = (n : ℕ) → n < piece_count g → get_or dirty n true ≡ false → extent_in g bytes n ≡ extent_of g x n
 
--- Every extent is marked.
+-- Every extent is dirty.
 abbrev pub AreAllDirty : Geometry → List Bool → Type 0
 AreAllDirty g dirty = (n : ℕ) → n < piece_count g → get_or dirty n true ≡ true
 
@@ -48,7 +48,7 @@ pub record Imaged (g : Geometry) (area : ℕ) (bytes : List ℕ) (old new : Medi
   pub is : image_in g area new ≡ bytes
   pub calm : IsSynced new
 
--- Stretch n is now that of these bytes, and each other one is as it was.
+-- Extent n is now that of these bytes, and each other one is as it was.
 pub record IsPatchedAt (g : Geometry) (n : ℕ) (bytes old new : List ℕ) : Type 0 where
   pub is : extent_in g new n ≡ extent_in g bytes n
   pub others : (i : ℕ) → i < piece_count g → i ≢ n → extent_in g new i ≡ extent_in g old i

@@ -1,4 +1,4 @@
--- What the steps of a cut change of the images on a device.
+-- Statement for engineers: What the steps of a cut change of the images on a device.
 use Rattle.std.specs.Prelude.{◌≡◌, ◌≢◌, ◌<◌, ℕ, List}
 use Rattle.affinity.specs.declared.geometry.Geometry.{Geometry}
 use Rattle.image.specs.Pieces.{piece_count}

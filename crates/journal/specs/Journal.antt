@@ -1,4 +1,4 @@
--- A journal as contracts see it, and what its calls leave.
+-- Statement for operators: A journal as contracts see it, and what its calls leave.
 use Rattle.std.specs.Prelude.{◌≡◌, ◌≤◌, ℕ, ◌+◌, Bool, true, List, [], ◌∷◌, length, take, Option, Some, None, is_some, Result, Ok, Err}
 use Rattle.affinity.specs.declared.geometry.Geometry.{Geometry}
 use Rattle.checkpoint.specs.Recovery.{holds}
@@ -18,7 +18,7 @@ pub record JournalView : Type 0 where
   pub room : ℕ
   -- how many pieces of a cut are still to be written, while one is in progress
   pub left : Option ℕ
-  -- which pieces of each image may be others than those of what is committed
+  -- which pieces of each image may differ from those of what is committed
   pub dirty : DirtyPieces
   -- whether the device has failed in a call
   pub failed : Bool

@@ -1,4 +1,4 @@
--- What a journal keeps true of its device between calls. No clause of a public function cites this module.
+-- Inner: What a journal keeps true of its device between calls.
 use Rattle.std.specs.Prelude.{◌≡◌, ◌<◌, ◌-◌, ℕ, Bool, true, false, List, length, get_or, Option, Some, None, is_some}
 use Rattle.affinity.specs.declared.geometry.Geometry.{Geometry}
 use Rattle.checkpoint.specs.Recovery.{holds}
@@ -14,19 +14,19 @@ use Rattle.device_map.specs.Layout.{layout_of, other}
 use Rattle.oplog.specs.Log.{Log}
 use Rattle.meaning.specs.State.{State, IsState}
 
--- ---- marks
+-- ---- dirty flags
 
--- Each extent that isn't marked is the one of a state, where there is one.
+-- Each clean extent is the one of a state, where there is one.
 abbrev pub IsFresh : Geometry → Option State → List Bool → List ℕ → Type 0
 IsFresh g x dirty bytes = (y : State) → x ≡ Some y → AreSpelled g y dirty bytes
 
 -- ---- a cut
 
--- No mark before this number is set.
+-- No flag before this number is set.
 abbrev pub AreCleanBefore : ℕ → List Bool → Type 0
 AreCleanBefore n dirty = (i : ℕ) → i < n → get_or dirty i false ≡ false
 
--- A cut is in progress: its image, with the records of the other half behind it, leads to what the device recovers to, and
+-- A cut is in progress: its image, with the records of the other half run on it, leads to what the device recovers to, and
 -- each of its extents that isn't due is on the device. Its image is one of version 2.
 pub record IsCut (log : Log) (frozen : List ℕ) (due : List Bool) (m : Medium) : Type 0 where
   pub behind : run_on log.geometry (read log.geometry frozen) (front (layout_of log.geometry) (other log.named) m.now)
@@ -50,8 +50,8 @@ coming log frozen (Some left) m = frozen
 
 -- ---- the journal
 
--- Of a journal whose device has not failed and keeps its bytes: here are the marks of the named area, those of the other
--- one, and those of what is due.
+-- What holds of a journal whose device has not failed and keeps its bytes. The lists are the dirty flags of the named area and
+-- of the other one, and the flags of what is due.
 pub record IsSoundJournal (log : Log) (frozen : List ℕ) (named others due : List Bool) (left : Option ℕ) (m : Medium) : Type 0 where
   pub some : is_some (holds log.geometry m.now) ≡ true
   pub recovers : IsStanding log.geometry log.named log.current (holds log.geometry m.now) m
@@ -60,7 +60,7 @@ pub record IsSoundJournal (log : Log) (frozen : List ℕ) (named others due : Li
   pub count : left ≡ None → length (records_in log.geometry m.now) ≡ log.used
   pub state : (x : State) → holds log.geometry m.now ≡ Some x → IsState log.geometry x
   pub named_fresh : IsFresh log.geometry (holds log.geometry m.now) named (image_in log.geometry log.named m)
-  -- while no cut is in progress, the image that was frozen last is the named one, so that it goes by the same marks
+  -- while no cut is in progress, the last snapshot is the named image, so that the same flags hold of it
   pub frozen_fresh : left ≡ None → IsFresh log.geometry (holds log.geometry m.now) named frozen
   pub others_fresh : IsFresh log.geometry (holds log.geometry m.now) others (coming log frozen left m)
   pub by_cut : IsCutOr log frozen due left m

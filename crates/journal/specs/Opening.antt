@@ -1,4 +1,4 @@
--- What it is to open a device: which state is opened, what a crash leaves meanwhile, and what a refusal leaves.
+-- Statement for operators: What it is to open a device: which state is opened, what a crash leaves meanwhile, and what a refusal leaves.
 use Rattle.std.specs.Prelude.{◌≡◌, ◌≢◌, ◌⊎◌, ℕ, List, [], Option, Some, None}
 use Rattle.affinity.specs.declared.geometry.Geometry.{Geometry}
 use Rattle.checkpoint.specs.declared.fault.OpenFault.{OpenFault}
@@ -17,7 +17,7 @@ use Rattle.device_map.specs.Layout.{image, layout_of, part_bytes}
 use Rattle.oplog.specs.Recovery.{named_area, run}
 use Rattle.meaning.specs.State.{State, IsState}
 
--- A device was opened: it isn't refused, and the journal holds the state for which it stood, with no record in force, now
+-- A device was opened: it isn't refused, and the journal holds the state to which it recovered, with no record in force, now
 -- and in whatever a crash leaves now. The named image is that of this state, in version 2; of the other one nothing is known.
 pub record IsOpened (old : Medium) (j : JournalView) (x : State) : Type 0 where
   pub header : HasHeader j.geometry old.now
@@ -65,9 +65,9 @@ pub record IsUnwritten (old new : Medium) : Type 0 where
 abbrev pub area_state : Geometry → ℕ → List ℕ → Option State
 area_state g n c = run (means g) (read g (part_bytes (layout_of g) (image n) c)) (front (layout_of g) n c)
 
--- A cut in progress was finished, and record i of the half that was behind the named one is bad: the area of that half is
--- named now, its image is that of the state which the area named before had by itself, nothing is unsynced, and the device is refused
--- for this record still.
+-- A cut in progress was finished, and record i of the half that was after the named one is bad. The area of that half is
+-- named now, its image is that of the state which the area named before had by itself, nothing is unsynced, and the device is
+-- still refused for this record.
 pub record IsRefusedBehind (g : Geometry) (h i : ℕ) (old new : Medium) : Type 0 where
   pub named : named_area (layout_of g) new.now ≡ h
   pub image : read g (part_bytes (layout_of g) (image h) new.now) ≡ area_state g (named_area (layout_of g) old.now) old.now
@@ -76,7 +76,7 @@ pub record IsRefusedBehind (g : Geometry) (h i : ℕ) (old new : Medium) : Type 
   pub refused : refused g new.now ≡ Some (BadRecord h i)
 
 -- A refusal with this fault leaves the device unwritten, unless the device failed, or the bad record is one of the half
--- behind the named one, of which is told once the cut was finished.
+-- after the named one, which is reported once the cut was finished.
 abbrev pub IsRefusedUnwritten : Medium → OpenFault → Medium → Type 0
 IsRefusedUnwritten old Device new = Unit {0}
 IsRefusedUnwritten old (BadRecord h i) new =

@@ -1,4 +1,4 @@
--- The steps of an opening: what they ask, and what they leave. No clause of a public function cites this module.
+-- Inner: The steps of an opening: what they ask, and what they leave.
 use Rattle.std.specs.Prelude.{◌≡◌, ℕ, false, List, [], length, Some, None}
 use Rattle.affinity.specs.declared.geometry.Geometry.{Geometry}
 use Rattle.checkpoint.specs.declared.fault.OpenFault.{OpenFault}
@@ -21,7 +21,7 @@ use Rattle.oplog.specs.Recovery.{in_force, named_area}
 use Rattle.parcel.specs.Tree.{IsWholeTree, state_in}
 use Rattle.meaning.specs.State.{empty}
 
--- The device failed; or a record of this half is bad, which was behind the named one, and the cut was finished.
+-- The device failed; or a record of this half is bad, which was after the named one, and the cut was finished.
 abbrev pub IsBad : Geometry → ℕ → Medium → Medium → OpenFault → Type 0
 IsBad g half old new Device = Unit {0}
 IsBad g half old new (BadRecord h i) = (h ≡ half) × IsRefusedBehind g h i old new
@@ -32,12 +32,12 @@ pub record IsRefusedAlike (g : Geometry) (before c : List ℕ) : Type 0 where
   pub header : HasHeader g c
   pub refused : refused g c ≡ refused g before
 
--- the marks that a journal is made of
+-- the flags that a journal is made of
 abbrev pub marks_of : Parts → DirtyPieces
 marks_of p = record { named = p.named_dirty.items; others = p.other_dirty.items }
 
--- The parts as they are taken: an empty tree, a log of which nothing is known, room for an image, and for each piece its
--- marks. Each has the size that the tree's geometry asks for.
+-- The parts as they are taken: an empty tree, a log of which nothing is known, room for an image, and the flags of each
+-- piece. Each has the size that the tree's geometry asks for.
 pub record AreUnloaded (p : Parts) : Type 0 where
   pub tree : IsWholeTree p.tree
   pub empty : state_in p.tree ≡ empty
@@ -50,7 +50,7 @@ pub record AreUnloaded (p : Parts) : Type 0 where
   pub all : AreAllDirty p.tree.geometry p.other_dirty.items
 
 -- The parts once a device is loaded: the log works, with the half of the named area current; the tree is whole; and the other
--- image is marked in all its pieces, so that it is written whole.
+-- image is dirty in all its pieces, so that it is written whole.
 pub record AreLoaded (p : Parts) (m : Medium) : Type 0 where
   pub tree : IsWholeTree p.tree
   pub geometry : p.tree.geometry ≡ p.halves.geometry
@@ -62,14 +62,14 @@ pub record AreLoaded (p : Parts) (m : Medium) : Type 0 where
   pub other_dirty : length p.other_dirty.items ≡ piece_count p.halves.geometry
   pub all : AreAllDirty p.halves.geometry p.other_dirty.items
 
--- No mark has changed, nor the size of what is frozen.
+-- No flag has changed, nor the size of the snapshot.
 pub record KeepsRoom (old new : Parts) : Type 0 where
   pub frozen : length new.frozen.items ≡ length old.frozen.items
   pub named_dirty : new.named_dirty ≡ old.named_dirty
   pub other_dirty : new.other_dirty ≡ old.other_dirty
   pub due : new.due ≡ old.due
 
--- What a journal is made of: a log with no record and all its room, and for each piece its marks.
+-- What a journal is made of: a log with no record and all its room, and the flags of each piece.
 pub record IsMade (p : Parts) (m : Medium) : Type 0 where
   pub geometry : p.halves.geometry ≡ p.tree.geometry
   pub fine : p.halves.failed ≡ false
@@ -82,7 +82,7 @@ pub record IsMade (p : Parts) (m : Medium) : Type 0 where
   pub dirty : marks_of p ≡ opened_dirty p.halves.geometry
   pub due : length p.due.items ≡ piece_count p.halves.geometry
 
--- It was opened from a device with these bytes, and the tree holds the state for which they stand.
+-- It was opened from a device with these bytes, and the tree holds the state to which they recover.
 pub record IsMadeOf (c : List ℕ) (p : Parts) (m : Medium) : Type 0 where
   pub header : HasHeader p.tree.geometry c
   pub fine : refused p.tree.geometry c ≡ None

@@ -1,5 +1,4 @@
--- The steps of a point on a device: what each asks of it, and what stands on it afterwards. No clause of a public function
--- cites this module.
+-- Inner: The steps of a point on a device: what each asks of it, and what is on it afterwards.
 use Rattle.std.specs.Prelude.{◌≡◌, ◌<◌, ◌==◌, if◌then◌else◌, ℕ, true, false, List, [], ◌++◌, Option, is_some}
 use Rattle.affinity.specs.declared.geometry.Geometry.{Geometry}
 use Rattle.checkpoint.specs.Recovery.{holds, means}
@@ -16,7 +15,7 @@ use Rattle.oplog.specs.Log.{Log}
 use Rattle.oplog.specs.Recovery.{is_laid_out, named_area, run}
 use Rattle.meaning.specs.State.{State}
 
--- A crash at any moment from `old` to `new` leaves a device that recovers to what it recovered to.
+-- A crash at any moment from `old` to `new` leaves a device that recovers to the same as `old`.
 abbrev pub RecoversStill : Geometry → Medium → Medium → Type 0
 RecoversStill g old new = CrashImagesAre old new (λ c. holds g c ≡ holds g old.now)
 
@@ -37,8 +36,8 @@ pub record RecoversWith (log : Log) (half : ℕ) (m : Medium) : Type 0 where
 abbrev pub IsAlone : Log → Medium → Type 0
 IsAlone log m = RecoversWith log log.named m
 
--- A step is over and lasts: nothing is unsynced, and it recovers to x by this area, with this half as the current one, which has
--- this many records and is ready for more.
+-- A step is over and durable: nothing is unsynced, and it recovers to x by this area, with this half as the current one, which
+-- has this many records and is ready for more.
 pub record LastsAt (g : Geometry) (area half used : ℕ) (x : Option State) (m : Medium) : Type 0 where
   pub recovers : IsStanding g area half x m
   pub ready : IsReady (layout_of g) half used m
@@ -51,7 +50,7 @@ pub record IsPointed (log : Log) (bytes : List ℕ) (old new : Medium) : Type 0 
   pub is : image_in log.geometry (other log.named) new ≡ bytes
   pub kept : image_in log.geometry log.named new ≡ image_in log.geometry log.named old
 
--- The other half is in force behind the named one, with no record and all its room. The records in force and both images
+-- The other half is in force after the named one, with no record and all its room. The records in force and both images
 -- are as they were.
 pub record IsBegun (log : Log) (old new : Medium) : Type 0 where
   pub at : LastsAt log.geometry log.named (other log.named) 0 (holds log.geometry old.now) new
@@ -84,8 +83,8 @@ pub record IsUnfinished (log : Log) (bytes : List ℕ) (m : Medium) : Type 0 whe
   pub reads : read log.geometry bytes
       ≡ run_on log.geometry (read log.geometry (image_in log.geometry log.named m)) (front (layout_of log.geometry) log.named m.now)
 
--- The other area is named and recovers to the same by itself, and nothing is unsynced. Its half has the records that it had, and its image is
--- that of what the area named before held by itself.
+-- The other area is named and recovers to the same by itself, and nothing is unsynced. Its half has the records that it had,
+-- and its image is that of what the area named before held by itself.
 pub record IsFinished (log : Log) (old new : Medium) : Type 0 where
   pub recovers : IsStanding log.geometry (other log.named) (other log.named) (holds log.geometry old.now) new
   pub reads : read log.geometry (image_in log.geometry (other log.named) new)

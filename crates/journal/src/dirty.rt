@@ -1,4 +1,4 @@
-//! Rows of marks, one for each piece of an image.
+//! Dirty flags, one for each piece of an image.
 ghost use Rattle.std.specs.Prelude.{◌≡◌, ◌<◌, ◌≤◌, ◌^◌, ◌∷◌, [], true, false, get_or, length, replicate, IfSome, IsNone};
 ghost use Rattle.image.specs.Pieces.{piece_count, volume_piece_number};
 ghost use Rattle.journal.specs.Keeping.{AreCleanBefore};
@@ -10,7 +10,7 @@ use image::touched;
 use messages::Msg;
 use std::mem;
 
-/// How many are marked.
+/// How many are dirty.
 pub(crate) fn count_dirty(dirty: &[bool]) -> usize
     ensures { result ≡ count_dirty dirty.now }
 {
@@ -23,7 +23,7 @@ pub(crate) fn count_dirty(dirty: &[bool]) -> usize
     count
 }
 
-/// The first marked piece, where none before `from` is marked: those aren't looked at.
+/// The first dirty piece, where none before `from` is dirty: those aren't looked at.
 pub(crate) fn first_dirty(dirty: &[bool], from: usize) -> Option<usize>
     requires inside { from ≤ length dirty.now }
     requires clear { AreCleanBefore from dirty.now }
@@ -40,15 +40,15 @@ pub(crate) fn first_dirty(dirty: &[bool], from: usize) -> Option<usize>
     None
 }
 
-/// Clears all marks.
+/// Clears all flags.
 pub(crate) fn clear_dirty(dirty: &mut [bool])
     ensures { dirty.new ≡ replicate (length dirty.old) false }
 {
     dirty.fill(false);
 }
 
-/// The other image was written and is named from now on: none of its pieces is out of date. The marks of the one that was
-/// named before stay with it.
+/// The other image was written and is named from now on: none of its pieces is out of date. The one that was named before
+/// keeps its flags.
 pub(crate) fn swap_dirty(named: &mut Vec<bool>, other: &mut Vec<bool>)
     ensures written { named.new.items ≡ replicate (length other.old.items) false }
     ensures kept { other.new ≡ named.old }
@@ -67,7 +67,7 @@ fn first_piece(g: &Geometry, m: &Msg) -> usize
     place * (usize::from(g.stripes) + 1)
 }
 
-/// Marks what a message touches, and no more: it touches pieces of its own volume alone, so that no others are looked at.
+/// Makes what a message touches dirty, and no more. It touches pieces of its own volume alone, so no others are looked at.
 fn dirty_one(g: &Geometry, m: &Msg, dirty: &mut [bool])
     requires size { length dirty.old ≡ piece_count g.now }
     ensures size { length dirty.new ≡ length dirty.old }
@@ -82,7 +82,7 @@ fn dirty_one(g: &Geometry, m: &Msg, dirty: &mut [bool])
     }
 }
 
-/// Marks what these messages touch, and no more.
+/// Makes what these messages touch dirty, and no more.
 pub(crate) fn dirty_touched(g: &Geometry, messages: &[Msg], dirty: &mut [bool])
     requires size { length dirty.old ≡ piece_count g.now }
     ensures size { length dirty.new ≡ length dirty.old }

@@ -59,7 +59,7 @@ fn write_run<D: Disk>(
     Ok(())
 }
 
-/// Makes last what was written of an image, before it is named: at `Ok` a crash leaves it.
+/// Syncs what was written of an image, before it is named: at `Ok` a crash leaves it.
 pub(crate) fn make_last<D: Disk>(disk: &mut D) -> Result<(), DiskFault>
     ensures syncs { D.keeps → Syncs result (D.medium disk.old) (D.medium disk.new) }
     ensures takes { D.keeps → Takes result 1 (D.medium disk.old) (D.medium disk.new) }
@@ -69,8 +69,8 @@ pub(crate) fn make_last<D: Disk>(disk: &mut D) -> Result<(), DiskFault>
     disk.sync()
 }
 
-/// Writes the marked extents of an image, those side by side in one write, and makes them last. All others are on the
-/// device already. `Device` exactly where the device failed.
+/// Writes the dirty extents of an image, those side by side in one write, and syncs them. All others are on the device
+/// already. `Device` exactly where the device failed.
 pub(crate) fn write_image<D: Disk>(
     disk: &mut D,
     g: &Geometry,

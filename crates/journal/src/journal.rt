@@ -17,10 +17,10 @@ ghost use Rattle.parcel.specs.Tree.{IsWholeTree, state_in};
 ghost use Rattle.meaning.specs.Serial.{fold};
 ghost use Rattle.meaning.specs.State.{State};
 
-use crate::snapshot::freeze;
-use crate::dirty::{clear_dirty, count_dirty, swap_dirty, first_dirty, dirty_touched};
-use crate::steps::{cut_on, flip_on, point_on};
+use crate::dirty::{clear_dirty, count_dirty, dirty_touched, first_dirty, swap_dirty};
 use crate::extents::write_extent;
+use crate::snapshot::freeze;
+use crate::steps::{cut_on, flip_on, point_on};
 use disk::Disk;
 use messages::Msg;
 use oplog::{Halves, LogFault};
@@ -32,7 +32,7 @@ mod accessors;
 
 /// The log of a server and the images that keep it short, on a device that it owns.
 ///
-/// No call takes memory. After a fault of the device it has failed, and only calls that ask for no device go on.
+/// No call takes memory. After a fault of the device it has failed, and only calls that need no device are possible.
 #[derive(Drop)]
 pub struct Journal<D: Disk> {
     disk: D,
@@ -41,7 +41,7 @@ pub struct Journal<D: Disk> {
     /// The image of the state that the last point or cut was made of.
     frozen: Vec<u8>,
 
-    /// Which pieces of the named image may be others than those of what is committed.
+    /// The dirty flags of the named image: which pieces may differ from those of what is committed.
     named_dirty: Vec<bool>,
 
     /// The same of the other image, as it is or will be once a cut is written.
@@ -50,10 +50,10 @@ pub struct Journal<D: Disk> {
     /// Which pieces of a cut are still to be written.
     due: Vec<bool>,
 
-    /// A number before which none is: the next one is looked for from here on.
+    /// A number before which no piece is due: the next one is looked for from here on.
     looked: usize,
 
-    /// How many these are, while a cut is in progress.
+    /// How many are due, while a cut is in progress.
     left: Option<usize>,
     failed: bool,
 }
@@ -87,7 +87,7 @@ impl<D: Disk> Journal<D> {
     ghost use Rattle.oplog.specs.Calls.{HasParts};
     ghost use Rattle.device_map.specs.Layout.{image_size};
 
-    /// A journal with no cut in progress. `frozen` has an image's size, and each row of marks one mark a piece.
+    /// A journal with no cut in progress. `frozen` has an image's size, and each vector of flags one flag a piece.
     pub(crate) fn new(
         disk: D,
         halves: Halves,
@@ -120,7 +120,7 @@ impl<D: Disk> Journal<D> {
         }
     }
 
-    /// Logs these messages, in order, each of which was carried out in its turn from what is committed.
+    /// Logs these messages, in order, which were carried out one after the other from what is committed.
     pub fn log(&mut self, messages: &[Msg]) -> Result<(), LogFault>
         requires sound { self.old.failed ≡ false }
         requires room { length messages.now ≤ self.old.room }
@@ -172,7 +172,7 @@ impl<D: Disk> Journal<D> {
         ensures emptied { OnOk result (D.keeps → records self.new ≡ []) }
         ensures version { OnOk result (D.keeps → named_version self.new.geometry self.new.medium.now ≡ 2) }
 
-        // Marked pieces that lie side by side go with one write.
+        // Dirty pieces that lie side by side take one write.
         ensures takes { D.keeps → Takes result (point_takes self.old.dirty.others) self.old.medium self.new.medium }
         ensures few { point_takes self.old.dirty.others ≤ longest_point self.old.geometry }
         ensures after { self.new ≡ after_call result
@@ -196,7 +196,7 @@ impl<D: Disk> Journal<D> {
     }
 
     /// Begins a point: what is committed, which a whole tree holds, is kept as the state of the cut, and records go to the
-    /// other half from now on, after those in force. As many pieces are left to write as are marked in the other image.
+    /// other half from now on, after those in force. As many pieces are left to write as are dirty in the other image.
     pub fn cut(&mut self, tree: &Tree) -> Result<(), LogFault>
         requires sound { self.old.failed ≡ false }
         requires alone { self.old.left ≡ None }
@@ -234,7 +234,7 @@ impl<D: Disk> Journal<D> {
         Ok(())
     }
 
-    /// Writes the next piece of the state of the cut, and tells how many are left. With none left it touches nothing.
+    /// Writes the next piece of the state of the cut, and gives how many are left. With none left it touches nothing.
     pub fn piece(&mut self) -> Result<usize, LogFault>
         requires sound { self.old.failed ≡ false }
         requires running { is_some self.old.left ≡ true }

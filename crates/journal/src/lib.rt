@@ -2,12 +2,12 @@
 //! any moment leaves a device that recovers to what was logged.
 #![tactic(auto)]
 
-mod snapshot;
-mod journal;
 mod dirty;
-mod opening;
-mod steps;
 mod extents;
+mod journal;
+mod opening;
+mod snapshot;
+mod steps;
 
 pub use journal::Journal;
 pub use opening::open;

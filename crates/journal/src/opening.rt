@@ -1,4 +1,4 @@
-//! A journal is opened, over a device that a crash may have left.
+//! Opens a journal over a device that a crash may have left.
 ghost use Rattle.std.specs.Prelude.{◌≡◌, ◌≢◌, ◌↔◌, ◌+◌, ◌*◌, ◌<◌, ◌≤◌, true, false, None, Some, length, IfErr, IfOk, MatchResult, OnOk};
 ghost use Rattle.affinity.specs.declared.geometry.Geometry.{Geometry};
 ghost use Rattle.checkpoint.specs.declared.fault.OpenFault.TheVariants.{Device, OutOfMemory};
@@ -75,7 +75,7 @@ fn take_memory(alloc: Global, g: &Geometry) -> Result<(Parts, Vec<u8>), OpenFaul
     Ok((parts, buffer))
 }
 
-/// Makes what was written before the opening last, so that a crash leaves it.
+/// Syncs what was written before the opening, so that a crash leaves it.
 fn settle<D: Disk>(disk: &mut D) -> Result<(), OpenFault>
     ensures any_moment { D.keeps →
         CrashImagesAre (D.medium disk.old) (D.medium disk.new) (IsCrashImage (D.medium disk.old)) }
@@ -92,8 +92,8 @@ fn settle<D: Disk>(disk: &mut D) -> Result<(), OpenFault>
     Ok(())
 }
 
-/// Finishes a cut that was in progress: its state, which the tree holds, is written into the other area, which is named then.
-/// That is what the named area holds by itself, with none of the records after it.
+/// Finishes a cut that was in progress: its state, which the tree holds, is written into the other area, which is then named.
+/// It is the state that the named area holds by itself, with none of the records after it.
 fn finish_cut<D: Disk>(parts: &mut Parts, disk: &mut D) -> Result<(), LogFault>
     requires loaded { AreLoaded parts.old (D.medium disk.old) }
     requires calm { D.keeps → IsSynced (D.medium disk.old) }
@@ -118,7 +118,7 @@ fn finish_cut<D: Disk>(parts: &mut Parts, disk: &mut D) -> Result<(), LogFault>
 }
 
 /// Finishes a cut that was in progress, and then runs the records after it on the tree, which holds the state of the
-/// cut. The other area is named then, and holds the state of the device by itself.
+/// cut. The other area is then named, and holds the state of the device by itself.
 fn replay_behind<D: Disk>(parts: &mut Parts, disk: &mut D) -> Result<(), OpenFault>
     requires loaded { AreLoaded parts.old (D.medium disk.old) }
     requires calm { D.keeps → IsSynced (D.medium disk.old) }
@@ -242,7 +242,7 @@ fn open_committed<D: Disk>(alloc: Global, disk: &mut D) -> Result<Parts, OpenFau
     Ok(parts)
 }
 
-/// Opens any device: the first sync makes last what is unsynced.
+/// Opens any device: the first sync covers what is unsynced.
 fn open_on<D: Disk>(alloc: Global, disk: &mut D) -> Result<Parts, OpenFault>
     ensures any_moment { D.keeps → OpeningCrashImages (D.medium disk.old) (D.medium disk.new) }
     ensures beyond { D.keeps → (g : Geometry) → HasHeader g (D.medium disk.old).now
@@ -269,9 +269,9 @@ fn open_on<D: Disk>(alloc: Global, disk: &mut D) -> Result<Parts, OpenFault>
 ///
 /// It is refused exactly where its bytes are, with the first fault in the order of the tests: length, marks, geometry,
 /// length for that geometry, memory, the head of the named image, its pieces, the chain bytes, the records of the named
-/// half, those of the other one. A refusal comes before anything is written; but where a record of the half after the
-/// named one is bad, the cut was finished before: the area of that half is named then, with nothing unsynced, and the next
-/// call gives the same fault. A device without a header, or too short for its parts, is left as it is also where it fails
+/// half, those of the other one. A refusal comes before anything is written. But where a record of the half after the
+/// named one is bad, the cut was finished before: then the area of that half is named, nothing is unsynced, and the next
+/// call gives the same fault. A device without a header, or too short for its parts, is left as it is, also where it fails
 /// meanwhile. `Device` exactly where the device failed.
 pub fn open<D: Disk>(alloc: Global, d: D) -> Result<(Journal<D>, Tree), OpenError<D>>
     ensures opened { IfOk result (λ r. D.keeps → IsOpened (D.medium d) r.0 (state_in r.1)) }

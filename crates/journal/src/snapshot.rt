@@ -1,4 +1,4 @@
-//! The state of a point or a cut, frozen as the bytes of its image.
+//! A snapshot of the state of a point or a cut, as the bytes of its image.
 ghost use Rattle.std.specs.Prelude.{◌≡◌, ◌≤◌, drop, length, take};
 ghost use Rattle.image.specs.Image.{image_head, image_of};
 ghost use Rattle.image.specs.Pieces.{piece_count};
@@ -20,8 +20,8 @@ fn write_head(bytes: &mut [u8])
     bytes[..IMAGE_HEAD_SIZE].copy_from_slice(&head_of(VERSION));
 }
 
-/// Makes bytes the image of what a whole tree holds, of which all extents but the marked ones are there already: those
-/// alone are spelled.
+/// Makes bytes the image of what a whole tree holds. All extents but the dirty ones are there already: only the dirty ones
+/// are spelled.
 pub(crate) fn freeze(tree: &Tree, dirty: &[bool], bytes: &mut [u8])
     requires whole { IsWholeTree tree.now }
     requires dirty { length dirty.now ≡ piece_count tree.now.geometry }

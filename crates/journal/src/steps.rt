@@ -1,4 +1,4 @@
-//! The steps of a point on a device. A crash at any moment of one leaves a device that recovers to what it recovered to.
+//! The steps of a point on a device. A crash at any moment of one leaves a device that recovers to the same as before.
 ghost use Rattle.std.specs.Prelude.{◌≡◌, true, false, Some, length, OnOk, OnErr};
 ghost use Rattle.checkpoint.specs.Loading.{NamedHolds};
 ghost use Rattle.checkpoint.specs.Recovery.{holds};
@@ -21,7 +21,7 @@ use disk::Disk;
 use oplog::{Halves, LogFault};
 
 /// Makes a point into the area that isn't named, with this image of what the device recovers to. Of the image only the
-/// marked extents are written: all others are on the device already.
+/// dirty extents are written: all others are on the device already.
 pub(crate) fn point_on<D: Disk>(
     halves: &mut Halves,
     disk: &mut D,
@@ -83,7 +83,7 @@ pub(crate) fn cut_on<D: Disk>(halves: &mut Halves, disk: &mut D) -> Result<(), L
     Ok(())
 }
 
-/// Ends a cut of which the whole image is written: it is made to last, and named.
+/// Ends a cut of which the whole image is written: it is synced, and named.
 pub(crate) fn flip_on<D: Disk>(
     halves: &mut Halves,
     disk: &mut D,

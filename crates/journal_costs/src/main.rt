@@ -1,5 +1,5 @@
-//! What a journal asks of its device: with no words, how many syncs, writes and bytes 1,000 writes take at the default
-//! geometry; with the path of a formatted device, that one is opened. It is there to be measured: see `benchmark/journal`.
+//! What a journal asks of its device: with no arguments, how many syncs, writes and bytes 1,000 writes take at the default
+//! geometry; with the path of a formatted device, that one is opened, to be measured: see `benchmark/journal`.
 #![tactic(auto)]
 
 mod writing;

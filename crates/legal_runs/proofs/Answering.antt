@@ -43,7 +43,7 @@ record Silent (old : CoreState) (o : Outcome) : Type 0 where
 silent : (old : CoreState) (o : Outcome) → answers o ≡ [] → Silent old o
 silent old o e = record { none = none_answered old o e; same = ap ticket_replies (none_answered old o e) ∙ sym e }
 
--- What an event answers stands before what is logged then.
+-- What an event answers comes before what is logged then.
 pub record Ordered (old new : CoreState) (p : Passed) (o : Outcome) : Type 0 where
   pub order : old.logged ++ p.gone ≡ answered_at old o ++ new.logged
   pub same : ticket_replies (answered_at old o) ≡ answers o
@@ -95,13 +95,13 @@ run_in_order g old (event ∷ events) legal =
     ∙ ap (λ l. now ++ l) (run_in_order g event.state_after events legal.1)
     ∙ sym (append_assoc now (answered_messages event.state_after events) (last event.state_after events).core.logged)
 
-pub run_told : (g : Geometry) (old : Hands) (events : List Event) → IsLegal g old events
+pub run_replies : (g : Geometry) (old : Hands) (events : List Event) → IsLegal g old events
     → ticket_replies (answered_messages old events) ≡ answered events
-run_told g old [] legal = refl
-run_told g old (event ∷ events) legal =
+run_replies g old [] legal = refl
+run_replies g old (event ∷ events) legal =
     let k = move_ordered g old.core event.state_after.core _ event.outcome refl (moves g old event legal.0) in
     said-append (answered_at old.core event.outcome) (answered_messages event.state_after events)
-    ∙ (λ i. k.same i ++ run_told g event.state_after events legal.1 i)
+    ∙ (λ i. k.same i ++ run_replies g event.state_after events legal.1 i)
 
 -- Whatever is left later begins with the changes that were answered.
 pub answered_left : (g : Geometry) (old : Hands) (events : List Event) (k after : ℕ) (ms : List Msg) → IsLegal g old events

@@ -25,7 +25,7 @@ pub length_held : (w : CoreState) → length (held w) ≡ length w.logged + (len
 length_held w = length-append (entries w.logged) (entries w.ran ++ w.out)
     ∙ (λ i. length-map w.logged entry i + (length-append (entries w.ran) w.out ∙ ap (λ n. n + length w.out) (length-map w.ran entry)) i)
 
--- what goes out is at a place unrelated to those of all that are held
+-- what is dispatched is at a place unrelated to those of all that are held
 pub granted_is_free : (g : Geometry) (w : CoreState) (found : Entry × List Entry) → next_eligible g w ≡ Some found
     → AllByRecursion (λ d. are_related_entries g found.0 d ≡ false) (held w)
 granted_is_free g w found h =

@@ -26,7 +26,7 @@ use Rattle.legal_runs.proofs.Runs.{run_follows, run_answers}
 
 -- ---- a run leaves its messages in a row that is as good as that of their arrivals
 
--- all that arrived: what was logged so far, then what ran, is out and waits
+-- all that arrived: what was logged so far, then what ran, is dispatched and waits
 abbrev pub row : CoreState → List Replied → List Entry
 row w past = entries past ++ (entries w.ran ++ (w.out ++ w.waiting))
 
@@ -167,7 +167,7 @@ module _ (g : Geometry) (AreInStep : List Entry → List Entry → Type 0) (keep
       let none : row old.core [] ≡ [] = λ i. entries (none_ran old.core idle i) ++ (none_out old.core idle i ++ idle.none_waits i) in
       run_in_step old events [] [] legal (idle_sound old.core idle g) (subst (AreInStep []) (sym none) start)
 
--- ---- each tells as much
+-- ---- each has the same replies
 
 good_in_step : (g : Geometry) (x : State) → KeepsInStep g (IsAsGood g x)
 good_in_step g x = record {

@@ -1,4 +1,4 @@
--- Only an answer makes a waiting message clear, and only one to a message that it touches.
+-- Only an answer makes a waiting message conflict-free, and only one to a message that it touches.
 use Rattle.std.proofs.Common.{◌≡◌, ℕ, ◌<◌, Bool, true, false, List, [], ◌∷◌, ◌++◌, Some, refl, ap, sym, ◌∙◌, subst, append_assoc, ⊎_elim, arith}
 use Rattle.std.specs.Prelude.{◌&&◌, ◌||◌, ◌==◌, not, nat_lt}
 use Rattle.std.specs.List.{AllByRecursion, list_any}

@@ -1,4 +1,4 @@
--- What is in doubt are the changes among the first so many of those that ran.
+-- In `doubt` are the changes among the first so many of those that ran.
 use Rattle.std.proofs.Common.{◌≡◌, ℕ, zero, suc, ◌≤◌, Bool, true, false, List, [], ◌∷◌, refl, ap, sym, ◌∙◌, length, map, take, arith}
 use Rattle.std.specs.Prelude.{cond, filter, if◌then◌else◌}
 use Rattle.std.proofs.lemmas.List.{length-append, length-take-le, take-append-le, take-take}
@@ -62,7 +62,7 @@ first_changes (a ∷ ran) (suc k) =
 pub no_doubts : (w : CoreState) → w.doubt ≡ [] → DoubtsWhatRan w
 no_doubts w e = record { some = 0; at_most = omega arith; is = e }
 
--- the first so many of those in doubt
+-- the first so many of those in `doubt`
 pub first_doubts : (w : CoreState) → DoubtsWhatRan w → (k : ℕ) → AreOfFirst w.ran (take k w.doubt)
 first_doubts w h k =
     let first = first_changes (take h.some w.ran) k in
@@ -81,7 +81,7 @@ move_doubts_ran g old new p (Backs ticket found one_out is e) none = no_doubts n
 move_doubts_ran g old new p (Logs n is e) none = no_doubts new (ap (λ w. w.doubt) is ∙ none)
 move_doubts_ran g old new p (Answers a rest front is e) none = no_doubts new (ap (λ w. w.doubt) is ∙ none)
 
--- Where the device has failed, what ran stays where it is; else nothing was in doubt.
+-- Where the device has failed, what ran stays where it is; else nothing was in `doubt`.
 pub event_doubts_ran : (g : Geometry) (old : Hands) (event : Event) → IsAllowed g old event → DoubtsOnlyFailed old.core
     → DoubtsWhatRan old.core → DoubtsWhatRan event.state_after.core
 event_doubts_ran g old event allowed only h = by old.core.failed refl

@@ -154,7 +154,7 @@ they_are_answered_as_they_came_back : (x y : Block) → answers_of (after (two_h
     ≡ outcomes.Logged 1 ∷ outcomes.Answered 1 Done ∷ outcomes.Logged 0 ∷ outcomes.Idle ∷ outcomes.Logged 1 ∷ outcomes.Answered 0 Done ∷ []
 they_are_answered_as_they_came_back x y = refl
 
--- One record is left. What is out and what ran is counted against it, and a question needs none.
+-- One record is left. What is dispatched and what ran is counted against it, and a question needs none.
 abbrev one_record : Hands
 one_record = record { core = record (opened 4 with_file) { room = 1 }; hands = Empty ∷ Empty ∷ Empty ∷ [] }
 
@@ -246,7 +246,7 @@ failed_log = record { step = steps.Log 1; outcome = outcomes.LogFault faults.Dev
 failing_is_legal : IsLegal small ran_one (failed_log ∷ [])
 failing_is_legal = (record { touched = refl; core = refl; hands = refl }, tt)
 
--- the same told of the log of a question
+-- the same reported for the log of a question
 abbrev false_alarm : Event
 false_alarm = record { step = steps.Log 1; outcome = outcomes.LogFault faults.Device; rose = true; state_after = failed_one }
 
@@ -255,7 +255,7 @@ a_log_that_touches_no_device_doesnt_fail : IsAllowed small (after (one_hand 1 em
     → ⊥
 a_log_that_touches_no_device_doesnt_fail h = true≢false (sym h.touched)
 
--- an outcome that tells of a failure where none was
+-- an outcome that reports a failure where none was
 abbrev invented : Event
 invented = record { step = steps.Log 1; outcome = outcomes.LogFault faults.Device; rose = false; state_after = failed_one }
 
@@ -365,7 +365,7 @@ refused_or_done e = cc
 another_reply_is_none : IsSerialLog small empty ((0, MakeVol 0 0) ∷ []) ((0, MakeVol 0 0, Refused Exists) ∷ []) → ⊥
 another_reply_is_none h = refused_or_done (ap (λ (replies : List (ℕ × Reply)). (get_or replies 0 (0, Done)).1) h.in_order)
 
--- ---- runs and lives
+-- ---- runs and incarnations
 
 legal_where_no_device_fails : (w : Hands) (ss : List Step) → IsLegal small w (events_of w ss)
 legal_where_no_device_fails w [] = tt

@@ -1,4 +1,4 @@
--- A device's failure is told, and it lasts.
+-- A device's failure is reported, and it lasts.
 use Rattle.std.proofs.Common.{◌≡◌, ℕ, zero, suc, ◌^◌, ◌-◌, ◌+◌, Bool, true, false, List, [], ◌∷◌, Option, Some, None, refl, ap, sym, ◌∙◌, subst, length}
 use Rattle.std.specs.Prelude.{◌&&◌, ◌==◌, not, nat_le, nat_lt, if◌then◌else◌, is_some, is_none, MatchBool, position, slice_get}
 use Rattle.std.specs.List.{list_any}
@@ -16,16 +16,16 @@ use Rattle.legal_runs.specs.declared.outcomes.PointRefusal.{PointRefusal}
 use Rattle.legal_runs.specs.CoreState.{Entry, Replied, CoreState, held}
 use Rattle.legal_runs.specs.Eligible.{lacks_room_alone, next_eligible}
 use Rattle.legal_runs.specs.Events.{Hand, Hands, Empty, Job, Result, Event, IsAllowed, IsFault, IsCarriedOut, arrive, answer, not_ended, unless_refused, piece_refusal, point_refusal, flip_refusal, grant_to, run_hand, result_in, back_from, is_empty, happens, fault, touches_device}
-use Rattle.legal_runs.specs.Laws.{IsStopped, tells_of_failure}
+use Rattle.legal_runs.specs.Laws.{IsStopped, reports_failure}
 
--- ---- what happens doesn't tell of a failure, and a fault does
+-- ---- what happens doesn't report a failure, and a fault does
 
 either : {A : Type 0} (P : A → Type 0) (b : Bool) (x y : A) → P x → P y → P (if b then x else y)
 either P true x y h j = h
 either P false x y h j = j
 
 abbrev Quiet : {W : Type 0} → Outcome × W → Type 0
-Quiet o = tells_of_failure o.0 ≡ false
+Quiet o = reports_failure o.0 ≡ false
 
 arrive_quiet : (g : Geometry) (w : CoreState) (m : Msg) → Quiet (arrive g w m)
 arrive_quiet g w m =
@@ -59,7 +59,7 @@ module _ (w : CoreState) (done : Outcome × CoreState) (quiet : Quiet done) wher
   flip_quiet = either Refusing w.failed _ _ refl (ended_quiet w.left)
 
 module _ (g : Geometry) (w : Hands) where
-  none_quiet : (b : Bool) → tells_of_failure (if b then outcomes.NoRoom else outcomes.NoneEligible) ≡ false
+  none_quiet : (b : Bool) → reports_failure (if b then outcomes.NoRoom else outcomes.NoneEligible) ≡ false
   none_quiet true = refl
   none_quiet false = refl
 
@@ -92,7 +92,7 @@ module _ (g : Geometry) (w : Hands) where
   happens_quiet n steps.Piece = piece_quiet w.core _ refl
   happens_quiet n steps.Flip = flip_quiet w.core _ refl
 
-fault_told : (w : CoreState) (s : Step) → tells_of_failure (fault w s).0 ≡ true
+fault_told : (w : CoreState) (s : Step) → reports_failure (fault w s).0 ≡ true
 fault_told w (steps.Arrive m) = refl
 fault_told w steps.Grant = refl
 fault_told w (steps.Run i) = refl
@@ -104,13 +104,13 @@ fault_told w steps.Cut = refl
 fault_told w steps.Piece = refl
 fault_told w steps.Flip = refl
 
--- A step tells that the device failed exactly where it did.
-pub failure_told : (g : Geometry) (old : Hands) (event : Event) → IsAllowed g old event → event.rose ≡ tells_of_failure event.outcome
+-- A step reports that the device failed exactly where it did.
+pub failure_told : (g : Geometry) (old : Hands) (event : Event) → IsAllowed g old event → event.rose ≡ reports_failure event.outcome
 failure_told g old event h = by event.rose h
   where
-    by : (b : Bool) → MatchBool b (IsFault old event) (IsCarriedOut g old event) → b ≡ tells_of_failure event.outcome
-    by true f = sym (fault_told old.core event.step) ∙ ap (λ o. tells_of_failure o.0) f.core
-    by false d = sym (happens_quiet g old d.to_write event.step) ∙ ap (λ o. tells_of_failure o.0) d.does
+    by : (b : Bool) → MatchBool b (IsFault old event) (IsCarriedOut g old event) → b ≡ reports_failure event.outcome
+    by true f = sym (fault_told old.core event.step) ∙ ap (λ o. reports_failure o.0) f.core
+    by false d = sym (happens_quiet g old d.to_write event.step) ∙ ap (λ o. reports_failure o.0) d.does
 
 -- ---- then it has failed
 

@@ -1,4 +1,4 @@
--- How many messages are out grows and falls with how many hands are full.
+-- The number of dispatched messages grows and falls with that of full hands.
 use Rattle.std.proofs.Common.{◌≡◌, ℕ, ◌+◌, Bool, true, false, List, [], ◌∷◌, Option, Some, None, refl, ap, sym, ◌∙◌, subst, length, arith}
 use Rattle.std.specs.Prelude.{◌&&◌, not, cond, get_or, if◌then◌else◌, is_some, MatchBool, position, set, slice_get}
 use Rattle.std.proofs.lemmas.List.{length-append, nil_from_length}
@@ -38,7 +38,7 @@ length-picked p xs found e =
     let rest = ap length k.rest ∙ length-append k.before k.behind in
     omega (arith, whole, rest)
 
--- As many more or fewer are out as hands are full.
+-- As many more or fewer are dispatched as hands are full.
 abbrev pub Tallies : Hands → Hands → Type 0
 Tallies old new = length new.core.out + full old.hands ≡ length old.core.out + full new.hands
 
@@ -103,7 +103,7 @@ last_tallies g old (event ∷ events) legal =
     let rest = last_tallies g event.state_after events legal.1 in
     omega (arith, first, rest)
 
--- Where no hand is full, nothing is out, if nothing was.
+-- Where no hand is full, nothing is dispatched, if nothing was.
 pub last_none_out : (g : Geometry) (old : Hands) (events : List Event) → IsLegal g old events → old.core.out ≡ []
     → full (last old events).hands ≡ 0 → (last old events).core.out ≡ []
 last_none_out g old events legal before after =

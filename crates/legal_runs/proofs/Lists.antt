@@ -1,4 +1,4 @@
--- Lists: what holds of all, what each stands to those behind it, and what `pick` finds.
+-- Lists: what holds of all, what holds between each and those behind it, and what `pick` finds.
 use Rattle.std.proofs.Common.{◌≡◌, ℕ, zero, suc, ◌≤◌, Bool, true, false, List, [], ◌∷◌, ◌++◌, Option, Some, None, refl, ap, sym, subst, length, take, arith}
 use Rattle.std.specs.Prelude.{if◌then◌else◌, option_map, is_some, IsPermutation}
 use Rattle.std.specs.List.{AllByRecursion, list_any}
@@ -50,7 +50,7 @@ first_few zero xs = (0, omega arith, refl)
 first_few (suc n) [] = (0, omega arith, refl)
 first_few (suc n) (x ∷ xs) = let k = first_few n xs in (suc k.0, omega (arith, k.1), ap (λ l. x ∷ l) k.2)
 
--- ---- what each one stands to those behind it
+-- ---- what holds between each one and those behind it
 
 module _ {A : Type 0} (R : A → A → Type 0) where
   pub before_push : (xs : List A) (y : A) → EachBefore R xs → AllByRecursion (λ x. R x y) xs → EachBefore R (xs ++ y ∷ [])
@@ -79,12 +79,12 @@ module _ {A : Type 0} (R : A → A → Type 0) where
   before_join [] ys h j k = j
   before_join (x ∷ xs) ys h j k = (all_join (R x) xs ys h.0 k.0, before_join xs ys h.1 j k.1)
 
-  -- each of the first stands so to each of the others
+  -- it holds between each of the first and each of the others
   pub before_across : (xs ys : List A) → EachBefore R (xs ++ ys) → AllByRecursion (λ x. AllByRecursion (R x) ys) xs
   before_across [] ys h = tt
   before_across (x ∷ xs) ys h = (all_back (R x) xs ys h.0, before_across xs ys h.1)
 
-  -- one moves before others that may stand behind it
+  -- one moves before others that may come behind it
   pub before_past : (xs us : List A) (e : A) (vs : List A) → AllByRecursion (R e) us → EachBefore R (xs ++ (us ++ e ∷ vs))
       → EachBefore R (xs ++ e ∷ (us ++ vs))
   before_past [] [] e vs free h = h
@@ -110,7 +110,7 @@ module _ {A : Type 0} (R : A → A → Type 0) where
 
 -- ---- what `pick` finds
 
--- It stood between the two parts of what is left.
+-- It was between the two parts of what is left.
 pub record Picked {A : Type 0} (p : A → Bool) (xs : List A) (found : A × List A) : Type 0 where
   pub before : List A
   pub behind : List A

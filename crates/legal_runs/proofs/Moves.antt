@@ -33,9 +33,9 @@ pub record Same (old new : CoreState) : Type 0 where
   pub slots : new.slots ≡ old.slots
   -- and what is in flight has room still
   pub room : in_flight old ≤ old.room → in_flight old ≤ new.room
-  -- and nothing is in doubt that wasn't, unless the device has failed
+  -- and nothing comes into `doubt`, unless the device has failed
   pub doubt : DoubtsOnlyFailed old → DoubtsOnlyFailed new
-  -- and what is in doubt ran
+  -- and what is in `doubt` ran
   pub doubts : DoubtsWhatRan old → DoubtsWhatRan new
 
 -- what passes at an event: the messages that it logs, those that arrive, and the replies that it gives

@@ -1,4 +1,4 @@
--- What is out sees the same in the committed state, whatever comes; and which steps leave what is out as it is.
+-- A dispatched message sees the same in the committed state, whatever comes; and which steps leave the dispatched ones as they are.
 use Rattle.std.proofs.Common.{◌≡◌, ℕ, ◌+◌, ◌-◌, ◌^◌, Bool, true, false, List, [], ◌∷◌, ◌++◌, Option, Some, None, refl, ap, sym, ◌∙◌, subst, take, drop, length}
 use Rattle.std.specs.Prelude.{map, filter, cond, not, ◌==◌, nat_le, if◌then◌else◌, slice_get, MatchBool}
 use Rattle.std.proofs.lemmas.Bool.{true≢false}
@@ -27,7 +27,7 @@ use Rattle.legal_runs.proofs.Lists.{all_back, all_front, before_back}
 use Rattle.legal_runs.proofs.Moves.{Passed, Move, Stays, Arrives, Grants, Backs, Logs, Answers, moves}
 use Rattle.legal_runs.proofs.SerialReplies.{IsIn}
 
--- those before one of a row stand to it
+-- `R` holds between those before one of a row and it
 pub before_in : {A : Type 0} (R : A → A → Type 0) (xs ys : List A) (y : A) → EachBefore R (xs ++ ys) → IsIn y ys
     → AllByRecursion (λ x. R x y) xs
 before_in R [] ys y h is = tt
@@ -93,7 +93,7 @@ module _ (g : Geometry) where
       → AgreeOn g (are_related (place g e.1)) event.state_after.core.committed old.core.committed
   event_sees old event e allowed sound is = move_sees e old.core event.state_after.core _ (moves g old event allowed) sound is
 
--- ---- steps that neither let a message out nor take one back
+-- ---- steps that neither dispatch a message nor give one back
 
 either : {A : Type 0} (P : A → Type 0) (b : Bool) (x y : A) → P x → P y → P (if b then x else y)
 either P true x y h j = h

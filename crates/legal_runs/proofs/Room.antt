@@ -1,4 +1,4 @@
--- What is out and what ran has room in the log.
+-- What is dispatched and what ran has room in the log.
 use Rattle.std.proofs.Common.{◌≡◌, ℕ, ◌+◌, ◌≤◌, Bool, true, false, List, [], ◌∷◌, ◌++◌, ap, sym, ◌∙◌, subst, take, drop, length, arith}
 use Rattle.std.specs.Prelude.{◌&&◌, ◌||◌, ◌==◌, not, nat_lt, cond, count_by}
 use Rattle.std.proofs.lemmas.Bool.{and_parts, ltb-true}

@@ -1,4 +1,4 @@
--- The replies in a legal run, in log order, and the state that it settles.
+-- The replies in a legal run, in log order, and the state that it commits.
 use Rattle.std.proofs.Common.{◌≡◌, Bool, true, false, List, [], ◌∷◌, ◌++◌, refl, ap, sym, ◌∙◌, subst, append_assoc, take}
 use Rattle.std.specs.Prelude.{◌||◌, if◌then◌else◌, map, filter}
 use Rattle.std.proofs.lemmas.List.{append-nil, map-append}
@@ -19,7 +19,7 @@ use Rattle.legal_runs.proofs.Sound.{row_of, event_sound}
 
 -- ---- what goes to logged
 
--- What goes to logged is told as it was replied, and the committed state follows.
+-- What is logged has the serial server's replies, and the committed state follows.
 pub record Follows (g : Geometry) (old new : CoreState) (gone : List Replied) : Type 0 where
   pub told : serial_replies g old.committed (entries gone) ≡ ticket_replies gone
   pub committed : new.committed ≡ fold g old.committed (messages (entries gone))
@@ -41,7 +41,7 @@ event_follows : (g : Geometry) (old : Hands) (event : Event) → IsAllowed g old
     → Follows g old.core event.state_after.core (goes old.core event.step event.rose)
 event_follows g old event allowed h = move_follows g old.core event.state_after.core _ (moves g old event allowed) h
 
--- The messages that a run logs are told, one after the other in log order, what they were replied.
+-- The replies of the messages that a run logs are the serial server's, one after the other in log order.
 pub run_follows : (g : Geometry) (old : Hands) (events : List Event) → IsLegal g old events → IsSoundCoreState g old.core
     → Follows g old.core (last old events).core (went old events)
 run_follows g old [] legal h = record { told = refl; committed = refl }

@@ -131,7 +131,7 @@ module _ (g : Geometry) (old : Hands) (events : List Event) (legal : IsLegal g o
   abbrev log : ℕ → List Replied
   log j = went old events ++ take j now.ran
 
-  -- each message that arrived is logged, ran, is out or waits
+  -- each message that arrived is logged, ran, is dispatched or waits
   pub none_lost : IsPermutation (arrived events) (row now (went old events))
   none_lost = (arrivals_reordered g old events legal idle).same
 
@@ -182,7 +182,7 @@ module _ (g : Geometry) (old : Hands) (events : List Event) (legal : IsLegal g o
   -- ---- and what may be left of it
 
   module _ (none : old.core.doubt ≡ []) where
-    -- the first so many of those in doubt in the end
+    -- the first so many of those in `doubt` in the end
     pub doubts_in_order : (k : ℕ)
         → (j : ℕ) × IsSerialLog g old.core.committed (arrived events) (log j) × (loggable (take j now.ran) ≡ take k now.doubt)
     doubts_in_order k =

@@ -1,4 +1,4 @@
--- Lists of messages: what they are told, and what stays where one moves past unrelated ones.
+-- Lists of messages: their replies, and what stays where one moves past unrelated ones.
 use Rattle.std.proofs.Common.{◌≡◌, ℕ, true, false, List, [], ◌∷◌, ◌++◌, refl, ap, sym, ◌∙◌, subst, map, ◌⊎◌, inl, inr, ⊎_elim}
 use Rattle.std.specs.Prelude.{filter, cond}
 use Rattle.std.specs.List.{AllByRecursion}
@@ -86,7 +86,7 @@ module _ {A : Type 0} (a : A) where
   in_either [] cs h = inr h
   in_either (b ∷ bs) cs h = ⊎_elim (λ e. inl (inl e)) (λ k. ⊎_elim (λ l. inl (inr l)) (λ r. inr r) (in_either bs cs k)) h
 
--- The list es leaves the state that fs leaves, and tells what fs tells.
+-- The list es leaves the state that fs leaves, and has the replies of fs.
 pub record IsAsGood (g : Geometry) (x : State) (es fs : List Entry) : Type 0 where
   pub state : fold g x (messages es) ≡ fold g x (messages fs)
   pub tells : (p : ℕ × Reply) → IsIn p (serial_replies g x fs) → IsIn p (serial_replies g x es)

@@ -24,7 +24,7 @@ abbrev IsGiven : ℕ → Entry → Type 0
 IsGiven n e = e.0 < n
 
 module _ (g : Geometry) where
-  -- what is logged next is told in a row
+  -- what is logged next has its replies in a row
   pub row_of : (w : CoreState) (n : ℕ) → IsSoundCoreState g w → InARow g w.committed (take n w.ran) (drop n w.ran)
   row_of w n h =
       let whole : take n w.ran ++ drop n w.ran ≡ w.ran = take-append-drop n w.ran in
@@ -175,7 +175,7 @@ move_slots g old new p (Answers a rest front is e) = ap (λ w. w.slots) is
 pub event_slots : (g : Geometry) (old : Hands) (event : Event) → IsAllowed g old event → event.state_after.core.slots ≡ old.core.slots
 event_slots g old event allowed = move_slots g old.core event.state_after.core _ (moves g old event allowed)
 
--- Whatever a run of events does, what is out and what ran has room, and each message has a slot of those that there were.
+-- Whatever a run of events does, what is dispatched and what ran has room, and each message has a slot of those that there were.
 pub run_fits : (g : Geometry) (old : Hands) (events : List Event) → IsLegal g old events → IsSoundCoreState g old.core
     → AllByRecursion (λ event. HasRoom old.core.slots event.state_after.core) events
 run_fits g old [] legal h = tt
@@ -186,7 +186,7 @@ run_fits g old (event ∷ events) legal h =
       subst (λ n. AllByRecursion (λ event. HasRoom n event.state_after.core) events) same (run_fits g event.state_after events legal.1 k),
     )
 
--- ---- what is in doubt
+-- ---- what is in `doubt`
 
 move_doubts : (g : Geometry) (old new : CoreState) (p : Passed) → Move g old new p → DoubtsOnlyFailed old → DoubtsOnlyFailed new
 move_doubts g old new p (Stays s e) h = s.doubt h

@@ -1,4 +1,4 @@
--- The core state: the messages that a server has taken in, how far each has come, and what has been committed.
+-- Statement for operators: The core state: the messages that a server has taken in, how far each has come, and what has been committed.
 use Rattle.std.specs.Prelude.{ℕ, Bool, List, ◌++◌, map, Option}
 use Rattle.affinity.specs.declared.geometry.Geometry.{Geometry}
 use Rattle.affinity.specs.Path.{are_related}
@@ -17,23 +17,23 @@ Replied = ℕ × Msg × Reply
 pub record CoreState : Type 0 where
   -- those that wait, by ticket
   pub waiting : List Entry
-  -- those that are out, in the order in which they went
+  -- those that are dispatched, in the order of their grants
   pub out : List Entry
   -- those that ran, with their replies, in the order in which they were given back
   pub ran : List Replied
   -- those that are logged and not answered yet, in log order
   pub logged : List Replied
-  -- the state that all messages logged so far have led to
+  -- the state to which all messages logged so far have led
   pub committed : State
   -- how many records the log still takes
   pub room : ℕ
   -- the ticket of the next message
   pub next : ℕ
-  -- how many messages fit in
+  -- how many messages it can have at once
   pub slots : ℕ
   -- whether the device has failed
   pub failed : Bool
-  -- what was to be appended to the log when it failed
+  -- what was to be appended to the log at the failure
   pub doubt : List Msg
   -- how many pieces are left to write, while a consistency point is in progress
   pub left : Option ℕ
@@ -44,7 +44,7 @@ entry a = (a.0, a.1)
 abbrev pub entries : List Replied → List Entry
 entries as' = map entry as'
 
--- the messages that are held: logged, ran or out
+-- the messages that are held: logged, ran or dispatched
 abbrev pub held : CoreState → List Entry
 held w = entries w.logged ++ (entries w.ran ++ w.out)
 

@@ -1,4 +1,4 @@
--- Which message may go.
+-- Statement for operators: Which message may be granted.
 use Rattle.std.specs.Prelude.{ℕ, ◌+◌, Bool, not, ◌&&◌, ◌||◌, nat_lt, List, [], ◌∷◌, if◌then◌else◌, Option, Some, None, option_map, count_by}
 use Rattle.std.specs.List.{list_any}
 use Rattle.affinity.specs.declared.geometry.Geometry.{Geometry}
@@ -15,7 +15,7 @@ is_conflict_free g w e = not (list_any (are_related_entries g e) (held w))
 abbrev pub changes : Msg → Bool
 changes m = is_changing (kind m)
 
--- how many of the messages that are out or ran may come to need a record
+-- how many of the messages that are dispatched or ran may come to need a record
 abbrev pub in_flight : CoreState → ℕ
 in_flight w = count_by (λ e. changes e.1) w.out + count_by (λ a. changes a.1) w.ran
 

@@ -1,4 +1,4 @@
--- Events: what each step does to the core state and to the hands of a machine, and what it answers.
+-- Statement for operators: Events: what each step does to the core state and to the hands of a machine, and what it answers.
 use Rattle.std.specs.Prelude.{◌≡◌, ℕ, zero, suc, ◌+◌, ◌-◌, ◌^◌, ◌≤◌, Bool, true, false, not, ◌&&◌, ◌==◌, nat_lt, nat_le, List, [], ◌∷◌, ◌++◌, map, filter, length, take, drop, if◌then◌else◌, Option, Some, None, is_some, is_none, position, slice_get, set, MatchBool}
 use Rattle.std.specs.List.{list_any}
 use Rattle.affinity.specs.declared.geometry.Geometry.{Geometry}
@@ -28,19 +28,19 @@ arrive g w m =
     else if nat_le w.slots (length w.waiting + length (held w)) then (outcomes.ArriveRefused arrivals.Full, w)
     else (outcomes.Ticket w.next, record w { waiting = w.waiting ++ (w.next, m) ∷ []; next = w.next + 1 })
 
--- The message goes out, and the others wait on.
+-- The message is dispatched, and the others wait on.
 abbrev pub grant : CoreState → Entry × List Entry → CoreState
 grant w found = record w { waiting = found.1; out = w.out ++ found.0 ∷ [] }
 
--- why none goes
+-- why none is granted
 abbrev pub no_grant : Geometry → CoreState → Outcome
 no_grant g w = if list_any (lacks_room_alone g w) w.waiting then outcomes.NoRoom else outcomes.NoneEligible
 
--- the message that is out with this ticket, and the others that are out
+-- the dispatched message with this ticket, and the other dispatched ones
 abbrev pub out_with : CoreState → ℕ → Option (Entry × List Entry)
 out_with w ticket = pick (λ e. e.0 == ticket) w.out
 
--- The message comes back, with the reply at the committed state.
+-- The message is given back, with the reply at the committed state.
 abbrev pub give_back : Geometry → CoreState → Entry × List Entry → CoreState
 give_back g w found = record w { out = found.1; ran = w.ran ++ (found.0.0, found.0.1, reply_to g w.committed found.0.1) ∷ [] }
 
@@ -147,7 +147,7 @@ abbrev pub run_hand : Hands → ℕ → Option Hand → Outcome × Hands
 run_hand w i (Some (Job ticket)) = (outcomes.Ran, record w { hands = set w.hands i (Result ticket) })
 run_hand w i _ = (outcomes.Idle, w)
 
--- the message that is out and has its result in the hand, and the others that are out
+-- the dispatched message whose result is in the hand, and the other dispatched ones
 abbrev pub result_in : CoreState → Option Hand → Option (Entry × List Entry)
 result_in w (Some (Result ticket)) = out_with w ticket
 result_in w _ = None

@@ -1,4 +1,4 @@
--- Lives: a server is opened, it runs, and a crash ends it. Then it is opened again.
+-- Statement for operators: Incarnations: a server is opened, it runs, and a crash ends it. Then it is opened again.
 use Rattle.std.specs.Prelude.{◌≡◌, ℕ, ◌≤◌, List, [], ◌∷◌, ◌++◌, length, take}
 use Rattle.affinity.specs.declared.geometry.Geometry.{Geometry}
 use Rattle.messages.specs.declared.Msg.{Msg}
@@ -29,19 +29,19 @@ abbrev pub IsLogOf : Geometry → State → Incarnation → List Msg → Type 0
 IsLogOf g x Unopened log = log ≡ []
 IsLogOf g x (Ran start events ended) log = IsLogOfRun g x start events ended log
 
--- Each of the lives began where the logs before it led to, the first one in x, and left its log.
+-- Each of the incarnations began where the logs before it led, the first one in x, and left its log.
 abbrev pub AreLogsOf : Geometry → State → List Incarnation → List (List Msg) → Type 0
 AreLogsOf g x [] [] = Unit {0}
 AreLogsOf g x [] (log ∷ logs) = ⊥
 AreLogsOf g x (incarnation ∷ incarnations) [] = ⊥
 AreLogsOf g x (incarnation ∷ incarnations) (log ∷ logs) = IsLogOf g x incarnation log × AreLogsOf g (fold g x log) incarnations logs
 
--- the messages of all lives, in order
+-- the messages of all incarnations, in order
 abbrev pub in_order : List (List Msg) → List Msg
 in_order [] = []
 in_order (log ∷ logs) = log ++ in_order logs
 
--- The state is one that these lives may leave, from none on: the serial server comes there by the logs of all, in order.
+-- The state is one that these incarnations may leave, from the empty state on: the serial server comes there by the logs of all, in order.
 pub record IsLeftByIncarnations (g : Geometry) (incarnations : List Incarnation) (x : State) : Type 0 where
   pub logs : List (List Msg)
   pub are_logs : AreLogsOf g empty incarnations logs

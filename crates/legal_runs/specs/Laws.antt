@@ -1,4 +1,4 @@
--- The words of the laws of legal runs.
+-- Statement for operators: The words of the laws of legal runs.
 use Rattle.std.specs.Prelude.{◌≡◌, ℕ, ◌+◌, ◌<◌, ◌≤◌, Bool, true, false, not, List, [], ◌∷◌, ◌++◌, map, length, count_by, take, IsPermutation}
 use Rattle.std.specs.List.{AllByRecursion}
 use Rattle.affinity.specs.declared.geometry.Geometry.{Geometry}
@@ -17,7 +17,7 @@ use Rattle.legal_runs.specs.Eligible.{in_flight}
 use Rattle.legal_runs.specs.Events.{Hand, Hands, Event, is_empty, loggable}
 use Rattle.legal_runs.specs.Runs.{IsLegal, last, went, journal, arrived, answered}
 
--- each one stands so to all behind it
+-- `R` holds between each one and all behind it
 abbrev pub EachBefore : {A : Type 0} → (A → A → Type 0) → List A → Type 0
 EachBefore R [] = Unit {0}
 EachBefore R (x ∷ xs) = AllByRecursion (R x) xs × EachBefore R xs
@@ -34,7 +34,7 @@ AreAscending es = EachBefore (λ e d. e.0 < d.0) es
 abbrev pub AreOnce : List Entry → Type 0
 AreOnce es = EachBefore (λ e d. e.0 ≡ d.0 → ⊥) es
 
--- each reply is that at this state
+-- each reply is the one at this state
 abbrev pub AreReplied : Geometry → State → List Replied → Type 0
 AreReplied g x as' = AllByRecursion (λ a. a.2 ≡ reply_to g x a.1) as'
 
@@ -42,9 +42,9 @@ AreReplied g x as' = AllByRecursion (λ a. a.2 ≡ reply_to g x a.1) as'
 abbrev pub ticket_replies : List Replied → List (ℕ × Reply)
 ticket_replies as' = map (λ a. (a.0, a.2)) as'
 
--- Messages with their replies, in an order in which they may have been done from this state on. The log begins an order of all that arrived
--- in which each is once, and those at related places are by ticket; and each has the reply that it gets where the log runs from its first
--- message to its last.
+-- Messages with their replies, in an order in which they may have been done from this state on. The log begins an order of all that
+-- arrived in which each is once, and those at related places are by ticket. Each has the reply that it gets where the log runs from its
+-- first message to its last.
 pub record IsSerialLog (g : Geometry) (x : State) (arrivals : List Entry) (log : List Replied) : Type 0 where
   -- those that are not in it
   pub rest : List Entry
@@ -60,15 +60,15 @@ pub record IsSoundCoreState (g : Geometry) (w : CoreState) : Type 0 where
   pub replied : AreReplied g w.committed w.ran
   -- they wait by ticket
   pub ascending : AreAscending w.waiting
-  -- no ticket was given twice, and none that is to come
+  -- no ticket was given twice, and each is below the next one
   pub once : AreOnce (w.out ++ w.waiting)
   pub given : AllByRecursion (λ e. e.0 < w.next) (w.out ++ w.waiting)
-  -- what is out and what ran has room in the log
+  -- what is dispatched and what ran has room in the log
   pub room : in_flight w ≤ w.room
   -- there is a slot for each message
   pub fits : length w.waiting + length (held w) ≤ w.slots
 
--- the steps that may let a message out or take one back
+-- the steps that may dispatch a message or give one back
 abbrev pub moves_what_is_out : Step → Bool
 moves_what_is_out steps.Grant = true
 moves_what_is_out (steps.Back i) = true
@@ -78,27 +78,27 @@ moves_what_is_out _ = false
 abbrev pub full : List Hand → ℕ
 full hands = count_by (λ hand. not (is_empty hand)) hands
 
--- Nothing is in doubt, unless the device has failed.
+-- Nothing is in `doubt`, unless the device has failed.
 abbrev pub DoubtsOnlyFailed : CoreState → Type 0
 DoubtsOnlyFailed w = w.failed ≡ false → w.doubt ≡ []
 
--- What is in doubt are the changes among the first so many of those that ran.
+-- In `doubt` are the changes among the first so many of those that ran.
 pub record DoubtsWhatRan (w : CoreState) : Type 0 where
   pub some : ℕ
   pub at_most : some ≤ length w.ran
   pub is : w.doubt ≡ loggable (take some w.ran)
 
--- the outcomes that tell that the device failed during the step
-abbrev pub tells_of_failure : Outcome → Bool
-tells_of_failure (outcomes.LogFault faults.Device) = true
-tells_of_failure (outcomes.PointRefused points.Device) = true
-tells_of_failure _ = false
+-- the outcomes that report that the device failed during the step
+abbrev pub reports_failure : Outcome → Bool
+reports_failure (outcomes.LogFault faults.Device) = true
+reports_failure (outcomes.PointRefused points.Device) = true
+reports_failure _ = false
 
--- The device has failed: nothing arrives, goes out, is logged or comes to be in doubt, and no consistency point goes on.
+-- The device has failed: nothing arrives, is dispatched, is logged or comes into `doubt`, and no consistency point goes on.
 pub record IsStopped (old new : CoreState) : Type 0 where
   pub failed : new.failed ≡ true
   pub waiting : new.waiting ≡ old.waiting
-  -- what comes back is behind all that ran before
+  -- what is given back is behind all that ran before
   pub back : List Replied
   pub ran : new.ran ≡ old.ran ++ back
   pub committed : new.committed ≡ old.committed
@@ -107,7 +107,7 @@ pub record IsStopped (old new : CoreState) : Type 0 where
   pub next : new.next ≡ old.next
   pub left : new.left ≡ old.left
 
--- What is out and what ran has room in the log, and each message has one of so many slots.
+-- What is dispatched and what ran has room in the log, and each message has one of so many slots.
 abbrev pub HasRoom : ℕ → CoreState → Type 0
 HasRoom slots w = (in_flight w ≤ w.room) × (length w.waiting + length (held w) ≤ slots)
 
@@ -116,7 +116,7 @@ pub record IsIdle (w : CoreState) : Type 0 where
   pub none_waits : w.waiting ≡ []
   pub none_held : held w ≡ []
 
--- The message was logged first, and has gone.
+-- The message was logged first, and is held no more.
 abbrev pub IsAnswered : CoreState → CoreState → Replied → Type 0
 IsAnswered old new a = old.logged ≡ a ∷ new.logged
 

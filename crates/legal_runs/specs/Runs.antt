@@ -1,4 +1,4 @@
--- Legal runs: lists of events, each of them allowed in the core state that the ones before it left.
+-- Statement for operators: Legal runs: lists of events, each of them allowed in the core state that the ones before it left.
 use Rattle.std.specs.Prelude.{◌≡◌, ℕ, Bool, ◌||◌, List, [], ◌∷◌, ◌++◌, map, take, if◌then◌else◌}
 use Rattle.affinity.specs.declared.geometry.Geometry.{Geometry}
 use Rattle.messages.specs.declared.Msg.{Msg}

@@ -19,11 +19,11 @@ ghost use Rattle.legal_runs.specs.Runs.{IsLegal, answered, answered_changes, ans
 ghost use Rattle.legal_runs.specs.Crash.{IsLeftSince, IsLogAfter, in_doubt};
 ghost use Rattle.legal_runs.specs.Incarnations.{AreLogsOf, HoldAnswered, IsLeftByIncarnations, IsLogOf, Incarnation, Ran};
 ghost use Rattle.legal_runs.specs.Laws.{AreApart, AreAscending, AreOnce, DoubtsOnlyFailed, DoubtsWhatRan, HasRoom, IsAnswered, IsIdle};
-ghost use Rattle.legal_runs.specs.Laws.{IsJoined, IsSerialLog, IsSoundCoreState, IsStopped, full, moves_what_is_out, ticket_replies, tells_of_failure};
+ghost use Rattle.legal_runs.specs.Laws.{IsJoined, IsSerialLog, IsSoundCoreState, IsStopped, full, moves_what_is_out, ticket_replies, reports_failure};
 
 /// A core state in which nothing waits and nothing is held is sound, and each event leads from a sound
 /// core state to a sound one.
-pub fn events_keep_worlds_sound()
+pub fn events_keep_core_states_sound()
     ensures idle { (g : Geometry) (w : CoreState) → IsIdle w → IsSoundCoreState g w }
     ensures event { (g : Geometry) (old : Hands) (event : Event) → IsAllowed g old event → IsSoundCoreState g old.core
         → IsSoundCoreState g event.state_after.core }
@@ -35,8 +35,8 @@ pub fn held_messages_are_unrelated()
         → AllByRecursion (λ event. AreApart g (held event.state_after.core)) events }
 {}
 
-/// The messages that a run logs are replied what the serial server replies to them, one after the
-/// other in log order; and they are answered so, in that order, after the ones logged before.
+/// The messages that a run logs get the replies that the serial server gives them, one after the other in
+/// log order. They are answered so, in that order, after the ones logged before.
 pub fn replies_are_in_log_order()
     ensures replied { (g : Geometry) (old : Hands) (events : List Event) → IsLegal g old events → IsSoundCoreState g old.core
         → ticket_replies (went old events) ≡ serial_replies g old.core.committed (entries (went old events)) }
@@ -55,15 +55,15 @@ pub fn committed_is_what_was_logged()
     ensures journal { (old : Hands) (events : List Event) → journal old events ≡ loggable (went old events) }
 {}
 
-/// A legal run goes on by every legal run from where it ended: they are one, and what they log, append,
-/// take in and answer is what the two do, one after the other.
+/// A legal run goes on by every legal run from where it ended: they are one run. What it logs, appends,
+/// takes in and answers is what the two do, one after the other.
 pub fn legal_runs_join()
     ensures { (g : Geometry) (old : Hands) (events more : List Event) → IsLegal g old events → IsLegal g (last old events) more
         → IsJoined g old events more }
 {}
 
-/// In each core state of a legal run there is room in the log for all that is out and all that ran, and a
-/// slot for each message, of as many as there were in the beginning. So a log always has room for what
+/// In each core state of a legal run there is room in the log for all that is dispatched and all that ran, and
+/// a slot for each message, of as many as there were in the beginning. So a log always has room for what
 /// it appends.
 pub fn room_and_slots_are_enough()
     ensures run { (g : Geometry) (old : Hands) (events : List Event) → IsLegal g old events → IsSoundCoreState g old.core
@@ -89,8 +89,8 @@ pub fn replies_are_by_ticket()
 {}
 
 /// Where nothing waited and nothing was held in the beginning, no message is lost, and none is there twice: those
-/// that arrived are those that were logged, those that ran and are not logged yet, those that are out and those
-/// that wait. So whatever is answered arrived. A ticket has one message.
+/// that arrived are those that were logged, those that ran and are not logged yet, those that are dispatched and
+/// those that wait. So whatever is answered arrived. A ticket has one message.
 pub fn messages_are_neither_lost_nor_doubled()
     ensures all { (g : Geometry) (old : Hands) (events : List Event) → IsLegal g old events → IsIdle old.core
         → IsPermutation (arrived events) (entries (went old events) ++ (entries (last old events).core.ran
@@ -115,8 +115,8 @@ pub fn what_ran_is_a_serial_log()
         → IsSerialLog g x arrivals log → IsSerialLog g x (arrivals ++ more) log }
 {}
 
-/// Only an answer makes a waiting message clear, and only one to a message at a place related to its own:
-/// whatever else comes, a message that waits on stays clear, or stays not clear.
+/// Only an answer makes a waiting message conflict-free, and only one to a message at a place related to its
+/// own. Whatever else comes, a message that waits on stays conflict-free, or stays not so.
 pub fn only_answers_clear()
     ensures { (g : Geometry) (old : Hands) (event : Event) (e : Entry) → IsAllowed g old event → IsSoundCoreState g old.core
         → Contains old.core.waiting e → Contains event.state_after.core.waiting e
@@ -124,23 +124,23 @@ pub fn only_answers_clear()
         → is_conflict_free g event.state_after.core e ≡ is_conflict_free g old.core e }
 {}
 
-/// A step tells that the device failed exactly where it failed during the step, and then it has failed for
-/// good: messages that are out still come back, and logged ones are answered, but nothing else comes.
-pub fn failures_are_told_and_last()
-    ensures told { (g : Geometry) (old : Hands) (event : Event) → IsAllowed g old event → event.rose ≡ tells_of_failure event.outcome }
+/// A step reports that the device failed exactly where it failed during the step, and then it has failed for
+/// good: dispatched messages are still given back, and logged ones are answered, but nothing else comes.
+pub fn failures_are_reported_and_last()
+    ensures told { (g : Geometry) (old : Hands) (event : Event) → IsAllowed g old event → event.rose ≡ reports_failure event.outcome }
     ensures failed { (g : Geometry) (old : Hands) (event : Event) → IsAllowed g old event → event.rose ≡ true
         → event.state_after.core.failed ≡ true }
     ensures lasts { (g : Geometry) (old : Hands) (event : Event) → IsAllowed g old event → old.core.failed ≡ true
         → IsStopped old.core event.state_after.core }
 {}
 
-/// Messages come to be in doubt only where the device fails.
+/// Messages come into `doubt` only where the device fails.
 pub fn only_a_failure_leaves_doubt()
     ensures { (g : Geometry) (old : Hands) (event : Event) → IsAllowed g old event → DoubtsOnlyFailed old.core
         → DoubtsOnlyFailed event.state_after.core }
 {}
 
-/// What is in doubt are the changes among the first m of those that ran, and so are the first of them.
+/// In `doubt` are the changes among the first m of those that ran, and so are the first of them.
 pub fn what_is_in_doubt_ran()
     ensures event { (g : Geometry) (old : Hands) (event : Event) → IsAllowed g old event → DoubtsOnlyFailed old.core
         → DoubtsWhatRan old.core → DoubtsWhatRan event.state_after.core }
@@ -150,9 +150,9 @@ pub fn what_is_in_doubt_ran()
         → (j : ℕ) × (j ≤ length w.ran) × (loggable (take j w.ran) ≡ take k w.doubt) }
 {}
 
-/// What a crash may leave, if it comes when k events or more have ended, is where all that these appended
-/// leads, with more after it. If it comes before the next one has ended, it is the state that was committed
-/// then, with the first m of the messages in doubt.
+/// What a crash may leave, if it comes when k events or more have ended, is the state to which all that these
+/// appended leads, with more after it. If it comes before the next one has ended, it is the state that was
+/// committed then, with the first m of the messages in flight at the failure (`in_doubt`).
 pub fn a_crash_leaves_what_was_appended()
     ensures begins { (g : Geometry) (old : Hands) (events : List Event) (k : ℕ) (x : State) → IsLeftSince g old events k x
         → (rest : List Msg) × (x ≡ fold g old.core.committed (journal old (take k events) ++ rest)) }
@@ -161,9 +161,9 @@ pub fn a_crash_leaves_what_was_appended()
         ≡ fold g (last old (take k events)).core.committed (take log.some (in_doubt (last old (take k events)).core (drop k events))) }
 {}
 
-/// A crash of two runs, one after the other, may come in either. What it may leave in the log of the first, it may leave of both; and
-/// what it may leave in the log of the second, it may leave of both, after all that the first appended. So it is with the state that
-/// it may leave: with that of the second if the first is legal and began in a sound core state.
+/// A crash of two runs, one after the other, may come in either. What it may leave in the log of the first, it may leave of both. What
+/// it may leave in the log of the second, it may leave of both, after all that the first appended. The same holds of the state that it
+/// may leave: of that of the second if the first is legal and began in a sound core state.
 pub fn a_crash_may_come_in_either_run()
     ensures log_first { (old : Hands) (events more : List Event) (k : ℕ) (ms : List Msg) → k ≤ length events
         → IsLogAfter old events k ms → IsLogAfter old (events ++ more) k ms }
@@ -188,10 +188,10 @@ pub fn answered_changes_are_in_the_log()
         → (rest : List Msg) × (loggable old.core.logged ++ ms ≡ answered_changes old (take k events) ++ rest) }
 {}
 
-/// Where nothing waited, was held or was in doubt in the beginning, whatever a crash leaves in the log when k events
+/// Where nothing waited, was held or was in `doubt` in the beginning, whatever a crash leaves in the log when k events
 /// have ended are the changes of a serial log of what had arrived: of all that was logged by then, with the first m
-/// of those that ran after it. What was logged begins with all that was answered by then, or before. And the
-/// first of those in doubt in the end, however many, are the changes among the first of those that ran.
+/// of those that ran after it. What was logged begins with all that was answered by then, or before. The first
+/// of those in `doubt` in the end, however many, are the changes among the first of those that ran.
 pub fn a_crash_leaves_a_serial_log()
     ensures left { (g : Geometry) (old : Hands) (events : List Event) (k : ℕ) (ms : List Msg) → IsLegal g old events → IsIdle old.core
         → old.core.doubt ≡ [] → IsLogAfter old events k ms
@@ -206,21 +206,21 @@ pub fn a_crash_leaves_a_serial_log()
         × (loggable (take j (last old events).core.ran) ≡ take k (last old events).core.doubt) }
 {}
 
-/// Whatever comes, what a message that is out can read of the committed state stays as it is: what is at its place, below it and
+/// Whatever comes, what a dispatched message can read of the committed state stays as it is: what is at its place, below it and
 /// above it.
 pub fn what_is_out_sees_no_change()
     ensures { (g : Geometry) (old : Hands) (event : Event) (e : Entry) → IsAllowed g old event → IsSoundCoreState g old.core
         → Contains old.core.out e → AgreeOn g (are_related (place g e.1)) event.state_after.core.committed old.core.committed }
 {}
 
-/// Only a grant lets a message out, and only a return takes one back.
+/// Only a grant dispatches a message, and only a return gives one back.
 pub fn only_grants_and_returns_change_what_is_out()
     ensures { (g : Geometry) (old : Hands) (event : Event) → IsAllowed g old event → moves_what_is_out event.step ≡ false
         → event.state_after.core.out ≡ old.core.out }
 {}
 
-/// How many messages are out grows and falls with how many hands are full. So nothing is out in the end where nothing was in the
-/// beginning and every hand is empty in the end.
+/// The number of dispatched messages grows and falls with that of full hands. So nothing is dispatched in the end where nothing was
+/// in the beginning and every hand is empty in the end.
 pub fn what_is_out_is_in_hands()
     ensures number { (g : Geometry) (old : Hands) (events : List Event) → IsLegal g old events
         → length (last old events).core.out + full old.hands ≡ length old.core.out + full (last old events).hands }
@@ -228,15 +228,17 @@ pub fn what_is_out_is_in_hands()
         → full (last old events).hands ≡ 0 → (last old events).core.out ≡ [] }
 {}
 
-/// A further incarnation goes on from each state that the lives before it may have left. In whatever they leave, the log of each incarnation
-/// begins with every change that was answered in it.
+/// A further incarnation goes on from each state that the incarnations before it may have left. In whatever they leave, the log of
+/// each incarnation begins with every change that was answered in it.
 pub fn incarnations_follow_one_another()
     ensures first { (g : Geometry) → IsLeftByIncarnations g [] empty }
-    ensures next { (g : Geometry) (incarnations : List Incarnation) (incarnation : Incarnation) (x : State) (log : List Msg) → IsLeftByIncarnations g incarnations x
+    ensures next { (g : Geometry) (incarnations : List Incarnation) (incarnation : Incarnation) (x : State) (log : List Msg)
+        → IsLeftByIncarnations g incarnations x
         → IsLogOf g x incarnation log → IsLeftByIncarnations g (incarnations ++ incarnation ∷ []) (fold g x log) }
     ensures run { (g : Geometry) (start : Hands) (events : List Event) (ended : ℕ) (x : State) → IsIdle start.core
         → IsLegal g start events → IsLeftSince g start events ended x
         → (log : List Msg) × IsLogOf g start.core.committed (Ran start events ended) log × (x ≡ fold g start.core.committed log) }
-    ensures answered { (g : Geometry) (x : State) (incarnations : List Incarnation) (logs : List (List Msg)) → AreLogsOf g x incarnations logs
+    ensures answered { (g : Geometry) (x : State) (incarnations : List Incarnation) (logs : List (List Msg))
+        → AreLogsOf g x incarnations logs
         → HoldAnswered incarnations logs }
 {}

@@ -1,8 +1,8 @@
-//! Which message may go and when: the core states of a server's core, the events that lead from one to the
+//! Which message may be granted and when: the core states of a server, the events that lead from one to the
 //! next, legal runs of them, and what a crash may leave of one.
 //!
-//! The definitions stand in `specs/`, and the laws that they obey are the contracts of the functions of
-//! `laws`, which do nothing.
+//! The definitions are in `specs/`. The laws that they obey are the contracts of the functions of `laws`, which do
+//! nothing.
 #![tactic(auto)]
 
 pub mod laws;

@@ -36,9 +36,9 @@ pub enum Outcome {
     ArriveRefused(ArriveRefusal),
     /// This hand has the job of the message with this ticket.
     Granted(usize, u64),
-    /// No message is eligible, and none lacks room alone.
+    /// No message is eligible, and none lacks only room in the log.
     NoneEligible,
-    /// No message is eligible, and some message lacks room in the log alone.
+    /// No message is eligible, and some message lacks only room in the log.
     NoRoom,
     /// Nothing is granted, since the device has failed.
     Failed,
@@ -50,7 +50,7 @@ pub enum Outcome {
     Logged(usize),
     /// No message was logged.
     LogFault(CoreFault),
-    /// The message with this ticket has this reply, and is gone.
+    /// The message with this ticket has this reply, and is held no more.
     Answered(u64, Reply),
     /// A consistency point was made.
     Pointed,

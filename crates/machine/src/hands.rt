@@ -25,7 +25,7 @@ fn is_vacant(hand: &Holding) -> bool
     }
 }
 
-/// Runs the job that the hand has, and tells whether it has one.
+/// Runs the job that the hand has, and returns whether it has one.
 pub(crate) fn run_in(hand: &mut Holding) -> bool
     ensures { IsRunIn hand.old hand.new result }
 {

@@ -1,7 +1,7 @@
-//! A machine: the core of a server with a row of hands for the jobs that are out, that makes lists of steps.
+//! A machine: the core of a server with a row of hands for the jobs in flight, that makes lists of steps.
 //!
-//! The steps and their outcomes are those of `legal_runs`, and what any list of them does is stated over the definitions of `runs`,
-//! whose `laws` say what follows for a device over many lives.
+//! The steps and their outcomes are those of `legal_runs`. What any list of them does is stated over the definitions of `runs`, whose
+//! `laws` state what follows for a device over many incarnations.
 #![tactic(auto)]
 
 mod hands;

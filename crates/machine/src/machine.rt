@@ -13,7 +13,7 @@ use scheduler::Core;
 use std::alloc::{AllocError, Global};
 use std::marker::Model;
 
-/// The core of a server, and a row of hands for the jobs that are out. All memory is taken by `new`.
+/// The core of a server, and a row of hands for the jobs in flight. All memory is taken by `new`.
 #[derive(Drop)]
 pub struct Machine<D: Disk> {
     core: Core<D>,
@@ -44,7 +44,7 @@ impl<D: Disk> Machine<D> {
         ensures kept { IfOk result (λ m. m.core ≡ core) }
         ensures refused { IfErr result (λ e. e.core ≡ core) }
     {
-        // Its contract says what the machine keeps from here on: the core state is sound.
+        // Its contract states what the machine keeps from here on: the core state is sound.
         core.slots();
         match empty_hands(alloc, hands) {
             Ok(hands) => Ok(Machine { core, hands }),
@@ -64,7 +64,7 @@ impl<D: Disk> Machine<D> {
         self.core.know_recovery();
     }
 
-    /// The core. What the hands have is dropped, so that the messages which are out stay so.
+    /// The core. What the hands have is dropped, so dispatched messages stay dispatched.
     pub fn into_core(self) -> Core<D>
         ensures { result ≡ self.core }
     {

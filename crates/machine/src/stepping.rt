@@ -13,7 +13,7 @@ use messages::Msg;
 use runs::Holding;
 use scheduler::{Core, Granted};
 
-/// Makes one step, and tells what came of it.
+/// Makes one step, and returns what came of it.
 pub(crate) fn make_step<D: Disk>(core: &mut Core<D>, hands: &mut [Holding], step: &Step) -> Outcome
     requires { HoldsJobs core.old.geometry (core_state_of core.old) hands.old }
     ensures step { IsMachineStep D.keeps (record { core = core.old; hands = hands.old })
@@ -37,7 +37,7 @@ pub(crate) fn make_step<D: Disk>(core: &mut Core<D>, hands: &mut [Holding], step
 
 // ---- with the hands
 
-// Lets the eligible message with the least ticket go to the least empty hand.
+// Grants the eligible message with the least ticket to the least empty hand.
 fn grant<D: Disk>(core: &mut Core<D>, hands: &mut [Holding]) -> Outcome
     requires { HoldsJobs core.old.geometry (core_state_of core.old) hands.old }
     ensures step { IsMachineStep D.keeps (record { core = core.old; hands = hands.old })

@@ -66,7 +66,7 @@ impl Areas {
         }
     }
 
-    /// How many pieces the other area lacks, of which it lacks none then.
+    /// How many pieces the other area lacks. Then it lacks none.
     fn take(&mut self) -> usize {
         let count = self.other.iter().filter(|mark| **mark).count();
         self.other.fill(false);

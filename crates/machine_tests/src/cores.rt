@@ -1,4 +1,4 @@
-//! What a core tells of a cut in progress, and the device that it hands back then.
+//! What a core reports of a cut in progress, and the device that it hands back then.
 use crate::making::{SMALL, holds};
 use disk::MemDisk;
 use harness::{Wrong, device_with};

@@ -1,4 +1,4 @@
-//! What a machine says once a call of its device has failed.
+//! What a machine reports once a call of its device has failed.
 use crate::making::Row::{Arrives, Does};
 use crate::making::{Row, SMALL, goes_so, holds, machine_on};
 use harness::{Wrong, device_with};
@@ -60,7 +60,7 @@ fn calls_of(rt: &impl Abort, alloc: Global, rows: &[Row]) -> Result<u64, Wrong> 
     Ok(machine.into_core().into_disk().calls())
 }
 
-/// The first call of the device in a step fails alone. Then each step says that it has failed, and the device isn't called again.
+/// The first call of the device in a step fails alone. Then each step reports that it has failed, and the device isn't called again.
 fn stays_failed(rt: &impl Abort, alloc: Global, before: &[Row], failing: Row) -> Result<(), Wrong> {
     let calls = calls_of(rt, alloc, before)?.saturating_add(1);
     let mut device = device_with(alloc, SMALL, &[])?;

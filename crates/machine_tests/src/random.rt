@@ -1,4 +1,4 @@
-//! Long lists of random steps, beside plain rows.
+//! Long lists of random steps, beside plain lists of messages.
 use crate::drawing::Drawing;
 use crate::making::{FLAT, SMALL, holds, machine_on, one};
 use crate::world::CoreState;
@@ -10,13 +10,13 @@ use std::process::Abort;
 use std::rt::Env;
 use std::test::Fail;
 
-/// How many steps each list has, unless `MACHINE_STEPS` in the environment says otherwise.
+/// How many steps each list has, unless `MACHINE_STEPS` in the environment gives another number.
 const STEPS: u32 = 2500;
 
 /// Many volumes of few blocks, and four records in a half.
 const WIDE: [u16; 8] = [4, 8, 2, 1, 4, 8, 2, 4];
 
-/// The numbers of a server that nothing else is said of.
+/// The usual numbers of a server.
 const USUAL: [u16; 8] = [1, 4, 4, 4, 16, 64, 64, 256];
 
 /// Numbers, slots and hands.

@@ -11,7 +11,7 @@ use std::test::Fail;
 const REFUSED: [(&[(usize, u8)], OpenFault); 12] = [
     (&[(0, 0)], OpenFault::NotFormatted),
     (&[(1, 0)], OpenFault::NotFormatted),
-    // No number is that great, and nothing stands after the numbers.
+    // No number is that great, and nothing comes after the numbers.
     (&[(9, 255)], OpenFault::BadGeometry),
     (&[(24, 1)], OpenFault::BadGeometry),
     // Five records in a half need a longer device.

@@ -18,7 +18,7 @@ struct Incarnation {
     rows: &'static [Row],
 }
 
-/// A device that was just formatted, and on which machines then live one after the other.
+/// A device that was just formatted, and on which machines then run one after the other.
 #[derive(Clone, Copy, Drop)]
 struct Incarnations {
     numbers: [u16; 8],
@@ -35,13 +35,18 @@ enum InjectedFault {
 }
 
 /// A machine does these things on a device, which it gives back.
-fn lived(rt: &impl Abort, alloc: Global, device: MemDisk, incarnation: &Incarnation) -> Result<MemDisk, Wrong> {
+fn lived(
+    rt: &impl Abort,
+    alloc: Global,
+    device: MemDisk,
+    incarnation: &Incarnation,
+) -> Result<MemDisk, Wrong> {
     let mut machine = machine_on(alloc, device, incarnation.slots, incarnation.hands)?;
     goes_so(rt, &mut machine, incarnation.rows);
     Ok(machine.into_core().into_disk())
 }
 
-/// The device after all lives.
+/// The device after all incarnations.
 fn left_by(rt: &impl Abort, alloc: Global, incarnations: &Incarnations) -> Result<MemDisk, Wrong> {
     let mut device = device_with(alloc, incarnations.numbers, &[])?;
     for incarnation in incarnations.incarnations {
@@ -50,7 +55,7 @@ fn left_by(rt: &impl Abort, alloc: Global, incarnations: &Incarnations) -> Resul
     Ok(device)
 }
 
-/// How many calls a new device meets in the first m rows of a life.
+/// How many calls a new device meets in the first m rows of an incarnation.
 fn calls_of(
     rt: &impl Abort,
     alloc: Global,
@@ -68,7 +73,7 @@ fn calls_of(
     Ok(lived(rt, alloc, device, &beginning)?.calls())
 }
 
-/// The device after a life on a new one, where this fuse is set after the first m rows.
+/// The device after an incarnation on a new one, where this injected fault is set after the first m rows.
 fn left_with(
     rt: &impl Abort,
     alloc: Global,
@@ -298,8 +303,8 @@ fn steps_come_out_so(rt: HostRuntime) -> Result<(), Fail> {
     Ok(())
 }
 
-/// The last of these lives says on standard output where its first step comes and where its last one is over: in between no memory
-/// is asked for, which `tests/run calls` counts.
+/// The last of these incarnations prints where its first step comes and where its last one is over: in between no memory is asked
+/// for, which `tests/run calls` counts.
 fn takes_memory_before_its_steps_alone(
     rt: &(impl Abort + Print),
     alloc: Global,
@@ -354,8 +359,7 @@ fn a_query_leaves_the_device_alone(rt: HostRuntime) -> Result<(), Fail> {
 
 // ---- what a fault and a crash leave
 
-/// A change that runs, and the device fails where it is logged. From then on nothing goes out, nothing is taken in and
-/// nothing is answered.
+/// A change that runs, and the device fails where it is logged. From then on nothing is granted, taken in or answered.
 const LOG_FAILS: Incarnation = Incarnation {
     slots: 2,
     hands: 1,
@@ -377,7 +381,8 @@ const LOG_FAILS: Incarnation = Incarnation {
 /// How many rows come before that log.
 const BEFORE_THE_LOG: usize = 4;
 
-/// The device fails in that log by this fuse, and a crash of this kind comes, or none: what is opened again has so many volumes.
+/// The device fails in that log by this injected fault, and a crash of this kind comes, or none: what is opened again has so many
+/// volumes.
 fn leaves_volumes(
     rt: &impl Abort,
     alloc: Global,
@@ -468,7 +473,14 @@ const LAST_BLOCK: Incarnation = Incarnation {
 #[test]
 fn torn_gates_leave_a_beginning(rt: HostRuntime) -> Result<(), Fail> {
     let alloc = rt.alloc();
-    let device = left_with(&rt, alloc, FLAT, &THREE_WRITES, 15, InjectedFault::StopAt(3))?;
+    let device = left_with(
+        &rt,
+        alloc,
+        FLAT,
+        &THREE_WRITES,
+        15,
+        InjectedFault::StopAt(3),
+    )?;
     let device = device.crash(torn(alloc, MIXED)?);
     let device = lived(&rt, alloc, device, &FIRST_BLOCK)?;
     let device = device.crash(torn(alloc, OLD)?);
@@ -515,7 +527,7 @@ const BOTH: Incarnation = Incarnation {
     rows: &[Serves("list 0 0", "files 0")],
 };
 
-/// What a crash after these lives leaves is shown so. Both changes are there once it is opened, and area 1 is named.
+/// What a crash after these incarnations leaves is shown so. Both changes are there once it is opened, and area 1 is named.
 fn has_both(
     rt: &impl Abort,
     alloc: Global,

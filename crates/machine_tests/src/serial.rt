@@ -1,4 +1,4 @@
-//! What messages are answered, one after the other, by a plain row of volumes.
+//! The reply to each message, one after the other, by a plain list of volumes.
 use affinity::{Geometry, group_of};
 use harness::Questions;
 use message::{Block, LONGEST_REPLY, Msg, Refusal, Reply, write_reply};

@@ -1,4 +1,4 @@
-//! What messages are answered, beside a serial server that takes them in the order of their tickets.
+//! The replies to messages, beside a serial server that takes them in the order of their tickets.
 use crate::drawing::Drawing;
 use crate::making::{holds, machine_on, one};
 use crate::serial::Serial;
@@ -75,7 +75,7 @@ fn make_steps(
     Ok(())
 }
 
-/// Takes back what a hand has, logs it, answers a message, and lets another one go out.
+/// Gives back what a hand has, logs it, answers a message, and grants another one.
 fn turn(machine: &mut Machine<MemDisk>, book: &mut Book, hand: usize) -> Result<(), AllocError> {
     let steps = [
         Step::Run(hand),
@@ -90,7 +90,7 @@ fn turn(machine: &mut Machine<MemDisk>, book: &mut Book, hand: usize) -> Result<
     Ok(())
 }
 
-/// Makes random steps, and turns in which one message that waits or is held is answered at least.
+/// Makes random steps, and rounds in each of which at least one message that waits or is held is answered.
 fn make_all(
     machine: &mut Machine<MemDisk>,
     book: &mut Book,
@@ -122,7 +122,7 @@ fn left_by(
     Ok(device)
 }
 
-/// Each message was answered as by a serial server that takes them by ticket: what that one then tells.
+/// Each message was answered as by a serial server that takes them by ticket: what that one then answers.
 fn told_by_ticket(
     rt: &impl Abort,
     alloc: Global,
@@ -138,7 +138,7 @@ fn told_by_ticket(
     serial.told(questions)
 }
 
-/// What a server tells that is opened on the device.
+/// What a server answers that is opened on the device.
 fn told_on(alloc: Global, device: MemDisk, questions: &Questions) -> Result<Vec<u8>, Wrong> {
     let (found, _) = find(alloc, device, questions)?;
     match found {
@@ -147,7 +147,7 @@ fn told_on(alloc: Global, device: MemDisk, questions: &Questions) -> Result<Vec<
     }
 }
 
-/// Random messages are answered as by the serial server, and the device then stands for its state.
+/// Random messages are answered as by the serial server, and the device then recovers to its state.
 fn are_answered_by_ticket(
     rt: &impl Abort,
     alloc: Global,

@@ -96,7 +96,7 @@ impl List {
         device_with(alloc, self.geometry.numbers(), &[])
     }
 
-    /// Makes the steps, also those after a fault, and tells what has to come of them.
+    /// Makes the steps, also those after a fault, and returns what has to come of them.
     fn make(&self, alloc: Global, machine: &mut Machine<MemDisk>) -> Result<CoreState, Wrong> {
         let mut world = CoreState::new(alloc, self.geometry, self.slots, self.hands)?;
         for step in self.steps.as_slice() {
@@ -206,7 +206,7 @@ const PIECE: u64 = 1;
 /// The end of a cut is a sync, a write and a sync.
 const FLIP: u64 = 3;
 
-/// Two writes come back the other way round and are logged in one batch. Until the last one is answered there is no point,
+/// Two writes are given back the other way round and are logged in one batch. Until the last one is answered there is no point,
 /// and one message that ran is never logged.
 const POINTS: [Act; 26] = [
     Serve("makevol 0 0"),

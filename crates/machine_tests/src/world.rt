@@ -1,4 +1,4 @@
-//! What comes of the steps of a machine, by plain rows of its messages.
+//! What comes of the steps of a machine, by plain lists of its messages.
 use crate::areas::Areas;
 use crate::serial::Serial;
 use affinity::{Affinity, Geometry, changing, place_of, related};
@@ -23,7 +23,7 @@ enum Hand {
 }
 
 impl Hand {
-    /// The message that is out in this hand.
+    /// The dispatched message of this hand.
     fn taken(&self) -> Option<&Taken> {
         match self {
             Hand::Empty => None,
@@ -102,7 +102,7 @@ impl CoreState {
         }
     }
 
-    /// Takes note of a step, and tells whether it had to come out so. Where it says that the device failed, that is so,
+    /// Takes note of a step, and returns whether it had to come out so. Where it reports that the device failed, that is so,
     /// if it called the device.
     pub(crate) fn note(&mut self, step: &Step, outcome: &Outcome) -> Result<bool, AllocError> {
         let fails = matches!(
@@ -165,7 +165,7 @@ impl CoreState {
                 .any(|(other, _)| is_related(taken, other))
     }
 
-    /// The first waiting message that may go, where the log has room or hasn't.
+    /// The first waiting message that may be granted, where the log has room or hasn't.
     fn eligible(&self, has_room: bool) -> Option<usize> {
         for (i, taken) in self.waiting.iter().enumerate() {
             let mut earlier = self.waiting.iter().take(i);
@@ -177,7 +177,7 @@ impl CoreState {
         None
     }
 
-    /// Whether the log has room for one change more than are out or ran.
+    /// Whether the log has room for one change more than are dispatched or ran.
     fn has_room(&self) -> bool {
         let out = self.hands.iter().filter_map(|hand| hand.taken());
         let out = out.filter(|taken| is_changing(taken)).count();
@@ -235,7 +235,7 @@ impl CoreState {
         }
     }
 
-    /// Answers the first m that ran, and tells how many changes are among them.
+    /// The first m that ran, each with its reply. The changes among them are noted.
     fn carry_out(&mut self, count: usize) -> Result<Vec<(Taken, Reply)>, AllocError> {
         let mut told = Vec::new(self.alloc);
         for taken in self.ran.iter().take(count) {

@@ -61,7 +61,8 @@ block_in_range g x s a v f b there =
     and_from _ _ (lt-ltb a g.aggregates made.0) (and_from _ _ (lt-ltb v g.volumes made.1) (and_from _ _ (lt-ltb f g.files file.0) (and_from _ _ (lt-ltb b g.blocks block.0) refl)))
 
 -- a block may be written where one is, unless its volume is sealed
-pub write_passes : (g : Geometry) (x : State) → IsState g x → (a v f b : ℕ) (content : Block) → x.sealed (a, v) ≡ false → is_some (x.blocks (a, v, f, b)) ≡ true → refusal g x (Write a v f b content) ≡ None
+pub write_passes : (g : Geometry) (x : State) → IsState g x → (a v f b : ℕ) (content : Block) → x.sealed (a, v) ≡ false
+    → is_some (x.blocks (a, v, f, b)) ≡ true → refusal g x (Write a v f b content) ≡ None
 write_passes g x s a v f b content unsealed there =
     let block = s.blocks (a, v, f, b) there in
     let file = s.files (a, v, f) block.1 in

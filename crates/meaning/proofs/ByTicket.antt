@@ -1,4 +1,4 @@
--- Running messages in any order that keeps related ones in ticket order gives each message the reply that it has in ticket order, and the same state.
+-- In any order that keeps related messages in ticket order, each gets the reply that it gets in ticket order, and the state is the same.
 use Rattle.std.proofs.Common.{◌≡◌, ℕ, ◌<◌, ◌≤◌, true, false, List, [], ◌∷◌, refl, ap, sym, ◌∙◌, arith}
 use Rattle.std.specs.Prelude.{nat_lt, if◌then◌else◌, IsPermutation}
 use Rattle.std.specs.List.{AllByRecursion}
@@ -72,7 +72,7 @@ module _ {A : Type 0} where
   by_ticket-ascending [] h = refl
   by_ticket-ascending (e ∷ es) h = ap (put e) (by_ticket-ascending es h.1) ∙ put_first e es h.0
 
--- ---- what is told
+-- ---- the replies
 
 -- one that isn't before by its ticket is at an unrelated place
 unrelated : (g : Geometry) (e d : ℕ × Msg) → IsBefore g e d → nat_lt e.0 d.0 ≡ false → are_related (place g e.1) (place g d.1) ≡ false
@@ -86,7 +86,8 @@ module _ (g : Geometry) (e : ℕ × Msg) where
       let rest = serial_replies-put (next_state g x d.1) ds h.1 in
       elim (nat_lt e.0 d.0) as (λ b. nat_lt e.0 d.0 ≡ b
       → serial_replies g x (if b then e ∷ d ∷ ds else d ∷ put e ds)
-      ≡ (if b then (e.0, reply_to g x e.1) ∷ serial_replies g (next_state g x e.1) (d ∷ ds) else (d.0, reply_to g (next_state g x e.1) d.1) ∷ put (e.0, reply_to g x e.1) (serial_replies g (next_state g (next_state g x e.1) d.1) ds))) [
+      ≡ (if b then (e.0, reply_to g x e.1) ∷ serial_replies g (next_state g x e.1) (d ∷ ds) else (d.0, reply_to g (next_state g x e.1) d.1)
+      ∷ put (e.0, reply_to g x e.1) (serial_replies g (next_state g (next_state g x e.1) d.1) ds))) [
         | true ↦ λ late. refl
         | false ↦ λ late.
             let c = commute g x e.1 d.1 (unrelated g e d h.0 late) in
@@ -103,7 +104,8 @@ module _ (g : Geometry) (e : ℕ × Msg) where
 
 pub serial_replies-by_ticket : (g : Geometry) (x : State) (es : List (ℕ × Msg)) → KeepsOrder g es → serial_replies g x (by_ticket es) ≡ by_ticket (serial_replies g x es)
 serial_replies-by_ticket g x [] h = refl
-serial_replies-by_ticket g x (e ∷ es) h = serial_replies-put g e x (by_ticket es) (all-by_ticket (IsBefore g e) es h.0) ∙ ap (put (e.0, reply_to g x e.1)) (serial_replies-by_ticket g (next_state g x e.1) es h.1)
+serial_replies-by_ticket g x (e ∷ es) h = serial_replies-put g e x (by_ticket es) (all-by_ticket (IsBefore g e) es h.0)
+    ∙ ap (put (e.0, reply_to g x e.1)) (serial_replies-by_ticket g (next_state g x e.1) es h.1)
 
 pub fold-by_ticket : (g : Geometry) (x : State) (es : List (ℕ × Msg)) → KeepsOrder g es → fold g x (messages (by_ticket es)) ≡ fold g x (messages es)
 fold-by_ticket g x [] h = refl

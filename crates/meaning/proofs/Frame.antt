@@ -52,7 +52,7 @@ place_begins g AskSummary = refl
 place_begins g (SetLabel a v bytes) = begins-refl (label a v)
 place_begins g (AskLabel a v) = begins-refl (label a v)
 
--- so it is related to where its marks lie, and its files, its block or its label
+-- so it is related to where its flags lie, and its files, its block or its label
 related_to : (g : Geometry) (m : Msg) (q : Path) → begins q (full g m) ≡ true → are_related (place g m) q ≡ true
 related_to g m q h = beginnings_related (place g m) q (full g m) (place_begins g m) h
 
@@ -105,7 +105,13 @@ module _ (g : Geometry) (R : Path → Bool) (x y : State) (h : AgreeOn g R x y) 
   same_tests (Delete a v f) c = (refl, (same_volume (Delete a v f) c, (same_sealed (Delete a v f) c, (same_file (Delete a v f) c refl, tt))))
   same_tests (Seal a v) c = (refl, (same_volume (Seal a v) c, tt))
   same_tests (Unseal a v) c = (refl, (same_volume (Unseal a v) c, tt))
-  same_tests (Write a v f b d) c = (refl, (same_volume (Write a v f b d) c, (same_sealed (Write a v f b d) c, (same_file (Write a v f b d) c refl, (same_space (Write a v f b d) c (one (group g f b) true refl), tt)))))
+  same_tests (Write a v f b d) c = (
+    refl,
+    (
+      same_volume (Write a v f b d) c,
+      (same_sealed (Write a v f b d) c, (same_file (Write a v f b d) c refl, (same_space (Write a v f b d) c (one (group g f b) true refl), tt))),
+    ),
+  )
   same_tests (Punch a v f b) c = (refl, (same_volume (Punch a v f b) c, (same_sealed (Punch a v f b) c, (same_file (Punch a v f b) c refl, tt))))
   same_tests (Read a v f b) c = (refl, (same_volume (Read a v f b) c, (same_file (Read a v f b) c refl, tt)))
   same_tests (ListFiles a v) c = (refl, (same_volume (ListFiles a v) c, tt))
@@ -147,7 +153,8 @@ outcome_reply : (r : Option Refusal) (a : Reply) (new old new' old' : State) →
 outcome_reply None a new old new' old' = refl
 outcome_reply (Some why) a new old new' old' = refl
 
-outcome_agrees : (g : Geometry) (R : Path → Bool) (r : Option Refusal) (a a' : Reply) (new old new' old' : State) → AgreeOn g R new new' → AgreeOn g R old old' → AgreeOn g R (outcome r a new old).1 (outcome r a' new' old').1
+outcome_agrees : (g : Geometry) (R : Path → Bool) (r : Option Refusal) (a a' : Reply) (new old new' old' : State) → AgreeOn g R new new'
+    → AgreeOn g R old old' → AgreeOn g R (outcome r a new old).1 (outcome r a' new' old').1
 outcome_agrees g R None a a' new old new' old' h j = h
 outcome_agrees g R (Some why) a a' new old new' old' h j = j
 
@@ -183,7 +190,8 @@ pub same_reply : (g : Geometry) (x : State) (m n : Msg) → are_related (place g
 same_reply g x m n h = (reads_only g (are_related (place g m)) (next_state g x n) x m (left_alone g x m n h) (λ q r. r)).0
 
 -- at the first one's place and below, both orders leave what the first one alone leaves
-at_its_place : (g : Geometry) (x : State) (m n : Msg) → are_related (place g m) (place g n) ≡ false → AgreeOn g (begins (place g m)) (next_state g (next_state g x m) n) (next_state g (next_state g x n) m)
+at_its_place : (g : Geometry) (x : State) (m n : Msg) → are_related (place g m) (place g n) ≡ false
+    → AgreeOn g (begins (place g m)) (next_state g (next_state g x m) n) (next_state g (next_state g x n) m)
 at_its_place g x m n h =
     let related : (q : Path) → begins (place g m) q ≡ true → are_related (place g m) q ≡ true = λ q r. or_left _ _ r in
     agree-trans (agree_within related (left_alone g (next_state g x m) m n h))

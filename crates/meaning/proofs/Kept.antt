@@ -43,7 +43,7 @@ empty_is_state g = record {
         let e : group_count g empty a v s ≡ 0 = sum_below-zero g.files _ (λ f. sum_below-zero g.blocks _ (λ b. nothing (group g f b == s))) in
         omega (arith, e)
 
--- ---- what the tests say
+-- ---- what the tests show
 
 -- a message that isn't refused passes each of its tests
 pub passed : (p : Refusal → Bool) (ts : List Refusal) → find (λ t. not (p t)) ts ≡ None → AllByRecursion (λ t. p t ≡ true) ts
@@ -108,7 +108,8 @@ module _ (g : Geometry) (x : State) (a v f b : ℕ) (content : Block) where
   written = effect x (Write a v f b content)
 
   -- another block counts as before
-  other_block : (s f' b' : ℕ) → is_block a v f b (a, v, f', b') ≡ false → one_if ((group g f' b' == s) && is_some (written.blocks (a, v, f', b'))) ≤ one_if ((group g f' b' == s) && is_some (x.blocks (a, v, f', b')))
+  other_block : (s f' b' : ℕ) → is_block a v f b (a, v, f', b') ≡ false
+      → one_if ((group g f' b' == s) && is_some (written.blocks (a, v, f', b'))) ≤ one_if ((group g f' b' == s) && is_some (x.blocks (a, v, f', b')))
   other_block s f' b' e = one_if_from _ _ (λ h. subst (λ t. ((group g f' b' == s) && is_some (if t then Some content else x.blocks (a, v, f', b'))) ≡ true) e h)
 
   -- a write adds one block at most to its stripe
@@ -129,7 +130,8 @@ module _ (g : Geometry) (x : State) (a v f b : ℕ) (content : Block) where
             let q = and_parts (v == v') ((0 == 0) && ((s == s') && true)) p.1 in
             let r = and_parts (s == s') true q.1 in
             let there : group_count g written a v s ≤ g.quota = ⊎_elim
-            (λ already. let few = fewer g x written (λ k e. ⊎_elim (λ is. subst (λ k. is_some (x.blocks k) ≡ true) (the_block a v f b k is) already) (λ was. was) (was_set (is_block a v f b k) content (x.blocks k) e)) a v s in
+            (λ already. let few = fewer g x written (λ k e. ⊎_elim (λ is. subst (λ k. is_some (x.blocks k) ≡ true) (the_block a v f b k is) already)
+            (λ was. was) (was_set (is_block a v f b k) content (x.blocks k) e)) a v s in
             omega (arith, few, h a v s))
             (λ room. let more = one_more s in let lt = ltb-true (group_count g x a v s) g.quota room in omega (arith, more, lt))
             (or_cases (is_some (x.blocks (a, v, f, b))) (nat_lt (group_count g x a v s) g.quota) space) in
@@ -198,7 +200,8 @@ effect_kept g x h (Create a v f) w p =
     record {
       made = h.made;
       sealed = h.sealed;
-      files = λ k e. ⊎_elim (λ is. subst (λ (k : FileKey). (k.2 < g.files) × (x.made (k.0, k.1) ≡ true)) (the_file a v f k is) (ltb-true _ _ r.0, p.1.0)) (h.files k) (or_cases (is_file a v f k) (x.files k) e);
+      files = λ k e. ⊎_elim (λ is. subst (λ (k : FileKey). (k.2 < g.files) × (x.made (k.0, k.1) ≡ true)) (the_file a v f k is)
+          (ltb-true _ _ r.0, p.1.0)) (h.files k) (or_cases (is_file a v f k) (x.files k) e);
       blocks = λ k e. ((h.blocks k e).0, or_right (is_file a v f (k.0, k.1, k.2)) (x.files (k.0, k.1, k.2)) (h.blocks k e).1);
       labels = h.labels;
       content = h.content;
@@ -232,7 +235,8 @@ effect_kept g x h (Write a v f b content) w p =
       made = h.made;
       sealed = h.sealed;
       files = h.files;
-      blocks = λ k e. ⊎_elim (λ is. subst (λ (k : BlockKey). (k.3 < g.blocks) × (x.files (k.0, k.1, k.2) ≡ true)) (the_block a v f b k is) (ltb-true _ _ r.0, p.1.1.1.0)) (h.blocks k) (was_set (is_block a v f b k) content (x.blocks k) e);
+      blocks = λ k e. ⊎_elim (λ is. subst (λ (k : BlockKey). (k.3 < g.blocks) × (x.files (k.0, k.1, k.2) ≡ true)) (the_block a v f b k is)
+          (ltb-true _ _ r.0, p.1.1.1.0)) (h.blocks k) (was_set (is_block a v f b k) content (x.blocks k) e);
       labels = h.labels;
       content = λ k. content-set IsBlock (is_block a v f b k) content (x.blocks k) w (h.content k);
       label_content = h.label_content;

@@ -61,7 +61,7 @@ other_file a v f a' v' f' b b' ne = false_from_ne_true _ (λ e. ne (ap (λ k. k.
 pub other_place : (a v f : ℕ) (a' v' f' b b' : ℕ) → (b' ≡ b → ⊥) → is_block a v f b (a', v', f', b') ≡ false
 other_place a v f a' v' f' b b' ne = false_from_ne_true _ (λ e. ne (ap (λ k. k.3) (sym (the_block a v f b (a', v', f', b') e))))
 
--- ---- what answers as an insert says is the set or map with the key
+-- ---- what answers as after an insert is the set or map with the key
 
 or_cond : (b c : Bool) → cond b true c ≡ (b || c)
 or_cond true c = refl
@@ -83,7 +83,8 @@ one_file s t a v f h i k = (h k ∙ ap (λ b. cond b true (s k)) (at_file a v f 
 pub no_block : {X : Type 0} (m n : Map BlockKey X) (a v f b : ℕ) → ((k : BlockKey) → n k ≡ cond (is_at (by_block (a, v, f, b)) k) None (m k)) → n ≡ clearing (is_block a v f b) m
 no_block m n a v f b h i k = (h k ∙ ap (λ t. cond t None (m k)) (at_block a v f b k)) i
 
-pub one_block : {X : Type 0} (m n : Map BlockKey X) (a v f b : ℕ) (value : X) → ((k : BlockKey) → n k ≡ cond (is_at (by_block (a, v, f, b)) k) (Some value) (m k)) → n ≡ setting (is_block a v f b) value m
+pub one_block : {X : Type 0} (m n : Map BlockKey X) (a v f b : ℕ) (value : X)
+    → ((k : BlockKey) → n k ≡ cond (is_at (by_block (a, v, f, b)) k) (Some value) (m k)) → n ≡ setting (is_block a v f b) value m
 one_block m n a v f b value h i k = (h k ∙ ap (λ t. cond t (Some value) (m k)) (at_block a v f b k)) i
 
 -- a new key that is taken out again leaves the set that was

@@ -19,7 +19,8 @@ state_after_lines-append g x [] ms = refl
 state_after_lines-append g x (l ∷ ls) ms = state_after_lines-append g (state_after_line g x (message_of l)) ls ms
 
 -- one line more is answered behind the others
-pub joined-one_more : (g : Geometry) (x : State) (ls : List (List ℕ)) (l : List ℕ) → joined (output_lines g x (ls ++ l ∷ [])) ≡ joined (output_lines g x ls) ++ answer_line g (state_after_lines g x ls) (message_of l)
+pub joined-one_more : (g : Geometry) (x : State) (ls : List (List ℕ)) (l : List ℕ) → joined (output_lines g x (ls ++ l ∷ []))
+    ≡ joined (output_lines g x ls) ++ answer_line g (state_after_lines g x ls) (message_of l)
 joined-one_more g x ls l = ap joined (output_lines-append g x ls (l ∷ [])) ∙ joined-append (output_lines g x ls) (answer_line g (state_after_lines g x ls) (message_of l) ∷ [])
     ∙ ap (λ z. joined (output_lines g x ls) ++ z) (append-nil _)
 

@@ -24,7 +24,9 @@ first_taken input rest ended now_ended taken t going more closes = record {
   to_come = t.to_come ∙ ap (λ z. taken ++ z) (lines-first rest more) ∙ sym (append_assoc taken (first_line rest ∷ []) (lines (behind_first_line rest)));
   are_lines = are_lines-one_more taken (first_line rest) t.are_lines (first_has_none rest);
   whole = ⊎_elim
-      (λ found. inr (⊎_elim (λ e. absurd (true≢false (sym e ∙ going))) (λ whole. whole ∙ ap (λ z. with_newlines taken ++ z) (first_ends rest found) ∙ sym (with_newlines-one_more taken (first_line rest) (behind_first_line rest))) t.whole))
+      (λ found. inr (⊎_elim (λ e. absurd (true≢false (sym e ∙ going)))
+      (λ whole. whole ∙ ap (λ z. with_newlines taken ++ z) (first_ends rest found)
+      ∙ sym (with_newlines-one_more taken (first_line rest) (behind_first_line rest))) t.whole))
       (λ e. inl e) closes;
 }
 
@@ -55,7 +57,8 @@ takes_long_line (Some input) None now_left ended now_ended taken t going found c
 takes_long_line (Some input) (Some bs) now_left ended now_ended taken t going found closes = record {
   line = first_line bs;
   no_message = sym (too_long (first_line bs) found.long);
-  takes = takes_line (Some input) (Some bs) now_left ended now_ended taken (first_line bs) t going (record { more = λ e. long_of_none bs found.long e; line_is = refl; left_is = found.left_is }) closes;
+  takes = takes_line (Some input) (Some bs) now_left ended now_ended taken (first_line bs) t going
+      (record { more = λ e. long_of_none bs found.long e; line_is = refl; left_is = found.left_is }) closes;
 }
   where
     long_of_none : (bs : List ℕ) → 1100 < length (first_line bs) → bs ≡ [] → ⊥

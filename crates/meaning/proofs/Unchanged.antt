@@ -40,7 +40,8 @@ pub fold_logged : (g : Geometry) (x : State) (ms : List Msg) → fold g x (logge
 fold_logged g x [] = refl
 fold_logged g x (m ∷ ms) =
     let rest = fold_logged g (next_state g x m) ms in
-    elim (is_loggable m (reply_to g x m)) as (λ b. is_loggable m (reply_to g x m) ≡ b → fold g x (if b then m ∷ logged g (next_state g x m) ms else logged g (next_state g x m) ms) ≡ fold g (next_state g x m) ms) [
+    elim (is_loggable m (reply_to g x m)) as (λ b. is_loggable m (reply_to g x m) ≡ b
+    → fold g x (if b then m ∷ logged g (next_state g x m) ms else logged g (next_state g x m) ms) ≡ fold g (next_state g x m) ms) [
       | true ↦ λ e. rest
       | false ↦ λ e. ap (λ y. fold g y (logged g (next_state g x m) ms)) (sym (unlogged_changes_nothing g x m e)) ∙ rest
     ] refl

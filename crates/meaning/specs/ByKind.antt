@@ -1,4 +1,4 @@
--- The tests of a message by its kind and its four numbers, with no message made. No public clause cites this module.
+-- Inner: The tests of a message by its kind and its four numbers, with no message made.
 use Rattle.std.specs.Prelude.{ℕ, Bool, false, not, ◌||◌, nat_lt, List, [], ◌∷◌, find, slice_index, Option, None, Some, is_some}
 use Rattle.affinity.specs.declared.geometry.Geometry.{Geometry}
 use Rattle.affinity.specs.declared.kinds.Kind.{Kind}
@@ -48,7 +48,7 @@ passes_by g x k ns Space = is_some (x.blocks (slice_index ns 0, slice_index ns 1
 abbrev pub refusal_by : Geometry → State → Kind → List ℕ → Option Refusal
 refusal_by g x k ns = find (λ test. not (passes_by g x k ns test)) (tests_by k)
 
--- what a message is told that changes something, by why it is refused, if it is
+-- the reply to a message that changes something, by why it is refused, if it is
 abbrev pub reply_when : Option Refusal → Reply
 reply_when None = Done
 reply_when (Some why) = Refused why

@@ -1,4 +1,4 @@
--- The orders of the keys: by aggregate, then volume, file and block. No public clause cites this module.
+-- Inner: The orders of the keys: by aggregate, then volume, file and block.
 use Rattle.std.specs.Ordering.{nat_cmp, ordering_then}
 use Rattle.std.specs.declared.cmp.Ordering.{Ordering}
 use Rattle.meaning.specs.State.{VolumeKey, FileKey, BlockKey}

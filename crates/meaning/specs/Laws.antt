@@ -1,4 +1,4 @@
--- The words of the laws of steps.
+-- Statement for engineers: The words of the laws of steps.
 use Rattle.std.specs.Prelude.{◌≡◌, ℕ, ◌≤◌, Bool, true, false, not, List, [], ◌∷◌, if◌then◌else◌}
 use Rattle.std.specs.List.{AllByRecursion}
 use Rattle.affinity.specs.declared.geometry.Geometry.{Geometry}
@@ -16,7 +16,7 @@ use Rattle.meaning.specs.Order.{serial_replies as told_at, messages, by_ticket}
 abbrev pub outside : Path → Path → Bool
 outside p q = not (begins p q)
 
--- What a message is answered, and the share that it leaves at its place, are the same in both states.
+-- The reply to a message, and the share that it leaves at its place, are the same in both states.
 pub record RunAlike (g : Geometry) (x y : State) (m : Msg) : Type 0 where
   pub reply : reply_to g x m ≡ reply_to g y m
   pub share : share_at g (place g m) (next_state g x m) ≡ share_at g (place g m) (next_state g y m)
@@ -27,7 +27,7 @@ pub record Commute (g : Geometry) (x : State) (m n : Msg) : Type 0 where
   pub second : reply_to g (next_state g x m) n ≡ reply_to g x n
   pub state : next_state g (next_state g x m) n ≡ next_state g (next_state g x n) m
 
--- Each message is told the same where they run by ticket, and the state in the end is the same.
+-- The reply to each message is the same where they run by ticket, and the state in the end is the same.
 pub record SameByTicket (g : Geometry) (x : State) (es : List (ℕ × Msg)) : Type 0 where
   pub told : told_at g x (by_ticket es) ≡ by_ticket (told_at g x es)
   pub state : fold g x (messages (by_ticket es)) ≡ fold g x (messages es)

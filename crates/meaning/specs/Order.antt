@@ -1,4 +1,4 @@
--- Messages with tickets: what each is told, and their order by ticket.
+-- Statement for operators: Messages with tickets: the reply to each, and their order by ticket.
 use Rattle.std.specs.Prelude.{◌≡◌, ℕ, ◌<◌, true, nat_lt, List, [], ◌∷◌, map, if◌then◌else◌}
 use Rattle.std.specs.List.{AllByRecursion}
 use Rattle.affinity.specs.declared.geometry.Geometry.{Geometry}

@@ -1,5 +1,5 @@
--- The output of a serial server, from any state on: one line for each line of the input. A server that runs messages at once is to write
--- the same.
+-- Statement for clients: The output of a serial server, from any state on: one line for each line of the input. A server that runs messages
+-- at once is to write the same.
 use Rattle.std.specs.Prelude.{◌≡◌, ◌≢◌, ℕ, List, [], ◌∷◌, ◌++◌, take, Option, Some, None}
 use Rattle.std.specs.Io.KnownBytes.{Appends}
 use Rattle.std.specs.List.{flat_map, AllByRecursion}
@@ -11,7 +11,7 @@ use Rattle.messages.specs.Replies.{reply_line, no_message}
 use Rattle.meaning.specs.State.{State}
 use Rattle.meaning.specs.Serial.{reply_to, next_state}
 
--- what a line is answered, and the state after it, by the message that it spells
+-- the answer to a line, and the state after it, by the message that it spells
 abbrev pub answer_line : Geometry → State → Option Msg → List ℕ
 answer_line g x None = no_message
 answer_line g x (Some m) = reply_line (reply_to g x m)
@@ -47,7 +47,7 @@ with_newlines ls = flat_map (λ line. line ++ 10 ∷ []) ls
 abbrev pub HasNoNewline : List ℕ → Type 0
 HasNoNewline bytes = AllByRecursion (λ b. b ≢ 10) bytes
 
--- What was taken of the input is some whole lines and a beginning of a further one, and this is what is left of it: just the whole lines
+-- What was taken of the input is some whole lines and a beginning of a further one, and this is what is left of it. Only the whole lines
 -- were answered, from a state on.
 pub record AnswersWholeLines (g : Geometry) (start : State) (left : Option (List ℕ)) (input written : List ℕ) : Type 0 where
   pub whole : List (List ℕ)
@@ -63,7 +63,7 @@ pub record AnswersWholeLines (g : Geometry) (start : State) (left : Option (List
 abbrev pub IsBeginning : Geometry → State → List ℕ → List ℕ → Type 0
 IsBeginning g start input written = (n : ℕ) × (written ≡ joined (take n (output_lines g start (lines input))))
 
--- Where the input is known, what was written behind the old bytes is so.
+-- Where the input is known, what was written after the old bytes is so.
 abbrev pub WritesOutput : Option (List ℕ) → Option (List ℕ) → Option (List ℕ) → (List ℕ → List ℕ → Type 0) → Type 0
 WritesOutput None old new P = Unit {0}
 WritesOutput (Some input) old new P = (written : List ℕ) × Appends old new written × P input written

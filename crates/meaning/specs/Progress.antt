@@ -1,5 +1,5 @@
--- How far a session has come: the lines that it has taken of its input and answered, what is left of the input, and what was written. No
--- public clause of this crate cites this module.
+-- Statement for engineers: How far a session has come: the lines that it has taken of its input and answered, what is left of the input,
+-- and what was written. No public clause of this crate cites this module.
 use Rattle.std.specs.Prelude.{◌≡◌, ◌⊎◌, ℕ, Bool, true, List, ◌++◌, Option, Some, None}
 use Rattle.std.specs.List.{AllByRecursion}
 use Rattle.std.specs.Io.KnownBytes.{Appends}
@@ -19,7 +19,7 @@ abbrev pub TakesLines : Option (List ℕ) → Option (List ℕ) → Bool → Lis
 TakesLines None left ended taken = Unit {0}
 TakesLines (Some input) left ended taken = (rest : List ℕ) × (left ≡ Some rest) × AreTaken input rest ended taken
 
--- From a state on, a session has answered lines of its input behind what was written before. So much of the input is left, this is its
+-- From a state on, a session has answered lines of its input after what was written before. So much of the input is left, this is its
 -- state now, and this is what was written.
 pub record HasAnswered (g : Geometry) (start : State) (input left : Option (List ℕ)) (ended : Bool) (now : State)
     (before written : Option (List ℕ)) : Type 0 where

@@ -1,4 +1,4 @@
--- A state without the blocks of a file, or without the files of a volume. No public clause cites this module.
+-- Inner: A state without the blocks of a file, or without the files of a volume.
 use Rattle.std.specs.Prelude.{ℕ, Bool}
 use Rattle.meaning.specs.State.{State, BlockKey, clearing, dropping, is_file_of, is_block_of}
 

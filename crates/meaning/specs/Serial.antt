@@ -1,4 +1,4 @@
--- What each message means: its tests, its effect and its reply; and lists of messages, one after the other.
+-- Statement for clients: What each message means: its tests, its effect and its reply; and lists of messages, one after the other.
 use Rattle.std.specs.Prelude.{ℕ, ◌^◌, Bool, true, false, not, ◌||◌, ◌&&◌, nat_lt, List, [], ◌∷◌, find, replicate, unwrap_or, if◌then◌else◌, Option, Some, None, is_some}
 use Rattle.affinity.specs.declared.geometry.Geometry.{Geometry}
 use Rattle.affinity.specs.Geometry.{group}
@@ -20,7 +20,7 @@ abbrev pub key_of : List ℕ → BlockKey
 key_of (a ∷ v ∷ f ∷ b ∷ []) = (a, v, f, b)
 key_of _ = (0, 0, 0, 0)
 
--- what a message speaks of: its volume, its file and its block, where a number that it doesn't have is 0
+-- the volume, the file and the block of a message, where a number that it doesn't have is 0
 abbrev pub key : Msg → BlockKey
 key m = key_of (four_numbers m)
 

@@ -1,11 +1,11 @@
--- What lies at a path: the share of a state there, and what a message there sees besides.
+-- Statement for engineers: What lies at a path: the share of a state there, and what a message there sees besides.
 use Rattle.std.specs.Prelude.{◌≡◌, Bool, true, not, ◌&&◌, if◌then◌else◌, None}
 use Rattle.affinity.specs.declared.geometry.Geometry.{Geometry}
 use Rattle.affinity.specs.Geometry.{group}
 use Rattle.affinity.specs.Path.{Path, begins, volume, logical, stripe, label}
 use Rattle.meaning.specs.State.{State, VolumeKey, FileKey, BlockKey}
 
--- Where each fact lies: the marks of a volume at the volume, its files at its Volume Logical, its label at its Volume Label, a block at its
+-- Where each fact lies: the flags of a volume at the volume, its files at its Volume Logical, its label at its Volume Label, a block at its
 -- stripe.
 abbrev pub mark_home : VolumeKey → Path
 mark_home k = volume k.0 k.1

@@ -15,8 +15,8 @@ ghost use Rattle.meaning.specs.Shares.{AgreeOn, share, standing};
 ghost use Rattle.meaning.specs.Order.{by_ticket, KeepsOrder};
 ghost use Rattle.meaning.specs.Laws.{outside, RunAlike, Commute, SameByTicket, is_refused, logged, AreInOrder};
 
-/// Nothing is a state, and each message leads from a state to a state: all numbers stay in range,
-/// blocks and labels keep their lengths, and no stripe gets more blocks than its quota.
+/// The empty state is a state, and each message leads from a state to a state: all numbers stay in
+/// range, blocks and labels keep their lengths, and no stripe gets more blocks than its quota.
 pub fn step_keeps_state()
     ensures nothing { (g : Geometry) → IsState g empty }
     ensures step { (g : Geometry) (x : State) (m : Msg) → IsState g x → IsMessage m → IsState g (next_state g x m) }
@@ -38,7 +38,7 @@ pub fn step_reads_and_changes_only()
     ensures changes { (g : Geometry) (x : State) (m : Msg) → AgreeOn g (outside (place g m)) (next_state g x m) x }
 {}
 
-/// Two messages at unrelated places may come in either order.
+/// Two messages at unrelated places may run in either order.
 pub fn unrelated_steps_commute()
     ensures { (g : Geometry) (x : State) (m n : Msg) → are_related (place g m) (place g n) ≡ false → Commute g x m n }
 {}

@@ -1,4 +1,4 @@
-//! What every message means: the states of a server, what a message answers and changes in one, and the laws of that.
+//! What every message means: the states of a server, the reply and the effect of a message in one, and their laws.
 //!
 //! The definitions are in `specs`. No code runs here but the table of the tests of each kind.
 #![tactic(auto)]

@@ -8,8 +8,8 @@ use affinity::Kind;
 use messages::Refusal::{Exists, File, Range, Sealed, Space, Volume};
 use messages::{Msg, Refusal};
 
-/// The tests of a message, in order. Each is named by the refusal where it fails. The first that
-/// fails gives the reply.
+/// The tests of a message, in order. Each is named by the refusal that is given where it fails. The
+/// first that fails gives the reply.
 pub fn tests_of(m: &Msg) -> &'static [Refusal]
     ensures { result.now ≡ tests m.now }
 {

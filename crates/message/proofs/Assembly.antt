@@ -43,7 +43,8 @@ appends_from old text at room =
       rest = ap (drop (at + length text)) whole ∙ drop_at (take at old ++ text) _ (at + length text) front;
     }
 
-pub appends_put : (old new text : List ℕ) (at end : ℕ) → at + length text ≤ length old → new ≡ take at old ++ (text ++ drop (length text) (drop at old)) → end ≡ at + length text → Appends old new at end text
+pub appends_put : (old new text : List ℕ) (at end : ℕ) → at + length text ≤ length old → new ≡ take at old
+    ++ (text ++ drop (length text) (drop at old)) → end ≡ at + length text → Appends old new at end text
 appends_put old new text at end room e ends = rw (e, ends) (appends_from old text at room)
 
 -- a text in a part of the buffer that is as long

@@ -1,4 +1,4 @@
--- What a word says as bytes, a block or a label.
+-- What a word encodes as bytes, a block or a label.
 use Rattle.std.proofs.Common.{◌≡◌, ℕ, ◌-◌, ◌*◌, ◌/◌, ◌%◌, ◌<◌, ◌≤◌, Bool, true, false, cond, List, [], ◌∷◌, ◌++◌, length, length-take-le, take, drop, replicate, Option, Some, None, Result, Ok, Err, refl, ap, sym, ◌∙◌, inl, inr, arith}
 use Rattle.std.specs.Prelude.{◌&&◌, nat_le, MatchResult, option_map}
 use Rattle.std.specs.Result.{result_ok}
@@ -15,7 +15,7 @@ use Rattle.messages.specs.declared.Block.{Block}
 use Rattle.messages.specs.Lines.{bytes_in_word, block_in_word, label_in_word, padded, padded_with}
 use Rattle.message.proofs.Words.{HasNoSpace}
 
--- a word with what makes it say so many bytes
+-- a word with what makes it encode so many bytes
 pub record IsDigits (size : ℕ) (w bytes : List ℕ) : Type 0 where
   pub low : 2 ≤ length w
   pub high : length w ≤ 2 * size
@@ -94,7 +94,7 @@ decode_sized-half w n half =
           decode_sized-pairs w n even (sym half) ∙ sym (decode_of-even w even)
     ]
 
--- what decoding into a slice told
+-- what decoding into a slice showed
 abbrev pub Decoded : List ℕ → ℕ → Option (Unit {0}) → List ℕ → Type 0
 Decoded w n r out = MatchResult (decode_sized w n) (λ bytes. (r ≡ Some tt) × (out ≡ bytes)) (λ e. r ≡ None)
 
@@ -103,8 +103,9 @@ told_ok : (d : Result (List ℕ) FromHexError) (r : Result (Unit {0}) FromHexErr
 told_ok (Ok bytes) r out h = (ap result_ok h.0, h.1)
 told_ok (Err x) r out h = ap result_ok h
 
--- what the crate's decoding told, its error left out
-pub decoded_by_crate : (w : List ℕ) (n : ℕ) (r : Result (Unit {0}) FromHexError) (o : Option (Unit {0})) (out : List ℕ) → MatchResult (decode_sized w n) (λ bytes. (r ≡ Ok tt) × (out ≡ bytes)) (λ e. r ≡ Err e) → o ≡ result_ok r → Decoded w n o out
+-- what the crate's decoding showed, its error left out
+pub decoded_by_crate : (w : List ℕ) (n : ℕ) (r : Result (Unit {0}) FromHexError) (o : Option (Unit {0})) (out : List ℕ)
+    → MatchResult (decode_sized w n) (λ bytes. (r ≡ Ok tt) × (out ≡ bytes)) (λ e. r ≡ Err e) → o ≡ result_ok r → Decoded w n o out
 decoded_by_crate w n r o out h e = rw e (told_ok (decode_sized w n) r out h)
 
 decoded_ok : (d : Result (List ℕ) FromHexError) (r : Option (Unit {0})) (out : List ℕ) (u : Unit {0}) → MatchResult d (λ bytes. (r ≡ Some tt) × (out ≡ bytes)) (λ e. r ≡ None) → Some u ≡ r → d ≡ Ok out
@@ -118,7 +119,8 @@ decoded_err (Err x) r out bytes h e ok = cc ok
 room_is : (size n : ℕ) → n ≤ size → length {A = ℕ} (take n (replicate size 0)) ≡ n
 room_is size n h = length-take-le n (replicate size 0) (let e : length {A = ℕ} (replicate size 0) ≡ size = length-replicate {A = ℕ} size 0 in omega arith)
 
-pub bytes_decoded : (size : ℕ) (w : List ℕ) (n : ℕ) (r : Option (Unit {0})) (out : List ℕ) (u : Unit {0}) → n ≡ length w / 2 → 0 < n → n ≤ size → Decoded w (length {A = ℕ} (take n (replicate size 0))) r out → Some u ≡ r
+pub bytes_decoded : (size : ℕ) (w : List ℕ) (n : ℕ) (r : Option (Unit {0})) (out : List ℕ) (u : Unit {0}) → n ≡ length w / 2 → 0 < n → n ≤ size
+    → Decoded w (length {A = ℕ} (take n (replicate size 0))) r out → Some u ≡ r
     → bytes_in_word size w ≡ Some (out ++ drop n (replicate size 0))
 bytes_decoded size w n r out u half some most told ok =
     let room : ℕ = length {A = ℕ} (take n (replicate size 0)) in
@@ -129,7 +131,8 @@ bytes_decoded size w n r out u half some most told ok =
     let rest : drop {A = ℕ} n (replicate size 0) ≡ replicate (size - length out) 0 = rw same (drop-replicate (length out) size 0) in
     bytes_from size w out (record { low = omega arith; high = omega arith; decoded = decoded }) ∙ ap (λ (behind : List ℕ). Some (out ++ behind)) (sym rest)
 
-pub bytes_not_decoded : (size : ℕ) (w : List ℕ) (n : ℕ) (r : Option (Unit {0})) (out : List ℕ) → n ≡ length w / 2 → n ≤ size → Decoded w (length {A = ℕ} (take n (replicate size 0))) r out → None ≡ r → bytes_in_word size w ≡ None
+pub bytes_not_decoded : (size : ℕ) (w : List ℕ) (n : ℕ) (r : Option (Unit {0})) (out : List ℕ) → n ≡ length w / 2 → n ≤ size
+    → Decoded w (length {A = ℕ} (take n (replicate size 0))) r out → None ≡ r → bytes_in_word size w ≡ None
 bytes_not_decoded size w n r out half most told err =
     let room : ℕ = length {A = ℕ} (take n (replicate size 0)) in
     no_bytes size w (λ bytes h. decoded_err (decode_sized w room) r out bytes told err (decode_sized-half w room (room_is size n most ∙ half) ∙ h.decoded))

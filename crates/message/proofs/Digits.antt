@@ -1,4 +1,4 @@
--- The digits of a block or a label, as words and by what they say.
+-- The digits of a block or a label, as words and by what they encode.
 use Rattle.std.proofs.Common.{◌≡◌, ℕ, List, Some, ap, sym, ◌∙◌, arith}
 use Rattle.hex.proofs.HexLemmas.{decode_of-ok}
 use Rattle.messages.specs.declared.Block.{Block}

@@ -13,7 +13,7 @@ use Rattle.message.proofs.Numbers.{number_no_space}
 use Rattle.message.proofs.Blocks.{block_no_space, label_no_space, bytes_block, no_block, label_bytes}
 use Rattle.messages.specs.Grammar.{◌>>=◌, first_number, of_volume, of_file, of_block, of_data, of_label, of_nothing}
 
--- what the first of several words says as a number goes to k, with the words behind it
+-- what the first of several words encodes as a number goes to k, with the words after it
 abbrev pub onward : (ℕ → List (List ℕ) → Option Msg) → List (List ℕ) → Option Msg
 onward k ws = first_number ws >>= (λ p. k p.0 p.1)
 
@@ -39,7 +39,7 @@ dead : (o : Option ℕ) (vs : List (List ℕ)) (k : ℕ → List (List ℕ) → 
 dead None vs k h = refl
 dead (Some n) vs k h = sym (h n)
 
--- a first word that says no number
+-- a first word that encodes no number
 pub first_number_none : (ws : List (List ℕ)) (w : List ℕ) (vs : List (List ℕ)) → ws ≡ w ∷ vs → number_in_word w ≡ None → first_number ws ≡ None
 first_number_none ws w [] e h = rw e refl
 first_number_none ws w (v ∷ vs) e h = rw (e, h) refl
@@ -146,7 +146,7 @@ made_of : {A : Type 0} (P : Msg → Type 0) (o : Option A) (f : A → Option Msg
 made_of P (Some x) f each = each x
 made_of P None f each = tt
 
--- words behind `setlabel` say no other message
+-- words after `setlabel` make no other message
 pub label_sets : (ws : List (List ℕ)) → IfSome (of_label SetLabel ws) (λ m. kind m ≡ kinds.SetLabel)
 label_sets [] = tt
 label_sets (a ∷ []) = tt
@@ -165,7 +165,7 @@ nothing_behind m line = elim (words line) as (λ ws. words line ≡ ws → of_no
 
 -- ---- as the code reads them
 
--- the words behind a first word that says a number
+-- the words after a first word that encodes a number
 pub first_number_some : (ws : List (List ℕ)) (w bs : List ℕ) (n : ℕ) → ws ≡ w ∷ words bs → number_in_word w ≡ Some n → first_number ws ≡ Some (n, words bs)
 first_number_some ws w bs n e h =
     ap first_number e ∙ elim (words bs) as (λ vs. words bs ≡ vs → first_number (w ∷ vs) ≡ Some (n, vs)) [

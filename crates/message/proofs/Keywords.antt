@@ -21,7 +21,7 @@ with_kind line word args k h e named = by_words line (word ∷ args) h e ∙ ap 
 pub without_kind : (line word : List ℕ) (args : List (List ℕ)) → length line ≤ 1100 → words line ≡ word ∷ args → None ≡ kind_named word → message_of line ≡ None
 without_kind line word args h e named = by_words line (word ∷ args) h e ∙ ap (λ (o : Option Kind). o >>= (λ k. of_kind k args)) (sym named)
 
--- only one kind has a keyword that stands alone
+-- only one kind has a keyword that is alone in its line
 pub needs_words : (k : Kind) → (k ≡ Summary → ⊥) → of_kind k [] ≡ None
 needs_words MakeVol h = refl
 needs_words DropVol h = refl
@@ -108,10 +108,11 @@ other_length n word k len other = false_from_ne_true _ (λ h. eqb-false (length 
 
 none_among : (n : ℕ) (word : List ℕ) (ks : List Kind) → length word ≡ n → FailsEach n word ks → named_among ks word ≡ None
 none_among n word [] len fails = refl
-none_among n word (k ∷ ks) len fails = elim (length (keyword k) == n) as (λ t. (length (keyword k) == n) ≡ t → FailsAlso t (bytes_eq word (keyword k)) (FailsEach n word ks) → named_among (k ∷ ks) word ≡ None) [
-  | true ↦ λ e fails. passed_over word k ks fails.0 (none_among n word ks len fails.1)
-  | false ↦ λ e rest. passed_over word k ks (other_length n word k len e) (none_among n word ks len rest)
-] refl fails
+none_among n word (k ∷ ks) len fails = elim (length (keyword k) == n) as
+    (λ t. (length (keyword k) == n) ≡ t → FailsAlso t (bytes_eq word (keyword k)) (FailsEach n word ks) → named_among (k ∷ ks) word ≡ None) [
+      | true ↦ λ e fails. passed_over word k ks fails.0 (none_among n word ks len fails.1)
+      | false ↦ λ e rest. passed_over word k ks (other_length n word k len e) (none_among n word ks len rest)
+    ] refl fails
 
 -- a word that fails the tests for all keywords of its length names no kind
 pub fails_all : (n : ℕ) (word : List ℕ) → length word ≡ n → FailsEach n word all_kinds → None ≡ kind_named word

@@ -1,4 +1,4 @@
--- What a word says as a number.
+-- What a word encodes as a number.
 use Rattle.std.proofs.Common.{◌≡◌, ℕ, zero, suc, ◌+◌, ◌-◌, ◌*◌, ◌<◌, ◌^◌, true, false, List, [], ◌∷◌, length, get_or, take, Some, None, refl, ap, sym, ◌∙◌, inl, inr, arith}
 use Rattle.std.specs.Prelude.{◌&&◌, ◌||◌, not, ◌==◌, nat_lt, nat_le}
 use Rattle.std.specs.Char.{is_ascii_digit, digit_value}
@@ -19,7 +19,7 @@ use Rattle.message.proofs.Words.{HasNoSpace}
 pub own : IsNumeralModel (λ ds. all_ascii_digits ds ≡ true) (digits_value 10)
 own = numerals_by_value (λ ds. all_ascii_digits ds ≡ true) tells_all_ascii_digits
 
--- a word with what makes it say a number below 65536
+-- a word with what makes it encode a number below 65536
 pub record IsNumber (w : List ℕ) : Type 0 where
   pub digits : all_ascii_digits w ≡ true
   pub some : 0 < length w
@@ -46,7 +46,7 @@ is_numeral_from w h =
       | inr other ↦ or_left (not (get_or w 0 0 == 48)) (length w == 1) (not_from_false (get_or w 0 0 == 48) (ne_eqb (get_or w 0 0) 48 other))
     ])
 
--- a word that says a number
+-- a word that encodes a number
 pub number_parts : (w : List ℕ) (n : ℕ) → number_in_word w ≡ Some n → IsNumber w × (digits_value 10 w ≡ n)
 unfolding number_in_word
 number_parts w n h =
@@ -59,7 +59,7 @@ pub number_from : (w : List ℕ) → IsNumber w → number_in_word w ≡ Some (d
 unfolding number_in_word
 number_from w h = cond-true _ _ _ (and_from _ _ (is_numeral_from w h) (lt-ltb (digits_value 10 w) 65536 h.fits))
 
--- a word that lacks something says none
+-- a word that lacks something encodes none
 pub no_number : (w : List ℕ) → (IsNumber w → ⊥) → number_in_word w ≡ None
 no_number w h = elim (number_in_word w) as (λ o. number_in_word w ≡ o → o ≡ None) [ None ↦ λ e. refl | Some n ↦ λ e. absurd (h (number_parts w n e).0) ] refl
 

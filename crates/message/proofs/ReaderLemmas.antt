@@ -109,7 +109,8 @@ first_line-slice xs i k j low high within none there =
     ]) ∙ append-nil (slice_range xs i k)
 
 -- and what lies behind it begins behind that newline
-pub behind_first_line-slice : (xs : List ℕ) (i k j n : ℕ) → i ≤ k → k ≤ j → j ≤ length xs → NoneFrom xs i k → (k < j → get_or xs k 0 ≡ 10) → n ≡ min j (k + 1) → behind_first_line (slice_range xs i j) ≡ slice_range xs n j
+pub behind_first_line-slice : (xs : List ℕ) (i k j n : ℕ) → i ≤ k → k ≤ j → j ≤ length xs → NoneFrom xs i k → (k < j → get_or xs k 0 ≡ 10) → n
+    ≡ min j (k + 1) → behind_first_line (slice_range xs i j) ≡ slice_range xs n j
 behind_first_line-slice xs i k j n low high within none there next =
     let quiet = IsWithinLine-slice xs i k (omega arith) none in
     ap behind_first_line (slice-split xs i k j low high) ∙ behind_first_line-within (slice_range xs i k) (slice_range xs k j) quiet
@@ -168,12 +169,14 @@ first_line-held held None whole = tt
 first_line-held held (Some ys) (inl there) = sym (first_line-whole held ys there)
 first_line-held held (Some ys) (inr none) = ap first_line (sym (ap (λ l. held ++ l) none ∙ append-nil held))
 
-pub behind_first_line-held : (held : List ℕ) (known : Option (List ℕ)) → IsWhole held known → IfSome (prepend_known held known) (λ bs. prepend_known (behind_first_line held) known ≡ Some (behind_first_line bs))
+pub behind_first_line-held : (held : List ℕ) (known : Option (List ℕ)) → IsWhole held known
+    → IfSome (prepend_known held known) (λ bs. prepend_known (behind_first_line held) known ≡ Some (behind_first_line bs))
 behind_first_line-held held None whole = tt
 behind_first_line-held held (Some ys) (inl there) = ap Some (sym (behind_first_line-whole held ys there))
-behind_first_line-held held (Some ys) (inr none) = ap Some (ap (λ l. behind_first_line held ++ l) none ∙ append-nil (behind_first_line held) ∙ ap behind_first_line (sym (ap (λ l. held ++ l) none ∙ append-nil held)))
+behind_first_line-held held (Some ys) (inr none) = ap Some (ap (λ l. behind_first_line held ++ l) none ∙ append-nil (behind_first_line held)
+    ∙ ap behind_first_line (sym (ap (λ l. held ++ l) none ∙ append-nil held)))
 
--- what a search of a part of the buffer says of the buffer
+-- what a search of a part of the buffer shows of the buffer
 module _ (xs : List ℕ) (n e r : ℕ) (within : e ≤ length xs) (bound : r ≤ length (slice_range xs n e)) where
   pub NoneFrom-slice : ((m : ℕ) → m < r → get_or (slice_range xs n e) m 0 ≢ 10) → NoneFrom xs n (n + r)
   NoneFrom-slice none m low high is =
@@ -216,7 +219,8 @@ NoneFrom-read xs ys i j k same before behind m low high = elim (cases_lt m j) [
 -- ---- steps of a reader of lines: held bytes, and what is to come
 
 -- what is held was let go as well
-pub LosesFront-cleared : (a known : Option (List ℕ)) (held empty : List ℕ) → IfSome a (λ bs. LosesFront bs (prepend_known held known)) → IsWithinLine held → empty ≡ [] → IfSome a (λ bs. LosesFront bs (prepend_known empty known))
+pub LosesFront-cleared : (a known : Option (List ℕ)) (held empty : List ℕ) → IfSome a (λ bs. LosesFront bs (prepend_known held known))
+    → IsWithinLine held → empty ≡ [] → IfSome a (λ bs. LosesFront bs (prepend_known empty known))
 LosesFront-cleared a known held empty lost within none =
     let gone : prepend_known empty known ≡ known = ap (λ l. prepend_known l known) none ∙ prepend_known-nil known in
     rw gone (LosesFront-trans a (prepend_known held known) known lost (LosesFront-held held known within))
@@ -231,11 +235,13 @@ IsWhole-told ended held known (inl told) = inr (IsAtEnd-told ended known told)
 IsWhole-told ended held known (inr there) = inl there
 
 -- the first line is passed, after some of it was let go
-pub passed : (a known : Option (List ℕ)) (held rest : List ℕ) → IfSome a (λ bs. LosesFront bs (prepend_known held known)) → IsWhole held known → rest ≡ behind_first_line held → IfSome a (λ bs. prepend_known rest known ≡ Some (behind_first_line bs))
+pub passed : (a known : Option (List ℕ)) (held rest : List ℕ) → IfSome a (λ bs. LosesFront bs (prepend_known held known)) → IsWhole held known
+    → rest ≡ behind_first_line held → IfSome a (λ bs. prepend_known rest known ≡ Some (behind_first_line bs))
 passed a known held rest lost whole is = rw is (behind_first_line-later a (prepend_known held known) (prepend_known (behind_first_line held) known) lost (behind_first_line-held held known whole))
 
 -- too much of a line is held, so the line is too long
-pub PassesLine-held : (held : List ℕ) (known left : Option (List ℕ)) → 1100 < length (first_line held) → IfSome (prepend_known held known) (λ bs. left ≡ Some (behind_first_line bs)) → IfSome (prepend_known held known) (λ bs. PassesLine bs left)
+pub PassesLine-held : (held : List ℕ) (known left : Option (List ℕ)) → 1100 < length (first_line held)
+    → IfSome (prepend_known held known) (λ bs. left ≡ Some (behind_first_line bs)) → IfSome (prepend_known held known) (λ bs. PassesLine bs left)
 PassesLine-held held None left long passed = tt
 PassesLine-held held (Some ys) left long passed = record { long = omega (arith, length-first_line held ys); left_is = passed }
 
@@ -244,7 +250,8 @@ some_more [] ys some = absurd (some refl)
 some_more (x ∷ xs) ys some = λ is. cc
 
 -- a whole line is held, so it is the first
-pub GivesLine-held : (held line rest : List ℕ) (known : Option (List ℕ)) → IsWhole held known → held ≢ [] → line ≡ first_line held → rest ≡ behind_first_line held → IfSome (prepend_known held known) (λ bs. GivesLine line bs (prepend_known rest known))
+pub GivesLine-held : (held line rest : List ℕ) (known : Option (List ℕ)) → IsWhole held known → held ≢ [] → line ≡ first_line held → rest
+    ≡ behind_first_line held → IfSome (prepend_known held known) (λ bs. GivesLine line bs (prepend_known rest known))
 GivesLine-held held line rest None whole some line_is rest_is = tt
 GivesLine-held held line rest (Some ys) whole some line_is rest_is = record {
   more = some_more held ys some;

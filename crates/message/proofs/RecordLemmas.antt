@@ -136,7 +136,7 @@ four (a ∷ v ∷ []) = refl
 four (a ∷ v ∷ f ∷ []) = refl
 four (a ∷ v ∷ f ∷ b ∷ more) = refl
 
--- the fields of a record say its message
+-- the fields of a record encode its message
 pub record_says : (g : Geometry) (m : Msg) → IsMessage m → is_in_range g m ≡ true → message_in_fields (record_of m) ≡ Some m
 record_says g m whole h =
     said (kind m) (four_numbers m) (data_of m) _ _ _ _ (fits g m h).block (four (numbers m)) ∙ ap Some (made_again m whole)
@@ -259,7 +259,8 @@ made None make m h = cc h
 module _ (bytes : List ℕ) (m : Msg) (size : length bytes ≡ 520) (fit : (i : ℕ) → get_or bytes i 0 < 256) (said : message_in_fields bytes ≡ Some m) where
   its_kind : (k : Kind) × (m ≡ assembled k (slice_index bytes 1) (slice_index bytes 2) (slice_index bytes 3) (little_number 2 (take 2 (drop 4 bytes))) (drop 8 bytes))
   unfolding message_in_fields
-  its_kind = made (kind_numbered (slice_index bytes 0)) (λ k. assembled k (slice_index bytes 1) (slice_index bytes 2) (slice_index bytes 3) (little_number 2 (take 2 (drop 4 bytes))) (drop 8 bytes)) m said
+  its_kind = made (kind_numbered (slice_index bytes 0)) (λ k. assembled k (slice_index bytes 1) (slice_index bytes 2) (slice_index bytes 3)
+      (little_number 2 (take 2 (drop 4 bytes))) (drop 8 bytes)) m said
 
   pub said_whole : IsMessage m
   said_whole =
@@ -270,7 +271,8 @@ module _ (bytes : List ℕ) (m : Msg) (size : length bytes ≡ 520) (fit : (i : 
   said_room = subst FitsRecord (sym its_kind.1) (assembled_room its_kind.0 _ _ _ _ (drop 8 bytes) (fit 1) (fit 2) (fit 3))
 
   by_kind : (k : Kind) → kind m ≡ k → m ≡ assembled k (slice_index bytes 1) (slice_index bytes 2) (slice_index bytes 3) (little_number 2 (take 2 (drop 4 bytes))) (drop 8 bytes)
-  by_kind k is = its_kind.1 ∙ ap (λ k. assembled k (slice_index bytes 1) (slice_index bytes 2) (slice_index bytes 3) (little_number 2 (take 2 (drop 4 bytes))) (drop 8 bytes)) (sym (kind_assembled its_kind.0 _ _ _ _ _) ∙ ap kind (sym its_kind.1) ∙ is)
+  by_kind k is = its_kind.1 ∙ ap (λ k. assembled k (slice_index bytes 1) (slice_index bytes 2) (slice_index bytes 3)
+      (little_number 2 (take 2 (drop 4 bytes))) (drop 8 bytes)) (sym (kind_assembled its_kind.0 _ _ _ _ _) ∙ ap kind (sym its_kind.1) ∙ is)
 
   pub said_write : kind m ≡ kinds.Write → drop 8 bytes ≡ data_of m
   unfolding data_of

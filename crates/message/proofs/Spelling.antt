@@ -30,7 +30,7 @@ bind_some : {A B : Type 0} (o : Option A) (f : A → Option B) (y : B) → (o >>
 bind_some (Some x) f y h = (x, refl, h)
 bind_some None f y h = cc h
 
--- the words that say some numbers
+-- the words that encode some numbers
 record Say (ws : List (List ℕ)) (ns : List ℕ) : Type 0 where
   pub words : ws ≡ map decimal ns
   pub small : AreSmall ns
@@ -117,7 +117,8 @@ nothing_said m [] n h = (sym (same_Some m n h), says_none)
 nothing_said m (w ∷ ws) n h = cc h
 
 -- a line of these words spells its message
-spell : (line : List ℕ) (m : Msg) (behind : List (List ℕ)) → length line ≤ 1100 → words line ≡ keyword (kind m) ∷ map decimal (numbers m) ++ behind → AreSmall (numbers m) → IsData m behind → Spells line m
+spell : (line : List ℕ) (m : Msg) (behind : List (List ℕ)) → length line ≤ 1100 → words line ≡ keyword (kind m) ∷ map decimal (numbers m) ++ behind
+    → AreSmall (numbers m) → IsData m behind → Spells line m
 spell line m behind short e small content = record {
   words_behind = behind;
   parts = sym (join-words line) ∙ ap (join_with_byte 32) e;
@@ -287,7 +288,8 @@ block_read make a v f b behind h none =
     ap (λ (ws : List (List ℕ)). of_block make (map decimal (a ∷ v ∷ f ∷ b ∷ []) ++ ws)) none
     ∙ rw (number-decimal a h.0, number-decimal v h.1.0, number-decimal f h.1.1.0, number-decimal b h.1.1.1.0) refl
 
-data_read : (make : ℕ → ℕ → ℕ → ℕ → Block → Msg) (a v f b : ℕ) (content : Block) (digits : List ℕ) (behind : List (List ℕ)) → AreSmall (a ∷ v ∷ f ∷ b ∷ []) → behind ≡ digits ∷ [] → block_in_word digits ≡ Some content
+data_read : (make : ℕ → ℕ → ℕ → ℕ → Block → Msg) (a v f b : ℕ) (content : Block) (digits : List ℕ) (behind : List (List ℕ))
+    → AreSmall (a ∷ v ∷ f ∷ b ∷ []) → behind ≡ digits ∷ [] → block_in_word digits ≡ Some content
     → of_data make (map decimal (a ∷ v ∷ f ∷ b ∷ []) ++ behind) ≡ Some (make a v f b content)
 data_read make a v f b content digits behind h is said =
     ap (λ (ws : List (List ℕ)). of_data make (map decimal (a ∷ v ∷ f ∷ b ∷ []) ++ ws)) is

@@ -20,7 +20,8 @@ words-slice_split : (bs : List ℕ) → words bs ≡ slice_split (λ b. eqb b 32
 words-slice_split [] = refl
 words-slice_split (b ∷ bs) =
     let e = words-slice_split bs in
-    rw e (elim (b == 32) as (λ t. (if t then [] ∷ slice_split (λ b. eqb b 32) bs else in_first b (slice_split (λ b. eqb b 32) bs)) ≡ cond t ([] ∷ slice_split (λ b. eqb b 32) bs) (onto_first b (slice_split (λ b. eqb b 32) bs))) [
+    rw e (elim (b == 32) as (λ t. (if t then [] ∷ slice_split (λ b. eqb b 32) bs else in_first b (slice_split (λ b. eqb b 32) bs))
+    ≡ cond t ([] ∷ slice_split (λ b. eqb b 32) bs) (onto_first b (slice_split (λ b. eqb b 32) bs))) [
       | true ↦ refl
       | false ↦ in_first-onto_first b (slice_split (λ b. eqb b 32) bs)
     ])
@@ -100,14 +101,14 @@ goes_on (b ∷ line) (suc i) lt none other =
       same = ap (λ (w : List ℕ). b ∷ w) rest.same;
     }
 
--- ---- what a whole line says
+-- ---- what a whole line encodes
 
--- what a word says that stands alone
+-- what a word encodes that is the only one
 abbrev pub only : {A : Type 0} → (List ℕ → Option A) → List (List ℕ) → Option A
 only says (w ∷ []) = says w
 only says _ = None
 
--- what a line says that says nothing where it has a space
+-- what a line encodes, where a line with a space encodes nothing
 pub only-words : {A : Type 0} (says : List ℕ → Option A) (line : List ℕ) → ((x : A) → says line ≡ Some x → HasNoSpace line) → only says (words line) ≡ says line
 only-words {A} says line no_space =
     let none : (ws : List (List ℕ)) → join_with_byte 32 ws ≡ line → says line ≡ None → only says ws ≡ None =

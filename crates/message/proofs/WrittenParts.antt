@@ -4,7 +4,7 @@ use Rattle.std.proofs.Math.Seq.{take-append-add}
 use Rattle.std.proofs.lemmas.List.{take-append-le}
 use borrow.Rule.Slice.PartMut.{put_mid}
 
--- the front of a part that was written, behind what stood before it
+-- the front of a part that was written, after what was before it
 pub take-put_mid : (old part : List ℕ) (at k n : ℕ) → at ≤ length old → n ≤ length part → take (at + n) (put_mid at k old part) ≡ take at old ++ take n part
 take-put_mid old part at k n low high =
     ap (λ m. take (m + n) (put_mid at k old part)) (sym (length-take-le at old low))

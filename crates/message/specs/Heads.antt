@@ -1,4 +1,4 @@
--- The head of a message: its kind and its numbers, without its data.
+-- Statement for engineers: The head of a message: its kind and its numbers, without its data.
 use Rattle.std.specs.Prelude.{◌≡◌, ℕ, Bool, true, false, List, [], slice_index, Option, Some, None, option_map, IfSome}
 use Rattle.affinity.specs.declared.kinds.Kind.{Kind}
 use Rattle.affinity.specs.declared.kinds.Kind.TheVariants as kinds
@@ -32,7 +32,7 @@ pub record IsAsked (k : Kind) (ns : List ℕ) (m : Option Msg) : Type 0 where
   pub numbers_are : four_numbers (asking k ns) ≡ ns
   pub without_data : has_data k ≡ false
 
--- What a head tells of the message that a line spells. Of a `setlabel` it tells the kind alone.
+-- What a head is, by the message that a line spells. Of a `setlabel` it has the kind alone.
 abbrev pub IsHead : Head → Option Msg → Type 0
 IsHead NoMessage m = m ≡ None
 IsHead (Asks k ns) m = IsAsked k ns m

@@ -1,4 +1,4 @@
--- What a reader of lines holds, and what it finds in the bytes that are not yet read.
+-- Statement for engineers: What a reader of lines holds, and what it finds in the bytes that are not yet read.
 use Rattle.std.specs.Prelude.{ℕ, ◌<◌, ◌⊎◌, ◌&&◌, Bool, true, false, List, [], ◌∷◌, length, slice_range, Option, Result, Ok, Err, IsTrue, IfSome, Contains}
 use Rattle.std.specs.Option.{option_map}
 use Rattle.std.specs.Io.KnownBytes.{prepend_known, IsAtEnd}
@@ -19,7 +19,7 @@ held_bytes h = slice_range h.buffer.items h.start h.end
 abbrev pub held_line : Held → List ℕ
 held_line h = slice_range h.buffer.items h.line_start h.line_end
 
--- the bytes that are still to come, where they are known: none once the end was told
+-- the bytes that are still to come, where they are known: none once the end was reported
 abbrev pub still_to_come : Bool → Option (List ℕ) → Option (List ℕ)
 still_to_come false known = known
 still_to_come true known = option_map (λ _. []) known
@@ -36,7 +36,7 @@ line_of r = held_line r.held
 abbrev pub HoldsLine : {R : Type 0} → LineReader R → Type 0
 HoldsLine r = Contains (held_bytes r.held) 10
 
--- a read has told the end
+-- a read has reported the end
 abbrev pub has_ended : {R : Type 0} → LineReader R → Bool
 has_ended r = r.ended
 
@@ -52,13 +52,13 @@ has_failed r = r.failed
 abbrev pub source : {R : Type 0} → LineReader R → R
 source r = r.reader
 
--- once a read has told the end, the reader behind it has no known byte left
+-- once a read has reported the end, the reader behind it has no known byte left
 abbrev pub KnowsEnd : {R : Type 0} → (R → Option (List ℕ)) → LineReader R → Type 0
 KnowsEnd remaining r = IsTrue (has_ended r) → IsAtEnd (remaining (source r))
 
 -- ---- what is found, where the bytes are known
 
--- What each answer says of the bytes that were unread before, of the line, and of the bytes that are unread now.
+-- What each answer means for the bytes that were unread before, for the line, and for the bytes that are unread now.
 abbrev pub Finds : Result Found ReadFault → Option (List ℕ) → List ℕ → Option (List ℕ) → Type 0
 Finds (Ok Line) old line new = IfSome old (λ bs. GivesLine line bs new)
 Finds (Ok TooLong) old line new = IfSome old (λ bs. PassesLine bs new)
@@ -71,7 +71,7 @@ abbrev pub are_none : List ℕ → Bool
 are_none [] = true
 are_none (b ∷ bs) = false
 
--- a read has told the end, and nothing is held: nothing is to come
+-- a read has reported the end, and nothing is held: nothing is to come
 abbrev pub is_drained : {R : Type 0} → LineReader R → Bool
 is_drained r = r.ended && are_none (held_bytes r.held)
 

@@ -1,4 +1,4 @@
--- The records of messages: 520 bytes for each.
+-- Format for operators: The records of messages: 520 bytes for each.
 use Rattle.std.specs.Prelude.{ℕ, ◌<◌, List, [], ◌∷◌, ◌++◌, take, drop, replicate, slice_index, ◌==◌, if◌then◌else◌, Option, Some, None, option_map}
 use Rattle.std.specs.List.{AllByRecursion}
 use Rattle.affinity.specs.declared.kinds.Kind.{Kind}
@@ -25,7 +25,7 @@ kind_number kinds.Summary = 12
 kind_number kinds.SetLabel = 13
 kind_number kinds.Label = 14
 
--- what stands before the data: a byte for the kind and for the aggregate, the volume and the file, two for the block with the lower one
+-- what comes before the data: a byte for the kind and for the aggregate, the volume and the file, two for the block with the lower one
 -- first, and two zeros
 abbrev pub head_with : ℕ → List ℕ → List ℕ
 head_with k (a ∷ v ∷ f ∷ b ∷ []) = k ∷ a ∷ v ∷ f ∷ [] ++ little_bytes 2 b ++ 0 ∷ 0 ∷ []
@@ -34,7 +34,7 @@ head_with k _ = []
 abbrev pub record_head : Msg → List ℕ
 record_head m = head_with (kind_number (kind m)) (four_numbers m)
 
--- the data: the block of a `write`, the label of a `setlabel` and zeros behind it, and zeros for all others
+-- the data: the block of a `write`, the label of a `setlabel` and zeros after it, and zeros for all others
 unfoldable pub data_of : Msg → List ℕ
 data_of (Write a v f b content) = content.0
 data_of (SetLabel a v bytes) = bytes ++ replicate 480 0
@@ -47,7 +47,7 @@ record_of m = record_head m ++ data_of m
 abbrev pub FitsRecord : Msg → Type 0
 FitsRecord m = AllByRecursion (λ n. n < 256) (take 3 (four_numbers m))
 
--- ---- by the bytes: what the fields say
+-- ---- by the bytes: what the fields encode
 
 -- the first of several kinds that has this number
 abbrev pub numbered_among : List Kind → ℕ → Option Kind
@@ -74,7 +74,7 @@ assembled kinds.Summary a v f b bytes = Summary
 assembled kinds.SetLabel a v f b bytes = SetLabel a v (take 32 bytes)
 assembled kinds.Label a v f b bytes = Label a v
 
--- the message that the fields of 520 bytes say, whatever stands in those that it doesn't have
+-- the message that the fields of 520 bytes encode, whatever is in those that it doesn't have
 unfoldable pub message_in_fields : List ℕ → Option Msg
 message_in_fields bytes =
     option_map (λ k. assembled k (slice_index bytes 1) (slice_index bytes 2) (slice_index bytes 3) (little_number 2 (take 2 (drop 4 bytes)))

@@ -1,11 +1,11 @@
--- What a writer holds together with what waits to be written to it.
+-- Statement for engineers: What a writer holds together with what waits to be written to it.
 use Rattle.std.specs.Prelude.{◌≤◌, ◌+◌, ℕ, List, length, Option}
 use Rattle.std.specs.Io.KnownBytes.{append_known}
 
--- all that was answered, where the writer tells what it holds: what is written, and then what waits
+-- all that was answered, where it is known what the writer holds: what is written, and then what waits
 abbrev pub so_far : Option (List ℕ) → List ℕ → Option (List ℕ)
 so_far contents waiting = append_known contents waiting
 
--- The longest reply has room behind what waits, of the 65,536 bytes that may wait.
+-- The longest reply has room after what waits, of the 65,536 bytes that may wait.
 abbrev pub FitsReply : List ℕ → Type 0
 FitsReply waiting = length waiting + 1031 ≤ 65536

@@ -4,7 +4,7 @@ ghost use Rattle.messages.specs.Messages.{AreSizedBytes, IsBlock, IsMessage};
 
 use messages::{Block, Msg};
 
-/// Does nothing: it tells a proof that a block has 512 bytes.
+/// Does nothing: it lets a proof know that a block has 512 bytes.
 pub fn know_block(content: &Block)
     ensures { IsBlock content.now }
 {
@@ -20,8 +20,8 @@ fn know_label(label: &[u8; 32])
     let _size = bytes.len();
 }
 
-/// Does nothing: it tells a proof that what a message carries are bytes, 512 of them where it is a
-/// block and 32 where it is a label. The types say so, and a proof knows it of a `&Msg` only here.
+/// Does nothing: it lets a proof know that what a message carries are bytes, 512 of them in a block
+/// and 32 in a label. That follows from the types, but a proof gets it for a `&Msg` only here.
 pub fn know_message(m: &Msg)
     ensures { IsMessage m.now }
 {

@@ -5,7 +5,7 @@ ghost use Rattle.std.specs.Prelude.{◌≡◌, ◌≢◌, ◌*◌, ◌<◌, ◌�
 ghost use Rattle.std.specs.Option.{unwrap_or};
 ghost use Rattle.hex.specs.Hex.{decode_sized, hex_digit_value, decode_pairs};
 
-/// What a byte says that is no digit: more than any digit.
+/// The value of a byte that is no digit: more than any digit's.
 const NO_DIGIT: u8 = 255;
 
 /// The value of a digit, in either case, or `NO_DIGIT`.
@@ -44,8 +44,8 @@ fn decode_all(digits: &[u8], out: &mut [u8]) -> u8
 }
 
 /// Decodes digits into bytes, two into each, as `hex::decode_to_slice` does. It takes the same time
-/// whatever the digits are, so there is one test of them, at the end. Where they are not just twice
-/// as many as the bytes, these stay; where one is no digit, they are unspecified.
+/// whatever the digits are: they are tested once, at the end. Where they are not exactly twice as
+/// many as the bytes, these stay; where one is no digit, they are unspecified.
 pub(crate) fn decode_to_slice(digits: &[u8], out: &mut [u8]) -> Option<()>
     ensures value { MatchResult (decode_sized digits.now (length out.old))
         (λ bytes. (result ≡ Some tt) × (out.new ≡ bytes))

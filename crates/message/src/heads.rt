@@ -1,4 +1,4 @@
-//! What a line says of a message, as far as that can be told without its data.
+//! The head of a line: all that can be known of its message without the data.
 
 ghost use Rattle.std.specs.Prelude.{◌≡◌, ℕ, [], ◌∷◌, slice_index, option_map, IfSome, MatchOption, Some, None};
 ghost use Rattle.messages.specs.declared.Msg.{Msg};
@@ -17,7 +17,7 @@ use crate::parsing::{
 use affinity::Kind;
 use messages::Block;
 
-/// What a line says, its data not looked at. It takes a few bytes, where a message has room for a
+/// What a line is, its data not looked at. It takes a few bytes, where a message has room for a
 /// block.
 #[derive(Clone, Copy)]
 pub enum Head<'a> {
@@ -28,7 +28,7 @@ pub enum Head<'a> {
     Asks(Kind, [u16; 4]),
     /// The line is a `write` with these numbers, if these bytes are the digits of a block.
     Writes([u16; 4], &'a [u8]),
-    /// The line begins as a `setlabel` and is no other message: `parse_line` tells whether it is one.
+    /// The line begins as a `setlabel` and is no other message: `parse_line` finds whether it is one.
     SetsLabel,
 }
 
@@ -51,7 +51,7 @@ pub fn head_of_line(line: &[u8]) -> Head<'_>
     }
 }
 
-/// The head of the message of a kind, where nothing stands behind its keyword.
+/// The head of the message of a kind, where nothing comes after its keyword.
 fn head_of_word(kind: Kind) -> Head<'static>
     ensures { IsHead result (of_kind kind []) }
 {
@@ -61,7 +61,7 @@ fn head_of_word(kind: Kind) -> Head<'static>
     }
 }
 
-/// The head of the message of a kind and what stands behind the space after its keyword.
+/// The head of the message of a kind and what comes after its keyword and a space.
 fn head_of_kind(kind: Kind, line: &[u8]) -> Head<'_>
     ensures { IsHead result (of_kind kind (words line.now)) }
 {
@@ -139,7 +139,7 @@ fn write_asked(line: &[u8]) -> Head<'_>
     }
 }
 
-/// The numbers of a `write`, and what stands where its digits are to be.
+/// The numbers of a `write`, and what is in the place of its digits.
 fn write_parts(line: &[u8]) -> Option<([u16; 4], &[u8])>
     ensures { MatchOption result (of_data write (words line.now) ≡ None)
         (λ p. of_data write (words line.now) ≡ option_map (writing p.0) (block_in_word p.1.now)) }
@@ -151,7 +151,7 @@ fn write_parts(line: &[u8]) -> Option<([u16; 4], &[u8])>
     Some(([aggregate, volume, file, block], behind))
 }
 
-/// Puts the bytes that some digits say where there is room for a block, and zeros behind them.
+/// Puts the bytes that some digits encode where there is room for a block, and zeros after them.
 fn read_bytes(digits: &[u8], out: &mut [u8; 512]) -> Option<()>
     ensures { MatchOption result (bytes_in_word 512 digits.now ≡ None)
         (λ _. bytes_in_word 512 digits.now ≡ Some out.new) }
@@ -165,8 +165,8 @@ fn read_bytes(digits: &[u8], out: &mut [u8; 512]) -> Option<()>
     Some(())
 }
 
-/// Puts the block that some digits say where there is room for one: no other bytes are moved. Where
-/// they say none, it is open what lies there then.
+/// Puts the block that some digits encode where there is room for one: no other bytes are moved.
+/// Where they encode none, it is unspecified what lies there then.
 pub fn read_block(digits: &[u8], content: &mut Block) -> Option<()>
     ensures { MatchOption result (block_in_word digits.now ≡ None)
         (λ _. block_in_word digits.now ≡ Some content.new) }

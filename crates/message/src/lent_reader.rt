@@ -12,7 +12,7 @@ pub trait Loan {
     ghost name: { GName };
 }
 
-/// For a call that lends: the proof of the function that makes it says which loan it is.
+/// For a call that lends: the proof of the function that makes it picks which loan it is.
 impl Loan for Brand {
     ghost name = { 0 };
 }

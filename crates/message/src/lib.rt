@@ -1,4 +1,4 @@
-//! Reads and writes the language of the server: messages as lines come in, replies as lines go out, and records.
+//! Reads and writes the language of the server: messages as input lines, replies as output lines, and records.
 #![tactic(auto)]
 
 mod carried;

@@ -1,4 +1,4 @@
-//! What a line says.
+//! The message that a line spells.
 
 ghost use Rattle.std.specs.Prelude.{◌≡◌, ℕ, ◌<◌, ◌∷◌, [], true, ◌↔◌, length, slice_index, IsTrue, MatchOption, option_map};
 ghost use Rattle.std.specs.Str.{all_ascii_digits};
@@ -114,7 +114,7 @@ fn kind_of_seven(word: &[u8; 7]) -> Option<Kind>
     }
 }
 
-/// The message of a kind and what stands after the space after its keyword.
+/// The message of a kind and what comes after its keyword and a space.
 fn of_kind(kind: Kind, line: &[u8]) -> Option<Msg>
     ensures { result ≡ of_kind kind (words line.now) }
 {
@@ -162,7 +162,7 @@ pub(crate) fn block_numbers(line: &[u8]) -> Option<(u16, u16, u16, u16)>
     Some((aggregate, volume, file, block))
 }
 
-/// The message of what stands after `write`.
+/// The message of what comes after `write`.
 fn write_message(line: &[u8]) -> Option<Msg>
     ensures { result ≡ of_data write (words line.now) }
 {
@@ -179,7 +179,7 @@ fn write_message(line: &[u8]) -> Option<Msg>
     ))
 }
 
-/// The message of what stands after `setlabel`.
+/// The message of what comes after `setlabel`.
 fn label_message(line: &[u8]) -> Option<Msg>
     ensures { result ≡ of_label set_label (words line.now) }
 {
@@ -188,8 +188,8 @@ fn label_message(line: &[u8]) -> Option<Msg>
     Some(Msg::SetLabel(aggregate, volume, bytes_in_word(behind)?))
 }
 
-/// The number that stands before the first space of a line, and what stands behind that. It looks
-/// at no byte twice.
+/// The number before the first space of a line, and what comes after that space. It looks at no
+/// byte twice.
 pub(crate) fn number_before_space(line: &[u8]) -> Option<(u16, &[u8])>
     ensures { first_number (words line.now) ≡ option_map (λ p. (p.0, words p.1.now)) result }
 {
@@ -211,7 +211,7 @@ pub(crate) fn number_before_space(line: &[u8]) -> Option<(u16, &[u8])>
     None
 }
 
-/// The number that a word of digits says, where this is their value.
+/// The number that a word of digits encodes, where this is their value.
 fn plain_number(value: u32, word: &[u8]) -> Option<u16>
     requires digits { all_ascii_digits word.now ≡ true }
     requires value { value ≡ digits_value 10 word.now }
@@ -227,7 +227,7 @@ fn plain_number(value: u32, word: &[u8]) -> Option<u16>
     Some(value as u16)
 }
 
-/// The first word of a line and what stands behind the space after it, where there is a space.
+/// The first word of a line and what comes after the space behind it, where there is a space.
 pub(crate) fn split_at_space(line: &[u8]) -> Option<(&[u8], &[u8])>
     ensures { MatchOption result (words line.now ≡ line.now ∷ []) (λ p. words line.now ≡ p.0.now ∷ words p.1.now) }
 {
@@ -235,14 +235,14 @@ pub(crate) fn split_at_space(line: &[u8]) -> Option<(&[u8], &[u8])>
     Some((&line[..end], &line[end + 1..]))
 }
 
-/// Whether a zero stands in front of other digits.
+/// Whether there is a zero in front of other digits.
 fn has_leading_zero(word: &[u8]) -> bool
     ensures { IsTrue result ↔ ((1 < length word.now) × (slice_index word.now 0 ≡ 48)) }
 {
     word.len() > 1 && word[0] == b'0'
 }
 
-/// The number that a word says.
+/// The number that a word encodes.
 fn number(word: &[u8]) -> Option<u16>
     ensures { result ≡ number_in_word word.now }
 {
@@ -265,7 +265,7 @@ fn number(word: &[u8]) -> Option<u16>
     u16::try_from(value).ok()
 }
 
-/// The bytes that a word says in hexadecimal digits, and zeros after them.
+/// The bytes that a word encodes in hexadecimal digits, and zeros after them.
 fn bytes_in_word<const N: usize>(digits: &[u8]) -> Option<[u8; N]>
     ensures { result ≡ bytes_in_word N digits.now }
 {

@@ -1,4 +1,4 @@
-//! What a reply says.
+//! The line of a reply.
 
 ghost use Rattle.std.specs.Prelude.{◌≡◌, ◌<◌, ◌≤◌, ◌+◌, ◌*◌, length, take, drop};
 ghost use Rattle.messages.specs.Replies.{Appends, at_least_one, no_message, reply_line, reply_text, shown, spaced, without_zeros, reason};
@@ -38,7 +38,7 @@ pub fn no_message_line() -> &'static [u8]
     b"error line\n"
 }
 
-/// Writes what a reply says into the front of `out`, and gives its length.
+/// Writes the text of a reply into the front of `out`, and gives its length.
 #[inline(always)]
 fn write_text(reply: &Reply, out: &mut [u8; 1031]) -> usize
     ensures text { Appends out.old out.new 0 result (reply_text reply.now) }
@@ -70,7 +70,7 @@ fn write_text(reply: &Reply, out: &mut [u8; 1031]) -> usize
     }
 }
 
-/// Writes what the reply says that a block is, and gives its length.
+/// Writes the text of the reply that a block is, and gives its length.
 fn write_block_text(content: &Block, out: &mut [u8; 1031]) -> usize
     ensures text { Appends out.old out.new 0 result (reply_text (block_reply content.now)) }
     ensures bound { result ≤ 1030 }
@@ -93,7 +93,7 @@ fn reason(why: Refusal) -> &'static [u8]
     }
 }
 
-/// Writes what the reply says that lists files, and gives its length. It goes from each file that
+/// Writes the text of the reply that lists files, and gives its length. It goes from each file that
 /// there is straight to the next.
 fn write_files(files: u64, out: &mut [u8; 1031]) -> usize
     ensures text { Appends out.old out.new 0 result (reply_text (files_reply files)) }

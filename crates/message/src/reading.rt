@@ -29,7 +29,7 @@ struct Held {
     line_end: usize,
     start: usize,
 
-    /// Where the first newline of what is held stands, or `end`.
+    /// Where the first newline of what is held is, or `end`.
     newline: usize,
     end: usize,
     ghost room: { 1101 ≤ vec_len buffer },
@@ -42,7 +42,7 @@ struct Held {
     ghost newline_there: { newline < end → slice_index buffer.items newline ≡ 10 },
 }
 
-/// Where the first newline stands, or the length where there is none.
+/// Where the first newline is, or the length where there is none.
 fn find_newline(bytes: &[u8]) -> usize
     ensures within { result ≤ length bytes.now }
     ensures none_before { (k : ℕ) → k < result → slice_index bytes.now k ≢ 10 }
@@ -135,7 +135,7 @@ impl Held {
         self.line_end = 0;
     }
 
-    /// Lets go of the first line.
+    /// Drops the first line.
     fn pass_line(&mut self)
         ensures bytes { held_bytes self.new ≡ behind_first_line (held_bytes self.old) }
         ensures line { held_line self.new ≡ held_line self.old }
@@ -155,7 +155,7 @@ impl Held {
         self.pass_line();
     }
 
-    /// Lets go of all bytes.
+    /// Drops all bytes.
     fn clear(&mut self)
         ensures bytes { held_bytes self.new ≡ [] }
         ensures gone { self.new.start ≡ self.new.end }
@@ -181,7 +181,7 @@ impl Held {
         self.start = 0;
     }
 
-    /// Reads once, after what is held, and answers how many bytes came.
+    /// Reads once, after what is held, and gives how many bytes came.
     fn read_behind<R: Read>(&mut self, reader: &mut R) -> Result<usize, ReadFault>
         requires line { held_line self.old ≡ [] }
         requires no_newline { self.old.newline ≡ self.old.end }
@@ -204,7 +204,7 @@ impl Held {
         Ok(count)
     }
 
-    /// Reads once, as much as there is room for after what is held, and answers how many bytes came.
+    /// Reads once, as much as there is room for after what is held, and gives how many bytes came.
     fn fill<R: Read>(&mut self, reader: &mut R) -> Result<usize, ReadFault>
         requires line { held_line self.old ≡ [] }
         requires within_line { IsWithinLine (held_bytes self.old) }
@@ -290,7 +290,7 @@ impl<R: Read> LineReader<R> {
     ///
     /// `ReadFault` where a read fails, also one that was interrupted, and where more than 2^64 - 1
     /// reads are needed. All lines that were read whole were given before. From then on each call
-    /// answers it, and none reads.
+    /// reports it, and none reads.
     pub fn next_line(&mut self) -> Result<Found, ReadFault>
         ensures found { Finds result (unread R.remaining self.old)
             (line_of self.new) (unread R.remaining self.new) }
@@ -326,7 +326,7 @@ impl<R: Read> LineReader<R> {
         self.reader
     }
 
-    /// Whether a read is needed before it is known what is found.
+    /// Whether a read is needed to know what is found.
     fn wants_more(&self) -> bool
         ensures open { IsTrue result → IsFalse (has_ended self.now) }
         ensures within_line { IsTrue result → IsWithinLine (held_bytes self.now.held) }
@@ -390,7 +390,7 @@ impl<R: Read> LineReader<R> {
         Ok(())
     }
 
-    /// Reads and lets go of it until a newline is held or the end was reported.
+    /// Reads and drops what came, until a newline is held or the end was reported.
     fn skip(&mut self) -> Result<(), ReadFault>
         requires line { line_of self.old ≡ [] }
         requires sound { IsFalse (has_failed self.old) }

@@ -46,7 +46,7 @@ fn has_head_of(bytes: &[u8; 520], m: &Msg) -> bool
     bytes[..8] == head_of(m)[..]
 }
 
-/// Whether what stands after the head is the data of a message that the fields say.
+/// Whether what comes after the head is the data of a message with these fields.
 fn has_data_of(bytes: &[u8; 520], m: &Msg) -> bool
     requires { Some m.now ≡ message_in_fields bytes.now }
     ensures { IsTrue result ↔ (drop 8 bytes.now ≡ data_of m.now) }
@@ -58,7 +58,7 @@ fn has_data_of(bytes: &[u8; 520], m: &Msg) -> bool
     }
 }
 
-/// What stands before the data of a record.
+/// What comes before the data of a record.
 fn head_of(m: &Msg) -> [u8; 8]
     requires { FitsRecord m.now }
     ensures { result ≡ record_head m.now }
@@ -78,7 +78,7 @@ fn label_data(label: &[u8; 32]) -> [u8; 512]
     bytes
 }
 
-/// The message that the fields say, whatever stands in those that it doesn't have.
+/// The message that the fields encode, whatever is in those that it doesn't have.
 fn message_in_fields(bytes: &[u8; 520]) -> Option<Msg>
     ensures { result ≡ message_in_fields bytes.now }
 {

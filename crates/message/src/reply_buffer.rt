@@ -18,7 +18,7 @@ use std::marker::Model;
 /// How many bytes of replies may wait.
 pub const REPLY_BUFFER_SIZE: usize = 65536;
 
-/// A writer did not take what was written, or could not be flushed.
+/// A writer did not take what was to be written, or could not be flushed.
 #[derive(Clone, Copy, Debug, PartialEq, Eq)]
 pub struct WriteFault;
 
@@ -153,7 +153,7 @@ impl ReplyBuffer {
         self.len == 0
     }
 
-    /// Whether the longest reply has room behind what waits.
+    /// Whether the longest reply has room after what waits.
     pub fn has_room(&self) -> bool
         ensures { IsTrue result ↔ FitsReply self.now }
     {
@@ -167,7 +167,7 @@ impl ReplyBuffer {
         &self.bytes.as_slice()[..self.len]
     }
 
-    /// Lets go of all that waits, since it was written.
+    /// Drops all that waits, since it was written.
     pub fn clear(&mut self)
         ensures { self.new ≡ [] }
     {
@@ -178,8 +178,8 @@ impl ReplyBuffer {
     ///
     /// # Errors
     ///
-    /// `WriteFault` where the writer fails. All that waited waits still, and it is open how much
-    /// of it was written.
+    /// `WriteFault` where the writer fails. All that waited waits still, and it is unspecified how
+    /// much of it was written.
     pub fn send<W: Write>(&mut self, w: &mut W) -> Result<(), WriteFault>
         ensures none_waits { OnOk result (self.new ≡ []) }
         ensures kept { OnOk result (Appends (so_far (W.contents w.old) self.old)
@@ -200,8 +200,8 @@ impl ReplyBuffer {
         Ok(())
     }
 
-    /// Writes all that waits before a read that may wait: unless a whole line is held, since the
-    /// next line is then found with no read.
+    /// Writes all that waits before a read that may wait. Where a whole line is held it does not:
+    /// the next line is then found with no read.
     ///
     /// # Errors
     ///
@@ -225,7 +225,7 @@ impl ReplyBuffer {
         }
     }
 
-    /// Writes all that waits where the longest reply has no room behind it.
+    /// Writes all that waits where the longest reply has no room after it.
     ///
     /// # Errors
     ///

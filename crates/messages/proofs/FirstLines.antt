@@ -26,7 +26,8 @@ lines-other b bs not = cond-false (eqb b 10) ([] ∷ lines bs) (in_first b (line
 lines-of_rest : (b : ℕ) (bs : List ℕ) → in_first b (lines bs) ≡ (b ∷ first_line bs) ∷ lines (behind_first_line bs) → lines (b ∷ bs) ≡ first_line (b ∷ bs) ∷ lines (behind_first_line (b ∷ bs))
 lines-of_rest b bs rest = elim (cases_eq b 10) [
   | inl is ↦ lines-newline b bs is ∙ ap (λ l. l ∷ lines bs) (sym (first_line-newline b bs is)) ∙ ap (λ l. first_line (b ∷ bs) ∷ lines l) (sym (behind_first_line-newline b bs is))
-  | inr not ↦ lines-other b bs not ∙ rest ∙ ap (λ l. l ∷ lines (behind_first_line bs)) (sym (first_line-other b bs not)) ∙ ap (λ l. first_line (b ∷ bs) ∷ lines l) (sym (behind_first_line-other b bs not))
+  | inr not ↦ lines-other b bs not ∙ rest ∙ ap (λ l. l ∷ lines (behind_first_line bs)) (sym (first_line-other b bs not))
+      ∙ ap (λ l. first_line (b ∷ bs) ∷ lines l) (sym (behind_first_line-other b bs not))
 ]
 
 lines-cons : (b : ℕ) (bs : List ℕ) → lines (b ∷ bs) ≡ first_line (b ∷ bs) ∷ lines (behind_first_line (b ∷ bs))

@@ -1,4 +1,4 @@
--- The first line of some bytes, and what a reader of lines finds in them.
+-- Statement for engineers: The first line of some bytes, and what a reader of lines finds in them.
 use Rattle.std.specs.Prelude.{◌≡◌, ◌≢◌, ℕ, ◌<◌, ◌⊎◌, ◌==◌, Bool, true, List, [], ◌∷◌, ◌++◌, length, if◌then◌else◌, Option, Some, IfSome, All, Contains}
 
 -- the bytes before the first newline, or all of them
@@ -6,7 +6,7 @@ abbrev pub first_line : List ℕ → List ℕ
 first_line [] = []
 first_line (b ∷ bs) = if b == 10 then [] else b ∷ first_line bs
 
--- the bytes behind the first newline, or none
+-- the bytes after the first newline, or none
 abbrev pub behind_first_line : List ℕ → List ℕ
 behind_first_line [] = []
 behind_first_line (b ∷ bs) = if b == 10 then bs else behind_first_line bs
@@ -17,13 +17,13 @@ IsWithinLine bs = All (λ b. b ≢ 10) bs
 
 -- ---- what is found, where the bytes are known
 
--- The line is the first of the bytes, and those behind it are left.
+-- The line is the first of the bytes, and those after it are left.
 pub record GivesLine (line bs : List ℕ) (left : Option (List ℕ)) : Type 0 where
   pub more : bs ≢ []
   pub line_is : line ≡ first_line bs
   pub left_is : left ≡ Some (behind_first_line bs)
 
--- The first line of the bytes has more than 1,100 bytes, and those behind it are left.
+-- The first line of the bytes has more than 1,100 bytes, and those after it are left.
 pub record PassesLine (bs : List ℕ) (left : Option (List ℕ)) : Type 0 where
   pub long : 1100 < length (first_line bs)
   pub left_is : left ≡ Some (behind_first_line bs)

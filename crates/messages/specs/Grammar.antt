@@ -1,4 +1,4 @@
--- Which lines spell which messages.
+-- Format for clients: Which lines spell which messages.
 use Rattle.std.specs.Prelude.{◌≡◌, ℕ, ◌<◌, ◌≤◌, nat_lt, List, [], ◌∷◌, ◌++◌, length, map, codes, if◌then◌else◌, Option, Some, None, Ok}
 use Rattle.std.specs.List.{AllByRecursion, join_with_byte}
 use Rattle.std.specs.Str.{bytes_eq}
@@ -19,14 +19,14 @@ abbrev pub ◌>>=◌ : {A B : Type 0} → Option A → (A → Option B) → Opti
 (Some x) >>= f = f x
 None >>= f = None
 
--- the number that the first of several words says, and the words behind it
+-- the number that the first of several words encodes, and the words after it
 abbrev pub first_number : List (List ℕ) → Option (ℕ × List (List ℕ))
 first_number (w ∷ v ∷ ws) = do
   n ← number_in_word w
   Some (n, v ∷ ws)
 first_number _ = None
 
--- the message with the numbers that these words say, where they are two, three or four
+-- the message with the numbers that these words encode, where they are two, three or four
 abbrev pub of_volume : (ℕ → ℕ → Msg) → List (List ℕ) → Option Msg
 of_volume make (a ∷ v ∷ []) = do
   aggregate ← number_in_word a
@@ -76,7 +76,7 @@ abbrev pub of_nothing : Msg → List (List ℕ) → Option Msg
 of_nothing m [] = Some m
 of_nothing m _ = None
 
--- the message of a kind and the words behind its keyword
+-- the message of a kind and the words after its keyword
 abbrev pub of_kind : Kind → List (List ℕ) → Option Msg
 of_kind kinds.MakeVol arguments = of_volume MakeVol arguments
 of_kind kinds.DropVol arguments = of_volume DropVol arguments
@@ -135,18 +135,18 @@ message_of line = if nat_lt 1100 (length line) then None else of_words (words li
 
 -- ---- by the message: how its line is put together
 
--- The hexadecimal digits say so many bytes: one at least, and zeros behind those that have digits.
+-- The hexadecimal digits encode so many bytes: one at least, and zeros after those that have digits.
 abbrev pub SpellsBytes : ℕ → List ℕ → List ℕ → Type 0
 SpellsBytes size digits whole = (bytes : List ℕ) × (decode_of digits ≡ Ok bytes) × (1 ≤ length bytes) × (length bytes ≤ size)
     × (whole ≡ padded size bytes)
 
--- what stands behind the numbers of a message
+-- what comes after the numbers of a message
 abbrev pub IsData : Msg → List (List ℕ) → Type 0
 IsData (Write a v f b content) behind = (digits : List ℕ) × (behind ≡ digits ∷ []) × SpellsBytes 512 digits content.0
 IsData (SetLabel a v bytes) behind = (digits : List ℕ) × (behind ≡ digits ∷ []) × SpellsBytes 32 digits bytes
 IsData _ behind = behind ≡ []
 
--- The line spells the message: its keyword, its numbers in decimal and its data, parted by single spaces.
+-- The line spells the message: its keyword, its numbers in decimal and its data, separated by single spaces.
 pub record Spells (line : List ℕ) (m : Msg) : Type 0 where
   pub words_behind : List (List ℕ)
   pub parts : line ≡ join_with_byte 32 (keyword (kind m) ∷ map decimal (numbers m) ++ words_behind)

@@ -1,4 +1,4 @@
--- The lines of an input, the words of a line, and what a word says.
+-- Format for clients: The lines of an input, the words of a line, and what a word encodes.
 use Rattle.std.specs.Prelude.{ℕ, ◌-◌, ◌*◌, Bool, ◌&&◌, ◌||◌, not, ◌==◌, nat_lt, nat_le, List, [], ◌∷◌, ◌++◌, length, replicate, slice_index, if◌then◌else◌, Option, Some, None, option_map, Result, Ok, Err}
 use Rattle.std.specs.Str.{all_ascii_digits}
 use Rattle.std.specs.Str.Parse.{digits_value}
@@ -25,7 +25,7 @@ words (b ∷ bs) = if b == 32 then [] ∷ words bs else in_first b (words bs)
 abbrev pub is_numeral : List ℕ → Bool
 is_numeral word = all_ascii_digits word && nat_lt 0 (length word) && (not (slice_index word 0 == 48) || (length word == 1))
 
--- the number from 0 to 65535 that a word says
+-- the number from 0 to 65535 that a word encodes
 unfoldable pub number_in_word : List ℕ → Option ℕ
 number_in_word word = if is_numeral word && nat_lt (digits_value 10 word) 65536 then Some (digits_value 10 word) else None
 
@@ -37,14 +37,14 @@ abbrev pub padded_with : ℕ → Result (List ℕ) FromHexError → Option (List
 padded_with size (Ok bytes) = Some (padded size bytes)
 padded_with size (Err e) = None
 
--- the bytes that a word says: hexadecimal digits, two for each byte, at least one byte and at most so many, and zeros behind them
+-- the bytes that a word encodes: hexadecimal digits, two for each byte, at least one byte and at most so many, and zeros after them
 unfoldable pub bytes_in_word : ℕ → List ℕ → Option (List ℕ)
 bytes_in_word size word = if nat_le 2 (length word) && nat_le (length word) (2 * size) then padded_with size (decode_of word) else None
 
--- the block that a word says
+-- the block that a word encodes
 unfoldable pub block_in_word : List ℕ → Option Block
 block_in_word word = option_map (λ bytes. record { 0 = bytes }) (bytes_in_word 512 word)
 
--- the label that a word says
+-- the label that a word encodes
 unfoldable pub label_in_word : List ℕ → Option (List ℕ)
 label_in_word word = bytes_in_word 32 word

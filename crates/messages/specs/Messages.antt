@@ -1,4 +1,4 @@
--- What a message is: its kind and its numbers.
+-- Statement for clients: What a message is: its kind and its numbers.
 use Rattle.std.specs.Prelude.{◌≡◌, ℕ, ◌<◌, Bool, List, [], ◌∷◌, length}
 use Rattle.std.specs.List.{AllByRecursion}
 use Rattle.affinity.specs.declared.kinds.Kind.{Kind}

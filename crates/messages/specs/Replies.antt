@@ -1,4 +1,4 @@
--- The line of each reply.
+-- Format for clients: The line of each reply.
 use Rattle.std.specs.Prelude.{◌≡◌, ℕ, zero, suc, ◌+◌, ◌==◌, List, [], ◌∷◌, ◌++◌, take, drop, length, codes, if◌then◌else◌, Bool}
 use Rattle.std.specs.Fmt.{decimal}
 use Rattle.std.specs.Int.{bit_at}
@@ -51,7 +51,7 @@ files_below files (suc f) = files_below files f ++ (if has_file files f then spa
 unfoldable pub files_text : ℕ → List ℕ
 files_text files = files_below files 64
 
--- what a reply says
+-- the text of a reply
 abbrev pub reply_text : Reply → List ℕ
 reply_text Done = codes "done"
 reply_text Hole = codes "hole"
@@ -70,13 +70,13 @@ output_line text = text ++ 10 ∷ []
 abbrev pub reply_line : Reply → List ℕ
 reply_line reply = output_line (reply_text reply)
 
--- what a line is answered that is no message
+-- the answer to a line that is no message
 abbrev pub no_message : List ℕ
 no_message = output_line (codes "error line")
 
 -- ---- a line put together in a buffer
 
--- A text stands behind the first `at` bytes of a buffer, up to `end`, and the others are as they were.
+-- A text comes after the first `at` bytes of a buffer, up to `end`, and the others are as they were.
 pub record Appends (old new : List ℕ) (at end : ℕ) (text : List ℕ) : Type 0 where
   pub ends : end ≡ at + length text
   pub front : take end new ≡ take at old ++ text

@@ -1,4 +1,4 @@
-//! What kind of message a message is, and its numbers.
+//! The kind of a message, and its numbers.
 
 ghost use Rattle.std.specs.Prelude.{◌≡◌};
 ghost use Rattle.messages.specs.Messages.{kind, four_numbers};

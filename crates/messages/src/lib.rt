@@ -1,6 +1,6 @@
-//! The language of the server: messages and replies as values, and which line says which.
+//! The language of the server: messages and replies as values, and which line encodes which.
 //!
-//! The definitions are in `specs`. No code runs here but what tells the kind of a message and its numbers.
+//! The definitions are in `specs`. No code runs here but what gives the kind of a message and its numbers.
 #![tactic(auto)]
 
 mod kinds;
@@ -9,8 +9,8 @@ mod kinds;
 #[derive(Clone, Copy, Debug, PartialEq, Eq)]
 pub struct Block(pub [u8; 512]);
 
-/// A message. The numbers are, in this order, an aggregate, a volume of it, a file of that and a
-/// block of that file.
+/// A message. The numbers are, in this order, an aggregate, a volume of it, a file of that volume
+/// and a block of that file.
 #[derive(Clone, Copy, Debug, PartialEq, Eq)]
 pub enum Msg {
     /// Makes a volume, without files and with a label of zeros.
@@ -46,7 +46,7 @@ pub enum Msg {
 /// Why a message was refused.
 #[derive(Clone, Copy, Debug, PartialEq, Eq)]
 pub enum Refusal {
-    /// A number of it is not below its limit.
+    /// One of its numbers is not below its limit.
     Range,
     /// Its volume is not there.
     Volume,
@@ -60,7 +60,7 @@ pub enum Refusal {
     Space,
 }
 
-/// What a message is answered.
+/// The reply to a message.
 #[derive(Clone, Copy, Debug, PartialEq, Eq)]
 pub enum Reply {
     /// The message was carried out.

@@ -25,7 +25,8 @@ pub current_kept : (g : Layout) (n p : ℕ) (a c : List ℕ) → half n ≢ p �
 current_kept g n p a c apart same = ap (λ (l : List ℕ). cond (eqb (get_or l 0 0) 1) (other n) n) (same.others (half n) apart)
 
 module _ {S : Type 0} (means : Meaning S) where
-  more_by : (g : Layout) (n h : ℕ) (x : Option S) (more : List (List ℕ)) (a c : List ℕ) → n < 2 → h < 2 → HasMore g h more a c → RecoversBy means g n h x a → RecoversBy means g n h (run means x more) c
+  more_by : (g : Layout) (n h : ℕ) (x : Option S) (more : List (List ℕ)) (a c : List ℕ) → n < 2 → h < 2 → HasMore g h more a c
+      → RecoversBy means g n h x a → RecoversBy means g n h (run means x more) c
   more_by g n h x more a c is_area is_half has recovered_before = record {
     named = same_named means g h more a c is_half has ∙ recovered_before.named;
     current = ap (λ (b : ℕ). cond (eqb b 1) (other n) n) (same_chain means g h more a c is_half has n is_area) ∙ recovered_before.current;
@@ -68,7 +69,8 @@ module _ {S : Type 0} (means : Meaning S) where
         is = half_kept means g n after.old c is_area (no_chain_by n (eqb (chain g n after.old) 1) is_area recovered_before.current) after.change.same ∙ recovered_before.is;
       })
 
-  chain_by : (g : Layout) (n : ℕ) (x : Option S) (a c : List ℕ) → n < 2 → front g (other n) a ≡ [] → chain g (other n) a ≢ 1 → IsSameButChain g n a c → named_area g a ≡ n → recovers_as means g n a ≡ x → RecoversBy means g n (current_of g n c) x c
+  chain_by : (g : Layout) (n : ℕ) (x : Option S) (a c : List ℕ) → n < 2 → front g (other n) a ≡ [] → chain g (other n) a ≢ 1
+      → IsSameButChain g n a c → named_area g a ≡ n → recovers_as means g n a ≡ x → RecoversBy means g n (current_of g n c) x c
   chain_by g n x a c is_area none no_chain change named is = record {
     named = named_kept g (half n) a c (λ is. omega (arith, is)) change.same ∙ named;
     current = refl;

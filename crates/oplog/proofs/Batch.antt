@@ -14,7 +14,8 @@ use Rattle.oplog.proofs.RecordRows.{AreRows, length-concat}
 use Rattle.oplog.proofs.InHalf.{HasMoreIn, body_at, bodies_written, gates_torn, gates_written, now_used, now_shut}
 
 -- These records are added to half h behind k others. Places in the half count from its first byte.
-module _ (g : Layout) (h k : ℕ) (more : List (List ℕ)) (is_half : h < 2) (sized : AreRows more) (room : k + length more ≤ g.slots) (w0 w1 : Medium) (fits : device_size g ≤ length w0.now) (are_bytes : AreBytes w0.now) (ready : IsReady g h k w0) where
+module _ (g : Layout) (h k : ℕ) (more : List (List ℕ)) (is_half : h < 2) (sized : AreRows more) (room : k + length more ≤ g.slots) (w0 w1 : Medium)
+    (fits : device_size g ≤ length w0.now) (are_bytes : AreBytes w0.now) (ready : IsReady g h k w0) where
   size : part_size g (half h) ≡ half_size g.slots
   size = half_sized g h is_half
 
@@ -98,13 +99,16 @@ module _ (g : Layout) (h k : ℕ) (more : List (List ℕ)) (is_half : h < 2) (si
         open_in = slice_slice c (part_at g (half h)) (part_size g (half h)) (64 + k) (length more) (omega (arith, gate_room, size)) ∙ ones
 
         pub has_all : HasMore g h more w0.now c
-        has_all = grown more w0.now c all_same (gates_written g.slots k more sized room (part_bytes g (half h) w0.now) (part_bytes g (half h) w1.now) (part_bytes g (half h) c) ready.used ready.shut bodies_in stand gates_in_half open_in)
+        has_all = grown more w0.now c all_same (gates_written g.slots k more sized room (part_bytes g (half h) w0.now)
+            (part_bytes g (half h) w1.now) (part_bytes g (half h) c) ready.used ready.shut bodies_in stand gates_in_half open_in)
 
         pub used_all : open_gates (gates_in g.slots (part_bytes g (half h) c)) ≡ k + length more
-        used_all = now_used g.slots k more sized room (part_bytes g (half h) w0.now) (part_bytes g (half h) w1.now) (part_bytes g (half h) c) ready.used ready.shut bodies_in stand gates_in_half open_in
+        used_all = now_used g.slots k more sized room (part_bytes g (half h) w0.now) (part_bytes g (half h) w1.now) (part_bytes g (half h) c)
+            ready.used ready.shut bodies_in stand gates_in_half open_in
 
         pub shut_all : drop (k + length more) (gates_in g.slots (part_bytes g (half h) c)) ≡ replicate (g.slots - (k + length more)) 0
-        shut_all = now_shut g.slots k more sized room (part_bytes g (half h) w0.now) (part_bytes g (half h) w1.now) (part_bytes g (half h) c) ready.used ready.shut bodies_in stand gates_in_half open_in
+        shut_all = now_shut g.slots k more sized room (part_bytes g (half h) w0.now) (part_bytes g (half h) w1.now) (part_bytes g (half h) c)
+            ready.used ready.shut bodies_in stand gates_in_half open_in
 
     pub second : (c : List ℕ) → After w1 (SameOutside {X = ℕ} (part_at g (half h) + (64 + k)) (length more)) c → Grew g h more w0 c
     second c after =

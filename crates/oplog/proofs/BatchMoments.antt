@@ -11,7 +11,9 @@ use Rattle.oplog.proofs.RecordRows.{AreRows}
 use Rattle.oplog.proofs.InHalf.{body_at}
 use Rattle.oplog.proofs.Batch.{first, second, third}
 
-module _ (g : Layout) (h k : ℕ) (more : List (List ℕ)) (is_half : h < 2) (sized : AreRows more) (room : k + length more ≤ g.slots) (w0 w1 : Medium) (fits : device_size g ≤ length w0.now) (are_bytes : AreBytes w0.now) (ready : IsReady g h k w0) (at : ℕ) (bytes : List ℕ) (place : at ≡ part_at g (half h) + body_at g.slots k) (are : bytes ≡ concat more) where
+module _ (g : Layout) (h k : ℕ) (more : List (List ℕ)) (is_half : h < 2) (sized : AreRows more) (room : k + length more ≤ g.slots) (w0 w1 : Medium)
+    (fits : device_size g ≤ length w0.now) (are_bytes : AreBytes w0.now) (ready : IsReady g h k w0) (at : ℕ) (bytes : List ℕ)
+    (place : at ≡ part_at g (half h) + body_at g.slots k) (are : bytes ≡ concat more) where
   pub bodies_moments : CrashImagesAre w0 w1 (After w0 (SameOutside {X = ℕ} at (length bytes))) → CrashImagesAre w0 w1 (Grew g h more w0)
   bodies_moments moments =
       let moments' = subst (λ (a : ℕ). CrashImagesAre w0 w1 (After w0 (SameOutside {X = ℕ} a (length (concat more))))) place

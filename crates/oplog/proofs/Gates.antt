@@ -5,7 +5,8 @@ use Rattle.std.proofs.lemmas.List.{take-append-drop, drop-drop, drop-replicate, 
 use Rattle.disk.specs.Device.{SameOutside}
 use Rattle.oplog.specs.Front.{open_gates}
 
-opened_first : (gate : ℕ) (gates : List ℕ) (t : Bool) → eqb gate 1 ≡ t → take (open_gates gates) gates ≡ replicate (open_gates gates) 1 → take (cond t (1 + open_gates gates) 0) (gate ∷ gates) ≡ replicate (cond t (1 + open_gates gates) 0) 1
+opened_first : (gate : ℕ) (gates : List ℕ) (t : Bool) → eqb gate 1 ≡ t → take (open_gates gates) gates ≡ replicate (open_gates gates) 1
+    → take (cond t (1 + open_gates gates) 0) (gate ∷ gates) ≡ replicate (cond t (1 + open_gates gates) 0) 1
 opened_first gate gates true is rest =
     let one : gate ≡ 1 = eqb-true gate 1 is in
     let more : 1 + open_gates gates ≡ suc (open_gates gates) = omega arith in
@@ -54,7 +55,7 @@ module _ (k n m : ℕ) (old c : List ℕ) (used : open_gates old ≡ k) (shut : 
       sym (take-append-drop k c) ∙ ap (λ (l : List ℕ). l ++ drop k c) before
       ∙ ap (λ (l : List ℕ). replicate k 1 ++ l) (sym (take-append-drop n (drop k c)) ∙ ap (λ (l : List ℕ). take n (drop k c) ++ l) (drop-drop n k c ∙ still_shut))
 
-  -- whatever stands in their place
+  -- whatever is in their place
   pub torn_gates : (j : ℕ) × (j ≤ n) × (open_gates c ≡ k + j)
   torn_gates =
       let more = take n (drop k c) in

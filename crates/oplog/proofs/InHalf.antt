@@ -10,7 +10,7 @@ use Rattle.oplog.proofs.Slices.{within, slice_slice}
 use Rattle.oplog.proofs.Gates.{torn_gates, full_gates, still_shut}
 use Rattle.oplog.proofs.RecordRows.{AreRows, rows_same, rows-add, rows_of}
 
--- These records stand behind the front, and what lies before the gates is as it was.
+-- These records are behind the front, and what lies before the gates is as it was.
 pub record HasMoreIn (slots : ℕ) (more : List (List ℕ)) (old new : List ℕ) : Type 0 where
   pub area : take 64 new ≡ take 64 old
   pub front : front_in slots new ≡ front_in slots old ++ more
@@ -37,7 +37,10 @@ module _ (slots k n : ℕ) (old new : List ℕ) (used : open_gates (gates_in slo
   }
 
 -- Then their gates are written, from `mid` on.
-module _ (slots k : ℕ) (more : List (List ℕ)) (sized : AreRows more) (room : k + length more ≤ slots) (old mid new : List ℕ) (used : open_gates (gates_in slots old) ≡ k) (shut : drop k (gates_in slots old) ≡ replicate (slots - k) 0) (bodies : SameOutside (body_at slots k) (length more * 520) old mid) (stand : slice mid (body_at slots k) (length more * 520) ≡ concat more) (gates : SameOutside (64 + k) (length more) mid new) where
+module _ (slots k : ℕ) (more : List (List ℕ)) (sized : AreRows more) (room : k + length more ≤ slots) (old mid new : List ℕ)
+    (used : open_gates (gates_in slots old) ≡ k) (shut : drop k (gates_in slots old) ≡ replicate (slots - k) 0)
+    (bodies : SameOutside (body_at slots k) (length more * 520) old mid) (stand : slice mid (body_at slots k) (length more * 520) ≡ concat more)
+    (gates : SameOutside (64 + k) (length more) mid new) where
   area : take 64 new ≡ take 64 old
   area = same_take (64 + k) (length more) mid new gates 64 (omega arith) ∙ same_take (body_at slots k) (length more * 520) old mid bodies 64 (omega arith)
 
@@ -53,7 +56,8 @@ module _ (slots k : ℕ) (more : List (List ℕ)) (sized : AreRows more) (room :
       let records : drop (64 + slots) new ≡ drop (64 + slots) mid = same_drop (64 + k) (length more) mid new gates (64 + slots) (omega (arith, room)) in
       let first : rows 520 k (drop (64 + slots) mid) ≡ front_in slots old = same_rows slots k (length more * 520) old mid used bodies ∙ sym (ap (λ (j : ℕ). rows 520 j (drop (64 + slots) old)) used) in
       let behind : drop (k * 520) (drop (64 + slots) mid) ≡ concat more ++ drop (length more * 520) (drop (body_at slots k) mid) =
-      drop-drop (k * 520) (64 + slots) mid ∙ sym (take-append-drop (length more * 520) (drop (body_at slots k) mid)) ∙ ap (λ (l : List ℕ). l ++ drop (length more * 520) (drop (body_at slots k) mid)) stand in
+      drop-drop (k * 520) (64 + slots) mid ∙ sym (take-append-drop (length more * 520) (drop (body_at slots k) mid))
+      ∙ ap (λ (l : List ℕ). l ++ drop (length more * 520) (drop (body_at slots k) mid)) stand in
       (λ i. rows 520 (opened i) (records i)) ∙ rows-add k j (drop (64 + slots) mid)
       ∙ (λ i. first i ++ rows 520 j (behind i))
       ∙ ap (λ (l : List (List ℕ)). front_in slots old ++ l) (rows_of more (drop (length more * 520) (drop (body_at slots k) mid)) j few sized)

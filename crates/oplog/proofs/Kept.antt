@@ -40,13 +40,16 @@ module _ {S : Type 0} (means : Meaning S) where
   run-append (Some x) (r ∷ rs) ss = run-append (means.apply x r) rs ss
 
   -- ---- one part differs, and what counts of it is the same
-  same_recovers : (g : Layout) (n : ℕ) (a c : List ℕ) → is_laid_out means g c ≡ is_laid_out means g a → part_bytes g (image n) c ≡ part_bytes g (image n) a → in_force g n c ≡ in_force g n a → recovers_as means g n c ≡ recovers_as means g n a
+  same_recovers : (g : Layout) (n : ℕ) (a c : List ℕ) → is_laid_out means g c ≡ is_laid_out means g a → part_bytes g (image n) c
+      ≡ part_bytes g (image n) a → in_force g n c ≡ in_force g n a → recovers_as means g n c ≡ recovers_as means g n a
   same_recovers g n a c laid bytes forced = λ i. cond (laid i) (run means (means.read (bytes i)) (forced i)) None
 
-  same_laid : (g : Layout) (a c : List ℕ) → part_bytes g header c ≡ part_bytes g header a → length c ≡ length a → chain g 0 c ≡ chain g 0 a → chain g 1 c ≡ chain g 1 a → is_laid_out means g c ≡ is_laid_out means g a
+  same_laid : (g : Layout) (a c : List ℕ) → part_bytes g header c ≡ part_bytes g header a → length c ≡ length a → chain g 0 c ≡ chain g 0 a
+      → chain g 1 c ≡ chain g 1 a → is_laid_out means g c ≡ is_laid_out means g a
   same_laid g a c head size first second = λ i. means.is_header (head i) && nat_le (device_size g) (size i) && not (eqb (first i) 1 && eqb (second i) 1)
 
-  pub same_forced : (g : Layout) (n : ℕ) (a c : List ℕ) → part_bytes g (half n) c ≡ part_bytes g (half n) a → part_bytes g (half (other n)) c ≡ part_bytes g (half (other n)) a → in_force g n c ≡ in_force g n a
+  pub same_forced : (g : Layout) (n : ℕ) (a c : List ℕ) → part_bytes g (half n) c ≡ part_bytes g (half n) a → part_bytes g (half (other n)) c
+      ≡ part_bytes g (half (other n)) a → in_force g n c ≡ in_force g n a
   same_forced g n a c named others =
       λ i. cond (eqb (get_or (named i) 0 0) 1) (front_in g.slots (named i) ++ front_in g.slots (others i)) (front_in g.slots (named i))
 
@@ -63,7 +66,8 @@ module _ {S : Type 0} (means : Meaning S) where
   image_kept g n a c is_area same =
       let of_half : (h : ℕ) → h < 2 → part_bytes g (half h) c ≡ part_bytes g (half h) a = λ h is_half. same.others (half h) (λ is. omega (arith, is)) in
       same_recovers g n a c
-      (same_laid g a c (same.others header (λ is. omega (arith, is))) same.size (ap (λ (l : List ℕ). get_or l 0 0) (of_half 0 (omega arith))) (ap (λ (l : List ℕ). get_or l 0 0) (of_half 1 (omega arith))))
+      (same_laid g a c (same.others header (λ is. omega (arith, is))) same.size (ap (λ (l : List ℕ). get_or l 0 0) (of_half 0 (omega arith)))
+      (ap (λ (l : List ℕ). get_or l 0 0) (of_half 1 (omega arith))))
       (same.others (image n) (λ is. omega (arith, is))) (same_forced g n a c (of_half n is_area) (of_half (other n) (omega arith)))
 
   -- So may the half that isn't named, while the chain byte of the named one isn't 1.
@@ -72,20 +76,23 @@ module _ {S : Type 0} (means : Meaning S) where
       let named : part_bytes g (half n) c ≡ part_bytes g (half n) a = same.others (half n) (λ is. omega (arith, is)) in
       let no_chain' : eqb (chain g n c) 1 ≡ false = ap (λ (l : List ℕ). eqb (get_or l 0 0) 1) named ∙ no_chain in
       let laid : is_laid_out means g c ≡ is_laid_out means g a =
-      (λ i. means.is_header (same.others header (λ is. omega (arith, is)) i) && nat_le (device_size g) (same.size i) && (one_chain g n c is_area no_chain' ∙ sym (one_chain g n a is_area no_chain)) i) in
+      (λ i. means.is_header (same.others header (λ is. omega (arith, is)) i) && nat_le (device_size g) (same.size i) &&
+      (one_chain g n c is_area no_chain' ∙ sym (one_chain g n a is_area no_chain)) i) in
       same_recovers g n a c laid (same.others (image n) (λ is. omega (arith, is)))
       ((λ i. cond (no_chain' i) (front g n c ++ front g (other n) c) (front g n c)) ∙ ap (λ (l : List ℕ). front_in g.slots l) named
       ∙ sym (λ i. cond (no_chain i) (front g n a ++ front g (other n) a) (front g n a)))
 
   -- So may the chain byte of the named half, while the other half has no record in its front and no chain.
-  pub chain_kept : (g : Layout) (n : ℕ) (a c : List ℕ) → n < 2 → eqb (chain g (other n) a) 1 ≡ false → front g (other n) a ≡ [] → IsSameButChain g n a c → recovers_as means g n c ≡ recovers_as means g n a
+  pub chain_kept : (g : Layout) (n : ℕ) (a c : List ℕ) → n < 2 → eqb (chain g (other n) a) 1 ≡ false → front g (other n) a ≡ []
+      → IsSameButChain g n a c → recovers_as means g n c ≡ recovers_as means g n a
   chain_kept g n a c is_area no_chain none change =
       let same = change.same in
       let others : part_bytes g (half (other n)) c ≡ part_bytes g (half (other n)) a = same.others (half (other n)) (λ is. omega (arith, is, is_area)) in
       let no_chain' : eqb (chain g (other n) c) 1 ≡ false = ap (λ (l : List ℕ). eqb (get_or l 0 0) 1) others ∙ no_chain in
       let none' : front g (other n) c ≡ [] = ap (λ (l : List ℕ). front_in g.slots l) others ∙ none in
       let laid : is_laid_out means g c ≡ is_laid_out means g a =
-      (λ i. means.is_header (same.others header (λ is. omega (arith, is)) i) && nat_le (device_size g) (same.size i) && (one_chain g (other n) c (omega arith) no_chain' ∙ sym (one_chain g (other n) a (omega arith) no_chain)) i) in
+      (λ i. means.is_header (same.others header (λ is. omega (arith, is)) i) && nat_le (device_size g) (same.size i) &&
+      (one_chain g (other n) c (omega arith) no_chain' ∙ sym (one_chain g (other n) a (omega arith) no_chain)) i) in
       same_recovers g n a c laid (same.others (image n) (λ is. omega (arith, is, is_area)))
       (alone (eqb (chain g n c) 1) (front g n c) (front g (other n) c) none' ∙ front_beside g.slots (part_bytes g (half n) a) (part_bytes g (half n) c) change.beside
       ∙ sym (alone (eqb (chain g n a) 1) (front g n a) (front g (other n) a) none))
@@ -100,7 +107,8 @@ module _ {S : Type 0} (means : Meaning S) where
     same_chain m below =
         ⊎_elim
         (λ (is : m ≡ h).
-        let own : chain g h c ≡ chain g h a = sym (get_or-take 64 (part_bytes g (half h) c) 0 0 (omega arith)) ∙ ap (λ (l : List ℕ). get_or l 0 0) has.area ∙ get_or-take 64 (part_bytes g (half h) a) 0 0 (omega arith) in
+        let own : chain g h c ≡ chain g h a = sym (get_or-take 64 (part_bytes g (half h) c) 0 0 (omega arith))
+        ∙ ap (λ (l : List ℕ). get_or l 0 0) has.area ∙ get_or-take 64 (part_bytes g (half h) a) 0 0 (omega arith) in
         subst (λ (k : ℕ). chain g k c ≡ chain g k a) (sym is) own)
         (λ (differs : m ≢ h). ap (λ (l : List ℕ). get_or l 0 0) (has.same.others (half m) (λ is. differs (omega (arith, is)))))
         (cases_eq m h)

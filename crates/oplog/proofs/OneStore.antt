@@ -30,7 +30,8 @@ module _ (g : Layout) (h at : ℕ) (bytes : List ℕ) (is_half : h < 2) (place :
       let room : 0 + length bytes ≤ part_size g (half h) = omega (arith, few, half_sized g h is_half) in
       record {
         same = same_but g (half h) 0 (length bytes) at old c (omega (arith, is_half)) at0 room same;
-        records = same_drop 0 (length bytes) (part_bytes g (half h) old) (part_bytes g (half h) c) (within (part_at g (half h)) (part_size g (half h)) 0 (length bytes) old c room same') (64 + g.slots) (omega (arith, few));
+        records = same_drop 0 (length bytes) (part_bytes g (half h) old) (part_bytes g (half h) c)
+            (within (part_at g (half h)) (part_size g (half h)) 0 (length bytes) old c room same') (64 + g.slots) (omega (arith, few));
       }
 
   pub clear_moments : (w0 w1 : Medium) → CrashImagesAre w0 w1 (After w0 (SameOutside {X = ℕ} at (length bytes))) → CrashImagesAre w0 w1 (After w0 (IsSameButGates g h))

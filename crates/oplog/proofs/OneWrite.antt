@@ -12,7 +12,8 @@ use Rattle.oplog.specs.Changes.{After}
 use Rattle.oplog.specs.Store.{Touched}
 
 module _ (w0 w1 : Medium) (at : ℕ) (bytes : List ℕ) where
-  pub written : (r : Result (Unit {0}) DiskFault) → at + length bytes ≤ length w0.now → AreBytes w0.now → Writes at bytes r w0 w1 → CrashImagesAre w0 w1 (After w0 (SameOutside {X = ℕ} at (length bytes)))
+  pub written : (r : Result (Unit {0}) DiskFault) → at + length bytes ≤ length w0.now → AreBytes w0.now → Writes at bytes r w0 w1
+      → CrashImagesAre w0 w1 (After w0 (SameOutside {X = ℕ} at (length bytes)))
   written r inside are writes =
       after_write w0 w0 w1 _
       (started w0 _ (λ c left. record { old = c; left = left; change = same_all at (length bytes) c })) at bytes inside are r writes

@@ -30,7 +30,9 @@ ready_beside g h k p i n at w w' is_part apart place inside wrote ready =
     }
 
 -- The current half was the named one, the other was cleared, and then the chain to it was opened.
-pub ready_chained : (log cleared opened : Log) (w0 w1 w2 : Medium) → log.named < 2 → cleared ≡ record log { cleared = true } → opened ≡ chained cleared → device_size (layout_of log.geometry) ≤ length w2.now → Cleared (layout_of log.geometry) (other log.named) w0 w1 → Chained (layout_of cleared.geometry) cleared.named w1 w2 → IsReady (layout_of opened.geometry) opened.current opened.used w2
+pub ready_chained : (log cleared opened : Log) (w0 w1 w2 : Medium) → log.named < 2 → cleared ≡ record log { cleared = true } → opened
+    ≡ chained cleared → device_size (layout_of log.geometry) ≤ length w2.now → Cleared (layout_of log.geometry) (other log.named) w0 w1
+    → Chained (layout_of cleared.geometry) cleared.named w1 w2 → IsReady (layout_of opened.geometry) opened.current opened.used w2
 ready_chained log cleared opened w0 w1 w2 is_half first second fits clear chain =
     let is : opened ≡ chained (record log { cleared = true }) = second ∙ ap chained first in
     let chain' : Chained (layout_of log.geometry) log.named w1 w2 = subst (λ (x : Log). Chained (layout_of x.geometry) x.named w1 w2) first chain in
@@ -38,10 +40,13 @@ ready_chained log cleared opened w0 w1 w2 is_half first second fits clear chain 
     (ready_kept (layout_of log.geometry) (other log.named) 0 (half log.named) w1 w2 (omega arith) (λ same. omega (arith, same, is_half)) fits clear.ready chain'.same.same chain'.calm)
 
 -- The current half was the named one, the other was cleared, and then it was named.
-pub ready_named : (log cleared named : Log) (w0 w1 w2 : Medium) → log.current ≡ log.named → cleared ≡ record log { cleared = true } → named ≡ flipped cleared → device_size (layout_of log.geometry) ≤ length w2.now → Cleared (layout_of log.geometry) (other log.named) w0 w1 → Flipped (layout_of cleared.geometry) (other cleared.named) w1 w2 → IsReady (layout_of named.geometry) named.current named.used w2
+pub ready_named : (log cleared named : Log) (w0 w1 w2 : Medium) → log.current ≡ log.named → cleared ≡ record log { cleared = true } → named
+    ≡ flipped cleared → device_size (layout_of log.geometry) ≤ length w2.now → Cleared (layout_of log.geometry) (other log.named) w0 w1
+    → Flipped (layout_of cleared.geometry) (other cleared.named) w1 w2 → IsReady (layout_of named.geometry) named.current named.used w2
 ready_named log cleared named w0 w1 w2 together first second fits clear flip =
     let follows : flipped (record log { cleared = true }) ≡ record log { named = other log.named; current = other log.named; used = 0; cleared = false } =
-    ap (λ (t : Bool). cond t (record log { named = other log.named; current = other log.named; used = 0; cleared = false }) (record log { named = other log.named; cleared = false })) (eq-eqb log.current log.named together) in
+    ap (λ (t : Bool). cond t (record log { named = other log.named; current = other log.named; used = 0; cleared = false })
+    (record log { named = other log.named; cleared = false })) (eq-eqb log.current log.named together) in
     let is : named ≡ record log { named = other log.named; current = other log.named; used = 0; cleared = false } = second ∙ ap flipped first ∙ follows in
     let flip' : Flipped (layout_of log.geometry) (other log.named) w1 w2 = subst (λ (x : Log). Flipped (layout_of x.geometry) (other x.named) w1 w2) first flip in
     subst (λ (x : Log). IsReady (layout_of x.geometry) x.current x.used w2) (sym is)

@@ -49,7 +49,8 @@ pub part_inside : (g : Layout) (p : ℕ) → p < 6 → part_at g p + part_size g
 part_inside g p is_part = offset_below (sizes g) p 6 is_part
 
 -- A change within part p, of bytes or of marks, leaves each other part.
-pub other_part : {X : Type 0} (g : Layout) (p q i n at : ℕ) (xs ys : List X) → at ≡ part_at g p + i → i + n ≤ part_size g p → q ≢ p → SameOutside at n xs ys → slice ys (part_at g q) (part_size g q) ≡ slice xs (part_at g q) (part_size g q)
+pub other_part : {X : Type 0} (g : Layout) (p q i n at : ℕ) (xs ys : List X) → at ≡ part_at g p + i → i + n ≤ part_size g p → q ≢ p
+    → SameOutside at n xs ys → slice ys (part_at g q) (part_size g q) ≡ slice xs (part_at g q) (part_size g q)
 other_part g p q i n at xs ys place inside differs same =
     ⊎_elim
     (λ (less : q < p). same_before at n xs ys same (part_at g q) (part_size g q) (omega (arith, place, offset_below (sizes g) q p less)))
@@ -70,7 +71,8 @@ same_but g p i n at old c is_part place inside same = record {
 }
 
 -- Bytes that are written within a part are written into the part's own bytes.
-pub part_overlaid : (g : Layout) (p i at : ℕ) (bytes old : List ℕ) → p < 6 → at ≡ part_at g p + i → i + length bytes ≤ part_size g p → device_size g ≤ length old → part_bytes g p (overlaid old at bytes) ≡ overlaid (part_bytes g p old) i bytes
+pub part_overlaid : (g : Layout) (p i at : ℕ) (bytes old : List ℕ) → p < 6 → at ≡ part_at g p + i → i + length bytes ≤ part_size g p
+    → device_size g ≤ length old → part_bytes g p (overlaid old at bytes) ≡ overlaid (part_bytes g p old) i bytes
 part_overlaid g p i at bytes old is_part place inside fits =
     let new = overlaid old at bytes in
     let same : SameOutside (part_at g p + i) (length bytes) old new = subst (λ (a : ℕ). SameOutside a (length bytes) old new) place (overlaid_outside old at bytes) in

@@ -22,7 +22,9 @@ module _ (messages : List Msg) (i : ℕ) (d : Msg) (within : i < length messages
   records_more =
       ap records_of (take_more messages i d within) ∙ map-append record_of (take i messages) (get_or messages i d ∷ [])
 
-  pub staged_more : (k : ℕ) (out place : List ℕ) → place ≡ record_of (get_or messages i d) → length place ≡ 520 → length messages * 520 ≤ length out → take (i * 520) out ≡ concat (records_of (take i messages)) → take ((i + 1) * 520) (put_mid (i * 520) k out place) ≡ concat (records_of (take (i + 1) messages))
+  pub staged_more : (k : ℕ) (out place : List ℕ) → place ≡ record_of (get_or messages i d) → length place ≡ 520 → length messages * 520 ≤ length out
+      → take (i * 520) out ≡ concat (records_of (take i messages)) → take ((i + 1) * 520) (put_mid (i * 520) k out place)
+      ≡ concat (records_of (take (i + 1) messages))
   staged_more k out place put size long so_far =
       take-put_mid (i * 520) k out place ((i + 1) * 520) (omega (arith, size)) (omega (arith, long, within))
       ∙ (λ j. so_far j ++ put j) ∙ sym (ap concat records_more ∙ concat-push (records_of (take i messages)) (record_of (get_or messages i d)))

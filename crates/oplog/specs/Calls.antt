@@ -1,4 +1,4 @@
--- What the calls of a log ask of its device and do to it, in the words of contracts.
+-- Statement for engineers: What the calls of a log ask of its device and do to it, in the words of contracts.
 use Rattle.std.specs.Prelude.{◌≡◌, ◌≤◌, ℕ, List, length, Result}
 use Rattle.disk.specs.Device.{Medium}
 use Rattle.disk.specs.Moments.{CrashImagesAre}

@@ -1,4 +1,4 @@
--- How the calls of a log change the bytes of a device, and what a crash leaves while they do.
+-- Statement for engineers: How the calls of a log change the bytes of a device, and what a crash leaves while they do.
 use Rattle.std.specs.Prelude.{◌≡◌, ◌≢◌, ◌≤◌, ℕ, ◌+◌, false, List, ◌++◌, length, take, drop, replicate}
 use Rattle.disk.specs.Device.{Medium, IsCrashImage, IsSynced}
 use Rattle.disk.specs.Moments.{CrashImagesAre}
@@ -14,7 +14,7 @@ pub record IsSameBut (g : Layout) (p : ℕ) (old c : List ℕ) : Type 0 where
   pub others : (q : ℕ) → q ≢ p → part_bytes g q c ≡ part_bytes g q old
   pub rest : drop (device_size g) c ≡ drop (device_size g) old
 
--- Only gates and records of half h differ, and these records stand behind its front.
+-- Only gates and records of half h differ, and these records are behind its front.
 pub record HasMore (g : Layout) (h : ℕ) (more : List (List ℕ)) (old c : List ℕ) : Type 0 where
   pub same : IsSameBut g (half h) old c
   -- its chain byte and the bytes beside it

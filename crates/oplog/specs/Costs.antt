@@ -1,4 +1,5 @@
--- How many writes and syncs the calls of a log take: as many as the device has moments more. A sync that fails is none.
+-- Statement for engineers: How many writes and syncs the calls of a log take: as many as the device has moments more. A sync that fails is
+-- none.
 use Rattle.std.specs.Prelude.{◌≡◌, ◌≤◌, ℕ, ◌+◌, ◌-◌, ◌/◌, Result, Ok, Err}
 use Rattle.disk.specs.Device.{Medium}
 use Rattle.disk.specs.Moments.{moment}

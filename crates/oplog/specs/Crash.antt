@@ -1,6 +1,6 @@
--- What a device recovers to after a crash, for the layer above: in its words no place of a byte occurs. Each law takes
--- `RecoversByNow` of the device before a stretch of calls and gives `RecoversBy` of whatever a crash leaves during it, so
--- that what one law gives is what the next one takes.
+-- Statement for engineers: What a device recovers to after a crash, for the layer above: in its words no place of a byte occurs. Each law
+-- takes `RecoversByNow` of the device before a segment of calls and gives `RecoversBy` of whatever a crash leaves during it, so that what
+-- one law gives is what the next one takes.
 use Rattle.std.specs.Prelude.{◌≡◌, ◌≢◌, ◌<◌, ◌≤◌, ℕ, List, [], length, take, Option}
 use Rattle.disk.specs.Device.{Medium, IsCrashImage}
 use Rattle.disk.specs.Moments.{CrashImagesAre}
@@ -37,7 +37,8 @@ module _ {S : Type 0} (means : Meaning S) where
 
   -- Records are appended to the current half. A crash at any moment leaves the first so many of them.
   abbrev pub AppendRecovers : Type 0
-  AppendRecovers = (g : Layout) (n h : ℕ) (x : Option S) (more : List (List ℕ)) (old new : Medium) → n < 2 → h < 2 → RecoversByNow g n h x old
+  AppendRecovers = (g : Layout) (n h : ℕ) (x : Option S) (more : List (List ℕ)) (old new : Medium) → n < 2 → h < 2
+      → RecoversByNow g n h x old
       → CrashImagesAre old new (Grew g h more old) → CrashImagesAre old new (RecoversBySome g n h x more)
 
   -- Once all of them are there, a crash leaves all of them.

@@ -1,4 +1,4 @@
--- What a half holds: its chain byte, its gates, and the records that its gates put in force.
+-- Format for operators: What a half holds: its chain byte, its gates, and the records that its gates put in force.
 use Rattle.std.specs.Prelude.{◌≡◌, ℕ, zero, suc, ◌+◌, ◌-◌, ◌*◌, ◌==◌, List, [], ◌∷◌, take, drop, get_or, replicate}
 use Rattle.std.specs.List.{prefix_len}
 use Rattle.device_map.specs.Layout.{Layout, slice, part_bytes, half, chain_area, record_size}

@@ -1,4 +1,4 @@
--- A log as contracts see it, and what its calls make of it and answer.
+-- Statement for engineers: A log as contracts see it, and what its calls make of it and answer.
 use Rattle.std.specs.Prelude.{◌≡◌, ℕ, ◌+◌, Bool, true, false, ◌&&◌, ◌==◌, if◌then◌else◌, List, length, Result, Ok, Err}
 use Rattle.affinity.specs.declared.geometry.Geometry.{Geometry}
 use Rattle.disk.specs.Device.{Medium}
@@ -82,7 +82,7 @@ IsOfRecord g bytes (Ok m) = bytes ≡ record_of m
 IsOfRecord g bytes (Err Device) = Unit {0}
 IsOfRecord g bytes (Err (BadRecord h i)) = IsNoRecord g bytes
 
--- A bad record is told by its half and its number there.
+-- A bad record is named by its half and its number there.
 abbrev pub IsAbout : ℕ → ℕ → Result Msg LogFault → Type 0
 IsAbout h i (Ok m) = Unit {0}
 IsAbout h i (Err Device) = Unit {0}

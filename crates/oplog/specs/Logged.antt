@@ -1,4 +1,4 @@
--- The messages that the log keeps, and their records.
+-- Statement for engineers: The messages that the log keeps, and their records.
 use Rattle.std.specs.Prelude.{◌≡◌, ◌≢◌, ℕ, ◌<◌, ◌≤◌, true, List, length, map, Some}
 use Rattle.std.specs.List.{All}
 use Rattle.affinity.specs.declared.geometry.Geometry.{Geometry}
@@ -33,8 +33,8 @@ abbrev pub RecordsAreBytes : Type 0
 RecordsAreBytes = (g : Layout) (h i : ℕ) (c : List ℕ) → h < 2 → i < g.slots → device_size g ≤ length c → AreBytes c
     → (length (record_at g h i c) ≡ record_size) × AreBytes (record_at g h i c)
 
--- Bytes that are no record say no message that the log keeps and whose record they are, not even one that carries other
--- numbers than bytes.
+-- The fields of bytes that are no record encode no message that the log keeps and whose record they are, not even one
+-- with other numbers than bytes.
 abbrev pub NoRecordSaysNone : Type 0
 NoRecordSaysNone = (g : Geometry) (bytes : List ℕ) → length bytes ≡ record_size → AreBytes bytes → IsNoRecord g bytes
     → (m : Msg) → message_in_fields bytes ≡ Some m → IsLogged g m → bytes ≢ record_of m

@@ -1,4 +1,4 @@
--- What a device recovers to: the state of an image with the records in force run on it.
+-- Statement for operators: What a device recovers to: the state of an image with the records in force run on it.
 use Rattle.std.specs.Prelude.{ℕ, Bool, not, ◌&&◌, ◌==◌, nat_le, if◌then◌else◌, List, [], ◌∷◌, ◌++◌, length, get_or, Option, Some, None}
 use Rattle.device_map.specs.Layout.{Layout, part_bytes, device_size, header, root, image, other}
 use Rattle.oplog.specs.Front.{chain, front}
@@ -24,7 +24,7 @@ current g c = current_of g (named_area g c) c
 
 -- The words of the layer above: the state that an image's bytes hold, what becomes of a state by the record with these
 -- bytes, and whether bytes are a header. `read` and `apply` are none where the bytes are no image, and no record that can
--- stand there.
+-- be there.
 pub record Meaning (S : Type 0) : Type 0 where
   pub read : List ℕ → Option S
   pub apply : S → List ℕ → Option S

@@ -1,4 +1,4 @@
--- What is there once bytes were written.
+-- Statement for engineers: What is there once bytes were written.
 use Rattle.std.specs.Prelude.{◌≡◌, ℕ, List}
 use Rattle.disk.specs.Device.{Medium, SameOutside, IsSynced, overlaid}
 
@@ -7,7 +7,7 @@ pub record Touched (at n : ℕ) (old new : Medium) : Type 0 where
   pub now : SameOutside at n old.now new.now
   pub unsynced : SameOutside at n old.unsynced new.unsynced
 
--- The bytes stand there, all others are as they were, and nothing is unsynced.
+-- The bytes are there, all others are as they were, and nothing is unsynced.
 pub record Stored (at : ℕ) (bytes : List ℕ) (old new : Medium) : Type 0 where
   pub now : new.now ≡ overlaid old.now at bytes
   pub calm : IsSynced new

@@ -1,5 +1,5 @@
 //! What goes wrong with a log.
-/// What a call of a log answers where it could not do what it was asked.
+/// What a call of a log answers where it can't be carried out.
 #[derive(Clone, Copy, Debug, PartialEq, Eq)]
 pub enum LogFault {
     /// The device failed during the call.

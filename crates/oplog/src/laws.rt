@@ -2,8 +2,8 @@
 //! function here does anything; its contract is the law.
 //!
 //! What a device recovers to comes from the layer above, as a `Meaning`: `read` gives the state that
-//! an image holds, `apply` what a record makes of a state, and `is_header` tells a header. Each law
-//! takes what a device recovers to before a stretch of calls, with the area that it names and its
+//! an image holds, `apply` what a record makes of a state, and `is_header` recognizes a header. Each
+//! law takes what a device recovers to before a segment of calls, with the area that it names and its
 //! current half, and gives the same of whatever a crash leaves.
 
 ghost use Rattle.std.specs.Prelude.{◌≡◌, ◌<◌, ℕ, [], List, get_or, length};
@@ -35,14 +35,14 @@ pub fn a_torn_chain_does_no_harm<S>()
 {}
 
 /// Where both areas recover to the same, a crash while one is named leaves a device that recovers to
-/// it; once `flip_root` is done, it recovers to what the area recovered to that is named now.
+/// it. Once `flip_root` is done, it recovers to what the area that is named now recovered to.
 pub fn a_torn_root_does_no_harm<S>()
     ensures torn { (means : Meaning S) → TornRootRecovers means }
     ensures flipped { (means : Meaning S) → FlipByArea means }
 {}
 
 /// Where `record` answers `BadRecord`, the bytes have the size of a record and are below 256, and the
-/// fields say no message that the log keeps and whose record they are.
+/// fields encode no message that the log keeps and whose record they are.
 pub fn a_bad_record_says_no_message()
     ensures bytes { RecordsAreBytes }
     ensures none { NoRecordSaysNone }

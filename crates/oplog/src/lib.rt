@@ -2,7 +2,7 @@
 //! that isn't open are in force.
 //!
 //! `Halves` writes them so that a crash at any moment leaves each front whole, with records at its end or without.
-//! `layout` names the map of such a device, `store` has the writes of a range, and `laws` say what a crash leaves.
+//! `layout` names the map of such a device, `store` has the writes of a range, and `laws` state what a crash leaves.
 #![tactic(auto)]
 
 mod fault;

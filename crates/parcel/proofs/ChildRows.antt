@@ -58,7 +58,8 @@ module _ {X : Type 0} (nodes : X → Nodes) (own : Node) (xs : List (Option X)) 
   put_cell p part j q false e h =
       ap (λ c. in_child nodes c q) (get_or-set_other xs i j y None (λ (s : j ≡ i). true≢false (sym (eq-eqb i j (sym s)) ∙ e)))
 
-  pub row_put : (p : Path) (part : Nodes) → PutsBack p part (in_child nodes (slice_index_or xs i None)) (in_child nodes y) → PutsBack (i ∷ p) part (in_row nodes own xs) (in_row nodes own (slice_set xs i y))
+  pub row_put : (p : Path) (part : Nodes) → PutsBack p part (in_child nodes (slice_index_or xs i None)) (in_child nodes y)
+      → PutsBack (i ∷ p) part (in_row nodes own xs) (in_row nodes own (slice_set xs i y))
   row_put p part h [] = refl
   row_put p part h (j ∷ q) = put_cell p part j q (i == j) refl h
 

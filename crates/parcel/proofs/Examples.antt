@@ -83,7 +83,7 @@ no_gap_at_second (suc a ∷ v ∷ suc zero ∷ []) related path out = absurd (om
 no_gap_at_second (suc a ∷ v ∷ suc zero ∷ x ∷ q) related path out = absurd path
 no_gap_at_second (suc a ∷ v ∷ suc (suc i) ∷ q) related path out = absurd path
 
--- the standing: marks and files at a stripe, marks at the files and at the label, nothing above
+-- the standing: flags and files at a stripe, flags at the files and at the label, nothing above
 standing_at_stripe : standing_at (0 ∷ 0 ∷ 0 ∷ 1 ∷ []) without_first ≡ record { made = true; sealed = false; files = 1 }
 standing_at_stripe = refl
 
@@ -115,11 +115,11 @@ piece_of_a_sealed_volume = refl
 piece_with_a_label : spelled (record { made = true; sealed = false; files = 256; label = 99 ∷ replicate 31 0 }) ≡ 1 ∷ replicate 8 0 ++ 1 ∷ replicate 6 0 ++ 99 ∷ replicate 47 0
 piece_with_a_label = refl
 
--- what isn't made has no marks, files or label, whatever it says
+-- what isn't made has no flags, files or label, whatever its bytes are
 piece_of_none : spelled (record sealed_volume { made = false }) ≡ replicate 64 0
 piece_of_none = refl
 
--- of the files that bytes tell, those of the geometry are looked at
+-- of the files that bytes encode, those of the geometry are looked at
 only_its_files : (decoded_piece 2 small (1 ∷ 1 ∷ replicate 6 0 ++ 7 ∷ replicate 55 0)).files ≡ 3
 only_its_files = refl
 

@@ -69,7 +69,8 @@ module _ (g : Geometry) (s : ℕ) where
       omega (arith, rest, one)
 
   -- where a state has the blocks of the stripe
-  pub count_is_length : (x : State) (a v : ℕ) (p : StripePart) → StripeRule p → FitsStripe g s p → ((f b : ℕ) → group g f b ≡ s → x.blocks (a, v, f, b) ≡ content_at p.entries f b) → group_count g x a v s ≡ length p.entries
+  pub count_is_length : (x : State) (a v : ℕ) (p : StripePart) → StripeRule p → FitsStripe g s p
+      → ((f b : ℕ) → group g f b ≡ s → x.blocks (a, v, f, b) ≡ content_at p.entries f b) → group_count g x a v s ≡ length p.entries
   count_is_length x a v p kept fits same = sum_same g.files _ _ (λ f. sum_same g.blocks _ _ (λ b. at f b (group g f b == s) refl)) ∙ as_many p.entries kept.ascending fits.lies
     where
       at : (f b : ℕ) (t : Bool) → (group g f b == s) ≡ t → one_if ((group g f b == s) && is_some (x.blocks (a, v, f, b))) ≡ counted p.entries f b

@@ -206,7 +206,8 @@ pub shows_still : (g : Geometry) (p : Path) (t : Standing) (l : Parcels) (x : St
 shows_still g p t l x m apart shows = agree-trans shows (agree_within (λ q related. not_from_false (begins (place g m) q) (beside q related)) (agree-sym (changes_only g x m)))
   where
     beside : (q : Path) → are_related p q ≡ true → begins (place g m) q ≡ false
-    beside q related = false_from_ne_true (begins (place g m) q) (λ below. true≢false (sym related ∙ unrelated_turned q p (unrelated_below (place g m) p q (unrelated_turned p (place g m) apart) below)))
+    beside q related = false_from_ne_true (begins (place g m) q) (λ below. true≢false
+        (sym related ∙ unrelated_turned q p (unrelated_below (place g m) p q (unrelated_turned p (place g m) apart) below)))
 
 -- ---- a job that is out, and what it left when it ran
 

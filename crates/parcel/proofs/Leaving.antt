@@ -22,7 +22,8 @@ agree_where_same g R m n same = record {
 pub taken_leaves : (g : Geometry) (p : Path) (old new : Nodes) → TakesOut p old new → AgreeOn g (outside p) (tree_state g new) (tree_state g old)
 taken_leaves g p old new h = agree_where_same g (outside p) new old (λ q r. h q ∙ cond-false (begins p q) None (old q) (not-true (begins p q) r))
 
-put_elsewhere : (b : Bool) (p q : Path) (part below : Nodes) (o : Option Node) → (b && begins p q) ≡ false → (begins p q ≡ false → put_at p part below q ≡ below q) → below q ≡ o → (if b then put_at p part below q else o) ≡ o
+put_elsewhere : (b : Bool) (p q : Path) (part below : Nodes) (o : Option Node) → (b && begins p q) ≡ false
+    → (begins p q ≡ false → put_at p part below q ≡ below q) → below q ≡ o → (if b then put_at p part below q else o) ≡ o
 put_elsewhere true p q part below o h step same = step h ∙ same
 put_elsewhere false p q part below o h step same = refl
 

@@ -77,7 +77,8 @@ module _ (g : Geometry) (w : Vol) (y : Option Logical) where
   pub logical_refused : (p : Path) → Refuses (IsLogicalPath g) p (in_child in_logical w.logical) (in_child in_logical y) → Refuses (IsVolumePath g) (0 ∷ p) (in_volume w) (in_volume after_logical)
   logical_refused p h = record { gap = (0 ∷ h.gap.0, h.gap.1, related_below 0 p h.gap.0 h.gap.2, h.gap.3); same = logical_same h.same }
 
-  label_same : (z : Option Label) → SameNodes (in_child in_label w.label) (in_child in_label z) → SameNodes (in_volume w) (in_volume (record { made = w.made; sealed = w.sealed; logical = w.logical; label = z }))
+  label_same : (z : Option Label) → SameNodes (in_child in_label w.label) (in_child in_label z)
+      → SameNodes (in_volume w) (in_volume (record { made = w.made; sealed = w.sealed; logical = w.logical; label = z }))
   label_same z h [] = refl
   label_same z h (zero ∷ q) = refl
   label_same z h (suc zero ∷ q) = h q

@@ -91,7 +91,8 @@ module _ (h : Facts) where
     abbrev with_blocks : Facts
     with_blocks = record h { blocks = blocks' }
 
-    pub effect_write : (f b : ℕ) (content : Block) → ((i j : ℕ) → blocks' i j ≡ (if (f == i) && (b == j) then Some content else h.blocks i j)) → only a v with_blocks ≡ effect (only a v h) (Write a v f b content)
+    pub effect_write : (f b : ℕ) (content : Block) → ((i j : ℕ) → blocks' i j ≡ (if (f == i) && (b == j) then Some content else h.blocks i j))
+        → only a v with_blocks ≡ effect (only a v h) (Write a v f b content)
     effect_write f b content e = λ i. record {
       made = λ k. same_made with_blocks refl ((a == k.0) && (v == k.1)) i;
       sealed = λ k. same_sealed with_blocks refl ((a == k.0) && (v == k.1)) i;
@@ -140,7 +141,8 @@ module _ (h : Facts) where
     abbrev with_both : Facts
     with_both = record h { files = files'; blocks = blocks' }
 
-    pub effect_delete : (f : ℕ) → ((i : ℕ) → files' i ≡ (not (f == i) && h.files i)) → ((i j : ℕ) → blocks' i j ≡ (if f == i then None else h.blocks i j)) → only a v with_both ≡ effect (only a v h) (Delete a v f)
+    pub effect_delete : (f : ℕ) → ((i : ℕ) → files' i ≡ (not (f == i) && h.files i))
+        → ((i j : ℕ) → blocks' i j ≡ (if f == i then None else h.blocks i j)) → only a v with_both ≡ effect (only a v h) (Delete a v f)
     effect_delete f e d = λ i. record {
       made = λ k. same_made with_both refl ((a == k.0) && (v == k.1)) i;
       sealed = λ k. same_sealed with_both refl ((a == k.0) && (v == k.1)) i;

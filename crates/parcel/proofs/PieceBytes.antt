@@ -13,7 +13,7 @@ put_next : (at k : ℕ) (front rest ys : List ℕ) → length front ≡ at → p
 put_next at k front rest ys long =
     (λ i. take_at front rest at long i ++ (ys ++ drop k (drop_at front rest at long i))) ∙ sym (append_assoc front ys (drop k rest))
 
--- marks, files, a label and zeros
+-- flags, files, a label and zeros
 pub four_parts : (out marks files label blank : List ℕ) → length out ≡ 64 → length marks ≡ 8 → length files ≡ 8 → length label ≡ 32
     → let three = put_mid 16 32 (put_mid 8 8 (marks ++ drop 8 out) files) label in put_mid 48 (length three - 48) three blank ≡ ((marks ++ files) ++ label) ++ blank
 four_parts out marks files label blank long m f l =
@@ -32,7 +32,7 @@ four_parts out marks files label blank long m f l =
 pub eight_for_eight : (files xs : List ℕ) → files ++ drop 8 (take 8 xs) ≡ files
 eight_for_eight files xs = ap (λ (rest : List ℕ). files ++ rest) (drop_all 8 (take 8 xs) (omega (arith, length-take 8 xs))) ∙ append-nil files
 
--- a mark as a byte
+-- a flag as a byte
 pub mark_byte : (b : Bool) → bool_byte b ≡ one_if b
 mark_byte true = refl
 mark_byte false = refl

@@ -70,7 +70,8 @@ pub all_bytes : (bytes : List ℕ) → ((i : ℕ) → get_or bytes i 0 < 256) �
 all_bytes [] each = tt
 all_bytes (b ∷ bytes) each = (each 0, all_bytes bytes (λ i. each (suc i)))
 
-pub stripe_is_read : (version : ℕ) (g : Geometry) (s : ℕ) (bytes : List ℕ) (good : Bool) (old : Vol) (l k : Logical) → old.logical ≡ Some l → IsWholeVolume old → FitsLogical g k → IsWholeLogical k → k.files ≡ l.files
+pub stripe_is_read : (version : ℕ) (g : Geometry) (s : ℕ) (bytes : List ℕ) (good : Bool) (old : Vol) (l k : Logical) → old.logical ≡ Some l
+    → IsWholeVolume old → FitsLogical g k → IsWholeLogical k → k.files ≡ l.files
     → (IsTrue good ↔ IsStripePiece g l.files s bytes)
     → (IsTrue good → (f b : ℕ) → blocks_of g k.stripes.items f b ≡ (if group g f b == s then block_in g bytes f b else blocks_of g l.stripes.items f b))
     → AreSizedBytes (g.quota * 520) bytes → IsPartRead version g (suc s) bytes good old (record old { logical = Some k })
@@ -116,12 +117,16 @@ module _ (g : Geometry) where
   volume_is_there a v first second None fits whole = absurd whole
   volume_is_there a v first second (Some r) fits whole =
       let within : a < length r.aggregates.items = omega (arith, first, fits.count) in
-      of_aggregate v second (slice_index_or r.aggregates.items a None) (fits_in_place (λ a. FitsAggregate g) r.aggregates.items fits.aggregates a _ refl) (child_whole_at IsWholeAggregate r.aggregates.items a within whole)
+      of_aggregate v second (slice_index_or r.aggregates.items a None)
+      (fits_in_place (λ a. FitsAggregate g) r.aggregates.items fits.aggregates a _ refl)
+      (child_whole_at IsWholeAggregate r.aggregates.items a within whole)
 
   -- the volume of a piece, where nothing is out
-  pub piece_is_there : (o : Option Root) → IfSome o (FitsRoot g) → IsIn g [] (in_child in_root o) → (n a v : ℕ) → n < piece_count g → a ≡ aggregate_of g n → v ≡ volume_number g n → IsThere (volume_in o a v)
+  pub piece_is_there : (o : Option Root) → IfSome o (FitsRoot g) → IsIn g [] (in_child in_root o) → (n a v : ℕ) → n < piece_count g → a
+      ≡ aggregate_of g n → v ≡ volume_number g n → IsThere (volume_in o a v)
   piece_is_there o fits all n a v below aggregate volume =
-      volume_is_there a v (subst (λ (k : ℕ). k < g.aggregates) (sym aggregate) (in_aggregates g n below)) (subst (λ (k : ℕ). k < g.volumes) (sym volume) (in_volumes g n)) o fits (tree_whole o fits all)
+      volume_is_there a v (subst (λ (k : ℕ). k < g.aggregates) (sym aggregate) (in_aggregates g n below))
+      (subst (λ (k : ℕ). k < g.volumes) (sym volume) (in_volumes g n)) o fits (tree_whole o fits all)
 
   -- ---- the nodes and the state there
 

@@ -45,7 +45,8 @@ module _ (g : Geometry) (a v : ℕ) where
     made = λ k r. let s = there_from k.0 k.1 [] r in sym (λ i. x.made (s.0 i, s.1 i)) ∙ one.made ∙ sym two.made ∙ (λ i. y.made (s.0 i, s.1 i));
     sealed = λ k r. let s = there_from k.0 k.1 [] r in sym (λ i. x.sealed (s.0 i, s.1 i)) ∙ one.sealed ∙ sym two.sealed ∙ (λ i. y.sealed (s.0 i, s.1 i));
     files = λ k r. let s = there_from k.0 k.1 (0 ∷ []) r in sym (λ i. x.files (s.0 i, s.1 i, k.2)) ∙ one.files k.2 ∙ sym (two.files k.2) ∙ (λ i. y.files (s.0 i, s.1 i, k.2));
-    blocks = λ k r. let s = there_from k.0 k.1 (0 ∷ group g k.2 k.3 ∷ []) r in sym (λ i. x.blocks (s.0 i, s.1 i, k.2, k.3)) ∙ one.blocks k.2 k.3 ∙ sym (two.blocks k.2 k.3) ∙ (λ i. y.blocks (s.0 i, s.1 i, k.2, k.3));
+    blocks = λ k r. let s = there_from k.0 k.1 (0 ∷ group g k.2 k.3 ∷ []) r in sym (λ i. x.blocks (s.0 i, s.1 i, k.2, k.3)) ∙ one.blocks k.2 k.3
+        ∙ sym (two.blocks k.2 k.3) ∙ (λ i. y.blocks (s.0 i, s.1 i, k.2, k.3));
     labels = λ k r. let s = there_from k.0 k.1 (1 ∷ []) r in sym (λ i. x.labels (s.0 i, s.1 i)) ∙ one.label ∙ sym two.label ∙ (λ i. y.labels (s.0 i, s.1 i));
   }
 
@@ -99,7 +100,8 @@ files_told : (o : Option Logical) (f : ℕ) → files_in o f ≡ has_file (files
 files_told None f = sym (has_none f)
 files_told (Some l) f = refl
 
-pub part_state : (version : ℕ) (g : Geometry) (x : State) → IsState g x → (a v : ℕ) → a < g.aggregates → v < g.volumes → (w : Vol) → HasFacts x a v (volume_facts g w) → (part : ℕ) → (part ≡ 0 → (f b : ℕ) → x.blocks (a, v, f, b) ≡ None)
+pub part_state : (version : ℕ) (g : Geometry) (x : State) → IsState g x → (a v : ℕ) → a < g.aggregates → v < g.volumes → (w : Vol)
+    → HasFacts x a v (volume_facts g w) → (part : ℕ) → (part ≡ 0 → (f b : ℕ) → x.blocks (a, v, f, b) ≡ None)
     → (bytes : List ℕ) → AreSizedBytes (piece_part_size g part) bytes → bytes ≡ part_piece version g (with_part version g x a v part bytes) a v part → IsState g (with_part version g x a v part bytes)
 part_state version g x is a v first second w has zero empty bytes are good =
     volume_state version g bytes (good ∙ volume_decoded version g x a v bytes) x is a v first second (empty refl) are
@@ -130,6 +132,7 @@ module _ (version : ℕ) (g : Geometry) (part : ℕ) (bytes : List ℕ) (good : 
   read_in whole q path related =
       elim (begins (volume a v) q) as (λ b. begins (volume a v) q ≡ b → is_some (new q) ≡ true) [
         | true ↦ λ e. let rest = begins_split (volume a v) q e in
-            subst (λ r. is_some (new r) ≡ true) (sym rest.1) (restored_is_in g (volume a v) (parcels.Vol read.now) old new read.nodes (read.read.fits, read.read.whole) rest.0 (subst (λ r. IsPath g r) rest.1 path))
+            subst (λ r. is_some (new r) ≡ true) (sym rest.1) (restored_is_in g (volume a v) (parcels.Vol read.now) old new read.nodes
+            (read.read.fits, read.read.whole) rest.0 (subst (λ r. IsPath g r) rest.1 path))
         | false ↦ λ e. ap is_some (read.nodes q ∙ put_outside (volume a v) (in_volume read.now) old q e) ∙ whole q path refl
       ] refl

@@ -72,7 +72,8 @@ served_is_in job done old lent new h whole q path related =
 
 pub served_state : (job : JobView) (done : Done) (old lent new : Nodes) → LendsRunsRestores job done old lent new → IsMessage job.message
     → IsState job.geometry (tree_state job.geometry old) → IsState job.geometry (tree_state job.geometry new)
-served_state job done old lent new h message is = subst (λ (y : State). IsState job.geometry y) (sym (served_step job done old lent new h).state) (step_kept job.geometry (tree_state job.geometry old) job.message is message)
+served_state job done old lent new h message is = subst (λ (y : State). IsState job.geometry y) (sym (served_step job done old lent new h).state)
+    (step_kept job.geometry (tree_state job.geometry old) job.message is message)
 
 -- ---- to show a state is to have its share and its standing
 

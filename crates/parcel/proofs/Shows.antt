@@ -97,8 +97,10 @@ module _ (g : Geometry) (R : Path → Bool) (n : Nodes) where
   only_agree a v below h step k = record {
     made = λ (x : ℕ × ℕ) r. let s = step x.0 x.1 [] r in ap (λ z. z.made) (here a v x.0 x.1 h s.0 s.1) ∙ k.made s.2 ∙ ap marks_made (moved a v x.0 x.1 [] s.0 s.1);
     sealed = λ (x : ℕ × ℕ) r. let s = step x.0 x.1 [] r in ap (λ z. z.sealed) (here a v x.0 x.1 h s.0 s.1) ∙ k.sealed s.2 ∙ ap marks_sealed (moved a v x.0 x.1 [] s.0 s.1);
-    files = λ (x : ℕ × ℕ × ℕ) r. let s = step x.0 x.1 (0 ∷ []) r in ap (λ z. z.files x.2) (here a v x.0 x.1 h s.0 s.1) ∙ k.files x.2 s.2 ∙ ap (λ o. files_have o x.2) (moved a v x.0 x.1 (0 ∷ []) s.0 s.1);
-    blocks = λ (x : ℕ × ℕ × ℕ × ℕ) r. let s = step x.0 x.1 (0 ∷ group g x.2 x.3 ∷ []) r in ap (λ z. z.blocks x.2 x.3) (here a v x.0 x.1 h s.0 s.1) ∙ k.blocks x.2 x.3 s.2 ∙ ap (λ o. slots_hold o x.2 x.3) (moved a v x.0 x.1 (0 ∷ group g x.2 x.3 ∷ []) s.0 s.1);
+    files = λ (x : ℕ × ℕ × ℕ) r. let s = step x.0 x.1 (0 ∷ []) r in ap (λ z. z.files x.2) (here a v x.0 x.1 h s.0 s.1) ∙ k.files x.2 s.2
+        ∙ ap (λ o. files_have o x.2) (moved a v x.0 x.1 (0 ∷ []) s.0 s.1);
+    blocks = λ (x : ℕ × ℕ × ℕ × ℕ) r. let s = step x.0 x.1 (0 ∷ group g x.2 x.3 ∷ []) r in ap (λ z. z.blocks x.2 x.3) (here a v x.0 x.1 h s.0 s.1)
+        ∙ k.blocks x.2 x.3 s.2 ∙ ap (λ o. slots_hold o x.2 x.3) (moved a v x.0 x.1 (0 ∷ group g x.2 x.3 ∷ []) s.0 s.1);
     labels = λ (x : ℕ × ℕ) r. let s = step x.0 x.1 (1 ∷ []) r in ap (λ z. z.label) (here a v x.0 x.1 h s.0 s.1) ∙ k.label s.2 ∙ ap text_of (moved a v x.0 x.1 (1 ∷ []) s.0 s.1);
   }
 
@@ -107,14 +109,17 @@ module _ (g : Geometry) (R : Path → Bool) (n : Nodes) where
   aggregate_agree a H first each = record {
     made = λ (x : ℕ × ℕ) r. let e = first x.0 (x.1 ∷ []) r in ap (λ b. (facts_if b (H x.1)).made) (eq-eqb a x.0 e) ∙ (each x.1).made refl ∙ ap (λ i. marks_made (n (i ∷ x.1 ∷ []))) e;
     sealed = λ (x : ℕ × ℕ) r. let e = first x.0 (x.1 ∷ []) r in ap (λ b. (facts_if b (H x.1)).sealed) (eq-eqb a x.0 e) ∙ (each x.1).sealed refl ∙ ap (λ i. marks_sealed (n (i ∷ x.1 ∷ []))) e;
-    files = λ (x : ℕ × ℕ × ℕ) r. let e = first x.0 (x.1 ∷ 0 ∷ []) r in ap (λ b. (facts_if b (H x.1)).files x.2) (eq-eqb a x.0 e) ∙ (each x.1).files x.2 refl ∙ ap (λ i. files_have (n (i ∷ x.1 ∷ 0 ∷ [])) x.2) e;
-    blocks = λ (x : ℕ × ℕ × ℕ × ℕ) r. let e = first x.0 (x.1 ∷ 0 ∷ group g x.2 x.3 ∷ []) r in ap (λ b. (facts_if b (H x.1)).blocks x.2 x.3) (eq-eqb a x.0 e) ∙ (each x.1).blocks x.2 x.3 refl ∙ ap (λ i. slots_hold (n (i ∷ x.1 ∷ 0 ∷ group g x.2 x.3 ∷ [])) x.2 x.3) e;
+    files = λ (x : ℕ × ℕ × ℕ) r. let e = first x.0 (x.1 ∷ 0 ∷ []) r in ap (λ b. (facts_if b (H x.1)).files x.2) (eq-eqb a x.0 e)
+        ∙ (each x.1).files x.2 refl ∙ ap (λ i. files_have (n (i ∷ x.1 ∷ 0 ∷ [])) x.2) e;
+    blocks = λ (x : ℕ × ℕ × ℕ × ℕ) r. let e = first x.0 (x.1 ∷ 0 ∷ group g x.2 x.3 ∷ []) r
+        in ap (λ b. (facts_if b (H x.1)).blocks x.2 x.3) (eq-eqb a x.0 e) ∙ (each x.1).blocks x.2 x.3 refl
+        ∙ ap (λ i. slots_hold (n (i ∷ x.1 ∷ 0 ∷ group g x.2 x.3 ∷ [])) x.2 x.3) e;
     labels = λ (x : ℕ × ℕ) r. let e = first x.0 (x.1 ∷ 1 ∷ []) r in ap (λ b. (facts_if b (H x.1)).label) (eq-eqb a x.0 e) ∙ (each x.1).label refl ∙ ap (λ i. text_of (n (i ∷ x.1 ∷ 1 ∷ []))) e;
   }
 
 -- ---- the standing
 
--- what stands above a path below a volume, where the test picks it
+-- what lies above a path below a volume, where the test picks it
 pub record StandsAt (R : Path → Bool) (t : Standing) (n : Nodes) : Type 0 where
   made : R [] ≡ true → t.made ≡ marks_made (n [])
   sealed : R [] ≡ true → t.sealed ≡ marks_sealed (n [])
@@ -174,7 +179,8 @@ no_marks : (p : Path) (x : ℕ) (t : Standing) (n : Nodes) → StandsAt (begins 
 no_marks p x t n = record { made = λ r. absurd (true≢false (sym r)); sealed = λ r. absurd (true≢false (sym r)) }
 
 -- Parcels at a path show the share of the nodes there.
-pub share_shown : (g : Geometry) (p : Path) (t : Standing) (l : Parcels) (n : Nodes) → IsKindOf p l → ((q : Path) → n (p ++ q) ≡ in_parcels l q) → AgreeOn g (begins p) (shown_state g p t l) (tree_state g n)
+pub share_shown : (g : Geometry) (p : Path) (t : Standing) (l : Parcels) (n : Nodes) → IsKindOf p l → ((q : Path) → n (p ++ q) ≡ in_parcels l q)
+    → AgreeOn g (begins p) (shown_state g p t l) (tree_state g n)
 share_shown g [] t (parcels.Root r) n kind at =
     all_agree g (begins []) n _ (λ a v. holds_same g _ _ (λ q. n (a ∷ v ∷ q)) (λ q. in_root r (a ∷ v ∷ q)) (λ q. at (a ∷ v ∷ q)) (aggregate_holds g _ (slice_index_or r.aggregates.items a None) v))
 share_shown g (a ∷ []) t (parcels.Aggr r) n kind at =
@@ -196,9 +202,11 @@ share_shown g (a ∷ v ∷ suc zero ∷ []) t (parcels.Label l) n kind at =
 share_shown g p t l n kind at = absurd kind
 
 -- With the standing there, they show all that is related to the path.
-pub related_shown : (g : Geometry) (p : Path) (t : Standing) (l : Parcels) (n : Nodes) → IsKindOf p l → ((q : Path) → n (p ++ q) ≡ in_parcels l q) → t ≡ standing_at p n → Shows g p t l (tree_state g n)
+pub related_shown : (g : Geometry) (p : Path) (t : Standing) (l : Parcels) (n : Nodes) → IsKindOf p l → ((q : Path) → n (p ++ q) ≡ in_parcels l q)
+    → t ≡ standing_at p n → Shows g p t l (tree_state g n)
 related_shown g [] t (parcels.Root r) n kind at stands =
-    all_agree g (are_related []) n _ (λ a v. holds_same g _ _ (λ q. n (a ∷ v ∷ q)) (λ q. in_root r (a ∷ v ∷ q)) (λ q. at (a ∷ v ∷ q)) (aggregate_holds g _ (slice_index_or r.aggregates.items a None) v))
+    all_agree g (are_related []) n _ (λ a v. holds_same g _ _ (λ q. n (a ∷ v ∷ q)) (λ q. in_root r (a ∷ v ∷ q)) (λ q. at (a ∷ v ∷ q))
+    (aggregate_holds g _ (slice_index_or r.aggregates.items a None) v))
 related_shown g (a ∷ []) t (parcels.Aggr r) n kind at stands =
     aggregate_agree g (are_related (a ∷ [])) n a (by_aggregate g r) (λ x q e. related_first a x [] q e)
     (λ v. holds_same g _ _ (λ q. n (a ∷ v ∷ q)) (λ q. in_aggregate r (v ∷ q)) (λ q. at (v ∷ q)) (volume_holds g _ (slice_index_or r.volumes.items v None)))

@@ -1,4 +1,4 @@
--- A stripe's piece: bytes are the piece of what they say exactly where they are the piece of a stripe, and then they leave a state.
+-- A stripe's piece: bytes are the piece of what they decode to exactly where they are the piece of a stripe, and then they leave a state.
 use Rattle.std.proofs.Common.{◌≡◌, ℕ, zero, suc, ◌+◌, ◌*◌, ◌-◌, ◌<◌, ◌≤◌, Bool, true, false, ◌&&◌, List, [], ◌∷◌, ◌++◌, length, replicate, Option, Some, None, IfSome, is_some, refl, sym, ◌∙◌, ap, subst, arith, true≢false, length-append, ⊎_elim}
 use Rattle.std.specs.Prelude.{◌==◌, ◌^◌, if◌then◌else◌, nat_lt}
 use Rattle.std.specs.List.{AllByRecursion, flat_map}
@@ -23,7 +23,7 @@ use Rattle.parcel.proofs.GroupCounts.{Lies, lies_first, lies_behind}
 
 -- ---- from the tree
 
--- a stripe that fits has files that one byte tells
+-- a stripe that fits has files that one byte encodes
 pub files_small : (g : Geometry) (s : ℕ) (es : List BlockEntry) → Lies g s es → AllByRecursion (λ (e : BlockEntry). e.file < 256) es
 files_small g s [] lies = tt
 files_small g s (e ∷ es) lies =
@@ -99,7 +99,8 @@ module _ (g : Geometry) (x : State) (is : IsState g x) (a v s files : ℕ) (has 
         let second = and_parts (has_file files e.file) (nat_lt e.block g.blocks) first.0 in
         (ltb-true e.block g.blocks second.1, has e.file ∙ second.0, eqb-true (group g e.file e.block) s first.1)
 
-    all_stand : (ds : List BlockEntry) → AllByRecursion (λ e. can_stand g files s e.file e.block ≡ true) ds → AllByRecursion (λ (e : BlockEntry). (e.block < g.blocks) × (x.files (a, v, e.file) ≡ true) × (group g e.file e.block ≡ s)) ds
+    all_stand : (ds : List BlockEntry) → AllByRecursion (λ e. can_stand g files s e.file e.block ≡ true) ds
+        → AllByRecursion (λ (e : BlockEntry). (e.block < g.blocks) × (x.files (a, v, e.file) ≡ true) × (group g e.file e.block ≡ s)) ds
     all_stand [] all = tt
     all_stand (e ∷ ds) all = (stands e all.0, all_stand ds all.1)
 
@@ -140,7 +141,7 @@ module _ (g : Geometry) (x : State) (is : IsState g x) (a v s files : ℕ) (has 
             by false off (Some content) is_o =
                 absurd (true≢false (sym (eq-eqb (group g f b) s (content_stands f b (ap (λ (o : Option Block). is_some o) is_o)).2) ∙ off))
 
-  -- ---- bytes that spell what they say
+  -- ---- bytes that spell what they decode to
 
   spellable : (p : Bool) (f b : ℕ) (o : Option Block) → b < g.blocks → IfSome o IsBlock → AllByRecursion IsSpellable (entry_if p f b o)
   spellable true f b (Some content) below block = let most = g.blocks_range.1 in (record { long = block.0; small = omega (arith, below, most) }, tt)
@@ -152,8 +153,13 @@ module _ (g : Geometry) (x : State) (is : IsState g x) (a v s files : ℕ) (has 
       all_joined IsSpellable g.files _
       (λ f in_files. all_joined IsSpellable g.blocks _ (λ b below. spellable (taken.files (a, v, f) && (group g f b == s)) f b (taken.blocks (a, v, f, b)) below (content_held (a, v, f, b))))
 
-  can : (p q : Bool) (f b : ℕ) (o : Option Block) → b < g.blocks → has_file files f ≡ p → (group g f b == s) ≡ q → AllByRecursion (λ (e : BlockEntry). can_stand g files s e.file e.block ≡ true) (entry_if (p && q) f b o)
-  can true true f b (Some content) below there on = (and_from (has_file files f && nat_lt b g.blocks) (group g f b == s) (and_from (has_file files f) (nat_lt b g.blocks) there (lt-ltb b g.blocks below)) on, tt)
+  can : (p q : Bool) (f b : ℕ) (o : Option Block) → b < g.blocks → has_file files f ≡ p → (group g f b == s) ≡ q
+      → AllByRecursion (λ (e : BlockEntry). can_stand g files s e.file e.block ≡ true) (entry_if (p && q) f b o)
+  can true true f b (Some content) below there on = (
+    and_from (has_file files f && nat_lt b g.blocks) (group g f b == s)
+        (and_from (has_file files f) (nat_lt b g.blocks) there (lt-ltb b g.blocks below)) on,
+    tt,
+  )
   can true true f b None below there on = tt
   can true false f b o below there on = tt
   can false q f b o below there on = tt
@@ -161,13 +167,15 @@ module _ (g : Geometry) (x : State) (is : IsState g x) (a v s files : ℕ) (has 
   all_can : AllByRecursion (λ (e : BlockEntry). can_stand g files s e.file e.block ≡ true) (stripe_entries g taken a v s)
   all_can =
       all_joined (λ (e : BlockEntry). can_stand g files s e.file e.block ≡ true) g.files _
-      (λ f in_files. all_joined (λ (e : BlockEntry). can_stand g files s e.file e.block ≡ true) g.blocks _ (λ b below. can (x.files (a, v, f)) (group g f b == s) f b (taken.blocks (a, v, f, b)) below (sym (has f)) refl))
+      (λ f in_files. all_joined (λ (e : BlockEntry). can_stand g files s e.file e.block ≡ true) g.blocks _
+      (λ b below. can (x.files (a, v, f)) (group g f b == s) f b (taken.blocks (a, v, f, b)) below (sym (has f)) refl))
 
   pub stripe_is_piece : bytes ≡ stripe_piece g taken a v s → IsStripePiece g files s bytes
   stripe_is_piece good =
       let ds : List BlockEntry = stripe_entries g taken a v s in
       let k : ℕ = g.quota * 520 - length (flat_map entry_bytes ds) in
-      let long : length (flat_map entry_bytes ds) + length (replicate k 0) ≡ g.quota * 520 = sym (length-append (flat_map entry_bytes ds) (replicate k 0)) ∙ sym (ap (λ (l : List ℕ). length l) good) ∙ are.0 in
+      let long : length (flat_map entry_bytes ds) + length (replicate k 0)
+      ≡ g.quota * 520 = sym (length-append (flat_map entry_bytes ds) (replicate k 0)) ∙ sym (ap (λ (l : List ℕ). length l) good) ∙ are.0 in
       let most : length ds ≤ g.quota = omega (arith, long, length-entries ds all_spellable) in
       let same : es ≡ ds = ap (λ (l : List ℕ). entries_in g.quota l) good ∙ entries_again ds all_spellable g.quota k most in
       record {
@@ -178,7 +186,7 @@ module _ (g : Geometry) (x : State) (is : IsState g x) (a v s files : ℕ) (has 
 
 -- ---- into the tree
 
--- a file that a number of few bits tells is below their count
+-- a file that a number of few bits has is below their count
 file_below : (k files f : ℕ) → files < 2 ^ k → has_file files f ≡ true → f < k
 file_below k files f small there =
     ⊎_elim
@@ -187,10 +195,13 @@ file_below k files f small there =
     (cases_lt f k)
 
 -- the entries of a stripe's piece fit there
-pub entries_fit : (g : Geometry) (s files : ℕ) (bytes : List ℕ) → files < 2 ^ g.files → IsStripePiece g files s bytes → (p : StripePart) → p.quota ≡ g.quota → p.entries ≡ entries_in g.quota bytes → FitsStripe g s p
+pub entries_fit : (g : Geometry) (s files : ℕ) (bytes : List ℕ) → files < 2 ^ g.files → IsStripePiece g files s bytes → (p : StripePart) → p.quota
+    ≡ g.quota → p.entries ≡ entries_in g.quota bytes → FitsStripe g s p
 entries_fit g s files bytes small piece p quota entries = record {
   quota = quota;
-  lies = λ f b some. content_of (λ f b. (f < g.files) × (b < g.blocks) × (group g f b ≡ s)) f b p.entries (subst (AllByRecursion (λ (e : BlockEntry). (e.file < g.files) × (e.block < g.blocks) × (group g e.file e.block ≡ s))) (sym entries) (all (entries_in g.quota bytes) piece.fit)) some;
+  lies = λ f b some. content_of (λ f b. (f < g.files) × (b < g.blocks) × (group g f b ≡ s)) f b p.entries
+      (subst (AllByRecursion (λ (e : BlockEntry). (e.file < g.files) × (e.block < g.blocks) × (group g e.file e.block ≡ s))) (sym entries)
+      (all (entries_in g.quota bytes) piece.fit)) some;
 }
   where
     one : (e : BlockEntry) → can_stand g files s e.file e.block ≡ true → (e.file < g.files) × (e.block < g.blocks) × (group g e.file e.block ≡ s)
@@ -199,6 +210,7 @@ entries_fit g s files bytes small piece p quota entries = record {
         let second = and_parts (has_file files e.file) (nat_lt e.block g.blocks) first.0 in
         (file_below g.files files e.file small second.0, ltb-true e.block g.blocks second.1, eqb-true (group g e.file e.block) s first.1)
 
-    all : (ds : List BlockEntry) → AllByRecursion (λ e. can_stand g files s e.file e.block ≡ true) ds → AllByRecursion (λ (e : BlockEntry). (e.file < g.files) × (e.block < g.blocks) × (group g e.file e.block ≡ s)) ds
+    all : (ds : List BlockEntry) → AllByRecursion (λ e. can_stand g files s e.file e.block ≡ true) ds
+        → AllByRecursion (λ (e : BlockEntry). (e.file < g.files) × (e.block < g.blocks) × (group g e.file e.block ≡ s)) ds
     all [] can = tt
     all (e ∷ ds) can = (one e can.0, all ds can.1)

@@ -24,7 +24,8 @@ few_of_one g h = record {
   volumes = one_if-le h.made;
   files = let few = count_below-le g.files h.files in let most = g.files_range.1 in omega arith;
   blocks =
-      let few : sum_below g.files (λ f. count_below g.blocks (λ b. is_some (h.blocks f b))) ≤ g.files * g.blocks = sum_below-le_times g.files g.blocks _ (λ f lt. count_below-le g.blocks (λ b. is_some (h.blocks f b))) in
+      let few : sum_below g.files (λ f. count_below g.blocks (λ b. is_some (h.blocks f b))) ≤ g.files * g.blocks = sum_below-le_times g.files
+      g.blocks _ (λ f lt. count_below-le g.blocks (λ b. is_some (h.blocks f b))) in
       let most : g.files * g.blocks ≤ 64 * 256 = mul-le g.files g.blocks 64 256 g.files_range.1 g.blocks_range.1 in
       omega arith;
 }
@@ -37,7 +38,8 @@ few_of_sum n c each le few = record {
 }
 
 -- one more
-pub sum_totals_step : (n : ℕ) (each : ℕ → Totals) (t u r : Totals) → t ≡ sum_totals n each → u ≡ each n → r ≡ record { volumes = t.volumes + u.volumes; files = t.files + u.files; blocks = t.blocks + u.blocks } → r ≡ sum_totals (n + 1) each
+pub sum_totals_step : (n : ℕ) (each : ℕ → Totals) (t u r : Totals) → t ≡ sum_totals n each → u ≡ each n → r
+    ≡ record { volumes = t.volumes + u.volumes; files = t.files + u.files; blocks = t.blocks + u.blocks } → r ≡ sum_totals (n + 1) each
 sum_totals_step n each t u r before here added =
     added
     ∙ (λ i. record { volumes = (before i).volumes + (here i).volumes; files = (before i).files + (here i).files; blocks = (before i).blocks + (here i).blocks })
@@ -45,9 +47,12 @@ sum_totals_step n each t u r before here added =
 
 pub few_of_aggregates : (g : Geometry) (n : ℕ) (facts : ℕ → ℕ → Facts) → IsFew (n * 64) (sum_totals n (λ a. sum_totals g.volumes (λ v. totals_of g (facts a v))))
 few_of_aggregates g n facts = record {
-  volumes = let most : sum_below n (λ a. sum_below g.volumes (λ v. (totals_of g (facts a v)).volumes)) ≤ n * 64 = sum_below-le_times n 64 _ (λ a lt. let h = (each a).volumes in omega (arith, h, range)) in most;
-  files = let most : sum_below n (λ a. sum_below g.volumes (λ v. (totals_of g (facts a v)).files)) ≤ n * 4096 = sum_below-le_times n 4096 _ (λ a lt. let h = (each a).files in omega (arith, h, range)) in omega (arith, most);
-  blocks = let most : sum_below n (λ a. sum_below g.volumes (λ v. (totals_of g (facts a v)).blocks)) ≤ n * 1048576 = sum_below-le_times n 1048576 _ (λ a lt. let h = (each a).blocks in omega (arith, h, range)) in omega (arith, most);
+  volumes = let most : sum_below n (λ a. sum_below g.volumes (λ v. (totals_of g (facts a v)).volumes)) ≤ n * 64 = sum_below-le_times n 64 _
+      (λ a lt. let h = (each a).volumes in omega (arith, h, range)) in most;
+  files = let most : sum_below n (λ a. sum_below g.volumes (λ v. (totals_of g (facts a v)).files)) ≤ n * 4096 = sum_below-le_times n 4096 _
+      (λ a lt. let h = (each a).files in omega (arith, h, range)) in omega (arith, most);
+  blocks = let most : sum_below n (λ a. sum_below g.volumes (λ v. (totals_of g (facts a v)).blocks)) ≤ n * 1048576 = sum_below-le_times n 1048576 _
+      (λ a lt. let h = (each a).blocks in omega (arith, h, range)) in omega (arith, most);
 }
   where
     each : (a : ℕ) → IsFew (g.volumes * 8) (sum_totals g.volumes (λ v. totals_of g (facts a v)))

@@ -1,4 +1,4 @@
--- A volume's piece: what is spelled is what the volume has, and bytes that spell what they say leave a state.
+-- A volume's piece: what is spelled is what the volume has, and bytes that spell what they decode to leave a state.
 use Rattle.std.proofs.Common.{◌≡◌, ℕ, zero, suc, ◌+◌, ◌-◌, ◌%◌, ◌^◌, ◌<◌, ◌≤◌, Bool, true, false, ◌&&◌, List, [], ◌∷◌, ◌++◌, length, take, drop, get_or, replicate, unwrap_or, Option, Some, None, IfSome, is_some, refl, sym, ◌∙◌, ap, subst, arith, ⊎_elim, true≢false, length-take, length-drop, mod-lt}
 use Rattle.std.specs.Prelude.{◌==◌, if◌then◌else◌}
 use Rattle.std.specs.List.{AllByRecursion}
@@ -28,7 +28,7 @@ use Rattle.parcel.proofs.Shows.{has_none}
 
 -- ---- what is spelled
 
--- the marks, the files and the label, where the volume is made
+-- the flags, the files and the label, where the volume is made
 volume_spelled : (version : ℕ) (g : Geometry) (x : State) (a v : ℕ) (p : VolumePiece) → x.made (a, v) ≡ p.made → x.sealed (a, v) ≡ p.sealed → file_bits g x a v ≡ p.files
     → (p.made ≡ true → label_bytes version (x.labels (a, v)) ≡ p.label) → volume_piece version g x a v ≡ spelled p
 volume_spelled version g x a v p made sealed files label = by p.made refl
@@ -38,7 +38,8 @@ volume_spelled version g x a v p made sealed files label = by p.made refl
         let same = label on in
         λ i. if made i then 1 ∷ one_if (sealed i) ∷ [] ++ replicate 6 0 ++ little_bytes 8 (files i) ++ same i ++ replicate 16 0 else replicate 64 0
     by false off =
-        ap (λ (t : Bool). if t then 1 ∷ one_if (x.sealed (a, v)) ∷ [] ++ replicate 6 0 ++ little_bytes 8 (file_bits g x a v) ++ label_bytes version (x.labels (a, v)) ++ replicate 16 0 else replicate 64 0) (made ∙ off)
+        ap (λ (t : Bool). if t then 1 ∷ one_if (x.sealed (a, v)) ∷ [] ++ replicate 6 0 ++ little_bytes 8 (file_bits g x a v)
+        ++ label_bytes version (x.labels (a, v)) ++ replicate 16 0 else replicate 64 0) (made ∙ off)
         ∙ sym (ap (λ (t : Bool). if t then 1 ∷ one_if p.sealed ∷ [] ++ replicate 6 0 ++ little_bytes 8 p.files ++ p.label ++ replicate 16 0 else replicate 64 0) off)
 
 files_are : (g : Geometry) (x : State) (a v : ℕ) (o : Option Logical) → IfSome o (FitsLogical g) → IsWholeChild IsWholeLogical o → ((f : ℕ) → x.files (a, v, f) ≡ files_in o f)
@@ -55,7 +56,7 @@ volume_written g x a v w fits whole has =
 here : (a v : ℕ) → is_volume a v (a, v) ≡ true
 here a v = and_from (a == a) (v == v) (eq-eqb a a refl) (eq-eqb v v refl)
 
--- what bytes say, spelled in the state that they lead to
+-- what bytes decode to, spelled in the state that they lead to
 pub volume_decoded : (version : ℕ) (g : Geometry) (x : State) (a v : ℕ) (bytes : List ℕ) → volume_piece version g (with_volume_piece version x a v bytes) a v ≡ spelled (decoded_piece version g bytes)
 volume_decoded version g x a v bytes =
     volume_spelled version g (with_volume_piece version x a v bytes) a v (decoded_piece version g bytes)
@@ -71,7 +72,7 @@ volume_decoded version g x a v bytes =
     by true = refl
     by false = refl
 
--- ---- bytes that spell what they say
+-- ---- bytes that spell what they decode to
 
 module _ (version : ℕ) (g : Geometry) (bytes : List ℕ) (good : bytes ≡ spelled (decoded_piece version g bytes)) where
   abbrev number : ℕ
@@ -85,12 +86,13 @@ module _ (version : ℕ) (g : Geometry) (bytes : List ℕ) (good : bytes ≡ spe
 
   not_made : is_made_in bytes ≡ false → bytes ≡ replicate 64 0
   not_made off =
-      good ∙ ap (λ (t : Bool). if t then 1 ∷ one_if (is_sealed_in bytes) ∷ [] ++ replicate 6 0 ++ little_bytes 8 (number % 2 ^ g.files) ++ decoded_label version bytes ++ replicate 16 0 else replicate 64 0) off
+      good ∙ ap (λ (t : Bool). if t then 1 ∷ one_if (is_sealed_in bytes) ∷ [] ++ replicate 6 0 ++ little_bytes 8 (number % 2 ^ g.files)
+      ++ decoded_label version bytes ++ replicate 16 0 else replicate 64 0) off
 
   eight_again : (n : ℕ) → n < 2 ^ 64 → little_number 8 (little_bytes 8 n) ≡ n
   eight_again n below = omega (arith, below)
 
-  -- they tell no file that the geometry hasn't
+  -- they encode no file that the geometry hasn't
   pub number_whole : number % 2 ^ g.files ≡ number
   number_whole = by (is_made_in bytes) refl
     where
@@ -98,7 +100,8 @@ module _ (version : ℕ) (g : Geometry) (bytes : List ℕ) (good : bytes ≡ spe
       by true on =
           sym (eight_again (number % 2 ^ g.files) fits_eight)
           ∙ sym (ap (λ (l : List ℕ). little_number 8 (bytes_at 8 8 l))
-          (good ∙ ap (λ (t : Bool). if t then 1 ∷ one_if (is_sealed_in bytes) ∷ [] ++ replicate 6 0 ++ little_bytes 8 (number % 2 ^ g.files) ++ decoded_label version bytes ++ replicate 16 0 else replicate 64 0) on))
+          (good ∙ ap (λ (t : Bool). if t then 1 ∷ one_if (is_sealed_in bytes) ∷ [] ++ replicate 6 0 ++ little_bytes 8 (number % 2 ^ g.files)
+          ++ decoded_label version bytes ++ replicate 16 0 else replicate 64 0) on))
       by false off =
           let none : number ≡ 0 = ap (λ (l : List ℕ). little_number 8 (bytes_at 8 8 l)) (not_made off) in
           let least = pow_pos g.files in

@@ -21,7 +21,8 @@ abbrev pub changed_if : (Facts → Facts) → Bool → Facts → Facts
 changed_if change true h = change h
 changed_if change false h = h
 
-pub set_changes : (g : Geometry) (change : Facts → Facts) (xs : List (Option Vol)) (v : ℕ) (y : Option Vol) → v < length xs → by_child (volume_facts g) y ≡ change (by_child (volume_facts g) (slice_index_or xs v None))
+pub set_changes : (g : Geometry) (change : Facts → Facts) (xs : List (Option Vol)) (v : ℕ) (y : Option Vol) → v < length xs
+    → by_child (volume_facts g) y ≡ change (by_child (volume_facts g) (slice_index_or xs v None))
     → (q : ℕ) → by_child (volume_facts g) (slice_index_or (slice_set xs v y) q None) ≡ changed_if change (v == q) (by_child (volume_facts g) (slice_index_or xs q None))
 set_changes g change xs v y lt e q =
     ⊎_elim
@@ -44,7 +45,8 @@ at_itself a h i = facts_if (eq-eqb a a refl i) h
 pub make_tests : (g : Geometry) (a v : ℕ) (r : Aggr) → is_in_range g (MakeVol a v) ≡ true → refusal g (at_aggregate g a r) (MakeVol a v) ≡ unless (not (by_aggregate g r v).made) Exists None
 make_tests g a v r range = let at = at_itself a (by_aggregate g r v) in λ i. unless (range i) Range (unless (not (at i).made) Exists None)
 
-pub drop_tests : (g : Geometry) (a v : ℕ) (r : Aggr) → is_in_range g (DropVol a v) ≡ true → refusal g (at_aggregate g a r) (DropVol a v) ≡ unless_closed (by_aggregate g r v).made (by_aggregate g r v).sealed None
+pub drop_tests : (g : Geometry) (a v : ℕ) (r : Aggr) → is_in_range g (DropVol a v) ≡ true → refusal g (at_aggregate g a r) (DropVol a v)
+    ≡ unless_closed (by_aggregate g r v).made (by_aggregate g r v).sealed None
 drop_tests g a v r range = let at = at_itself a (by_aggregate g r v) in λ i. unless (range i) Range (unless_closed (at i).made (at i).sealed None)
 
 module _ (a v : ℕ) (old new : ℕ → Facts) where

@@ -19,7 +19,8 @@ use Rattle.parcel.proofs.ChildRows.{each_at}
 
 -- ---- the test, and the definition
 
-pub all_whole : {X : Type 0} (test : Option X → Bool) (IsWhole : X → Type 0) → ((x : Option X) → test x ≡ true → IsWholeChild IsWhole x) → (xs : List (Option X)) → list_all test xs ≡ true → AllByRecursion (IsWholeChild IsWhole) xs
+pub all_whole : {X : Type 0} (test : Option X → Bool) (IsWhole : X → Type 0) → ((x : Option X) → test x ≡ true → IsWholeChild IsWhole x)
+    → (xs : List (Option X)) → list_all test xs ≡ true → AllByRecursion (IsWholeChild IsWhole) xs
 all_whole test IsWhole each [] h = tt
 all_whole test IsWhole each (x ∷ xs) h =
     let both = and_parts (test x) (list_all test xs) h in
@@ -149,11 +150,14 @@ module _ (g : Geometry) where
 
   pub aggregate_gap : (x : Option Aggr) → IfSome x (FitsAggregate g) → is_whole_aggregate x ≡ false → HasOneOut (IsAggregatePath g) (in_child in_aggregate x)
   aggregate_gap None f h = ([], tt, refl)
-  aggregate_gap (Some r) f h = gap_of_row in_volume _ (IsVolumePath g) g.volumes r.volumes.items f.count (row_gap (λ v. FitsVolume g) is_whole_volume in_volume (IsVolumePath g) 0 r.volumes.items f.volumes h (λ k x e t. volume_gap x e t))
+  aggregate_gap (Some r) f h = gap_of_row in_volume _ (IsVolumePath g) g.volumes r.volumes.items f.count
+      (row_gap (λ v. FitsVolume g) is_whole_volume in_volume (IsVolumePath g) 0 r.volumes.items f.volumes h (λ k x e t. volume_gap x e t))
 
   pub root_gap : (x : Option Root) → IfSome x (FitsRoot g) → is_whole_root x ≡ false → HasOneOut (IsRootPath g) (in_child in_root x)
   root_gap None f h = ([], tt, refl)
-  root_gap (Some r) f h = gap_of_row in_aggregate _ (IsAggregatePath g) g.aggregates r.aggregates.items f.count (row_gap (λ a. FitsAggregate g) is_whole_aggregate in_aggregate (IsAggregatePath g) 0 r.aggregates.items f.aggregates h (λ k x e t. aggregate_gap x e t))
+  root_gap (Some r) f h = gap_of_row in_aggregate _ (IsAggregatePath g) g.aggregates r.aggregates.items f.count
+      (row_gap (λ a. FitsAggregate g) is_whole_aggregate in_aggregate (IsAggregatePath g) 0 r.aggregates.items f.aggregates h
+      (λ k x e t. aggregate_gap x e t))
 
 -- ---- taking a place itself
 

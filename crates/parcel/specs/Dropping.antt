@@ -1,4 +1,4 @@
--- What is left of stripes of which blocks are removed.
+-- Inner: What is left of stripes of which blocks are removed.
 use Rattle.std.specs.Prelude.{ℕ, ◌==◌, if◌then◌else◌, Option, Some, None}
 use Rattle.stripe.specs.Stripe.{StripePart, NowHolds, content_at}
 

@@ -1,4 +1,4 @@
--- Which parcels belong at a path of a geometry.
+-- Statement for engineers: Which parcels belong at a path of a geometry.
 use Rattle.std.specs.Prelude.{◌≡◌, ℕ, zero, suc, ◌<◌, ◌^◌, true, List, [], ◌∷◌, length, Option, Some, None, is_some, IfSome}
 use Rattle.std.specs.List.{AllByRecursion}
 use Rattle.affinity.specs.declared.geometry.Geometry.{Geometry}
@@ -19,7 +19,7 @@ pub record FitsStripe (g : Geometry) (s : ℕ) (p : StripePart) : Type 0 where
   pub quota : p.quota ≡ g.quota
   pub lies : (f b : ℕ) → is_some (content_at p.entries f b) ≡ true → (f < g.files) × (b < g.blocks) × (group g f b ≡ s)
 
--- Each that is in a row, from number i on, fits at its number.
+-- Each that is in a list, from number i on, fits at its number.
 abbrev pub EachFits : {X : Type 0} → (ℕ → X → Type 0) → ℕ → List (Option X) → Type 0
 EachFits Fits i [] = Unit {0}
 EachFits Fits i (x ∷ xs) = IfSome x (Fits i) × EachFits Fits (suc i) xs

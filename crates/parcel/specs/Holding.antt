@@ -1,4 +1,4 @@
--- A tree beside the serial state, while parcels are out at several places.
+-- Statement for engineers: A tree beside the serial state, while parcels are out at several places.
 use Rattle.std.specs.Prelude.{◌≡◌, Bool, true, false, not, ◌||◌, None}
 use Rattle.affinity.specs.declared.geometry.Geometry.{Geometry}
 use Rattle.affinity.specs.Interval.{IsPath}
@@ -28,7 +28,7 @@ pub record TreeHolds (g : Geometry) (out : Path → Bool) (n : Nodes) (x : State
   pub gone : (q : Path) → out q ≡ true → n q ≡ None
   pub state : IsState g x
 
--- A job is out of a tree that holds a state, beside others at unrelated places: it shows that state.
+-- The parcels of a job are out of a tree that holds a state, beside others at unrelated places: they show that state.
 pub record IsJobOut (out : Path → Bool) (job : JobView) (n : Nodes) (x : State) : Type 0 where
   pub holds : TreeHolds job.geometry (with_place (job_place job) out) n x
   pub apart : IsApart (job_place job) out

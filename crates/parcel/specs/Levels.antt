@@ -1,4 +1,4 @@
--- The tree level by level: the paths from a level on, and what it is to take out or to put back below it.
+-- Inner: The tree level by level: the paths from a level on, and what it is to take out or to put back below it.
 use Rattle.std.specs.Prelude.{◌≡◌, ℕ, zero, suc, ◌<◌, Bool, true, false, ◌&&◌, [], ◌∷◌, ◌++◌, length, slice_index_or, Option, Some, None, is_some}
 use Rattle.std.specs.List.{AllByRecursion, list_all}
 use Rattle.affinity.specs.declared.geometry.Geometry.{Geometry}

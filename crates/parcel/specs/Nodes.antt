@@ -1,4 +1,4 @@
--- The tree as a map from paths to what each node has of its own. A path at which nothing is in has none.
+-- Statement for operators: The tree as a map from paths to what each node has of its own. A path at which nothing is in has none.
 use Rattle.std.specs.Prelude.{◌≡◌, ℕ, zero, suc, Bool, false, ◌==◌, if◌then◌else◌, List, [], ◌∷◌, slice_index_or, Option, Some, None}
 use Rattle.affinity.specs.declared.geometry.Geometry.{Geometry}
 use Rattle.affinity.specs.Geometry.{group}
@@ -112,7 +112,7 @@ abbrev pub text_of : Option Node → Option (List ℕ)
 text_of (Some (Text bytes)) = bytes
 text_of _ = None
 
--- The state that the nodes hold: of what is out it has nothing.
+-- The state that the nodes hold: it has nothing of what is out.
 abbrev pub tree_state : Geometry → Nodes → State
 tree_state g n = record {
   made = λ k. marks_made (n (volume k.0 k.1));

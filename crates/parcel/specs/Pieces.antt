@@ -1,4 +1,4 @@
--- The pieces of an image, by what one volume of the tree has.
+-- Inner: The pieces of an image, by what one volume of the tree has.
 use Rattle.std.specs.Prelude.{◌≡◌, ◌↔◌, ℕ, Bool, zero, suc, ◌==◌, ◌%◌, ◌^◌, if◌then◌else◌, List, [], ◌∷◌, ◌++◌, replicate, unwrap_or, Option, Some, None, IfSome, IsTrue}
 use Rattle.affinity.specs.Geometry.{group}
 use Rattle.affinity.specs.Path.{Path}
@@ -17,18 +17,18 @@ use Rattle.parcel.specs.declared.parts.Logical.{Logical}
 use Rattle.parcel.specs.declared.parts.Vol.{Vol}
 use Rattle.parcel.specs.declared.pieces.volumes.VolumePiece.{VolumePiece}
 
--- the 64 bytes of a volume's piece with these marks, files and label
+-- the 64 bytes of a volume's piece with these flags, files and label
 abbrev pub spelled : VolumePiece → List ℕ
 spelled p =
     if p.made
     then 1 ∷ one_if p.sealed ∷ [] ++ replicate 6 0 ++ little_bytes 8 p.files ++ p.label ++ replicate 16 0
     else replicate 64 0
 
--- the label that bytes say: before version 2 there is none, and zeros stand for it
+-- the label that bytes decode to: before version 2 there is none, and zeros are given for it
 abbrev pub decoded_label : ℕ → List ℕ → List ℕ
 decoded_label version bytes = if version == 2 then bytes_at 16 32 bytes else no_label
 
--- what bytes say as a volume's piece, of the files that the geometry has
+-- what bytes decode to as a volume's piece, of the files that the geometry has
 abbrev pub decoded_piece : ℕ → Geometry → List ℕ → VolumePiece
 decoded_piece version g bytes =
     record {
@@ -51,7 +51,7 @@ abbrev pub with_files : ℕ → Option Logical → Option Logical
 with_files files None = None
 with_files files (Some l) = Some (record l { files = files })
 
--- the volume with what a piece says
+-- the volume with what a piece decodes to
 abbrev pub volume_with : VolumePiece → Vol → Vol
 volume_with p w =
     record {
@@ -81,8 +81,8 @@ facts_with version g h zero bytes =
     }
 facts_with version g h (suc s) bytes = record h { blocks = λ f b. if group g f b == s then block_in g bytes f b else h.blocks f b }
 
--- The bytes were read as this part of a volume: good where they spell what they say, in each state in which the volume has what it had, and
--- then it has what they say.
+-- The bytes were read as this part of a volume: good where they spell what they decode to, in each state in which the volume has what it
+-- had, and then it has what they decode to.
 pub record IsPartRead (version : ℕ) (g : Geometry) (part : ℕ) (bytes : List ℕ) (good : Bool) (old new : Vol) : Type 0 where
   pub fits : FitsVolume g new
   pub whole : IsWholeVolume new

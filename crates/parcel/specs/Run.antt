@@ -1,4 +1,4 @@
--- What it is to run a message on the parcels of its place.
+-- Statement for operators: What it is to run a message on the parcels of its place.
 use Rattle.std.specs.Prelude.{◌≡◌, ℕ}
 use Rattle.affinity.specs.declared.geometry.Geometry.{Geometry}
 use Rattle.affinity.specs.Path.{Path, are_related}

@@ -1,4 +1,4 @@
--- What a run is to any state of which its job had a part, and to the tree that lent it.
+-- Statement for engineers: What a run means for any state of which its job had a part, and for the tree that lent it.
 use Rattle.std.specs.Prelude.{◌≡◌}
 use Rattle.messages.specs.Messages.{place}
 use Rattle.meaning.specs.State.{State}

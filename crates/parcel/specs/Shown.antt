@@ -1,4 +1,5 @@
--- The state that parcels show, together with what stands above them. Of what is neither there nor above, they show nothing.
+-- Statement for engineers: The state that parcels show, together with their standing. Of what is neither there nor above, they show
+-- nothing.
 use Rattle.std.specs.Prelude.{ℕ, Bool, false, ◌==◌, List, [], ◌∷◌, slice_index_or, Option, Some, None}
 use Rattle.affinity.specs.declared.geometry.Geometry.{Geometry}
 use Rattle.affinity.specs.Geometry.{group}
@@ -22,7 +23,7 @@ abbrev pub blocks_in : Option StripePart → ℕ → ℕ → Option Block
 blocks_in None f b = None
 blocks_in (Some p) f b = content_at p.entries f b
 
--- the blocks of a row of stripes, each in the stripe of its group
+-- the blocks of a list of stripes, each in the stripe of its group
 abbrev pub blocks_of : Geometry → List (Option StripePart) → ℕ → ℕ → Option Block
 blocks_of g row f b = blocks_in (slice_index_or row (group g f b) None) f b
 

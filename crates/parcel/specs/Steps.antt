@@ -1,4 +1,4 @@
--- A message that speaks of one volume: its tests, and its step on what the volume has.
+-- Inner: A message about one volume: its tests, and its step on what the volume has.
 use Rattle.std.specs.Prelude.{◌≡◌, ℕ, Bool, true, not, if◌then◌else◌, ◌==◌, Option, Some}
 use Rattle.affinity.specs.declared.geometry.Geometry.{Geometry}
 use Rattle.messages.specs.declared.Msg.{Msg}
@@ -12,7 +12,7 @@ use Rattle.parcel.specs.Shown.{by_aggregate}
 use Rattle.parcel.specs.Volume.{Facts, facts_if, only, state_by}
 use Rattle.parcel.specs.declared.parts.Aggr.{Aggr}
 
--- refused for this reason where the test fails, and else as the later tests say
+-- refused for this reason where the test fails, else as the later tests decide
 abbrev pub unless : Bool → Refusal → Option Refusal → Option Refusal
 unless passes why later = if not passes then Some why else later
 

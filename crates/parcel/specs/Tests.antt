@@ -1,4 +1,4 @@
--- Whether a message whose numbers are in range passes a test, by what it sees of its volume.
+-- Inner: Whether a message whose numbers are in range passes a test, by what it sees of its volume.
 use Rattle.std.specs.Prelude.{Bool, true, not}
 use Rattle.messages.specs.declared.Refusal.{Refusal}
 use Rattle.messages.specs.declared.Refusal.TheVariants.{Range, Volume, Exists, Sealed, File, Space}

@@ -1,4 +1,4 @@
--- How much volumes hold, and what a volume has that was just made.
+-- Inner: How much volumes hold, and what a volume has that was just made.
 use Rattle.std.specs.Prelude.{ℕ, Bool, true, length, Option, Some, None, is_some}
 use Rattle.affinity.specs.declared.geometry.Geometry.{Geometry}
 use Rattle.messages.specs.declared.Block.{Block}

@@ -1,4 +1,4 @@
--- The tree of a server's parcels, some of which may be out, and what it is to lend and to restore.
+-- Statement for operators: The tree of a server's parcels, some of which may be out, and what it is to lend and to restore.
 use Rattle.std.specs.Prelude.{◌≡◌, zero, true, false, [], ◌∷◌, ◌++◌, Option, None, is_some, IfSome}
 use Rattle.affinity.specs.declared.geometry.Geometry.{Geometry}
 use Rattle.affinity.specs.Interval.{IsPath}
@@ -53,8 +53,8 @@ abbrev pub IsOut : Path → Nodes → Type 0
 IsOut [] n = n [] ≡ None
 IsOut (x ∷ p) n = (n (x ∷ p) ≡ None) × (is_some (n (path_above (x ∷ p))) ≡ true)
 
--- what a message at a path sees of the nodes above: a stripe the marks and the files of its volume, Volume Logical and Volume Label the
--- marks
+-- what a message at a path sees of the nodes above: a stripe the flags and the files of its volume, Volume Logical and Volume Label the
+-- flags
 abbrev pub standing_at : Path → Nodes → Standing
 standing_at (a ∷ v ∷ zero ∷ s ∷ _) n = record {
   made = marks_made (n (volume a v));

@@ -1,4 +1,4 @@
--- One volume by what can be asked of it, and a state as one of these for each volume.
+-- Statement for engineers: One volume by what can be asked of it, and a state as one of these for each volume.
 use Rattle.std.specs.Prelude.{ℕ, Bool, true, false, ◌&&◌, ◌==◌, List, Option, None}
 use Rattle.messages.specs.declared.Block.{Block}
 use Rattle.meaning.specs.State.{State}
@@ -14,7 +14,7 @@ pub record Facts : Type 0 where
 abbrev pub nothing : Facts
 nothing = record { made = false; sealed = false; files = λ f. false; blocks = λ f b. None; label = None }
 
--- these facts where the test holds, and else nothing
+-- these facts where the test holds, else nothing
 abbrev pub facts_if : Bool → Facts → Facts
 facts_if true h = h
 facts_if false h = nothing

@@ -83,7 +83,7 @@ impl Done {
         &self.message
     }
 
-    /// What the message is answered.
+    /// The reply to the message.
     pub fn reply(&self) -> &Reply
         ensures { result.now ≡ self.now.reply }
     {

@@ -105,9 +105,9 @@ pub fn step_elsewhere_is_shown()
         are_related p (place g m) ≡ false → Shows g p t l x → Shows g p t l (next_state g x m) }
 {}
 
-/// A job that is out of a tree that holds a state, whatever is out beside it, can be put back once
-/// it ran: its reply is that of the serial step of that state, and then the tree holds the state
-/// after the step, with one place fewer out.
+/// A job whose parcels are out of a tree that holds a state, whatever else is out, can be put back
+/// once it ran: its reply is that of the serial step of that state, and then the tree holds the
+/// state after the step, with one place fewer out.
 pub fn job_back_is_a_step()
     ensures ok { (out : Path → Bool) (job : JobView) (done : Done) (n : Nodes) (x : State) →
         IsJobOut out job n x → IsJobRun job done →

@@ -26,7 +26,7 @@ pub struct Label {
     pub(crate) bytes: Option<[u8; 32]>,
 }
 
-/// A volume: its marks, and below it its files and stripes, and its label.
+/// A volume: its flags, and below it its files and stripes, and its label.
 #[derive(Drop)]
 pub struct Vol {
     pub(crate) made: bool,
@@ -59,8 +59,8 @@ pub enum Parcels {
     Label(Label),
 }
 
-/// What a message sees of what lies above its place: a message at a stripe the marks of its volume
-/// and its files, one at a Volume Logical or a Volume Label the marks, and any other nothing. What
+/// What a message sees of what lies above its place: a message at a stripe the flags of its volume
+/// and its files, one at a Volume Logical or a Volume Label the flags, and any other nothing. What
 /// a place doesn't need is `false` and 0.
 #[derive(Clone, Copy, Debug, PartialEq, Eq)]
 pub struct Standing {

@@ -24,7 +24,7 @@ use std::fmt;
 use stripes::{read_stripe, write_stripe};
 use volumes::{read_volume, write_volume};
 
-/// Bytes that are not the piece of what they say.
+/// Bytes that are not the piece of what they decode to.
 #[derive(Clone, Copy, Debug, PartialEq, Eq)]
 pub struct BadPiece;
 
@@ -100,8 +100,8 @@ fn write_part(volume: &Vol, g: &Geometry, part: usize, out: &mut [u8])
 }
 
 /// Takes in bytes as piece `n`, in the place of what the tree has there. `BadPiece` exactly where they
-/// are not the piece, in an image of version 2, of the state that they lead to; then it is open what
-/// the tree has there. Nothing of the tree may be out, and before a volume's own piece it has no
+/// are not the piece, in an image of version 2, of the state that they lead to; then it is unspecified
+/// what the tree has there. Nothing of the tree may be out, and before a volume's own piece it has no
 /// block there.
 pub fn read_piece(t: &mut Tree, n: usize, bytes: &[u8]) -> Result<(), BadPiece>
     requires whole { IsWholeTree t.old }
@@ -119,8 +119,8 @@ pub fn read_piece(t: &mut Tree, n: usize, bytes: &[u8]) -> Result<(), BadPiece>
     read_version(t, VERSION, n, bytes)
 }
 
-/// The same for an image of version 1, in which zeros stand where the labels would: each volume that
-/// is made gets a label of zeros.
+/// The same for an image of version 1, which has zeros instead of labels: each volume that is made
+/// gets a label of zeros.
 pub fn read_piece_1(t: &mut Tree, n: usize, bytes: &[u8]) -> Result<(), BadPiece>
     requires whole { IsWholeTree t.old }
     requires piece { n < piece_count t.old.geometry }

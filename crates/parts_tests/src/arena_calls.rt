@@ -13,7 +13,7 @@ pub enum Call {
     MoveTo(usize, usize, bool),
     Get(usize, Option<char>),
 
-    /// Writes where there is a value, and says whether there was one.
+    /// Writes where there is a value, and returns whether there was one.
     Write(usize, char, bool),
     Lend(usize, Option<char>),
     Restore(usize, char, Result<(), char>),

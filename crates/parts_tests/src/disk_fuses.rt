@@ -1,4 +1,4 @@
-//! Calls that fail by a injected fault, and devices for which there is no memory.
+//! Calls that fail by an injected fault, and devices for which there is no memory.
 use crate::common::{holds, same};
 use crate::disk_calls::{Call, FAULT, FINE, OUTSIDE, expect};
 use disk::{DiskFault, MemDisk, Torn};
@@ -27,11 +27,20 @@ const CALLS: [Call; 5] = [
     Call::Read(0, 1),
 ];
 
-/// Fuses, set one after the other, and what each of the calls answers then.
+/// Injected faults, set one after the other, and what each of the calls answers then.
 const BLOWN: [(&[InjectedFault], [Result<(), DiskFault>; 5]); 5] = [
-    (&[InjectedFault::FailAt(2)], [FINE, FAULT, OUTSIDE, FINE, FINE]),
-    (&[InjectedFault::FailAt(3)], [FINE, FINE, OUTSIDE, FAULT, FINE]),
-    (&[InjectedFault::StopAt(2)], [FINE, FAULT, OUTSIDE, FAULT, FAULT]),
+    (
+        &[InjectedFault::FailAt(2)],
+        [FINE, FAULT, OUTSIDE, FINE, FINE],
+    ),
+    (
+        &[InjectedFault::FailAt(3)],
+        [FINE, FINE, OUTSIDE, FAULT, FINE],
+    ),
+    (
+        &[InjectedFault::StopAt(2)],
+        [FINE, FAULT, OUTSIDE, FAULT, FAULT],
+    ),
     (
         &[InjectedFault::StopAt(1), InjectedFault::FailAt(2)],
         [FINE, FAULT, OUTSIDE, FINE, FINE],

@@ -1,4 +1,4 @@
-//! Tests of the parts that a server is built of, by the public surfaces of arena, disk, turns and workers.
+//! Tests of the parts that a server is built of, by the public surfaces of arena, disk, run_queue and workers.
 #![tactic(auto)]
 
 #[cfg(test)]

@@ -1,14 +1,14 @@
-//! Turns for which there is memory, or none at first.
+//! Run queues for which there is memory, or none at first.
 ghost use Rattle.std.specs.Prelude.{◌≡◌, IfOk};
 ghost use Rattle.run_queue.specs.RunQueue.{queue_at_start};
 
 use crate::common::holds;
 use affinity::{Affinity, Geometry, Place};
+use run_queue::{QueuedMessage, RunQueue};
 use std::alloc::{AllocError, Global};
 use std::test::Fail;
-use run_queue::{QueuedMessage, RunQueue};
 
-// Turns of three slots. Where memory is refused once, the same call gives them.
+// A run queue of three slots. Where memory is refused once, the same call gives it.
 fn made(alloc: Global, g: &Geometry) -> Result<RunQueue, AllocError>
     ensures { IfOk result (λ messages. messages ≡ queue_at_start g.now 3) }
 {

@@ -28,13 +28,13 @@ const KINDS: u64 = 14;
 /// How far apart the tickets of one place are: more than there are places, and prime to the kinds.
 const STRIDE: u64 = 65;
 
-/// How often two jobs are offered while one worker may look on and the other sleeps.
+/// How often two jobs are offered while one worker may spin and the other sleeps.
 const MEETINGS: u64 = 500;
 
-/// How many looks of a spin loop a worker goes to sleep in.
+/// How many rounds of a spin loop a worker takes to go to sleep.
 const LONG_PAUSE: u64 = 5_000;
 
-/// The looks that pass before the two jobs are offered are fewer, since a worker begins to look on just then.
+/// The rounds that pass before the two jobs are offered are fewer, since a worker begins to spin just then.
 const SHORT_PAUSES: u64 = 50;
 
 // A message of each kind.
@@ -79,7 +79,7 @@ fn reply_alone(alloc: Global, ticket: u64) -> Result<Option<Reply>, Fail> {
     Ok(Some(*run(job).reply()))
 }
 
-// Offers the job of a ticket; says whether the place took it.
+// Offers the job of a ticket; returns whether the place took it.
 fn offer(
     bench: &Bench,
     dispatch_seat: &mut DispatchSeat,
@@ -138,7 +138,8 @@ fn offers_one(bench: &Bench, dispatch_seat: &mut DispatchSeat, alloc: Global) ->
 {
     let first = offer(bench, dispatch_seat, alloc, 0, 11)?;
     let second = is_handed_back(bench, dispatch_seat, alloc, 0, 12)?;
-    let nothing = bench.collect(dispatch_seat, 0).is_none() && bench.collect(dispatch_seat, 1).is_none();
+    let nothing = bench.collect(dispatch_seat, 0).is_none()
+        && bench.collect(dispatch_seat, 1).is_none();
     Ok(first && second && nothing)
 }
 
@@ -173,7 +174,9 @@ fn one_worker_answers_one_job(rt: HostRuntime) -> Result<(), Fail> {
         {
             let mut dispatch_seat = dispatch_seat;
             let offered = offers_one(bench, &mut dispatch_seat, alloc);
-            let started = bench.start(runtime, scope, &mut dispatch_seat, seats, gate).is_ok();
+            let started = bench
+                .start(runtime, scope, &mut dispatch_seat, seats, gate)
+                .is_ok();
             let collected = is_answer(collect(bench, &mut dispatch_seat, 0), 11, &alone);
             bench.stop(&mut dispatch_seat);
             Ok(offered? && started && collected)
@@ -183,7 +186,7 @@ fn one_worker_answers_one_job(rt: HostRuntime) -> Result<(), Fail> {
     Ok(())
 }
 
-// A job that is offered at place 0 and comes back from there.
+// A job that is offered at place 0 and collected there.
 #[derive(Drop)]
 struct RoundTrip<'c> {
     bench: &'c Bench,
@@ -207,7 +210,11 @@ impl<'c> DispatcherTask<Result<Option<(u64, Reply)>, Fail>> for RoundTrip<'c> {
 
     ghost gives = { λ old new end. Unit {0} };
 
-    fn run_task<T: Wait, G: Gate>(&mut self, rt: &T, gate: &G) -> Result<Option<(u64, Reply)>, Fail> {
+    fn run_task<T: Wait, G: Gate>(
+        &mut self,
+        rt: &T,
+        gate: &G,
+    ) -> Result<Option<(u64, Reply)>, Fail> {
         let _ = rt;
         let _ = gate;
         if offer(self.bench, &mut self.dispatch_seat, self.alloc, 0, 11)? {
@@ -301,7 +308,9 @@ fn a_wait_ends_with_the_delivery(rt: HostRuntime) -> Result<(), Fail> {
             requires seats { All (λ w. w ≡ bench.now) seats.items }
         {
             let mut dispatch_seat = dispatch_seat;
-            let started = bench.start(runtime, scope, &mut dispatch_seat, seats, gate).is_ok();
+            let started = bench
+                .start(runtime, scope, &mut dispatch_seat, seats, gate)
+                .is_ok();
             let fine = if started {
                 jobs_waited_for(bench, &mut dispatch_seat, alloc, runtime)
             } else {
@@ -315,7 +324,7 @@ fn a_wait_ends_with_the_delivery(rt: HostRuntime) -> Result<(), Fail> {
     Ok(())
 }
 
-// Holds the job of each even ticket until the ticket after it was answered.
+// Holds up the job of each even ticket until that of the ticket after it was collected.
 #[derive(Drop)]
 struct Holding {
     answered: AtomicU64,
@@ -350,7 +359,7 @@ impl Gate for Holding {
     }
 }
 
-// The job after an even ticket is answered while that of the ticket is held.
+// The job after an even ticket is collected while that of the ticket is held up.
 fn two_jobs(
     bench: &Bench,
     dispatch_seat: &mut DispatchSeat,
@@ -365,7 +374,8 @@ fn two_jobs(
     let (Some(first), Some(second)) = (job(alloc, ticket)?, job(alloc, behind)?) else {
         return Ok(false);
     };
-    let offered = bench.offer(dispatch_seat, 0, first).is_ok() && bench.offer(dispatch_seat, 1, second).is_ok();
+    let offered = bench.offer(dispatch_seat, 0, first).is_ok()
+        && bench.offer(dispatch_seat, 1, second).is_ok();
     let answered = collect(bench, dispatch_seat, 1).is_some();
     gate.answered(behind);
     let freed = collect(bench, dispatch_seat, 0).is_some();
@@ -379,8 +389,8 @@ fn pause(looks: u64) {
     }
 }
 
-// Again and again one of two workers has just done a job, and looks on, while the other sleeps. Two jobs are offered then at once:
-// the one that looks on may take the first of them, which holds it, while no offer has woken the other.
+// Again and again one of two workers has just done a job, and spins, while the other sleeps. Two jobs are offered then at once: the
+// one that spins may claim the first of them, which holds it up, while no offer has woken the other.
 fn all_meetings(
     bench: &Bench,
     dispatch_seat: &mut DispatchSeat,
@@ -394,7 +404,8 @@ fn all_meetings(
     for meeting in 0..meetings {
         pause(LONG_PAUSE);
         let single = meeting.wrapping_mul(4).wrapping_add(1);
-        let done = offer(bench, dispatch_seat, alloc, 0, single)? && collect(bench, dispatch_seat, 0).is_some();
+        let done = offer(bench, dispatch_seat, alloc, 0, single)?
+            && collect(bench, dispatch_seat, 0).is_some();
         pause(meeting % SHORT_PAUSES);
         if !done || !two_jobs(bench, dispatch_seat, alloc, gate, single.wrapping_add(1))? {
             return Ok(false);
@@ -403,7 +414,7 @@ fn all_meetings(
     Ok(true)
 }
 
-// The most rounds or meetings at a bench, where `BENCH_ROUNDS` in the environment says how many.
+// The most rounds or meetings at a bench, where `BENCH_ROUNDS` in the environment sets how many.
 fn most_rounds<R: Env + Alloc>(rt: &R) -> u64 {
     match env::var(rt, "BENCH_ROUNDS") {
         Ok(text) => text.as_str().parse::<u64>().unwrap_or(u64::MAX),
@@ -443,7 +454,9 @@ fn two_workers_meet<R: Threads + Wait + Sync>(
             requires seats { All (λ w. w ≡ bench.now) seats.items }
         {
             let mut dispatch_seat = dispatch_seat;
-            let started = bench.start(rt, scope, &mut dispatch_seat, seats, gate).is_ok();
+            let started = bench
+                .start(rt, scope, &mut dispatch_seat, seats, gate)
+                .is_ok();
             let fine = first_and_meetings(bench, &mut dispatch_seat, alloc, gate, meetings);
             bench.stop(&mut dispatch_seat);
             Ok(fine? && started)
@@ -504,7 +517,7 @@ fn await_result<R: Wait>(
     None
 }
 
-// Offers a job at each place, where the one before has to be answered first. Says whether all was so.
+// Offers a job at each place, where the one before has to be collected first. Returns whether all was so.
 fn offer_round<R: Wait>(
     bench: &Bench,
     dispatch_seat: &mut DispatchSeat,
@@ -529,7 +542,7 @@ fn offer_round<R: Wait>(
     Ok(true)
 }
 
-// Collects the last job of each place, after which nothing is left. Says whether all was so.
+// Collects the last job of each place, after which nothing is left. Returns whether all was so.
 fn collect_round<R: Wait>(
     bench: &Bench,
     dispatch_seat: &mut DispatchSeat,
@@ -551,8 +564,8 @@ fn collect_round<R: Wait>(
     true
 }
 
-// Hands jobs over at each place, with a ticket of its own each, and sleeps while none comes back. Says
-// whether each came back once, with the reply that its message gets alone.
+// Hands jobs over at each place, with a ticket of its own each, and sleeps while none is delivered.
+// Returns whether each was collected once, with the reply that its message gets alone.
 fn all_jobs<R: Wait>(
     bench: &Bench,
     dispatch_seat: &mut DispatchSeat,
@@ -573,7 +586,7 @@ fn all_jobs<R: Wait>(
     Ok(collect_round(bench, dispatch_seat, rt, places, rounds, &alone))
 }
 
-// Whether all jobs come back at a bench with as many places as workers.
+// Whether all jobs are collected at a bench with as many places as workers.
 fn hands_off_all<R: Threads + Wait + Sync>(
     rt: &R,
     alloc: Global,
@@ -593,7 +606,9 @@ fn hands_off_all<R: Threads + Wait + Sync>(
             requires seats { All (λ w. w ≡ bench.now) seats.items }
         {
             let mut dispatch_seat = dispatch_seat;
-            let started = bench.start(rt, scope, &mut dispatch_seat, seats, gate).is_ok();
+            let started = bench
+                .start(rt, scope, &mut dispatch_seat, seats, gate)
+                .is_ok();
             let fine = all_jobs(bench, &mut dispatch_seat, (rt, alloc), places, rounds);
             bench.stop(&mut dispatch_seat);
             Ok(fine? && started)

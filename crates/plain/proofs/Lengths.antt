@@ -41,7 +41,8 @@ module _ {K : Type 0} (same : K → K → Bool) (IsIn : K → Type 0) (whole : (
   counted : (ks : List K) → IsDistinct same ks → ((k : K) → list_any (same k) ks ≡ true → IsIn k) → whole (λ k. one_if (list_any (same k) ks)) ≡ length ks
   counted [] d h = w.nothing
   counted (e ∷ ks) d h =
-      let front : whole (λ k. one_if (same k e || list_any (same k) ks)) ≡ whole (λ k. one_if (same k e) + one_if (list_any (same k) ks)) = λ i. whole (λ k. in_front e ks (IsDistinct-head same e ks d) k i) in
+      let front : whole (λ k. one_if (same k e || list_any (same k) ks))
+      ≡ whole (λ k. one_if (same k e) + one_if (list_any (same k) ks)) = λ i. whole (λ k. in_front e ks (IsDistinct-head same e ks d) k i) in
       let split = w.adds (λ k. one_if (same k e)) (λ k. one_if (list_any (same k) ks)) in
       let one = w.once e (h e (or_left (same e e) (list_any (same e) ks) (w.itself e))) in
       let rest = counted ks (IsDistinct-tail same e ks d) (λ k is. h k (or_right (same k e) (list_any (same k) ks) is)) in
@@ -87,7 +88,9 @@ module _ (g : Geometry) where
   one_file e h = sum_same g.aggregates _ _ (λ a. sum_same g.volumes _ _ (λ v. sum_pick g.files e.2 h.2 ((a == e.0) && (v == e.1)))) ∙ one_volume (e.0, e.1) (h.0, h.1)
 
   one_block : (e : BlockKey) → IsBlockIn g e → over_blocks g (λ k. one_if (is_block k.0 k.1 k.2 k.3 e)) ≡ 1
-  one_block e h = sum_same g.aggregates _ _ (λ a. sum_same g.volumes _ _ (λ v. sum_same g.files _ _ (λ f. sum_pick g.blocks e.3 h.3 ((a == e.0) && (v == e.1) && (f == e.2))))) ∙ one_file (e.0, e.1, e.2) (h.0, h.1, h.2)
+  one_block e h = sum_same g.aggregates _ _ (λ a. sum_same g.volumes _ _
+      (λ v. sum_same g.files _ _ (λ f. sum_pick g.blocks e.3 h.3 ((a == e.0) && (v == e.1) && (f == e.2)))))
+      ∙ one_file (e.0, e.1, e.2) (h.0, h.1, h.2)
 
   volumes : IsWhole (eq_by_cmp volume_order) (IsVolumeIn g) (over_volumes g)
   volumes = record {
@@ -101,7 +104,8 @@ module _ (g : Geometry) where
   files : IsWhole (eq_by_cmp by_file) (IsFileIn g) (over_files g)
   files = record {
     nothing = sum_same g.aggregates _ _ (λ a. sum_same g.volumes _ _ (λ v. sum_zero g.files) ∙ sum_zero g.volumes) ∙ sum_zero g.aggregates;
-    adds = λ f h. sum_same g.aggregates _ _ (λ a. sum_same g.volumes _ _ (λ v. sum_below-add g.files (λ n. f (a, v, n)) (λ n. h (a, v, n))) ∙ sum_below-add g.volumes _ _) ∙ sum_below-add g.aggregates _ _;
+    adds = λ f h. sum_same g.aggregates _ _ (λ a. sum_same g.volumes _ _ (λ v. sum_below-add g.files (λ n. f (a, v, n)) (λ n. h (a, v, n)))
+        ∙ sum_below-add g.volumes _ _) ∙ sum_below-add g.aggregates _ _;
     once = λ e h. (λ i. over_files g (λ k. one_if (at_file k.0 k.1 k.2 e i))) ∙ one_file e h;
     itself = λ k. at_file k.0 k.1 k.2 k ∙ picks_file k.0 k.1 k.2;
     exact = λ j k e. the_file j.0 j.1 j.2 k (sym (at_file j.0 j.1 j.2 k) ∙ e);
@@ -110,7 +114,9 @@ module _ (g : Geometry) where
   blocks : IsWhole (eq_by_cmp by_block) (IsBlockIn g) (over_blocks g)
   blocks = record {
     nothing = sum_same g.aggregates _ _ (λ a. sum_same g.volumes _ _ (λ v. sum_same g.files _ _ (λ f. sum_zero g.blocks) ∙ sum_zero g.files) ∙ sum_zero g.volumes) ∙ sum_zero g.aggregates;
-    adds = λ f h. sum_same g.aggregates _ _ (λ a. sum_same g.volumes _ _ (λ v. sum_same g.files _ _ (λ n. sum_below-add g.blocks (λ b. f (a, v, n, b)) (λ b. h (a, v, n, b))) ∙ sum_below-add g.files _ _) ∙ sum_below-add g.volumes _ _) ∙ sum_below-add g.aggregates _ _;
+    adds = λ f h. sum_same g.aggregates _ _ (λ a. sum_same g.volumes _ _
+        (λ v. sum_same g.files _ _ (λ n. sum_below-add g.blocks (λ b. f (a, v, n, b)) (λ b. h (a, v, n, b))) ∙ sum_below-add g.files _ _)
+        ∙ sum_below-add g.volumes _ _) ∙ sum_below-add g.aggregates _ _;
     once = λ e h. (λ i. over_blocks g (λ k. one_if (at_block k.0 k.1 k.2 k.3 e i))) ∙ one_block e h;
     itself = λ k. at_block k.0 k.1 k.2 k.3 k ∙ picks_block k.0 k.1 k.2 k.3;
     exact = λ j k e. the_block j.0 j.1 j.2 j.3 k (sym (at_block j.0 j.1 j.2 j.3 k) ∙ e);

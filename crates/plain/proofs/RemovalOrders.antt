@@ -1,4 +1,4 @@
--- The keys of a file, or of a volume, stand next to each other in the order of the keys.
+-- The keys of a file, or of a volume, are next to each other in the order of the keys.
 use Rattle.std.proofs.Common.{◌≡◌, ℕ, ◌<◌, true, false, List, ◌∷◌, refl, ap, sym, ◌∙◌, subst, arith}
 use Rattle.std.specs.Prelude.{is_some}
 use Rattle.std.specs.Ordering.{nat_cmp, ordering_then, ordering_reverse, is_eq, is_gt, MatchOrdering}
@@ -62,7 +62,8 @@ within_file a v f k q from to e =
     sym (at_file a v f here) ∙ both_ways (by_file (a, v, f) here) (by_file here (a, v, f)) (file_total.antisymm (a, v, f) here) after before
 
 -- where the first key from there on is no block of the file, the file has none
-pub no_block_of_file : {X : Type 0} (m : BTreeMap BlockKey X) (r rest : List (BlockKey × X)) (a v f : ℕ) (k : BlockKey) (x : X) → IsRangeOf by_block (Included (a, v, f, 0)) Unbounded m r → r ≡ (k, x) ∷ rest
+pub no_block_of_file : {X : Type 0} (m : BTreeMap BlockKey X) (r rest : List (BlockKey × X)) (a v f : ℕ) (k : BlockKey) (x : X)
+    → IsRangeOf by_block (Included (a, v, f, 0)) Unbounded m r → r ≡ (k, x) ∷ rest
     → (◌≡◌ {A = FileKey} (a, v, f) (k.0, k.1, k.2) → ⊥) → (q : BlockKey) → is_block_of_file a v f q ≡ true → is_some (map.get by_block m q) ≡ false
 no_block_of_file m r rest a v f k x h e other q of = false_from_ne_true _ (λ there.
     let at = subst (IsRangeOf by_block (Included (a, v, f, 0)) Unbounded m) e h in

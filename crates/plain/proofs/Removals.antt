@@ -15,7 +15,7 @@ use Rattle.meaning.proofs.Keys.{and_cond, at_volume, at_file, the_block, picks_f
 use Rattle.plain.proofs.ServerCounts.{one_more}
 use Rattle.plain.proofs.Writes.{AreCounts}
 
--- ---- what answers as a removal says is the set or map without the key
+-- ---- what answers as after a removal is the set or map without the key
 
 pub no_label_of : {X : Type 0} (m n : Map VolumeKey X) (a v : ℕ) → ((k : VolumeKey) → n k ≡ cond (is_at (volume_order (a, v)) k) None (m k)) → n ≡ clearing (is_volume a v) m
 no_label_of m n a v h i k = (h k ∙ ap (λ b. cond b None (m k)) (at_volume a v k)) i

@@ -77,7 +77,8 @@ module _ (old new : StripeKey → Option ℕ) (a v s count : ℕ) (updates : (k 
 -- where there is no block, none is counted
 pub none_counted : (g : Geometry) (x : State) → ((k : BlockKey) → x.blocks k ≡ None) → (a v s : ℕ) → group_count g x a v s ≡ 0
 none_counted g x none a v s =
-    sum_same g.files _ (λ f. 0) (λ f. sum_same g.blocks _ (λ b. 0) (λ b. (λ i. one_if ((group g f b == s) && is_some (none (a, v, f, b) i))) ∙ never (group g f b == s)) ∙ sum_zero g.blocks) ∙ sum_zero g.files
+    sum_same g.files _ (λ f. 0) (λ f. sum_same g.blocks _ (λ b. 0) (λ b. (λ i. one_if ((group g f b == s) && is_some (none (a, v, f, b) i)))
+    ∙ never (group g f b == s)) ∙ sum_zero g.blocks) ∙ sum_zero g.files
   where
     never : (t : Bool) → one_if (t && false) ≡ 0
     never true = refl

@@ -28,7 +28,8 @@ appends_bare (Some xs) (Some ys) first rest w none_first none h =
     sym (ap (λ z. ys ++ z) none ∙ append-nil ys) ∙ h ∙ ap (λ z. z ++ w) (ap (λ z. xs ++ z) none_first ∙ append-nil xs)
 
 -- nothing waited at the start, and what waited at the end was written
-pub writes_sent : (input old known sent : Option (List ℕ)) (first waiting rest : List ℕ) (P : List ℕ → List ℕ → Type 0) → first ≡ [] → WritesOutput input (append_known old first) (append_known known waiting) P
+pub writes_sent : (input old known sent : Option (List ℕ)) (first waiting rest : List ℕ) (P : List ℕ → List ℕ → Type 0) → first ≡ []
+    → WritesOutput input (append_known old first) (append_known known waiting) P
     → Appends (append_known known waiting) (append_known sent rest) [] → rest ≡ [] → WritesOutput input old sent P
 writes_sent None old known sent first waiting rest P none_first h kept none = tt
 writes_sent (Some input) old known sent first waiting rest P none_first h kept none =
@@ -36,7 +37,8 @@ writes_sent (Some input) old known sent first waiting rest P none_first h kept n
 
 -- ---- how a session ends
 
-writes_all : (g : Geometry) (start : State) (input left : Option (List ℕ)) (ended : Bool) (x : State) (old new : Option (List ℕ)) → HasAnswered g start input left ended x old new → IfSome left (λ bs. bs ≡ [])
+writes_all : (g : Geometry) (start : State) (input left : Option (List ℕ)) (ended : Bool) (x : State) (old new : Option (List ℕ))
+    → HasAnswered g start input left ended x old new → IfSome left (λ bs. bs ≡ [])
     → WritesOutput input old new (λ bytes written. written ≡ serial_out g start bytes)
 writes_all g start None left ended x old new h all = tt
 writes_all g start (Some input) None ended x old new h all = absurd (none-some h.taken.0 h.taken.1)
@@ -58,7 +60,8 @@ writes_whole_lines g start (Some input) (Some bs) now_left ended x old new h goi
         whole = h.answered;
         begun = lost.got;
         rest = lost.rest;
-        parts = ⊎_elim (λ e. absurd (true≢false (sym e ∙ going))) (λ whole. whole ∙ ap (λ z. with_newlines h.answered ++ z) (sym same ∙ lost.parts) ∙ sym (append_assoc (with_newlines h.answered) lost.got lost.rest)) t.whole;
+        parts = ⊎_elim (λ e. absurd (true≢false (sym e ∙ going))) (λ whole. whole ∙ ap (λ z. with_newlines h.answered ++ z) (sym same ∙ lost.parts)
+            ∙ sym (append_assoc (with_newlines h.answered) lost.got lost.rest)) t.whole;
         left_is = lost.left_is;
         are_lines = t.are_lines;
         no_line = recursion_from_All (λ b. b ≢ 10) lost.got lost.within_line;
@@ -112,7 +115,8 @@ module _ {g : Geometry} {start : State} {input left : Option (List ℕ)} {ended 
         taken = t.takes;
         state = h.state ∙ sym (state_after_lines-append g start h.answered (t.line ∷ []) ∙ ap (state_after_line g (state_after_lines g start h.answered)) t.no_message);
         output = subst (λ (z : List ℕ). Appends old newer z)
-            (ap (λ z. joined (output_lines g start h.answered) ++ z) (output ∙ ap (λ z. answer_line g z None) h.state ∙ sym (ap (answer_line g (state_after_lines g start h.answered)) t.no_message)) ∙ sym (joined-one_more g start h.answered t.line))
+            (ap (λ z. joined (output_lines g start h.answered) ++ z) (output ∙ ap (λ z. answer_line g z None) h.state
+            ∙ sym (ap (answer_line g (state_after_lines g start h.answered)) t.no_message)) ∙ sym (joined-one_more g start h.answered t.line))
             (Appends-trans old new newer (joined (output_lines g start h.answered)) added h.output appended);
       }
 
@@ -121,7 +125,8 @@ module _ {g : Geometry} {start : State} {input left : Option (List ℕ)} {ended 
   ends h all = writes_all g start input left ended x old new h all
 
   -- a read failed
-  pub fails : (now_left : Option (List ℕ)) → HasAnswered g start input left ended x old new → ended ≡ false → IfSome left (λ bs. LosesFront bs now_left) → WritesOutput input old new (AnswersWholeLines g start now_left)
+  pub fails : (now_left : Option (List ℕ)) → HasAnswered g start input left ended x old new → ended ≡ false
+      → IfSome left (λ bs. LosesFront bs now_left) → WritesOutput input old new (AnswersWholeLines g start now_left)
   fails now_left h going lost = writes_whole_lines g start input left now_left ended x old new h going lost
 
   -- the session stopped behind a line

@@ -109,7 +109,8 @@ module _ {E : Type 0} (key : E → FileKey) (weight : E → ℕ) (a v n : ℕ) w
             let here = inside a v n (key e) is in
             let changed = sum_below_changed n j (λ i. at i es) (λ i. at i (e ∷ es)) here.1
             (λ i ne. ap (λ t. cond t (weight e) (at i es)) (false_from_ne_true _ (λ is. ne (ap (λ k. k.2) (this_key i (key e) is))))) in
-            let none = nothing_at j es (subst (λ (k : FileKey). AllByRecursion (λ d. is_at (by_file k) d ≡ false) (map_list key es)) (sym here.0) (IsDistinct-head (eq_by_cmp by_file) (key e) (map_list key es) d)) in
+            let none = nothing_at j es (subst (λ (k : FileKey). AllByRecursion (λ d. is_at (by_file k) d ≡ false) (map_list key es)) (sym here.0)
+            (IsDistinct-head (eq_by_cmp by_file) (key e) (map_list key es) d)) in
             let own : at j (e ∷ es) ≡ weight e = ap (λ t. cond t (weight e) (at j es)) (at_file a v j (key e) ∙ ap (λ k. is_file a v j k) (sym here.0) ∙ picks_file a v j) in
             omega (arith, changed, none, own, rest)
         | false ↦ λ other. rest ∙ sum_below-same n _ _ (λ i lt. sym (ap (λ t. cond t (weight e) (at i es))
@@ -125,10 +126,12 @@ same_keys (k ∷ ks) = ap (λ rest. k ∷ rest) (same_keys ks)
 module _ (weight : ℕ → ℕ) (a v n : ℕ) where
   in_set : (i : ℕ) (ks : List FileKey) → at (λ k. k) (λ (k : FileKey). weight k.2) a v n i ks ≡ (if list_any (is_at (by_file (a, v, i))) ks then weight i else 0)
   in_set i [] = refl
-  in_set i (k ∷ ks) = elim (is_at (by_file (a, v, i)) k) as (λ t. is_at (by_file (a, v, i)) k ≡ t → cond t (weight k.2) (at (λ k. k) (λ (k : FileKey). weight k.2) a v n i ks) ≡ (if t || list_any (is_at (by_file (a, v, i))) ks then weight i else 0)) [
-    | true ↦ λ is. ap weight (sym (ap (λ k. k.2) (this_key (λ k. k) (λ (k : FileKey). weight k.2) a v n i k is)))
-    | false ↦ λ other. in_set i ks
-  ] refl
+  in_set i (k ∷ ks) = elim (is_at (by_file (a, v, i)) k) as (λ t. is_at (by_file (a, v, i)) k ≡ t
+      → cond t (weight k.2) (at (λ k. k) (λ (k : FileKey). weight k.2) a v n i ks)
+      ≡ (if t || list_any (is_at (by_file (a, v, i))) ks then weight i else 0)) [
+        | true ↦ λ is. ap weight (sym (ap (λ k. k.2) (this_key (λ k. k) (λ (k : FileKey). weight k.2) a v n i k is)))
+        | false ↦ λ other. in_set i ks
+      ] refl
 
   pub files_walked : (s : BTreeSet FileKey) → set.IsOrdered by_file s
       → total (λ (k : FileKey). weight k.2) (set.keys_between by_file (Included (a, v, 0)) (Excluded (a, v, n)) s) ≡ sum_below n (λ i. if set.contains by_file s (a, v, i) then weight i else 0)
@@ -137,7 +140,8 @@ module _ (weight : ℕ → ℕ) (a v n : ℕ) where
       ∙ sum_same n _ _ (λ i. in_set i s.keys)
 
 module _ (g : Geometry) (server : Server) (a v : ℕ) where
-  pub bits_walked : set.IsOrdered by_file server.files → total (λ (k : FileKey). 2 ^ k.2) (set.keys_between by_file (Included (a, v, 0)) (Excluded (a, v, g.files)) server.files) ≡ file_bits g (server_state server) a v
+  pub bits_walked : set.IsOrdered by_file server.files → total (λ (k : FileKey). 2 ^ k.2)
+      (set.keys_between by_file (Included (a, v, 0)) (Excluded (a, v, g.files)) server.files) ≡ file_bits g (server_state server) a v
   bits_walked ordered = files_walked (λ i. 2 ^ i) a v g.files server.files ordered
 
   pub count_walked : set.IsOrdered by_file server.files → length (set.keys_between by_file (Included (a, v, 0)) (Excluded (a, v, g.files)) server.files) ≡ file_count g (server_state server) a v
@@ -157,10 +161,11 @@ module _ (g : Geometry) (server : Server) (a v : ℕ) where
 
 in_map : (a v n i : ℕ) (es : List (FileKey × ℕ)) → at (λ (e : FileKey × ℕ). e.0) (λ (e : FileKey × ℕ). e.1) a v n i es ≡ unwrap_or (lookup (is_at (by_file (a, v, i))) es) 0
 in_map a v n i [] = refl
-in_map a v n i (e ∷ es) = elim (is_at (by_file (a, v, i)) e.0) as (λ t. cond t e.1 (at (λ (e : FileKey × ℕ). e.0) (λ (e : FileKey × ℕ). e.1) a v n i es) ≡ unwrap_or (cond t (Some e.1) (lookup (is_at (by_file (a, v, i))) es)) 0) [
-  | true ↦ refl
-  | false ↦ in_map a v n i es
-]
+in_map a v n i (e ∷ es) = elim (is_at (by_file (a, v, i)) e.0) as (λ t. cond t e.1
+    (at (λ (e : FileKey × ℕ). e.0) (λ (e : FileKey × ℕ). e.1) a v n i es) ≡ unwrap_or (cond t (Some e.1) (lookup (is_at (by_file (a, v, i))) es)) 0) [
+      | true ↦ refl
+      | false ↦ in_map a v n i es
+    ]
 
 pub blocks_walked : (g : Geometry) (server : Server) (a v : ℕ) → IsCounted g server → map.IsOrdered by_file server.used
     → total (λ (e : FileKey × ℕ). e.1) (entries_between by_file (Included (a, v, 0)) (Excluded (a, v, g.stripes)) server.used.entries) ≡ block_count g (server_state server) a v

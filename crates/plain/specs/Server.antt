@@ -1,4 +1,4 @@
--- What the maps of a server stand for. No public clause cites this module.
+-- Inner: The state that the maps of a server hold.
 use Rattle.std.specs.Prelude.{◌≡◌, ℕ, Bool, ◌&&◌, ◌==◌, unwrap_or}
 use Rattle.std.specs.BTreeSet as set
 use Rattle.std.specs.BTreeMap as map

@@ -81,7 +81,7 @@ fn answer_change(
     Ok(())
 }
 
-/// Adds what a message is told that changes something.
+/// Adds the reply to a message that changes something.
 fn add_outcome(why: Option<Refusal>, out: &mut ReplyBuffer)
     requires { FitsReply out.old }
     ensures { out.new ≡ out.old ++ reply_line (reply_when why) }
@@ -127,8 +127,8 @@ fn answer_question(
     }
 }
 
-/// Adds the reply to a message that changes nothing and passes its tests. It stands apart, so that
-/// no reply without a block takes the room of one that may have one.
+/// Adds the reply to a message that changes nothing and passes its tests. It is a function of its
+/// own, so that no reply without a block takes the room of one that may have one.
 #[inline(never)]
 fn add_whole_reply(
     g: &Geometry,

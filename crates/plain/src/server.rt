@@ -80,7 +80,7 @@ impl Server {
     }
 
     /// Carries out a message that changes something and has no data, by its kind and its numbers,
-    /// and tells why it is refused, if it is. Where there is no memory, nothing changes.
+    /// and gives why it is refused, if it is. Where there is no memory, nothing changes.
     pub(crate) fn carry_out(
         &mut self,
         g: &Geometry,
@@ -103,9 +103,9 @@ impl Server {
         }
     }
 
-    /// Writes a block, and tells why that is refused, if it is. Where there is no memory, nothing
+    /// Writes a block, and gives why that is refused, if it is. Where there is no memory, nothing
     /// changes. Where a block is there already, its file and its volume are too, and its stripe has
-    /// room, so that one look tells all but the seal.
+    /// room, so one look-up answers all tests but the seal's.
     pub(crate) fn write(
         &mut self,
         g: &Geometry,
@@ -128,7 +128,7 @@ impl Server {
         self.write_tested(g, numbers, content)
     }
 
-    /// The same, by each test in turn.
+    /// The same, by one test after another.
     fn write_tested(
         &mut self,
         g: &Geometry,

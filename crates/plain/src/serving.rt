@@ -24,7 +24,7 @@ fn read_buffer(alloc: Global) -> Result<Vec<u8>, AllocError>
 }
 
 /// Answers each line that a reader has left with one line of the output, from the empty state on,
-/// until the input ends. What was answered is written before a read that may wait.
+/// until the input ends. Replies are written before a read that may wait.
 ///
 /// # Errors
 ///

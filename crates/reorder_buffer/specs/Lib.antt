@@ -1,2 +1,2 @@
--- The words of a row of lines that were read and not answered yet in the output.
+-- The definitions of a reorder buffer of lines that were read and not answered yet in the output.
 pub mod ReorderBuffer

@@ -1,4 +1,5 @@
--- What is known of each line that was read and not said yet; the row of them, how it is kept, and what is said of it.
+-- Statement for operators: What is known of each line that was read and not retired yet; the reorder buffer, how it is kept, and what is
+-- retired.
 use Rattle.std.specs.Prelude.{◌≡◌, ℕ, ◌+◌, ◌==◌, Bool, true, false, List, [], ◌∷◌, if◌then◌else◌, map}
 use Rattle.std.specs.List.{AllByRecursion}
 use Rattle.messages.specs.Replies.{reply_line, no_message}
@@ -10,7 +11,7 @@ pub use Rattle.reorder_buffer.specs.declared.reorder_buffer.Line.TheVariants.{No
 pub use Rattle.reorder_buffer.specs.declared.reorder_buffer.LineKind.{LineKind}
 pub use Rattle.reorder_buffer.specs.declared.reorder_buffer.LineKind.TheVariants.{NoMessage as Stray, OutOfRange as Outside, Ticketed}
 
--- ---- what a line is answered
+-- ---- the answer to a line
 
 abbrev pub is_completed : Line → Bool
 is_completed (Pending ticket) = false
@@ -20,7 +21,7 @@ is_completed _ = true
 abbrev pub AreCompleted : List Line → Type 0
 AreCompleted lines = AllByRecursion (λ line. is_completed line ≡ true) lines
 
--- the line of the output. None is written for a line that is not answered yet.
+-- the line of the output. None is written for a line that is not completed yet.
 abbrev pub text : Line → List ℕ
 text NoMessage = no_message
 text OutOfRange = reply_line (Refused Range)
@@ -41,7 +42,7 @@ pub record ReorderBufferView : Type 0 where
   -- how many there is room for
   pub slots : ℕ
 
--- the first line is answered, so that it is written next
+-- the first line is completed, so that it is written next
 abbrev pub can_retire : List Line → Bool
 can_retire [] = false
 can_retire (line ∷ row) = is_completed line

@@ -1,4 +1,4 @@
-//! The row of lines: what is known of each line that was read and not said yet, in the order in which they were read.
+//! The reorder buffer: what is known of each line that was read and not retired yet, in the order in which they were read.
 #![tactic(auto)]
 
 mod reorder_buffer;

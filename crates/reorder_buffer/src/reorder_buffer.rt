@@ -1,4 +1,4 @@
-//! The row of the lines that were read and not said yet, oldest first.
+//! The reorder buffer of the lines that were read and not retired yet, oldest first.
 
 ghost use Rattle.std.specs.Prelude.{◌≡◌, ◌<◌, ◌≤◌, ◌+◌, ◌↔◌, ◌++◌, ◌∷◌, [], IfOk, IsTrue, MatchBool, MatchOption, ℕ, drop, length, map, take};
 ghost use Rattle.std.specs.VecDeque.{deque_len};
@@ -19,7 +19,7 @@ pub enum Line {
     NoMessage,
     /// It is a message with a number that is out of range.
     OutOfRange,
-    /// It is the message with this ticket, which is not answered yet.
+    /// It is the message with this ticket, which has no reply yet.
     Pending(u64),
     /// It is the message with this ticket, and this is its reply.
     Completed(u64, Reply),
@@ -36,11 +36,11 @@ enum LineKind {
     Ticketed,
 }
 
-/// The lines that were read and not said yet, oldest first. A contract sees them, and how many there is room for. Once made it takes no
-/// memory.
+/// The lines that were read and not retired yet, oldest first. A contract sees them, and how many there is room for. Once made it takes
+/// no memory.
 ///
 /// A line without a ticket is its kind alone. Those with tickets lie in a queue of their own. Their tickets go up by one, so that a
-/// ticket tells where its line lies.
+/// ticket gives the place of its line.
 pub struct ReorderBuffer {
     kinds: VecDeque<LineKind>,
     /// The lines with tickets, oldest first.
@@ -72,7 +72,7 @@ impl Model for ReorderBuffer {
         × (ticketed_among r.kinds.items ≡ length r.ticketed.items) × AreConsecutive r.ticketed.items };
 }
 
-/// Puts the reply to the message with this ticket to a line, where it is that message's and not answered.
+/// Puts the reply to the message with this ticket to a line, where it is that message's and pending.
 fn complete_line(line: &mut Line, ticket: u64, reply: &Reply)
     ensures { line.new ≡ complete_one ticket reply.now line.old }
 {
@@ -109,7 +109,7 @@ fn places_of(ticketed: &VecDeque<Line>, ticket: u64) -> Range<usize>
     place..place + 1
 }
 
-/// Adds what a line is answered to the lines that wait to be told, if it is answered.
+/// Adds the answer to a line to the lines that wait to be sent, if it is completed.
 fn add_text(line: &Line, out: &mut ReplyBuffer)
     requires { FitsReply out.old }
     ensures { out.new ≡ out.old ++ text line.now }
@@ -168,7 +168,7 @@ impl ReorderBuffer {
         }
     }
 
-    /// Whether the oldest line is answered, so that it is the next one of the output.
+    /// Whether the oldest line is completed, so that it is the next one of the output.
     fn can_retire(&self) -> bool
         ensures { result ≡ can_retire self.now.lines }
     {
@@ -197,7 +197,7 @@ impl ReorderBuffer {
         }
     }
 
-    /// Lets go of the oldest line, if there is one.
+    /// Removes the oldest line, if there is one.
     fn pop(&mut self)
         ensures lines { self.new.lines ≡ drop 1 self.old.lines }
         ensures slots { self.new.slots ≡ self.old.slots }
@@ -207,7 +207,7 @@ impl ReorderBuffer {
         }
     }
 
-    /// Puts the reply to the message with this ticket to its line, where it is in the reorder buffer and not answered.
+    /// Puts the reply to the message with this ticket to its line, where it is in the reorder buffer and pending.
     pub fn answer(&mut self, ticket: u64, reply: Reply)
         ensures lines { self.new.lines ≡ map (complete_one ticket reply) self.old.lines }
         ensures slots { self.new.slots ≡ self.old.slots }
@@ -218,7 +218,7 @@ impl ReorderBuffer {
         }
     }
 
-    /// Adds what the oldest line is answered to the lines that wait to be told, and lets go of it, if it is answered: whether it is.
+    /// Adds the answer to the oldest line to the lines that wait to be sent, and removes it, if it is completed: whether it is.
     pub fn retire_front(&mut self, out: &mut ReplyBuffer) -> bool
         requires { FitsReply out.old }
         ensures next { result ≡ can_retire self.old.lines }

@@ -1,4 +1,4 @@
--- The ranks of marks, block by block.
+-- The ranks of ready messages, block by block.
 use Rattle.std.proofs.Common.{◌≡◌, ◌≢◌, ◌∙◌, ℕ, zero, suc, ◌+◌, ◌*◌, ◌/◌, ◌<◌, ◌≤◌, Bool, List, length, get_or, replicate, Option, None, ap, sym, inl, inr, arith}
 use Rattle.std.specs.Prelude.{slice_set}
 use Rattle.std.proofs.Math.Nat.{lt-mul-div-succ, mul-div-le}
@@ -14,7 +14,7 @@ use Rattle.run_queue.specs.declared.queued_message.QueuedMessage.{QueuedMessage}
 use Rattle.run_queue.proofs.Earliest.{first_below, below-step}
 use Rattle.run_queue.proofs.Ready.{none-marked, room-at}
 
--- ---- one mark is set
+-- ---- one ready flag is set
 
 pub marked-same : (ready_table : List (Option QueuedMessage)) (n : ℕ) (o : Option QueuedMessage) → n < length ready_table → ready_in (slice_set ready_table n o) n ≡ o
 marked-same ready_table n o here = get_or-set_same ready_table n o None here

@@ -1,4 +1,4 @@
--- Whose turn it is, said by tickets: where the tickets ascend, it is the first one that is clear and has room.
+-- Which message goes next, by tickets: where the tickets ascend, the first one that is conflict-free and has room.
 use Rattle.std.proofs.Common.{◌≡◌, ◌∙◌, ℕ, ◌<◌, Bool, true, false, not, ◌&&◌, ◌||◌, List, [], ◌∷◌, ◌++◌, Some, refl, ap, sym, arith, append_assoc}
 use Rattle.std.specs.Prelude.{if◌then◌else◌, nat_lt}
 use Rattle.std.specs.List.{list_any, find, AllByRecursion}

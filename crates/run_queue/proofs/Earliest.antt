@@ -89,7 +89,7 @@ find-either p q (t ∷ ts) ascends = elim (cases_Bool (p t)) [
   ]
 ]
 
--- ---- a clear one is the first at its number
+-- ---- a conflict-free one is the first at its number
 
 pub own_overlap : (g : Geometry) (t d : QueuedMessage) → IsAffinity g t.affinity → t.affinity.number ≡ d.affinity.number → are_related_intervals t.affinity d.affinity ≡ true
 own_overlap g t d placed same = or_left _ _ (ap (λ n. contains t.affinity n) (sym same) ∙ contains-own g t.affinity placed)

@@ -98,7 +98,7 @@ read_stays = refl
 blocked_behind : next_queued true (write ∷ []) (read ∷ create ∷ other_write ∷ set_label ∷ []) ≡ Some set_label
 blocked_behind = refl
 
--- ---- rows
+-- ---- lists
 
 without_one : without_slot 4 (write ∷ create ∷ read ∷ []) ≡ write ∷ read ∷ []
 without_one = refl
@@ -119,6 +119,6 @@ other_slot = refl
 twice : times_seated 4 (create ∷ write ∷ create ∷ []) ≡ 2
 twice = refl
 
--- a wrong order of what waits would give another turn
+-- a wrong order of what waits would give another message
 other_order : next_queued true [] (other_write ∷ create ∷ []) ≡ Some other_write
 other_order = refl

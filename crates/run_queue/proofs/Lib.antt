@@ -1,4 +1,4 @@
--- ---- for the crates above: whose turn it is, by tickets, and that it waits
+-- ---- for the crates above: which message goes next, by tickets, and that it waits
 pub mod ByTicket
 pub mod Passing
 -- ---- this crate's own

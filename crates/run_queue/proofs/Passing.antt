@@ -1,4 +1,4 @@
--- What is known of the one whose turn it is.
+-- What is known of the one that goes next.
 use Rattle.std.proofs.Common.{◌≡◌, ◌∙◌, Bool, true, false, List, [], ◌∷◌, ◌++◌, Some, refl, ap, subst, ◌||◌}
 use Rattle.std.specs.Prelude.{if◌then◌else◌}
 use Rattle.std.specs.List.{list_any}
@@ -7,7 +7,7 @@ use Rattle.std.proofs.lemmas.Option.{none-some, same_Some}
 use Rattle.run_queue.specs.RunQueue.{RunQueueView, may_go, first_to_go, has_slot, IsNext}
 use Rattle.run_queue.specs.declared.queued_message.QueuedMessage.{QueuedMessage}
 
--- the one whose turn it is waits
+-- the one that goes next waits
 waits_from : (room : Bool) (held earlier later : List QueuedMessage) (t : QueuedMessage) → first_to_go room held earlier later ≡ Some t
     → list_any (has_slot t.slot) later ≡ true
 waits_from room held earlier [] t h = absurd (none-some t h)

@@ -1,4 +1,4 @@
--- Which marks stay right, and what the marks say of those that may go.
+-- Which ready flags stay right, and what they show of those that may go.
 use Rattle.std.proofs.Common.{◌≡◌, ◌≢◌, ◌∙◌, ℕ, zero, suc, ◌+◌, ◌<◌, ◌≤◌, Bool, true, false, not, ◌&&◌, ◌||◌, List, [], ◌∷◌, ◌++◌, find, take, Option, Some, None, refl, ap, sym, subst, inl, inr, arith, length, slice_index_or}
 use Rattle.std.specs.Prelude.{nat_lt, if◌then◌else◌, slice_set, replicate}
 use Rattle.std.specs.List.{list_any, AllByRecursion}
@@ -21,9 +21,9 @@ use Rattle.run_queue.proofs.Seating.{times-cons_is, times-cons_other}
 use Rattle.run_queue.proofs.Clearing.{find-cons, find-skip, find-all, find-passes, any-found}
 use Rattle.run_queue.proofs.Earliest.{none_at, some_at, empty_at, false_and_right}
 
--- ---- what the marks say
+-- ---- what the ready flags show
 
--- the one that may go at a number is the one that is clear there, if there is room for it
+-- the one that may go at a number is the one that is conflict-free there, if there is room for it
 pub room-at : (g : Geometry) (room : Bool) (held waiting : List QueuedMessage) → AllByRecursion (λ d. IsAffinity g d.affinity) waiting → Ascend waiting
     → (n : ℕ) → if_passes (has_room room) (ready_at held waiting n) ≡ may_go_at room held waiting n
 room-at g room held waiting placed ascends n = by (find (has_number n) waiting) refl
@@ -40,7 +40,7 @@ room-at g room held waiting placed ascends n = by (find (has_number n) waiting) 
           ∙ sym (none_at g room held waiting placed ascends n f is (ap (λ b. has_room room f && b) kept ∙ false_and_right _))
     ]
 
--- where the first one stays, and is as clear as it was
+-- where the first one stays, and is conflict-free or not as it was
 pub ready-same : (held waiting held' waiting' : List QueuedMessage) (n : ℕ) → find (has_number n) waiting' ≡ find (has_number n) waiting
     → ((f : QueuedMessage) → find (has_number n) waiting ≡ Some f → is_conflict_free held' waiting' f ≡ is_conflict_free held waiting f)
     → ready_at held' waiting' n ≡ ready_at held waiting n
@@ -51,7 +51,7 @@ ready-same held waiting held' waiting' n same clear =
     by None is = refl
     by (Some f) is = ap (λ b. if b then Some f else None) (clear f is)
 
--- ---- one mark
+-- ---- one ready flag
 
 pub past-ready_table : (ready_table : List (Option QueuedMessage)) (n : ℕ) → length ready_table ≤ n → ready_in ready_table n ≡ None
 past-ready_table [] n past = refl
@@ -219,7 +219,7 @@ any-between q t before after h =
     ∙ or_moved (list_any q h.0) (q t) (list_any q h.1)
     ∙ ap (λ b. q t || b) (sym (list_any-append q h.0 h.1) ∙ ap (λ (ts : List QueuedMessage). list_any q ts) (sym h.2))
 
--- the ticket tells those that wait apart
+-- those that wait have distinct tickets
 same-ticket : (p q : QueuedMessage → Bool) (ts : List QueuedMessage) (a b : QueuedMessage) → Ascend ts → find p ts ≡ Some a → find q ts ≡ Some b
     → a.ticket ≡ b.ticket → a ≡ b
 same-ticket p q [] a b ascends first second same = absurd (none-some a first)

@@ -1,4 +1,4 @@
--- How often slots stand in rows, and how long rows are.
+-- How often slots occur in lists, and how long lists are.
 use Rattle.std.proofs.Common.{◌≡◌, ◌≢◌, ◌∙◌, ℕ, zero, suc, ◌+◌, ◌<◌, ◌≤◌, Bool, true, false, ◌||◌, List, [], ◌∷◌, ◌++◌, filter, refl, ap, sym, subst, inl, inr, arith, length}
 use Rattle.std.specs.Prelude.{if◌then◌else◌, nat_lt}
 use Rattle.std.specs.List.{list_any}
@@ -9,7 +9,7 @@ use Rattle.run_queue.specs.RunQueue.{has_slot, without_slot}
 use Rattle.run_queue.specs.Slots.{times_seated, AreSeated}
 use Rattle.run_queue.specs.declared.queued_message.QueuedMessage.{QueuedMessage}
 
--- ---- how often a slot stands in a row
+-- ---- how often a slot occurs in a list
 
 pub times-cons_is : (s : ℕ) (t : QueuedMessage) (ts : List QueuedMessage) → t.slot ≡ s → times_seated s (t ∷ ts) ≡ suc (times_seated s ts)
 times-cons_is s t ts same = rw (eq-eqb t.slot s same) refl
@@ -62,7 +62,7 @@ times-there s (t ∷ ts) some = elim (eqb_tells t.slot s) [
   | inr n ↦ rw n.0 (times-there s ts (ap (λ b. b || list_any (has_slot s) ts) (sym n.0) ∙ some))
 ]
 
--- ---- how long rows are
+-- ---- how long lists are
 
 length-without : (s : ℕ) (ts : List QueuedMessage) → length ts ≡ length (without_slot s ts) + times_seated s ts
 length-without s [] = refl
@@ -71,7 +71,7 @@ length-without s (t ∷ ts) = elim (eqb_tells t.slot s) [
   | inr n ↦ rw n.0 (omega (arith, length-without s ts))
 ]
 
--- how often a slot may stand
+-- how often a slot may occur
 limit-in : (s n : ℕ) → s < n → if◌then◌else◌ {A = ℕ} (nat_lt s n) 1 0 ≡ 1
 limit-in s n h = rw (lt-ltb s n h) refl
 
@@ -87,7 +87,7 @@ limit-most s n = elim (leb_tells (suc s) n) [
   | inr e ↦ rw e.0 (omega arith)
 ]
 
--- slots below n that stand once at most are at most n
+-- slots below n that occur once at most are at most n
 few : (n : ℕ) (ts : List QueuedMessage) → ((s : ℕ) → times_seated s ts ≤ (if nat_lt s n then 1 else 0)) → length ts ≤ n
 few zero [] once = omega arith
 few zero (t ∷ ts) once =

@@ -1,4 +1,4 @@
--- Rows in the order of tickets.
+-- Lists in the order of tickets.
 use Rattle.std.proofs.Common.{◌≡◌, ◌∙◌, ℕ, zero, suc, ◌<◌, ◌≤◌, Bool, true, not, List, [], ◌∷◌, ◌++◌, filter, Option, Some, None, refl, ap, sym, inl, inr, arith, length, slice_index_or}
 use Rattle.std.specs.Prelude.{slice_set}
 use Rattle.std.specs.List.{AllByRecursion}
@@ -11,7 +11,7 @@ use Rattle.run_queue.specs.Queues.{present, insert, by_ticket}
 use Rattle.run_queue.specs.declared.queued_message.QueuedMessage.{QueuedMessage}
 use Rattle.run_queue.proofs.Seating.{times-cons_is, times-cons_other}
 
--- ---- all of a row
+-- ---- all of a list
 
 pub all-insert : (P : QueuedMessage → Type 0) (t : QueuedMessage) (ts : List QueuedMessage) → AllByRecursion P (insert t ts) → P t × AllByRecursion P ts
 all-insert P t [] h = (h.0, tt)
@@ -49,7 +49,7 @@ pub ascend-last : (ts : List QueuedMessage) (t : QueuedMessage) → Ascend ts �
 ascend-last [] t h before = (tt, tt)
 ascend-last (d ∷ ts) t h before = (all-last (λ u. d.ticket < u.ticket) ts t h.0 before.0, ascend-last ts t h.1 before.1)
 
--- ---- how long rows are, and how often a slot stands in them
+-- ---- how long lists are, and how often a slot occurs in them
 
 length-insert : (t : QueuedMessage) (ts : List QueuedMessage) → length (insert t ts) ≡ suc (length ts)
 length-insert t [] = refl

@@ -136,7 +136,7 @@ kept-freed g slots w h k t n before after are found freed near stay = record {
     is : k.messages ≡ without_number t.affinity.number h.messages
     is = ap (λ (x : HeldMessages). x.messages) freed ∙ ap (λ m. without_number m h.messages) number
 
--- ---- the one whose turn it is
+-- ---- the one that goes next
 
 module _ (g : Geometry) (slots : ℕ) (w : Waiting) (h : HeldMessages) (are : AreQueued g slots w h) (t : QueuedMessage) (room : Bool)
     (next : next_queued room h.messages w.messages ≡ Some t) where

@@ -1,4 +1,4 @@
--- How a `RunQueue` keeps those that wait and those that are held. No public clause cites this module.
+-- Inner: How a `RunQueue` keeps waiting and held messages.
 use Rattle.std.specs.Prelude.{◌≡◌, ◌≤◌, ℕ, List, length, Option}
 use Rattle.std.specs.List.{AllByRecursion}
 use Rattle.affinity.specs.Interval.{IsAffinity, server_size}
@@ -19,11 +19,12 @@ pub record AreQueued (g : Geometry) (slots : ℕ) (waiting : Waiting) (held : He
   pub waiting_placed : AllByRecursion (λ t. IsAffinity g t.affinity) waiting.messages
   pub held_placed : AllByRecursion (λ t. IsAffinity g t.affinity) held.messages
 
--- There is a mark for each affinity of any geometry, and each is right.
+-- There is a ready flag for each affinity of any geometry, and each is right.
 pub record AreReady (held waiting : List QueuedMessage) (ready_table : List (Option QueuedMessage)) : Type 0 where
   pub numbers : (any : Geometry) → server_size any ≤ length ready_table
   pub marked : (n : ℕ) → IsReadyAt held waiting ready_table n
 
-pub record QueueInvariant (g : Geometry) (slots : ℕ) (waiting : Waiting) (held : HeldMessages) (ready_table : List (Option QueuedMessage)) : Type 0 where
+pub record QueueInvariant (g : Geometry) (slots : ℕ) (waiting : Waiting) (held : HeldMessages)
+    (ready_table : List (Option QueuedMessage)) : Type 0 where
   pub rows : AreQueued g slots waiting held
   pub marked : AreReady held.messages waiting.messages ready_table

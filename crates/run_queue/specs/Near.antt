@@ -1,4 +1,4 @@
--- Which affinities are related, by numbers alone. No public clause cites this module.
+-- Inner: Which affinities are related, by numbers alone.
 use Rattle.std.specs.Prelude.{◌≡◌, ℕ, Bool, ◌||◌, ◌==◌, nat_lt, is_some, List, [], ◌∷◌, Option, Some, None, false, take}
 use Rattle.std.specs.List.{list_any, find}
 use Rattle.affinity.specs.Path.{Path}
@@ -21,6 +21,6 @@ abbrev pub is_before : ℕ → Option QueuedMessage → Bool
 is_before ticket None = false
 is_before ticket (Some t) = nat_lt t.ticket ticket
 
--- whether someone at this number keeps back those at related affinities with this ticket
+-- whether a message at this number keeps back those at related affinities with this ticket
 abbrev pub conflicts_at : List QueuedMessage → List QueuedMessage → ℕ → ℕ → Bool
 conflicts_at held waiting ticket n = is_some (find (has_number n) held) || is_before ticket (find (has_number n) waiting)

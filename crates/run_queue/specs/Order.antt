@@ -1,4 +1,4 @@
--- Those that wait, by their tickets.
+-- Inner: Waiting messages, by their tickets.
 use Rattle.std.specs.Prelude.{ℕ, ◌<◌, Bool, true, not, ◌&&◌, nat_lt, if◌then◌else◌, List, [], ◌∷◌, Option, Some, None}
 use Rattle.std.specs.List.{list_any, find, AllByRecursion}
 use Rattle.run_queue.specs.RunQueue.{are_related_intervals, is_free_of, has_room, has_number}

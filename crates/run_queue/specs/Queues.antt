@@ -1,4 +1,4 @@
--- How those that wait stand in queues, one for the number of each affinity. No public clause cites this module.
+-- Inner: Waiting messages in queues, one for the number of each affinity.
 use Rattle.std.specs.Prelude.{◌≡◌, ℕ, suc, ◌<◌, List, [], ◌∷◌, ◌++◌, filter, map, if◌then◌else◌, nat_lt, Option, Some, None}
 use Rattle.std.specs.List.{find}
 use Rattle.arena.specs.Lists.{times as times_on}
@@ -45,14 +45,15 @@ pub record IsQueued (row : Row QueuedMessage) : Type 0 where
 -- The first one at this number, if there is one, waits no longer.
 abbrev pub IsFirstGone : ℕ → Waiting → Waiting → Type 0
 IsFirstGone n before after =
-    (t : QueuedMessage) → find (has_number n) before.messages ≡ Some t → after ≡ record before { messages = without_slot t.slot before.messages }
+    (t : QueuedMessage) → find (has_number n) before.messages ≡ Some t
+    → after ≡ record before { messages = without_slot t.slot before.messages }
 
 -- what contracts see of those that are held: how many numbers there are, and who is held, by numbers
 pub record HeldMessages : Type 0 where
   pub numbers : ℕ
   pub messages : List QueuedMessage
 
--- Each stands at the number of its affinity, where the first place is that of number k.
+-- Each is at the number of its affinity, where the first place is that of number k.
 abbrev pub StandFrom : ℕ → List (Option QueuedMessage) → Type 0
 StandFrom k [] = Unit {0}
 StandFrom k (None ∷ places) = StandFrom (suc k) places

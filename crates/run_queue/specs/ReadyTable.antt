@@ -1,4 +1,4 @@
--- Which of those that are first in their queues are clear, each at the number of its affinity. No public clause cites this module.
+-- Inner: Which of those that are first in their queues are conflict-free, each at the number of its affinity.
 use Rattle.std.specs.Prelude.{◌≡◌, ◌+◌, ◌*◌, ◌<◌, ◌≤◌, ℕ, zero, suc, min, Bool, true, List, length, get_or, if◌then◌else◌, slice_index_or, Option, Some, None}
 use Rattle.std.specs.List.{find}
 use Rattle.affinity.specs.Interval.{Interval, IsAffinity}
@@ -12,23 +12,23 @@ abbrev pub if_passes : (QueuedMessage → Bool) → Option QueuedMessage → Opt
 if_passes p None = None
 if_passes p (Some t) = if p t then Some t else None
 
--- the first one at this number, if it is clear
+-- the first one at this number, if it is conflict-free
 abbrev pub ready_at : List QueuedMessage → List QueuedMessage → ℕ → Option QueuedMessage
 ready_at held waiting n = if_passes (is_conflict_free held waiting) (find (has_number n) waiting)
 
 abbrev pub ready_in : List (Option QueuedMessage) → ℕ → Option QueuedMessage
 ready_in ready_table n = slice_index_or ready_table n None
 
--- The mark at this number is right.
+-- The ready flag at this number is right.
 abbrev pub IsReadyAt : List QueuedMessage → List QueuedMessage → List (Option QueuedMessage) → ℕ → Type 0
 IsReadyAt held waiting ready_table n = ready_in ready_table n ≡ ready_at held waiting n
 
--- No mark that was right is wrong, and there are as many.
+-- No ready flag that was right is wrong, and there are as many.
 abbrev pub StayReady : List QueuedMessage → List QueuedMessage → List (Option QueuedMessage) → List (Option QueuedMessage) → Type 0
 StayReady held waiting before after =
     (length after ≡ length before) × ((n : ℕ) → IsReadyAt held waiting before n → IsReadyAt held waiting after n)
 
--- The marks at all affinities related to this one are right.
+-- The ready flags at all affinities related to this one are right.
 abbrev pub AreNearReady : Geometry → Interval → List QueuedMessage → List QueuedMessage → List (Option QueuedMessage) → Type 0
 AreNearReady g a held waiting ready_table = (b : Interval) → IsAffinity g b → are_related_intervals a b ≡ true
     → IsReadyAt held waiting ready_table b.number
@@ -42,10 +42,11 @@ abbrev pub rank_of : Option QueuedMessage → ℕ
 rank_of None = 18446744073709551615
 rank_of (Some t) = min t.ticket last_rank
 
--- the earliest of one and of those that are marked at so many numbers from this one on and pass this test
+-- the earliest of one and of those that are ready at so many numbers from this one on and pass this test
 abbrev pub earliest_from : (QueuedMessage → Bool) → List (Option QueuedMessage) → ℕ → ℕ → Option QueuedMessage → Option QueuedMessage
 earliest_from p ready_table from zero best = best
-earliest_from p ready_table from (suc n) best = earlier (earliest_from p ready_table from n best) (if_passes p (ready_in ready_table (from + n)))
+earliest_from p ready_table from (suc n) best =
+    earlier (earliest_from p ready_table from n best) (if_passes p (ready_in ready_table (from + n)))
 
 -- None of the sixteen numbers of a block has a rank that is less than the one of the block.
 abbrev pub AreLeast : List (Option QueuedMessage) → List ℕ → Type 0

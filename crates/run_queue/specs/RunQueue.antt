@@ -1,11 +1,11 @@
--- What contracts see of a `RunQueue`, and whose turn it is.
+-- Statement for engineers: What contracts see of a `RunQueue`, and which message goes next.
 use Rattle.std.specs.Prelude.{◌≡◌, ℕ, ◌<◌, Bool, not, ◌&&◌, ◌||◌, ◌==◌, List, [], ◌∷◌, ◌++◌, filter, if◌then◌else◌, Option, Some, None}
 use Rattle.std.specs.List.{list_any, AllByRecursion}
 use Rattle.affinity.specs.Interval.{Interval, contains}
 use Rattle.affinity.specs.declared.geometry.Geometry.{Geometry}
 use Rattle.run_queue.specs.declared.queued_message.QueuedMessage.{QueuedMessage}
 
--- Those that wait stand in the order in which they came. Those that are held stand in any order.
+-- Those that wait are in the order in which they came, those that are held in any order.
 pub record RunQueueView : Type 0 where
   pub geometry : Geometry
   pub waiting : List QueuedMessage

@@ -1,4 +1,4 @@
-//! Who goes first of the clear ones.
+//! Which of the conflict-free messages goes first.
 ghost use Rattle.std.specs.Prelude.{◌≡◌, ◌*◌, ◌≤◌, option_copied};
 ghost use Rattle.run_queue.specs.RunQueue.{has_room};
 ghost use Rattle.run_queue.specs.Order.{is_earlier, earlier};
@@ -24,10 +24,11 @@ fn is_earlier(best: Option<&QueuedMessage>, queued: &QueuedMessage) -> bool
     }
 }
 
-// The number of the earlier one of two that are marked: the best so far, and one at a number, if
-// there is room for that.
+// The number of the earlier of two ready messages: the best so far, and the one at a number, if there
+// is room for that.
 fn better(room: bool, ready_table: &ReadyTable, best: usize, number: usize) -> usize
-    ensures { ready_in ready_table.now result ≡ earlier (ready_in ready_table.now best) (if_passes (has_room room) (ready_in ready_table.now number)) }
+    ensures { ready_in ready_table.now result
+        ≡ earlier (ready_in ready_table.now best) (if_passes (has_room room) (ready_in ready_table.now number)) }
 {
     let Some(queued) = ready_table.at(number) else {
         return best;
@@ -39,10 +40,11 @@ fn better(room: bool, ready_table: &ReadyTable, best: usize, number: usize) -> u
     }
 }
 
-/// The number of the earliest marked one: the best so far, and those in a block for which there is room.
+/// The number of the earliest of these ready messages: the best so far, and those in a block for which there is room.
 pub(crate) fn best_in(room: bool, ready_table: &ReadyTable, best: usize, block: usize) -> usize
     requires { block ≤ 4096 }
-    ensures { ready_in ready_table.now result ≡ earliest_from (has_room room) ready_table.now (16 * block) 16 (ready_in ready_table.now best) }
+    ensures { ready_in ready_table.now result
+        ≡ earliest_from (has_room room) ready_table.now (16 * block) 16 (ready_in ready_table.now best) }
 {
     let mut found = best;
     for number in block * BLOCK..(block + 1) * BLOCK {

@@ -1,4 +1,4 @@
-//! Whether someone who waits is kept back by others.
+//! Conflicts: whether a waiting message is kept back by others.
 ghost use Rattle.std.specs.Prelude.{◌≡◌, ℕ, true, false};
 ghost use Rattle.std.specs.List.{list_any, AllByRecursion};
 ghost use Rattle.affinity.specs.Interval.{IsPath, IsAffinity, IsAffinityOf, contains, number};
@@ -46,7 +46,7 @@ pub(crate) fn numbers_above(g: &Geometry, a: Affinity) -> [u16; 4]
     }
 }
 
-// Whether someone at a number is held, or came before this ticket and still waits.
+// Whether a message at a number is held, or came before this ticket and still waits.
 fn conflicts_at(held: &Holders, waiting: &Queues, ticket: u64, number: usize) -> bool
     ensures { result ≡ conflicts_at held.now.messages waiting.now.messages ticket number }
 {
@@ -54,7 +54,7 @@ fn conflicts_at(held: &Holders, waiting: &Queues, ticket: u64, number: usize) ->
         || matches!(waiting.front(number), Some(front) if front.ticket < ticket)
 }
 
-// Whether someone at one of the affinities from this one down does.
+// Whether a message at this affinity or at one below it does.
 fn conflicts_below(held: &Holders, waiting: &Queues, ticket: u64, a: Affinity) -> bool
     ensures some { result ≡ true → (n : ℕ) × (contains a n ≡ true) × (conflicts_at held.now.messages waiting.now.messages ticket n ≡ true) }
     ensures none { result ≡ false → (n : ℕ) → contains a n ≡ true → conflicts_at held.now.messages waiting.now.messages ticket n ≡ false }
@@ -67,7 +67,7 @@ fn conflicts_below(held: &Holders, waiting: &Queues, ticket: u64, a: Affinity) -
     false
 }
 
-// Whether someone at one of these numbers does.
+// Whether a message at one of these numbers does.
 fn conflicts_at_any(held: &Holders, waiting: &Queues, ticket: u64, numbers: &[u16]) -> bool
     ensures { result ≡ list_any (conflicts_at held.now.messages waiting.now.messages ticket) numbers.now }
 {
@@ -79,8 +79,13 @@ fn conflicts_at_any(held: &Holders, waiting: &Queues, ticket: u64, numbers: &[u1
     false
 }
 
-/// Whether no one at a related affinity is held, or waits with a smaller ticket.
-pub(crate) fn is_conflict_free(g: &Geometry, held: &Holders, waiting: &Queues, queued: &QueuedMessage) -> bool
+/// Whether no message at a related affinity is held, or waits with a smaller ticket.
+pub(crate) fn is_conflict_free(
+    g: &Geometry,
+    held: &Holders,
+    waiting: &Queues,
+    queued: &QueuedMessage,
+) -> bool
     requires placed { IsAffinity g.now queued.now.affinity }
     requires held_placed { AllByRecursion (λ t. IsAffinity g.now t.affinity) held.now.messages }
     requires waiting_placed { AllByRecursion (λ t. IsAffinity g.now t.affinity) waiting.now.messages }

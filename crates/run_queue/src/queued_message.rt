@@ -1,7 +1,7 @@
 //! One message that waits or is held.
 use affinity::Affinity;
 
-/// A message that waits for its turn, or that is held since it went.
+/// A message that waits, or that is held since it was dispatched.
 #[derive(Clone, Copy, Debug, PartialEq, Eq)]
 pub struct QueuedMessage {
     /// The slot where the message is kept.

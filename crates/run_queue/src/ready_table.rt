@@ -1,4 +1,4 @@
-//! Marks at numbers: which of the first in their queues are clear.
+//! Ready flags at numbers: which of the first in their queues are conflict-free.
 ghost use Rattle.std.specs.Prelude.{◌≡◌, ◌+◌, ◌*◌, ◌<◌, ◌≤◌, ℕ, get_or, length, min, replicate, slice_set, option_copied, IfOk, None};
 ghost use Rattle.run_queue.specs.ReadyTable.{last_rank, ready_in, rank_of};
 
@@ -9,13 +9,13 @@ use std::marker::Model;
 /// How many numbers there are in a block.
 pub(crate) const BLOCK: usize = 16;
 
-/// The last rank that one who waits may have. The greatest `u64` says that no one is marked.
+/// The last rank that a waiting message may have. The greatest `u64` means that none is ready.
 const LAST_RANK: u64 = u64::MAX - 1;
 
-/// A mark for each number of an affinity, which is there if a waiting message is clear.
+/// A ready flag for each number of an affinity, which is set if a waiting message is conflict-free.
 ///
-/// `next` is called often and looks for the earliest clear one. So each has a rank, which is its ticket, and the least
-/// rank of each block of numbers is kept: most blocks are passed by it alone.
+/// `next` is called often and looks for the earliest ready message. So each has a rank, which is its ticket, and the
+/// least rank of each block of numbers is kept: most blocks are passed by it alone.
 ///
 /// All memory is taken by `new`.
 #[derive(Drop)]
@@ -39,7 +39,7 @@ impl Model for ReadyTable {
 }
 
 impl ReadyTable {
-    /// `numbers` empty marks. `AllocError` where there is no memory.
+    /// `numbers` flags, none of them set. `AllocError` where there is no memory.
     pub(crate) fn new(alloc: Global, numbers: usize) -> Result<ReadyTable, AllocError>
         requires { numbers ≤ 65536 }
         ensures { IfOk result (λ ready_table. ready_table ≡ replicate numbers None) }
@@ -64,14 +64,14 @@ impl ReadyTable {
         self.clear.len()
     }
 
-    /// The clear message at a number.
+    /// The ready message at a number.
     pub(crate) fn at(&self, number: usize) -> Option<&QueuedMessage>
         ensures { option_copied result ≡ ready_in self.now number }
     {
         self.clear.get(number)?.as_ref()
     }
 
-    /// The rank of the clear message at a number, or the greatest `u64` if there is none.
+    /// The rank of the ready message at a number, or the greatest `u64` if there is none.
     pub(crate) fn rank(&self, number: usize) -> u64
         ensures { result ≡ rank_of (ready_in self.now number) }
     {
@@ -81,7 +81,7 @@ impl ReadyTable {
         }
     }
 
-    /// An upper bound for the rank of any turn earlier than the clear one at `number`. Where none is clear there, the
+    /// An upper bound for the rank of any message earlier than the ready one at `number`. Where none is ready there, the
     /// last rank.
     pub(crate) fn bound(&self, number: usize) -> u64
         ensures { result ≡ min (rank_of (ready_in self.now number)) last_rank }
@@ -89,7 +89,7 @@ impl ReadyTable {
         self.rank(number).min(LAST_RANK)
     }
 
-    /// The least rank in a block: no one there has a lower one.
+    /// The least rank in a block: no message there has a lower one.
     pub(crate) fn least(&self, block: usize) -> u64
         ensures { (i : ℕ) → i < 16 → result ≤ rank_of (ready_in self.now (16 * block + i)) }
     {
@@ -99,7 +99,7 @@ impl ReadyTable {
         }
     }
 
-    /// Sets or clears the mark at `number`.
+    /// Sets or clears the ready flag at `number`.
     pub(crate) fn set(&mut self, number: usize, clear: Option<QueuedMessage>)
         requires { number < length self.old }
         ensures { self.new ≡ slice_set self.old number clear }

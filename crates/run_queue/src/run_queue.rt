@@ -1,4 +1,4 @@
-//! Waiting and held messages, and whose turn it is among them.
+//! Waiting and held messages, and which of them goes next.
 ghost use Rattle.std.specs.Prelude.{◌≡◌, ◌+◌, ◌*◌, ◌<◌, ◌≤◌, ◌++◌, ◌∷◌, true, false, [], length, IfOk, IfSome, IfNone};
 ghost use Rattle.std.specs.List.{list_any};
 ghost use Rattle.affinity.specs.Interval.{IsAffinity, server_size};
@@ -7,8 +7,8 @@ ghost use Rattle.run_queue.specs.RunQueue.{next_queued, has_slot, has_number, wi
 use crate::QueuedMessage;
 use crate::candidates::best_in;
 use crate::holders::Holders;
-use crate::update_ready::{update_ready, update_ready_near};
 use crate::ready_table::{BLOCK, ReadyTable};
+use crate::update_ready::{update_ready, update_ready_near};
 use crate::waiting::Queues;
 use affinity::{Affinity, Geometry, Place};
 use std::alloc::{AllocError, Global};
@@ -25,7 +25,7 @@ pub struct RunQueue {
     geometry: Geometry,
     waiting: Queues,
     held: Holders,
-    ready_table: ReadyTable, // of the first one in each queue that is clear
+    ready_table: ReadyTable, // the first one in each queue, if it is conflict-free
     slots: usize,
 }
 
@@ -46,7 +46,7 @@ impl Model for RunQueue {
     ghost invariant = { λ t. QueueInvariant t.geometry t.slots t.waiting t.held t.ready_table };
 }
 
-/// How many blocks of marks hold those of a geometry's affinities.
+/// How many blocks of ready flags hold those of a geometry's affinities.
 fn blocks_of(g: &Geometry) -> usize
     ensures few { result ≤ 4097 }
     ensures all { server_size g.now ≤ 16 * result }
@@ -91,7 +91,7 @@ impl RunQueue {
     pub fn next(&self, room: bool) -> Option<QueuedMessage>
         ensures { result ≡ next_queued room self.now.held self.now.waiting }
     {
-        let mut best = self.ready_table.len(); // no one is marked there
+        let mut best = self.ready_table.len(); // none is ready there
         for block in 0..blocks_of(&self.geometry) {
             // Most are passed by their least ranks alone.
             if self.ready_table.least(block) <= self.ready_table.bound(best) {
@@ -132,7 +132,7 @@ impl RunQueue {
         }
     }
 
-    /// The message that `next` gave goes: it waits no longer, and is held. All others stay.
+    /// Dispatches the message that `next` gave: it waits no longer, and is held. All others stay.
     pub fn go(&mut self, queued: QueuedMessage)
         requires { IsNext self.old queued }
         ensures waiting { self.new ≡

@@ -1,4 +1,4 @@
-//! How the marks follow waiting and held messages.
+//! How the ready flags follow waiting and held messages.
 ghost use Rattle.std.specs.Prelude.{◌≡◌, ◌≤◌, ◌==◌, ℕ, true, length};
 ghost use Rattle.std.specs.List.{list_any, AllByRecursion};
 ghost use Rattle.affinity.specs.Interval.{IsAffinity, contains, server_size};
@@ -12,7 +12,7 @@ use crate::ready_table::ReadyTable;
 use crate::waiting::Queues;
 use affinity::{Affinity, Geometry};
 
-// The first one at a number, if it is clear.
+// The first one at a number, if it is conflict-free.
 fn ready_at(g: &Geometry, held: &Holders, waiting: &Queues, number: usize) -> Option<QueuedMessage>
     requires held_placed { AllByRecursion (λ t. IsAffinity g.now t.affinity) held.now.messages }
     requires waiting_placed { AllByRecursion (λ t. IsAffinity g.now t.affinity) waiting.now.messages }
@@ -27,8 +27,14 @@ fn ready_at(g: &Geometry, held: &Holders, waiting: &Queues, number: usize) -> Op
     }
 }
 
-/// Puts the mark at a number right.
-pub(crate) fn update_ready(ready_table: &mut ReadyTable, g: &Geometry, held: &Holders, waiting: &Queues, number: usize)
+/// Updates the ready flag at a number.
+pub(crate) fn update_ready(
+    ready_table: &mut ReadyTable,
+    g: &Geometry,
+    held: &Holders,
+    waiting: &Queues,
+    number: usize,
+)
     requires numbers { server_size g.now ≤ length ready_table.old }
     requires held_placed { AllByRecursion (λ t. IsAffinity g.now t.affinity) held.now.messages }
     requires waiting_placed { AllByRecursion (λ t. IsAffinity g.now t.affinity) waiting.now.messages }
@@ -41,8 +47,14 @@ pub(crate) fn update_ready(ready_table: &mut ReadyTable, g: &Geometry, held: &Ho
     }
 }
 
-// Puts the marks at an affinity and at those below it right.
-fn update_ready_below(ready_table: &mut ReadyTable, g: &Geometry, held: &Holders, waiting: &Queues, a: Affinity)
+// Updates the ready flags at an affinity and at those below it.
+fn update_ready_below(
+    ready_table: &mut ReadyTable,
+    g: &Geometry,
+    held: &Holders,
+    waiting: &Queues,
+    a: Affinity,
+)
     requires numbers { server_size g.now ≤ length ready_table.old }
     requires held_placed { AllByRecursion (λ t. IsAffinity g.now t.affinity) held.now.messages }
     requires waiting_placed { AllByRecursion (λ t. IsAffinity g.now t.affinity) waiting.now.messages }
@@ -55,8 +67,14 @@ fn update_ready_below(ready_table: &mut ReadyTable, g: &Geometry, held: &Holders
     }
 }
 
-// Puts the marks at these numbers right.
-fn update_ready_each(ready_table: &mut ReadyTable, g: &Geometry, held: &Holders, waiting: &Queues, numbers: &[u16])
+// Updates the ready flags at these numbers.
+fn update_ready_each(
+    ready_table: &mut ReadyTable,
+    g: &Geometry,
+    held: &Holders,
+    waiting: &Queues,
+    numbers: &[u16],
+)
     requires numbers { server_size g.now ≤ length ready_table.old }
     requires held_placed { AllByRecursion (λ t. IsAffinity g.now t.affinity) held.now.messages }
     requires waiting_placed { AllByRecursion (λ t. IsAffinity g.now t.affinity) waiting.now.messages }
@@ -70,7 +88,7 @@ fn update_ready_each(ready_table: &mut ReadyTable, g: &Geometry, held: &Holders,
     }
 }
 
-/// Puts the marks at all affinities that are related to this one right.
+/// Updates the ready flags at all affinities that are related to this one.
 pub(crate) fn update_ready_near(
     ready_table: &mut ReadyTable,
     g: &Geometry,

@@ -36,7 +36,7 @@ impl Model for Queues {
 impl Queues {
     ghost use Rattle.run_queue.specs.Queues.{IsFirstGone};
 
-    /// `numbers` empty queues that hold `seats` turns together. `AllocError` where there is no memory.
+    /// `numbers` empty queues that hold `seats` messages together. `AllocError` where there is no memory.
     pub(crate) fn new(alloc: Global, numbers: usize, seats: usize) -> Result<Queues, AllocError>
         ensures { IfOk result (λ q. q ≡ record { numbers = numbers; seats = seats; messages = [] }) }
     {

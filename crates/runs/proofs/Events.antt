@@ -49,7 +49,7 @@ take_none : {A : Type 0} (n : ℕ) → ◌≡◌ {A = List A} (take n []) []
 take_none zero = refl
 take_none (suc n) = refl
 
--- Where nothing has failed, nothing is in doubt, and so none of any messages is logged.
+-- Where nothing has failed, `doubt` is empty, so the bytes hold the state with none of any messages.
 pub some_of : (g : Geometry) (x : State) (failed : Bool) (doubt ms : List Msg) (c : List ℕ) → (failed ≡ false → doubt ≡ [])
     → HoldsSome g x doubt c → HoldsSome g x (if failed then doubt else ms) c
 some_of g x true doubt ms c none h = h

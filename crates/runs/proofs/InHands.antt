@@ -28,7 +28,7 @@ one_or_other i k = elim (i == k) as (λ b. (i == k) ≡ b → (i ≡ k) ⊎ (i �
 ] refl
 
 module _ (g : Geometry) where
-  -- The message of a ticket that the hand has stays out.
+  -- The message of a ticket that the hand has stays dispatched.
   abbrev StaysOut : CoreState → CoreState → Holding → Type 0
   StaysOut old new h = (ticket : ℕ) (m : Msg) → ticket_in h ≡ Some ticket → Contains old.out (ticket, m) → Contains new.out (ticket, m)
 
@@ -40,7 +40,7 @@ module _ (g : Geometry) where
   hand_stays old new (has.Result done) is stays sees = result_stays g old new done is (sees (done.ticket, done.message) is.is_out)
       (stays done.ticket done.message refl is.is_out)
 
-  -- The hands are as they were, and the messages that they have stay out.
+  -- The hands are as they were, and the messages that they have stay dispatched.
   pub hands_stay : (old new : CoreState) (hands : List Holding) → HoldsJobs g old hands → IsSoundCoreState g new
       → ((e : Entry) → Contains old.out e → SeesSame g old new e.1) → ((i : ℕ) → StaysOut old new (hand_at hands i))
       → HoldsJobs g new hands
@@ -82,12 +82,12 @@ module _ (g : Geometry) where
     pub holds_set : HoldsJobs g w (set hands k new)
     holds_set = record { sound = h.sound; each = each_set; once = once_set }
 
-  -- ---- what is out after a grant and after a return
+  -- ---- what is dispatched after a grant and after a return
 
   pub granted_stays : (w : CoreState) (found : Entry × List Entry) (e : Entry) → Contains w.out e → Contains (grant w found).out e
   granted_stays w found e out = contains_in _ e (in_left e w.out (found.0 ∷ []) (in_contained _ e out))
 
-  -- The ticket of what goes out is that of no message which is out.
+  -- The ticket of what is granted is that of no dispatched message.
   pub granted_is_fresh : (w : CoreState) (found : Entry × List Entry) → IsSoundCoreState g w → next_eligible g w ≡ Some found → (e : Entry)
       → Contains w.out e → e.0 ≡ found.0.0 → ⊥
   granted_is_fresh w found sound first e out =

@@ -1,4 +1,4 @@
--- What the lives of a device leave.
+-- What the incarnations of a device leave.
 use Rattle.std.proofs.Common.{◌≡◌, ◌⊎◌, ℕ, ◌≤◌, List, [], ◌∷◌, ◌++◌, Option, Some, None, refl, ap, sym, ◌∙◌, subst, append_assoc, inl, inr, ⊎_elim}
 use Rattle.std.proofs.lemmas.List.{append-nil}
 use Rattle.affinity.specs.declared.geometry.Geometry.{Geometry}
@@ -28,7 +28,7 @@ opening_leaves old new c h since = ⊎_elim
     (λ (k : RecoversAs old.now c). inr k) (past.later.before (moment old) c h.first.later since)) h.rest
 
 module _ (g : Geometry) where
-  -- The bytes recover to a state that these lives may leave.
+  -- The bytes recover to a state that these incarnations may leave.
   record Recovers (incarnations : List Incarnation) (c : List ℕ) : Type 0 where
     pub state : State
     pub is : holds g c ≡ Some state
@@ -52,11 +52,11 @@ module _ (g : Geometry) where
         (λ (handed : (l.began ≡ m) × (t ≤ moment m) × AreBytes m.now). so_far c
         (counts_now m t c handed.1 (subst (λ (n : Medium). IsCrashImage n c) handed.0 left))) passed
 
-    -- A incarnation in which nothing is logged leaves the state as it was.
+    -- An incarnation in which nothing is logged leaves the state as it was.
     nothing_more : (c : List ℕ) → Recovers incarnations c → Recovers (incarnations ++ Unopened ∷ []) c
     nothing_more c h = record { state = h.state; is = h.is; left = next_incarnation g incarnations Unopened h.state [] h.left refl }
 
-    -- The header tells the numbers, and there is one for all lives.
+    -- The header gives the numbers, and there is one for all incarnations.
     run_geometry : (start : Hands) (events : List Event) (k : ℕ) → IsRunIncarnation l start events k → l.geometry ≡ g
     run_geometry start events k run = one_geometry l.geometry g l.began.now run.header at_first.state at_first.is
 
@@ -87,7 +87,7 @@ module _ (g : Geometry) where
         (opening_leaves l.began l.ended c h.0 (subst (λ (n : ℕ). left_since l.ended n c) h.1 since)))
     one_more (Ran start events k) h c since = run_left start events k h c since
 
-  -- ---- all lives
+  -- ---- all incarnations
 
   all_incarnations : (before : List Incarnation) (m : Medium) (t : ℕ) → ((c : List ℕ) → left_since m t c → Recovers before c) → (ls : List DeviceIncarnation)
       → HasIncarnations m t ls → (c : List ℕ) → LeftByLast m t ls c → Recovers (before ++ incarnations_of ls) c

@@ -1,4 +1,4 @@
--- What is done in one hand.
+-- Inner: What is done in one hand.
 use Rattle.std.specs.Prelude.{◌≡◌, Bool, true, false, Option, Some, None}
 use Rattle.runs.specs.declared.hands.Holding.{Holding}
 use Rattle.runs.specs.declared.hands.Holding.TheVariants.{Empty, Job, Result}

@@ -1,4 +1,5 @@
--- The lives of a device: it is formatted, opened, a machine runs on it, and a crash comes. Then it is opened again.
+-- Statement for operators: The incarnations of a device: it is formatted, opened, a machine runs on it, and a crash comes. Then it is
+-- opened again.
 use Rattle.std.specs.Prelude.{◌≡◌, ◌⊎◌, ◌≤◌, ℕ, List, [], ◌∷◌, map, Some}
 use Rattle.std.specs.List.{AllByRecursion}
 use Rattle.affinity.specs.declared.geometry.Geometry.{Geometry}
@@ -16,7 +17,7 @@ use Rattle.messages.specs.declared.Msg.{Msg}
 use Rattle.meaning.specs.Serial.{fold}
 use Rattle.meaning.specs.State.{empty}
 
--- A incarnation: the device when it was opened, and as the last call left it; since which moment the crash may have come; the
+-- An incarnation: the device when it was opened, and as the last call left it; since which moment the crash may have come; the
 -- numbers of the server that was opened; and the incarnation that its messages had.
 pub record DeviceIncarnation : Type 0 where
   pub began : Medium
@@ -26,7 +27,7 @@ pub record DeviceIncarnation : Type 0 where
   pub incarnation : Incarnation
 
 -- What the next incarnation begins with: what a crash leaves that comes at moment t or later, with nothing unsynced; or the device as it
--- stands, where no crash came and it is opened again.
+-- is, where no crash came and it is opened again.
 abbrev pub IsPassedOn : Medium → ℕ → Medium → Type 0
 IsPassedOn m t next =
     ((left_since m t next.now) × IsSynced next) ⊎ ((next ≡ m) × (t ≤ moment m) × AreBytes m.now)
@@ -45,10 +46,11 @@ abbrev pub IsIncarnationOf : DeviceIncarnation → Incarnation → Type 0
 IsIncarnationOf l Unopened = OpeningCrashImages l.began l.ended × (l.since ≡ moment l.began)
 IsIncarnationOf l (Ran start events k) = IsRunIncarnation l start events k
 
--- The lives of a device that may have been left by a crash of this one at moment t or later, one after the other.
+-- The incarnations, one after the other, of a device that a crash of this one at moment t or later may have left.
 abbrev pub HasIncarnations : Medium → ℕ → List DeviceIncarnation → Type 0
 HasIncarnations m t [] = Unit {0}
-HasIncarnations m t (l ∷ incarnations) = IsPassedOn m t l.began × IsIncarnationOf l l.incarnation × HasIncarnations l.ended l.since incarnations
+HasIncarnations m t (l ∷ incarnations) =
+    IsPassedOn m t l.began × IsIncarnationOf l l.incarnation × HasIncarnations l.ended l.since incarnations
 
 -- Each server that was opened had these numbers.
 abbrev pub IsOfGeometry : Geometry → Geometry → Incarnation → Type 0
@@ -66,9 +68,9 @@ LeftByLast m t (l ∷ incarnations) c = LeftByLast l.ended l.since incarnations 
 abbrev pub incarnations_of : List DeviceIncarnation → List Incarnation
 incarnations_of incarnations = map (λ l. l.incarnation) incarnations
 
--- The bytes recover to what the serial server reaches, from none on, by the logs of all lives, one after the other. The log of
--- each incarnation is one that a crash of its run leaves: a beginning of what it logged or was to log, that begins itself with every
--- change that was answered.
+-- The bytes recover to what the serial server reaches, from the empty state on, by the logs of all incarnations, one after the other.
+-- The log of each incarnation is one that a crash of its run leaves: a beginning of what it logged or was to log. It begins itself with
+-- every change that was answered.
 pub record RecoversForIncarnations (g : Geometry) (incarnations : List Incarnation) (c : List ℕ) : Type 0 where
   pub logs : List (List Msg)
   pub are_logs : AreLogsOf g empty incarnations logs

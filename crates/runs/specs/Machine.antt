@@ -1,4 +1,4 @@
--- A machine as contracts see it: a core, and what its hands have.
+-- Statement for operators: A machine as contracts see it: a core, and what its hands have.
 use Rattle.std.specs.Prelude.{◌≡◌, ℕ, ◌≤◌, false, List, [], ◌∷◌, map, take, length, slice_index_or, Option, Some, None}
 use Rattle.std.specs.List.{AllByRecursion, Contains}
 use Rattle.affinity.specs.declared.geometry.Geometry.{Geometry}
@@ -32,7 +32,7 @@ machine_of m = record { core = core_state_of m.core; hands = map hand_of m.hands
 
 -- ---- what every machine keeps
 
--- It has the job of a message that is out, or what came of it.
+-- It has the job of a dispatched message, or what came of it.
 abbrev pub IsHandOf : Geometry → CoreState → Holding → Type 0
 IsHandOf g w has.Empty = Unit {0}
 IsHandOf g w (has.Job job) = IsJobOf g w job
@@ -76,7 +76,7 @@ pub record HasRun (keeps : Type 0) (old new : MachineView) (asked : List Step) (
   -- In each core state, the first one too, no two of the messages that are held are at related places.
   pub apart : AllByRecursion (λ (w : Hands). AreApart old.core.geometry (held w.core))
       (machine_of old ∷ map (λ e. e.state_after) (events_of ran.stages))
-  -- What was logged is replied what the serial server replies, in log order.
+  -- What was logged has the replies that the serial server gives, in log order.
   pub in_log_order : ticket_replies (went (machine_of old) (events_of ran.stages))
       ≡ serial_replies old.core.geometry (core_state_of old.core).committed (entries (went (machine_of old) (events_of ran.stages)))
   -- Where nothing waited or was held, each answer is also the one where all that arrived come by ticket.
@@ -89,6 +89,6 @@ pub record IsEndOfRun (start : MachineView) (events : List Event) (new : CoreVie
   pub hands : List Holding
   pub ends : last (machine_of start) events ≡ machine_of (record { core = new; hands = hands })
   pub geometry : new.geometry ≡ start.core.geometry
-  -- what `Core::recovers` tells of it
+  -- what `Core::recovers` promises of it
   pub no_doubt : new.failed ≡ false → new.doubt ≡ []
   pub recovers : RecoversNow new

@@ -1,4 +1,4 @@
--- A run on a device, stage by stage: each event with the device as it left it, and what a crash leaves meanwhile.
+-- Statement for operators: A run on a device, stage by stage: each event with the device as it left it, and what a crash leaves meanwhile.
 use Rattle.std.specs.Prelude.{◌≡◌, ℕ, false, List, [], ◌∷◌, map, Some}
 use Rattle.affinity.specs.declared.geometry.Geometry.{Geometry}
 use Rattle.checkpoint.specs.Recovery.{holds}
@@ -23,14 +23,15 @@ device_after m [] = m
 device_after m (stage ∷ stages) = device_after stage.medium stages
 
 -- A crash at any moment of an event leaves the state that was committed before it, with the first so many of the messages in
--- doubt: of those that the event is to append, or, in a failed core state, of those that were to be appended when it failed.
+-- flight at the failure: of those that the event is to append, or, in a failed core state, of those that were to be appended when it
+-- failed.
 abbrev pub AreSafe : Geometry → Hands → Medium → List Stage → Type 0
 AreSafe g w m [] = Unit {0}
 AreSafe g w m (stage ∷ stages) =
     CrashImagesAre m stage.medium (HoldsSome g w.core.committed (in_doubt w.core (stage.event ∷ [])))
     × AreSafe g stage.event.state_after stage.medium stages
 
--- Each event tells whether the device failed in it, and left the device alone where its step touches none.
+-- Each event reports whether the device failed in it, and left the device alone where its step touches none.
 abbrev pub TouchesAgree : Hands → Medium → List Stage → Type 0
 TouchesAgree w m [] = Unit {0}
 TouchesAgree w m (stage ∷ stages) =

@@ -1,4 +1,4 @@
--- One step of a machine, and of its core alone.
+-- Inner: One step of a machine, and of its core alone.
 use Rattle.std.specs.Prelude.{◌≡◌, Bool, [], ◌∷◌}
 use Rattle.disk.specs.Moments.{CrashImagesAre}
 use Rattle.journal.specs.Journal.{HoldsSome}
@@ -11,7 +11,7 @@ use Rattle.scheduler.specs.Calls.{CountsFailure, IsCalled}
 use Rattle.scheduler.specs.CoreView.{CoreView, RecoversThroughout, core_state_of}
 
 -- The step had this outcome: it was an event, at each moment of which a crash leaves what was committed, with the first so many
--- of the messages in doubt.
+-- of the messages in flight at the failure.
 pub record IsMachineStep (keeps : Type 0) (old new : MachineView) (step : Step) (outcome : Outcome) : Type 0 where
   pub rose : Bool
   pub allowed : IsAllowed old.core.geometry (machine_of old)

@@ -1,4 +1,4 @@
-//! What holds of a device over many lives: the law for which all this is made. No function here does anything; its
+//! What holds of a device over many incarnations: the law for which all this is made. No function here does anything; its
 //! contract is the law.
 ghost use Rattle.std.specs.Prelude.{◌≡◌, ℕ, List, Some, None, length};
 ghost use Rattle.disk.specs.Device.{IsCrashImage};
@@ -17,25 +17,32 @@ ghost use Rattle.disk.specs.Moments.{moment};
 ghost use Rattle.runs.specs.Incarnations.{DeviceIncarnation, HasIncarnations, HaveGeometry, LeftByLast, RecoversForIncarnations, incarnations_of};
 ghost use Rattle.meaning.specs.State.{empty};
 
-/// A device is formatted. Then it has any number of lives, one after the other: in each it is opened, a machine makes a run of
-/// any steps, and a crash comes at any moment, also while it is opened and within a call, and leaves any bytes where
-/// something was unsynced. Each server that is opened has the numbers with which the device was formatted. Whatever the last crash
-/// leaves recovers to the state that the serial server reaches, from none on, by the logs of all lives in order; and the log of
-/// each incarnation holds, at its beginning, every change that was answered before its crash. It has the header of the format and isn't
-/// refused: the next opening gives that state, unless the device fails or want of memory is answered (`Core::open`).
+/// A device is formatted. Then it has any number of incarnations, one after the other: in each it is opened, a machine makes a run
+/// of any steps, and a crash comes at any moment, also while it is opened and within a call, and leaves any bytes where something
+/// was unsynced. Each server that is opened has the numbers with which the device was formatted. Whatever the last crash leaves
+/// recovers to the state that the serial server reaches, from the empty one on, by the logs of all incarnations in order. The log
+/// of each incarnation begins with every change that was answered before its crash. What the last crash leaves has the header of
+/// the format and isn't refused: the next opening gives that state, unless the device fails or want of memory is answered
+/// (`Core::open`).
 pub fn incarnations_leave_what_was_answered()
-    ensures geometry { (g : Geometry) (formatted : Medium) (incarnations : List DeviceIncarnation) → holds g formatted.now ≡ Some empty
+    ensures geometry { (g : Geometry) (formatted : Medium) (incarnations : List DeviceIncarnation)
+        → holds g formatted.now ≡ Some empty
         → IsSynced formatted → HasIncarnations formatted (moment formatted) incarnations → HaveGeometry g incarnations }
-    ensures recovers { (g : Geometry) (formatted : Medium) (incarnations : List DeviceIncarnation) (c : List ℕ) → holds g formatted.now ≡ Some empty
-        → IsSynced formatted → HasIncarnations formatted (moment formatted) incarnations → LeftByLast formatted (moment formatted) incarnations c
+    ensures recovers { (g : Geometry) (formatted : Medium) (incarnations : List DeviceIncarnation) (c : List ℕ)
+        → holds g formatted.now ≡ Some empty
+        → IsSynced formatted → HasIncarnations formatted (moment formatted) incarnations
+        → LeftByLast formatted (moment formatted) incarnations c
         → RecoversForIncarnations g (incarnations_of incarnations) c }
-    ensures opens { (g : Geometry) (formatted : Medium) (incarnations : List DeviceIncarnation) (c : List ℕ) → holds g formatted.now ≡ Some empty
-        → IsSynced formatted → HasIncarnations formatted (moment formatted) incarnations → LeftByLast formatted (moment formatted) incarnations c
+    ensures opens { (g : Geometry) (formatted : Medium) (incarnations : List DeviceIncarnation) (c : List ℕ)
+        → holds g formatted.now ≡ Some empty
+        → IsSynced formatted → HasIncarnations formatted (moment formatted) incarnations
+        → LeftByLast formatted (moment formatted) incarnations c
         → HasHeader g c × (refused g c ≡ None) }
 {}
 
 /// A run has ended. Whatever a crash leaves of its device now recovers to where the log of the run leads, with the first m of
-/// the messages in doubt. Where no message was in the core at its start, that log begins with every change that was answered.
+/// the messages in flight at the failure. Where no message was in the core at its start, that log begins with every change that
+/// was answered.
 pub fn a_crash_behind_a_run_leaves_what_was_answered()
     ensures run { (start : MachineView) (events : List Event) (new : CoreView) (c : List ℕ)
         → IsSoundCoreState start.core.geometry (core_state_of start.core)

@@ -39,7 +39,8 @@ other_number g x y a b apart = elim (eqb_tells y.1.affinity.number x.1.affinity.
   | inr n ↦ ap not n.0
 ]
 
-pub other_numbers : (g : Geometry) (x : SlotView) → IsPlaced g x → (ys : List SlotView) → AllByRecursion (IsPlaced g) ys → AllByRecursion (λ d. are_related_entries g (entry_of x) d ≡ false) (map entry_of ys)
+pub other_numbers : (g : Geometry) (x : SlotView) → IsPlaced g x → (ys : List SlotView) → AllByRecursion (IsPlaced g) ys
+    → AllByRecursion (λ d. are_related_entries g (entry_of x) d ≡ false) (map entry_of ys)
     → AllByRecursion (λ y. not (has_number x.1.affinity.number (queued_of y)) ≡ true) ys
 other_numbers g x a [] all apart = tt
 other_numbers g x a (y ∷ ys) all apart = (other_number g x y a all.0 apart.0, other_numbers g x a ys all.1 apart.1)

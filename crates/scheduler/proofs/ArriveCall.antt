@@ -83,7 +83,8 @@ module _ (keeps : Type 0) (row : Row Slot) (replies : List Reply) (tree : TreeVi
         filled : nat_le (capacity_of row) (length (core_state_in p).waiting + length (held (core_state_in p))) ≡ true
         filled = elim (leb_tells (capacity_of row) (length (core_state_in p).waiting + length (held (core_state_in p)))) [
           | inl e ↦ e.0
-          | inr n ↦ absurd (let short = n.1 in let count = count_of p in let claimed = k.claimed in let none = ap length (none_free row.free value back full) in omega (arith, short, count, claimed, none))
+          | inr n ↦ absurd (let short = n.1 in let count = count_of p in let claimed = k.claimed
+              in let none = ap length (none_free row.free value back full) in omega (arith, short, count, claimed, none))
         ]
 
   module _ (slot : ℕ) (put : put_answer row value ≡ Ok slot) where

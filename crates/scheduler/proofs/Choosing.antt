@@ -1,4 +1,4 @@
--- The message that goes out: the one whose turn it is is the eligible one with the least ticket.
+-- The message that is dispatched: the next one of the run queue is the eligible one with the least ticket.
 use Rattle.std.proofs.Common.{◌≡◌, ◌<◌, Bool, true, false, List, [], ◌∷◌, ◌++◌, map, Option, Some, None, refl, ap, sym, subst, ◌∙◌}
 use Rattle.std.specs.Prelude.{◌&&◌, ◌||◌, not, nat_lt, if◌then◌else◌, cond, is_some, option_map}
 use Rattle.std.specs.List.{AllByRecursion, find, list_any}
@@ -37,7 +37,7 @@ all_of : {X : Type 0} (P Q : X → Type 0) → ((x : X) → P x → Q x) → (xs
 all_of P Q f [] all = tt
 all_of P Q f (x ∷ xs) all = (f x all.0, all_of P Q f xs all.1)
 
--- ---- turns and places
+-- ---- queued messages and places
 
 module _ (g : Geometry) where
   -- affinities overlap exactly where places are related

@@ -1,4 +1,4 @@
--- The call that lets a message go out, by what its callees give.
+-- The call that dispatches a message, by what its callees give.
 use Rattle.std.proofs.Common.{◌≡◌, ℕ, ◌+◌, ◌<◌, ◌≤◌, Bool, true, false, List, [], ◌∷◌, ◌++◌, map, length, get_or, Option, Some, None, refl, ap, sym, subst, ◌∙◌, arith, inl, inr}
 use Rattle.std.specs.Prelude.{◌==◌, cond, is_some, nat_lt, unwrap_or}
 use Rattle.std.specs.List.{AllByRecursion, Contains}
@@ -109,7 +109,7 @@ module _ (keeps : Type 0) (row : Row Slot) (replies : List Reply) (tree : TreeVi
       (subst (AllByRecursion (λ (y : SlotView). (y.0 == split.at) ≡ false)) split.before_is (numbers_off row replies split.at split.front (omega (arith, once, all, same))))
       (subst (AllByRecursion (λ (y : SlotView). (y.0 == split.at) ≡ false)) split.behind_is (numbers_off row replies split.at split.back (omega (arith, once, all, same)))))
 
-  -- ---- what stands afterwards
+  -- ---- what holds afterwards
 
   grant_path : IsAffinityOf tree.geometry (place journal.geometry x.1.message) queued.affinity
   grant_path = subst (λ (a : Interval). IsAffinityOf tree.geometry (place journal.geometry x.1.message) a) (ap (λ (t : QueuedMessage). t.affinity) chosen.queued)

@@ -1,4 +1,4 @@
--- A core whose journal was called: what stands afterwards, and at each moment.
+-- A core whose journal was called: what holds afterwards, and at each moment.
 use Rattle.std.proofs.Common.{◌≡◌, ℕ, ◌≤◌, Bool, true, false, List, [], take, Option, Some, refl, ap, sym, subst, ◌∙◌, arith}
 use Rattle.std.specs.Prelude.{if◌then◌else◌}
 use Rattle.std.proofs.lemmas.Bool.{cond-false, cond-true}

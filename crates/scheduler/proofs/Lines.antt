@@ -139,7 +139,7 @@ pub same_line : (row new : Row Slot) (replies : List Reply) (c : ℕ) → new.va
     → line new replies c ≡ line row replies c
 same_line row new replies c values chain = λ k. map (λ i. (i, unwrap_or (slice_index_or (values k) i None) no_slot, get_or replies i Done)) (chain k)
 
--- A place left one line, where it stood between two parts, and joined another, with the reply that lies there now.
+-- A place left one line, where it was between two parts, and joined another, with the reply that lies there now.
 pub record MovedLines (row new : Row Slot) (replies told : List Reply) (from to : ℕ) (before : List SlotView) (x : SlotView) (behind : List SlotView) : Type 0 where
   pub left : line new told from ≡ before ++ behind
   pub joined : line new told to ≡ line row replies to ++ (x.0, x.1, get_or told x.0 Done) ∷ []
@@ -166,7 +166,7 @@ module _ (row : Row Slot) (replies told : List Reply) (is : HasChains row) (from
   same_values : new.values ≡ row.values
   same_values = ap (λ (r : Row Slot). r.values) (row_moved row is.parted split.at from to there other split.front split.back split.whole)
 
-  -- a line is made of the places that the row had, with the replies that lie there now
+  -- a line is made of the places that the slots had, with the replies that lie there now
   in_new : (xs : List ℕ) → map (place_at new told) xs ≡ map (place_at row told) xs
   in_new xs = λ z. map (λ i. (i, unwrap_or (slice_index_or (same_values z) i None) no_slot, get_or told i Done)) xs
 
@@ -256,7 +256,7 @@ module _ (row : Row Slot) (replies : List Reply) (is : HasChains row) (i to : �
   line_joined = subst (λ (r : Row Slot). JoinedLines row (after_move r i to) replies i to value)
       (sym (row_put row is.parted i to rest value room_there free)) joined_lines
 
--- The first place of a line is gone.
+-- The first place of a line was taken out.
 pub record TakenLines (row new : Row Slot) (replies : List Reply) (from : ℕ) (behind : List SlotView) : Type 0 where
   pub left : line new replies from ≡ behind
   pub stays : (d : ℕ) → d ≢ from → line new replies d ≡ line row replies d

@@ -234,7 +234,8 @@ module _ (keeps : Type 0) (row : Row Slot) (replies : List Reply) (tree : TreeVi
             since = (since_is ∙ ap (λ (ms : List Msg). since ++ ms) messages_are) i;
           }
 
-          settles_at : keeps → committed (record journal { room = room; dirty = new.dirty; medium = new.medium }) ≡ Some (core_state_in (with_log p n (flight - flew) room new.dirty new.medium)).committed
+          settles_at : keeps → committed (record journal { room = room; dirty = new.dirty; medium = new.medium })
+              ≡ Some (core_state_in (with_log p n (flight - flew) room new.dirty new.medium)).committed
           settles_at keep =
               sym (ap committed made) ∙ settles keep
               ∙ ap (option_map (λ x. fold journal.geometry x passed)) (k.is_committed keep works)

@@ -1,4 +1,4 @@
--- A core that logs: what it hands to the journal, and what stands afterwards.
+-- A core that logs: what it hands to the journal, and what holds afterwards.
 use Rattle.std.proofs.Common.{◌≡◌, ℕ, ◌+◌, ◌-◌, ◌≤◌, Bool, true, false, List, [], ◌∷◌, ◌++◌, map, length, take, drop, Some, refl, ap, sym, subst, ◌∙◌, arith}
 use Rattle.std.specs.Prelude.{if◌then◌else◌, cond, filter, ◌&&◌}
 use Rattle.std.specs.List.{AllByRecursion}
@@ -103,7 +103,7 @@ module _ (keeps : Type 0) (p : Parts) (k : IsCore keeps p) (n : ℕ) where
   pub batch_fits : length (batch_at p n) ≤ p.journal.room
   batch_fits = subst (λ ms. length ms ≤ p.journal.room) (sym same_batch) (log_has_room w n k.sound.room)
 
--- ---- what stands afterwards
+-- ---- what holds afterwards
 
 abbrev pub with_log : Parts → ℕ → ℕ → ℕ → DirtyPieces → Medium → Parts
 with_log p n flight room dirty medium = record p {
@@ -174,7 +174,8 @@ module _ (keeps : Type 0) (p : Parts) (k : IsCore keeps p) (works : p.journal.fa
     -- at each moment of the call
     pub log_throughout : (new : CoreView) → new.medium ≡ medium → keeps → RecoversThroughout (batch (core_state_in p) n) (kept_of p) new
     log_throughout new same keep =
-        subst (λ (m : Medium). CrashImagesAre p.journal.medium m (HoldsSome p.journal.geometry (core_state_in p).committed (if p.journal.failed then p.batch else batch (core_state_in p) n))) (sym same)
+        subst (λ (m : Medium). CrashImagesAre p.journal.medium m (HoldsSome p.journal.geometry (core_state_in p).committed
+        (if p.journal.failed then p.batch else batch (core_state_in p) n))) (sym same)
         (subst (λ ds. CrashImagesAre p.journal.medium medium (HoldsSome p.journal.geometry (core_state_in p).committed ds))
         (same_batch keeps p k n ∙ sym (cond-false p.journal.failed p.batch (batch (core_state_in p) n) works)) (any keep))
 

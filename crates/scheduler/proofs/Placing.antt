@@ -1,4 +1,4 @@
--- What the affinity of a message's kind and numbers says of the message.
+-- What the affinity of a message's kind and numbers shows of the message.
 use Rattle.std.proofs.Common.{◌≡◌, ℕ, true, List, sym, subst, ◌∙◌}
 use Rattle.affinity.specs.Interval.{Interval, IsAffinityOf}
 use Rattle.affinity.specs.Place.{is_in_range as numbers_are_in_range, place as place_of_numbers}

@@ -156,7 +156,8 @@ module _ (keeps : Type 0) (p : Parts) (k : IsCore keeps p) (new : JournalView)
             → OnErr r (new ≡ record p.journal { failed = true; medium = new.medium }) → OnOk r (keeps → committed new ≡ committed p.journal)
             → IsCore keeps (record p { journal = new })
         by (Ok u) begun few broken same =
-            made_core keeps p k (point_works keeps p k why) new any g.half (Some (count_dirty p.journal.dirty.others)) (cut_dirty p.journal.dirty) begun same (cut_sound why (count_dirty p.journal.dirty.others) few)
+            made_core keeps p k (point_works keeps p k why) new any g.half (Some (count_dirty p.journal.dirty.others)) (cut_dirty p.journal.dirty)
+            begun same (cut_sound why (count_dirty p.journal.dirty.others) few)
         by (Err e) begun few broken same = broken_core keeps p k (point_works keeps p k why) new any broken failed_sound
 
   module _ (result : Result ℕ LogFault) (works : p.journal.failed ≡ false)

@@ -79,7 +79,7 @@ and_false : (a b : Bool) → b ≡ false → (a && b) ≡ false
 and_false true b e = e
 and_false false b e = refl
 
--- none of those with other numbers stands at this slot with this number
+-- none of those with other numbers is at this slot with this number
 none_at : (n slot : ℕ) (ys : List SlotView) → AllByRecursion (λ y. not (has_number n (queued_of y)) ≡ true) ys → list_any (λ y. holds_at n slot (queued_of y)) ys ≡ false
 none_at n slot [] all = refl
 none_at n slot (y ∷ ys) all =
@@ -148,7 +148,7 @@ module _ (keeps : Type 0) (p : Parts) (k : IsCore keeps p) (before : List SlotVi
   others_behind = other_numbers g x x_placed behind (all_back (IsPlaced g) before (x ∷ behind) all_out).1
       (all_back (λ d. are_related_entries g (entry_of x) d ≡ false) us (map entry_of behind) alone)
 
-  -- who holds its number is the one that is out
+  -- who holds its number is the one that is dispatched
   pub holder_is : (slot : ℕ) → list_any (holds_at n slot) p.queue.held ≡ true → slot ≡ x.0
   holder_is slot has =
       let t : SlotView → Bool = λ (y : SlotView). holds_at n slot (queued_of y) in
@@ -296,7 +296,8 @@ module _ (keeps : Type 0) (row : Row Slot) (replies : List Reply) (tree : TreeVi
         fits = subst (λ (m : Msg). Fits journal.geometry (place journal.geometry m) done.parcels) (sym message_is) result.suits.fits
 
         shows : Shows journal.geometry (place journal.geometry x.1.message) result.standing done.parcels (next_state journal.geometry (core_state_in p).committed x.1.message)
-        shows = subst (λ (m : Msg). Shows journal.geometry (place journal.geometry m) result.standing done.parcels (next_state journal.geometry (core_state_in p).committed m)) (sym message_is) result.shows
+        shows = subst (λ (m : Msg). Shows journal.geometry (place journal.geometry m) result.standing done.parcels
+            (next_state journal.geometry (core_state_in p).committed m)) (sym message_is) result.shows
 
         reply_told : done.reply ≡ reply_to journal.geometry (core_state_in p).committed x.1.message
         reply_told = result.reply ∙ ap (reply_to journal.geometry (core_state_in p).committed) (sym message_is)

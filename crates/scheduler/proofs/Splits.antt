@@ -1,4 +1,4 @@
--- Lists of slot numbers where one stands between two parts, and lists that are made of them.
+-- Lists of slot numbers where one is between two parts, and lists that are made of them.
 use Rattle.std.proofs.Common.{◌≡◌, ◌≢◌, ℕ, ◌≤◌, ◌<◌, List, [], ◌∷◌, ◌++◌, map, refl, sym, ap, ◌∙◌, arith, inl, inr}
 use Rattle.std.proofs.lemmas.Bool.{eq-eqb}
 use Rattle.std.proofs.lemmas.Bool.Decides.{eqb_tells}
@@ -6,7 +6,7 @@ use Rattle.std.proofs.lemmas.List.Elements.{filter-append}
 use Rattle.arena.specs.Lists.{times, without}
 use Rattle.arena.proofs.Times.{times-append, times-cons_is, times-cons_other, times-cons_same, without-absent}
 
--- a list without one that stands in it once
+-- a list without one that occurs in it once
 pub without-split : (i : ℕ) (xs ys : List ℕ) → times i (xs ++ i ∷ ys) ≤ 1 → without i (xs ++ i ∷ ys) ≡ xs ++ ys
 without-split i xs ys once =
     let all = times-append i xs (i ∷ ys) in

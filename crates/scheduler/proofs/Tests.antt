@@ -1,4 +1,4 @@
--- Tests of the held messages, as messages come, go, come back and are answered.
+-- Tests of the held messages, as messages arrive, are dispatched, given back and answered.
 use Rattle.std.proofs.Common.{◌≡◌, Bool, true, false, List, [], ◌∷◌, ◌++◌, refl, ap, sym, ◌∙◌}
 use Rattle.std.specs.Prelude.{◌&&◌, ◌||◌, cond, filter}
 use Rattle.std.specs.List.{AllByRecursion, list_any}
@@ -55,7 +55,7 @@ module _ (test : QueuedMessage → Bool) where
       ∙ or_logged (list_any t l.logged) (list_any t first) (list_any t rest) (list_any t l.out)
       ∙ ap (λ b. b || (list_any t rest || list_any t l.out)) (sym (list_any-append t l.logged first))
 
--- ---- those that are left of a row
+-- ---- those that are left of a list
 
 pub any_filter : (test q : QueuedMessage → Bool) (ts : List QueuedMessage) → list_any test (filter q ts) ≡ list_any (λ t. q t && test t) ts
 any_filter test q [] = refl

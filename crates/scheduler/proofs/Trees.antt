@@ -74,7 +74,7 @@ below_cut g before e behind q =
     list_any-append t before (e ∷ behind) ∙ or_middle (list_any t before) (t e) (list_any t behind)
     ∙ ap (λ b. t e || b) (sym (list_any-append t before behind))
 
--- ---- a message that goes out
+-- ---- a message that is dispatched
 
 module _ (g : Geometry) (w : CoreState) (sound : IsSoundCoreState g w) (found : Entry × List Entry) (first : next_eligible g w ≡ Some found) where
   free : AllByRecursion (λ d. are_related_entries g found.0 d ≡ false) (held w)
@@ -101,7 +101,7 @@ module _ (g : Geometry) (w : CoreState) (sound : IsSoundCoreState g w) (found : 
           (λ q. below_push g w.out found.0 q)
           (lent_holds g (is_below g w.out) (place g found.0.1) (apart_below g found.0 w.out free_of_out) t l n lent (reached g w) tree taken)
 
--- ---- a message that comes back
+-- ---- a message that is given back
 
 module _ (g : Geometry) (w : CoreState) (sound : IsSoundCoreState g w) (before : List Entry) (e : Entry) (behind : List Entry) (out : w.out ≡ before ++ e ∷ behind)
     (n : Nodes) (tree : TreeHolds g (is_below g w.out) n (reached g w)) where
@@ -148,7 +148,7 @@ log_reaches g w n sound =
     ∙ sym (fold-append g w.committed (entries (take n w.ran)) (entries (drop n w.ran)))
     ∙ ap (λ es. fold g w.committed (messages es)) (sym (entries-append (take n w.ran) (drop n w.ran)) ∙ ap entries (take-append-drop n w.ran))
 
--- a message that comes back leads on from what was reached
+-- a message that is given back leads on from what was reached
 pub back_reaches : (g : Geometry) (x : State) (ran : List Replied) (a : Replied)
     → fold g x (messages (entries (ran ++ a ∷ []))) ≡ next_state g (fold g x (messages (entries ran))) a.1
 back_reaches g x ran a = ap (λ es. fold g x (messages es)) (entries-append ran (a ∷ [])) ∙ fold-append g x (entries ran) ((a.0, a.1) ∷ [])

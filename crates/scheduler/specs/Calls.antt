@@ -1,4 +1,4 @@
--- What the calls of a core answer and make of its core state, and which events they are.
+-- Statement for engineers: What the calls of a core answer and make of its core state, and which events they are.
 use Rattle.std.specs.Prelude.{◌≡◌, ℕ, ◌+◌, Bool, true, false, List, take, length, Option, Some, None, Result, Ok, Err}
 use Rattle.affinity.specs.declared.geometry.Geometry.{Geometry}
 use Rattle.legal_runs.specs.Eligible.{next_eligible}
@@ -20,9 +20,9 @@ use Rattle.scheduler.specs.declared.granted.Granted.{Granted}
 use Rattle.scheduler.specs.declared.granted.Granted.TheVariants as granted
 use Rattle.parcel.specs.Run.{JobView}
 
--- ---- messages that go out
+-- ---- messages that are dispatched
 
--- The eligible message with the least ticket went out as this job.
+-- The eligible message with the least ticket was dispatched as this job.
 pub record IsGrantOf (g : Geometry) (old new : CoreState) (job : JobView) : Type 0 where
   pub works : old.failed ≡ false
   pub found : Entry × List Entry
@@ -31,7 +31,7 @@ pub record IsGrantOf (g : Geometry) (old new : CoreState) (job : JobView) : Type
   pub state_after : new ≡ grant old found
   pub is_job : IsJobOf g new job
 
--- None is eligible, this is why none goes, and nothing has changed.
+-- None is eligible, this is why none is dispatched, and nothing has changed.
 pub record IsNoGrant (g : Geometry) (old new : CoreState) (why : Outcome) : Type 0 where
   pub works : old.failed ≡ false
   pub none : next_eligible g old ≡ None
@@ -109,12 +109,13 @@ abbrev pub step_outcome : {T : Type 0} → (T → Outcome) → Result T PointRef
 step_outcome made (Ok x) = made x
 step_outcome made (Err why) = outcomes.PointRefused why
 
--- ---- messages that arrive by their lines
+-- ---- messages that arrive by the lines that encode them
 
 -- The message of a line has arrived as an event of its own, if there is one: with a ticket, or refused. Where there is none, nothing has
 -- changed.
 abbrev pub ArrivesByLine : CoreView → CoreView → Option Msg → Result (Option ℕ) ArriveRefusal → Type 0
 ArrivesByLine old new None r = (r ≡ Ok None) × (new ≡ old)
 ArrivesByLine old new (Some m) (Ok None) = ⊥
-ArrivesByLine old new (Some m) (Ok (Some ticket)) = (arrive_outcome (Ok ticket), core_state_of new) ≡ arrive old.geometry (core_state_of old) m
+ArrivesByLine old new (Some m) (Ok (Some ticket)) =
+    (arrive_outcome (Ok ticket), core_state_of new) ≡ arrive old.geometry (core_state_of old) m
 ArrivesByLine old new (Some m) (Err why) = (arrive_outcome (Err why), core_state_of new) ≡ arrive old.geometry (core_state_of old) m

@@ -1,4 +1,4 @@
--- What contracts know of a core's past. No clause of a public function cites this module.
+-- Inner: What contracts know of a core's past.
 use Rattle.std.specs.Prelude.{List, [], ◌++◌}
 use Rattle.messages.specs.declared.Msg.{Msg}
 use Rattle.parcel.specs.Tree.{TreeView}

@@ -1,4 +1,4 @@
--- What becomes of those that ran when they are logged. No clause of a public function cites this module.
+-- Inner: What becomes of those that ran when they are logged.
 use Rattle.std.specs.Prelude.{◌≡◌, ℕ, List, ◌++◌, map, take, drop, count_by, unwrap_or}
 use Rattle.arena.specs.Row.{Row, chain_at, value_at}
 use Rattle.legal_runs.specs.Eligible.{changes}

@@ -1,4 +1,4 @@
--- What a core keeps true of its parts between calls. No clause of a public function cites this module.
+-- Inner: What a core keeps true of its parts between calls.
 use Rattle.std.specs.Prelude.{◌≡◌, ◌+◌, ℕ, Bool, true, false, List, [], ◌||◌, map, length, Some}
 use Rattle.std.specs.List.{AllByRecursion, list_any}
 use Rattle.affinity.specs.Interval.{IsAffinityOf}
@@ -48,7 +48,7 @@ pub record Parts : Type 0 where
   -- what is handed to the journal: after a fault of the device what was to be appended
   pub batch : List Msg
   pub next : ℕ
-  -- how many changing messages are out or ran
+  -- how many changing messages are dispatched or ran
   pub flight : ℕ
   pub opened : TreeView
   pub since : List Msg
@@ -114,14 +114,14 @@ pub record IsCore (keeps : Type 0) (p : Parts) : Type 0 where
   -- each slot is free or on a line
   pub claimed : p.free + (length p.lines.waiting + (length p.lines.logged + (length p.lines.ran + length p.lines.out))) ≡ p.capacity
   pub placed : ArePlaced p.journal.geometry p.lines
-  -- whose turn it is
+  -- the run queue
   pub turned : p.queue.geometry ≡ p.journal.geometry
   pub seats : p.queue.slots ≡ p.capacity
   pub waits : p.queue.waiting ≡ map queued_of p.lines.waiting
   pub holds : (test : QueuedMessage → Bool) → list_any test p.queue.held ≡ held_any test p.lines
   pub flies : p.flight ≡ in_flight (core_state_in p)
   pub sound : IsSoundCoreState p.journal.geometry (core_state_in p)
-  -- the tree holds what was reached, but for the places of the messages that are out
+  -- the tree holds what was reached, but for the places of dispatched messages
   pub geometry : p.tree.geometry ≡ p.journal.geometry
   pub tree : TreeHolds p.journal.geometry (is_below p.journal.geometry (map entry_of p.lines.out)) (in_tree p.tree)
       (reached p.journal.geometry (core_state_in p))

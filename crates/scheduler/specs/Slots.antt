@@ -1,4 +1,4 @@
--- The messages of a core in its slots, by how far each has come. No clause of a public function cites this module.
+-- Inner: The messages of a core in its slots, by how far each has come.
 use Rattle.std.specs.Prelude.{◌≡◌, ℕ, List, map, get_or, unwrap_or}
 use Rattle.arena.specs.Row.{IsParted, Row, chain_at, value_at}
 use Rattle.messages.specs.declared.Msg.TheVariants.{Summary}
@@ -27,7 +27,7 @@ pub record Lines : Type 0 where
   pub ran : List SlotView
   pub logged : List SlotView
 
--- Chain 0 has those that wait, chain 1 those that are out, chain 2 those that ran, and chain 3 those that are logged.
+-- Chain 0 has those that wait, chain 1 those that are dispatched, chain 2 those that ran, and chain 3 those that are logged.
 abbrev pub stages_of : Row Slot → List Reply → Lines
 stages_of row replies =
     record { waiting = line row replies 0; out = line row replies 1; ran = line row replies 2; logged = line row replies 3 }

@@ -1,4 +1,4 @@
-//! Messages that arrive by the lines that spell them.
+//! Messages that arrive by the lines that encode them.
 
 ghost use Rattle.std.specs.Prelude.{◌≡◌, Some, false};
 ghost use Rattle.messages.specs.Grammar.{message_of};
@@ -36,7 +36,7 @@ fn asked(kind: Kind, numbers: [u16; 4]) -> Msg
 }
 
 impl<D: Disk> Core<D> {
-    /// Takes in a message that a line has spelled.
+    /// Takes in a message that a line encodes.
     fn arrive_spelled(&mut self, m: &Msg) -> Result<Option<u64>, ArriveRefusal>
         ensures arrives { ArrivesByLine self.old self.new (Some m.now) result }
         ensures geometry { self.new.geometry ≡ self.old.geometry }
@@ -48,7 +48,7 @@ impl<D: Disk> Core<D> {
         }
     }
 
-    /// Takes in the message that a line spells, the line given without its newline, and gives it the next ticket, as `arrive` does.
+    /// Takes in the message that a line encodes, the line given without its newline, and gives it the next ticket, as `arrive` does.
     /// `None` where the line is no message: then nothing has changed. The message is made where it lies, and a block is decoded there: no
     /// room for one is moved.
     pub fn arrive_line(&mut self, line: &[u8]) -> Result<Option<u64>, ArriveRefusal>

@@ -29,8 +29,8 @@ ghost use Rattle.scheduler.specs.Opening.{IsOfBytes};
 use crate::Granted;
 use crate::granted::choose;
 use crate::history::History;
-use crate::memory::{Memory, take_memory};
 use crate::log_batch::{collect_loggable, move_ran};
+use crate::memory::{Memory, take_memory};
 use crate::slot::{LOGGED, OUT, RAN, Slot, WAITING};
 use affinity::{changing, place_of};
 use arena::Arena;
@@ -41,14 +41,14 @@ use legal_runs::{ArriveRefusal, CoreFault, PointRefusal};
 use message::know_message;
 use messages::{Msg, Reply};
 use parcel::{Done, Job, Tree};
+use run_queue::{QueuedMessage, RunQueue};
 use std::alloc::Global;
 use std::marker::Model;
-use run_queue::{QueuedMessage, RunQueue};
 
 /// The messages that a server has taken in, the tree that they run on, and the journal of what was carried out.
 ///
-/// All memory is taken by `open`. After a fault of the device nothing more comes in, goes out or is logged, and no
-/// consistency point goes on; what is out is still taken back, and what was logged is still answered.
+/// All memory is taken by `open`. After a fault of the device nothing more arrives, is dispatched or is logged, and no
+/// consistency point goes on; jobs in flight are still given back, and what was logged is still answered.
 #[derive(Drop)]
 pub struct Core<D: Disk> {
     slots: Arena<Slot>,
@@ -59,13 +59,13 @@ pub struct Core<D: Disk> {
     tree: Tree,
     journal: Journal<D>,
 
-    /// What is handed to the journal. After a fault of the device it stays: it is in doubt.
+    /// What is handed to the journal. After a fault of the device it stays: it was in flight at the failure.
     batch: Vec<Msg>,
 
     /// The ticket of the next message.
     next: u64,
 
-    /// How many changing messages are out or ran.
+    /// How many changing messages are dispatched or ran.
     flight: usize,
 
     /// How many messages ran.
@@ -100,7 +100,7 @@ pub(crate) fn one_if(is_so: bool) -> usize
     if is_so { 1 } else { 0 }
 }
 
-// Whether a message is out, ran or is logged.
+// Whether a message is held: dispatched, ran or logged.
 fn holds_any(slots: &Arena<Slot>) -> bool
     requires { HasChains slots.now }
     ensures { result ≡ nat_lt 0 (length (chain_at slots.now 3) + (length (chain_at slots.now 2) + length (chain_at slots.now 1))) }
@@ -111,7 +111,7 @@ fn holds_any(slots: &Arena<Slot>) -> bool
 impl<D: Disk> Core<D> {
     /// Opens a device that a crash may have left, for as many messages at once as there are slots.
     ///
-    /// Takes its own memory first: where there is none, the device comes back as it was given. Then the device is opened
+    /// Takes its own memory first: where there is none, the device is handed back as it was given. Then the device is opened
     /// as `journal::open` does it, which reads it, finishes a cut that was in progress and makes a point, and with the same
     /// faults. No message waits or is held then, the next ticket is 0, and the log has all its room, with no record in force.
     pub fn open(alloc: Global, d: D, slots: usize) -> Result<Core<D>, OpenError<D>>
@@ -138,7 +138,7 @@ impl<D: Disk> Core<D> {
         ensures unwritten { IfErr result (λ e. D.keeps → IsRefusedUnwritten (D.medium d) e.fault (D.medium e.disk)) }
 
         // What recovers to a state is opened, and what is to be refused is refused for its one fault, unless the device fails
-        // or want of memory is answered.
+        // or want of memory is reported.
         ensures opens { (g : Geometry) (x : State) → D.keeps → holds g (D.medium d).now ≡ Some x
             → IfErr result (λ e. IsOfBytes e.fault → ⊥) }
         ensures exact { (fault : OpenFault) → D.keeps → IsRefused (D.medium d).now fault → IsOfBytes fault
@@ -215,7 +215,7 @@ impl<D: Disk> Core<D> {
         Ok(ticket)
     }
 
-    /// Lets the eligible message with the least ticket go out, with what it needs of the tree.
+    /// Dispatches the eligible message with the least ticket, with what it needs of the tree.
     pub fn grant(&mut self) -> Granted
         ensures state_after { IsGranted self.old.geometry (core_state_of self.old) (core_state_of self.new) result }
         ensures geometry { self.new.geometry ≡ self.old.geometry }
@@ -246,7 +246,7 @@ impl<D: Disk> Core<D> {
         Granted::Job(Job::new(g, ticket, message, standing, parcels))
     }
 
-    /// Takes back what came of a job that is out.
+    /// Takes back what came of a job in flight.
     pub fn give_back(&mut self, d: Done)
         requires { IsResultOf self.old.geometry (core_state_of self.old) d }
         ensures state_after { (found : Entry × List Entry) × (out_with (core_state_of self.old) d.ticket ≡ Some found)
@@ -271,7 +271,7 @@ impl<D: Disk> Core<D> {
     }
 
     /// Logs the first `n` messages that ran, in the order in which they were given back, or all where fewer ran, and
-    /// tells how many these were. The changes among them that were carried out are appended to the log in one go. With
+    /// returns how many these were. The changes among them that were carried out are appended to the log in one go. With
     /// none of these the device isn't touched.
     pub fn log(&mut self, n: usize) -> Result<usize, CoreFault>
         ensures state_after { IsLogStep self.old.geometry (core_state_of self.old) (core_state_of self.new) n result }
@@ -302,8 +302,8 @@ impl<D: Disk> Core<D> {
         Ok(count)
     }
 
-    /// The ticket and the reply of the message that was logged first. It is gone then: others may take its place, and
-    /// its slot is free. None where no message is logged.
+    /// The ticket and the reply of the message that was logged first. It leaves the core: its affinity and its slot
+    /// are free then. None where no message is logged.
     pub fn answer(&mut self) -> Option<(u64, Reply)>
         ensures state_after { (answer_outcome result, core_state_of self.new) ≡ answer (core_state_of self.old) self.old.logged }
         ensures geometry { self.new.geometry ≡ self.old.geometry }
@@ -379,7 +379,7 @@ impl<D: Disk> Core<D> {
         Ok(())
     }
 
-    /// Writes the next piece of the consistency point in progress, and tells how many are left. With none left it
+    /// Writes the next piece of the consistency point in progress, and returns how many are left. With none left it
     /// touches nothing.
     pub fn piece(&mut self) -> Result<usize, PointRefusal>
         ensures state_after { IsPieceStep (core_state_of self.old) (core_state_of self.new) result }
@@ -443,7 +443,7 @@ impl<D: Disk> Core<D> {
         self.journal.left()
     }
 
-    /// Does nothing: its contract tells what a crash leaves now.
+    /// Does nothing: its contract states what a crash leaves now.
     pub fn know_recovery(&self)
         ensures no_doubt { self.now.failed ≡ false → self.now.doubt ≡ [] }
         ensures now { D.keeps → RecoversNow self.now }

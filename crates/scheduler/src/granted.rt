@@ -1,4 +1,4 @@
-//! What comes of it where a message is to go out.
+//! What a grant gives, and which message it chooses.
 ghost use Rattle.std.specs.Prelude.{◌≡◌, IfErr, MatchResult, None, Some, cond, is_some, true};
 ghost use Rattle.scheduler.specs.declared.granted.Granted.TheVariants as granted;
 ghost use Rattle.run_queue.specs.RunQueue.{next_queued};
@@ -6,20 +6,20 @@ ghost use Rattle.run_queue.specs.RunQueue.{next_queued};
 use parcel::Job;
 use run_queue::{QueuedMessage, RunQueue};
 
-/// What comes of it where a message is to go out.
+/// What a grant gives.
 #[derive(Drop)]
 pub enum Granted {
-    /// The message went out as this job.
+    /// The message was dispatched as this job.
     Job(Job),
     /// No message is eligible, and none lacks room alone.
     NoneEligible,
     /// No message is eligible, and some message lacks room in the log alone.
     NoRoom,
-    /// Nothing goes out, since the device has failed.
+    /// Nothing is dispatched, since the device has failed.
     Failed,
 }
 
-/// Whose turn it is, while the log has `room` or not; or why it is nobody's.
+/// The message that goes next, while the log has `room` or not; or why there is none.
 pub(crate) fn choose(queue: &RunQueue, room: bool) -> Result<QueuedMessage, Granted>
     ensures next { MatchResult result
         (λ queued. next_queued room queue.now.held queue.now.waiting ≡ Some queued)

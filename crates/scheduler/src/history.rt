@@ -14,7 +14,7 @@ pub(crate) enum Appended {
     After(Snapshot<Vec<Msg>>, Snapshot<Appended>),
 }
 
-/// It has no bytes. Once the device has failed neither its bytes nor the tree tell what was committed, so this does.
+/// It has no bytes. Once the device has failed neither its bytes nor the tree show what was committed, so this does.
 #[derive(Drop)]
 pub(crate) struct History {
     opened: Snapshot<Tree>,

@@ -1,5 +1,5 @@
-//! What holds of the jobs that a core has let out: a law of the definitions alone. No function here does anything; its
-//! contract is the law.
+//! What holds of the jobs that a core has dispatched: a law of the definitions alone. No function here does anything;
+//! its contract is the law.
 
 ghost use Rattle.std.specs.List.{Contains};
 ghost use Rattle.affinity.specs.declared.geometry.Geometry.{Geometry};
@@ -10,7 +10,7 @@ ghost use Rattle.parcel.specs.Run.{JobView, IsJobRun};
 ghost use Rattle.parcel.specs.declared.job.Done.{Done};
 ghost use Rattle.scheduler.specs.Jobs.{IsJobOf, IsResultOf};
 
-/// What a job is, and what comes of it, stays so while other events come, as long as its message is out.
+/// What a job is, and what comes of it, stays so while other events come, as long as it is in flight.
 pub fn jobs_stay()
     ensures ran { (g : Geometry) (w : CoreState) (job : JobView) (done : Done) → IsJobOf g w job → IsJobRun job done → IsResultOf g w done }
     ensures job { (g : Geometry) (old : Hands) (event : Event) (job : JobView) → IsAllowed g old event → IsSoundCoreState g old.core

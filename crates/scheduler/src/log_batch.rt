@@ -19,7 +19,7 @@ fn is_loggable(message: &Msg, reply: &Reply) -> bool
     changing(message.kind()) && matches!(reply, Reply::Done)
 }
 
-// Puts a message that ran into a row if the log keeps it.
+// Appends a message that ran to the batch if the log keeps it.
 fn keep(message: &Msg, reply: &Reply, batch: &mut Vec<Msg>)
     requires room { length batch.old.items < vec_capacity batch.old }
     ensures batch { batch.new.items ≡ batch.old.items ++ loggable ((0, message.now, reply.now) ∷ []) }
@@ -31,8 +31,8 @@ fn keep(message: &Msg, reply: &Reply, batch: &mut Vec<Msg>)
     }
 }
 
-/// Puts those of the first `count` messages that ran into a row that the log keeps, and tells how many of them are of a
-/// changing kind.
+/// Of the first `count` messages that ran, appends those that the log keeps to the batch. Returns how many of the
+/// `count` are of a changing kind.
 pub(crate) fn collect_loggable(
     slots: &Arena<Slot>,
     replies: &[Reply],

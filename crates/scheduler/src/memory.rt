@@ -8,10 +8,10 @@ use crate::slot::{CHAINS, Slot};
 use affinity::Geometry;
 use arena::Arena;
 use messages::{Msg, Reply};
-use std::alloc::{AllocError, Global};
 use run_queue::RunQueue;
+use std::alloc::{AllocError, Global};
 
-/// Where the messages of a core lie, and what tells whose turn it is.
+/// Where the messages of a core lie, and their run queue.
 #[derive(Drop)]
 pub(crate) struct Memory {
     pub(crate) slots: Arena<Slot>,

@@ -1,4 +1,4 @@
--- A whole tree of the small geometry.
+-- Inner: A whole tree of the small geometry.
 use Rattle.std.specs.Prelude.{◌≡◌, [], ◌∷◌}
 use Rattle.affinity.specs.Geometry.{numbers_of}
 use Rattle.meaning.specs.State.{empty}

@@ -7,7 +7,7 @@ use std::process::Abort;
 /// different stripes.
 pub(crate) const SMALL: [u16; 8] = [1, 1, 2, 1, 2, 4, 2, 4];
 
-/// What the program takes where nothing is said.
+/// What the program takes by default.
 pub(crate) const DEFAULTS: [u16; 8] = [1, 4, 4, 4, 16, 64, 64, 256];
 
 // Bytes that begin with these, with zeros after them.

@@ -10,7 +10,7 @@ use std::io::{ErrorKind, Read};
 use std::process::Abort;
 use std::test::Fail;
 
-// Gives at most `most` bytes a read. At `stop` it gives what `pause` says, once, and then the rest.
+// Gives at most `most` bytes a read. At `stop` it gives nothing once, or the error in `pause`, and then the rest.
 #[derive(Drop)]
 struct Piecewise<'a> {
     bytes: &'a [u8],

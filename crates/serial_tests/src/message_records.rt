@@ -9,7 +9,7 @@ fn decodes(rt: &impl Abort, front: &[u8], g: &Geometry, message: Option<Msg>) {
     assert_eq!(rt; decode(&padded(front), g), message, "at {front:?}");
 }
 
-/// What records begin with, with zeros after it, and what they say at the default geometry.
+/// What records begin with, with zeros after it, and what they encode at the default geometry.
 const RECORDS: [(&[u8], Option<Msg>); 9] = [
     (&[1], Some(Msg::MakeVol(0, 0))),
     (&[1, 0, 3], Some(Msg::MakeVol(0, 3))),

@@ -24,7 +24,7 @@ fn serve(tree: &mut Tree, message: &Msg) -> Option<Reply> {
     }
 }
 
-// Adds what a tree answers to a line.
+// Adds the reply of a tree to a line.
 fn tell(
     rt: &impl Abort,
     tree: &mut Tree,

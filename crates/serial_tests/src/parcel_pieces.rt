@@ -1,4 +1,4 @@
-//! Pieces of an image are taken into a new tree, asked by messages and written again.
+//! Pieces of an image are taken into a new tree, which is asked by messages and written again.
 ghost use Rattle.std.specs.Prelude.{◌≡◌, length, IfOk, OnOk};
 ghost use Rattle.serial_tests.specs.Pieces.{IsNewTree, IsSmallTree};
 
@@ -152,7 +152,7 @@ const TOLD_OF_SEALED: [(&str, &str); 4] = [
     ("read 0 0 1 1", "block 61"),
 ];
 
-/// What the volume is, its pieces, and what is told of it.
+/// What the volume is, its pieces, and what is answered of it.
 const TOLD_OF: [(&str, Row<'static>, &[(&str, &str)]); 3] = [
     ("a volume with two files", (&VOLUME, &STRIPE), &TOLD),
     ("a labeled volume", (&LABELED, &[]), &TOLD_OF_LABELED),

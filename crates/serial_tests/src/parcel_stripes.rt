@@ -54,7 +54,7 @@ enum Step {
     Len(usize),
 }
 
-// What is said of the stripe holds, or what is done to it goes well.
+// What the step claims of the stripe holds, or what it does to it goes well.
 fn goes(stripe: &mut StripeParcel, quota: usize, step: &Step) -> bool
     requires { stripe.old.quota ≡ quota }
     ensures { stripe.new.quota ≡ quota }

@@ -8,8 +8,8 @@ use std::io;
 use std::io::{ErrorKind, Read, Write};
 use std::test::Fail;
 
-/// Gives a piece of the input at each read, and nothing after the last. Beside each piece stands
-/// how many bytes the client should have got by then.
+/// Gives a piece of the input at each read, and nothing after the last. With each piece comes how
+/// many bytes the client should have got by then.
 #[derive(Drop)]
 struct Client<'a> {
     reads: &'a [(usize, &'a [u8])],

@@ -1,4 +1,4 @@
--- What a client has seen, and sees when it is told lines.
+-- What a client has seen, and sees when lines are sent to it.
 use Rattle.std.proofs.Common.{ℕ, List, [], ◌∷◌, ◌++◌, Option, None, Some, refl}
 use Rattle.std.proofs.lemmas.List.Elements.{All-push}
 use Rattle.disk.specs.Device.{IsCrashImage}

@@ -1,2 +1,2 @@
--- The words of a client that crashes the device each time it is sent lines.
+-- The words of a client that crashes the device each time lines are sent to it.
 pub mod Sights

@@ -1,4 +1,4 @@
--- What a client saw that crashed the device each time it was told lines.
+-- Inner: What a client saw that crashed the device each time lines were sent to it.
 use Rattle.std.specs.Prelude.{ℕ, All, List, Option, None, Some}
 use Rattle.disk.specs.Memory.{medium_of}
 use Rattle.serving.specs.Output.{HoldsSent, Start}

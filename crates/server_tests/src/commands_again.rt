@@ -1,4 +1,4 @@
-//! Two lives of one device: the first stops at each of its calls and is crashed, and the second one tells what is there.
+//! Two incarnations of one device: the first stops at each of its calls and is crashed, and the second one reports what is there.
 ghost use Rattle.std.specs.Prelude.{◌<◌};
 
 use crate::commands_calls::System;
@@ -9,11 +9,11 @@ use harness::{KINDS, torn};
 use std::alloc::{AllocError, Global};
 use std::test::Fail;
 
-/// More calls than the first life makes of its device.
+/// More calls than the first incarnation makes of its device.
 const CALLS: u64 = 120;
 
-/// What the first life is asked with the answers, what the second one is asked, and what it may answer: each with the number of lines that
-/// were acknowledged at most where it does.
+/// What the first incarnation is asked with the answers, what the second one is asked, and what it may answer: each with the number of
+/// lines that were acknowledged at most where it does.
 type Row<'a> = (&'a [(&'a str, &'a str)], &'a str, &'a [(&'a str, usize)]);
 
 /// Each line is related to those before it: it is there only with them.
@@ -75,8 +75,8 @@ const UNCHANGED: Row<'static> = (
     ],
 );
 
-/// What came of two lives: how many lines of the first one were acknowledged, whether it ended without fault, and which of the states
-/// of its row the second one found.
+/// What came of two incarnations: how many lines of the first one were acknowledged, whether it ended without fault, and which of the
+/// states of its `Row` the second one found.
 #[derive(Clone, Copy, PartialEq, Eq)]
 struct Found {
     acknowledged: usize,
@@ -107,7 +107,7 @@ fn asked(alloc: Global, lines: &[(&str, &str)]) -> Result<String, AllocError> {
     Ok(input)
 }
 
-/// That the second life answers as the serial server does from a state with each acknowledged line, and without a gap.
+/// That the second incarnation answers as the serial server does from a state with each acknowledged line, and without a gap.
 fn expect_incarnations<T: System>(rt: &T, row: &Row<'_>, n: u64, at: usize) -> Result<Found, Fail>
     requires { 0 < n }
 {
@@ -148,8 +148,8 @@ fn expect_incarnations<T: System>(rt: &T, row: &Row<'_>, n: u64, at: usize) -> R
     )))
 }
 
-/// What is seen of the lives of a row: whether one stopped, whether one did so with some lines acknowledged, and whether two tearings at
-/// one call left two states.
+/// What is seen of the incarnations of a `Row`: whether one stopped, whether one did so with some lines acknowledged, and whether two
+/// tearings at one call left two states.
 #[derive(Clone, Copy, Default, PartialEq, Eq)]
 struct Seen {
     stopped: bool,
@@ -167,7 +167,7 @@ impl Seen {
     }
 }
 
-/// What is seen of the lives that stop at this call, one for each tearing.
+/// What is seen of the incarnations that stop at this call, one for each tearing.
 fn look<T: System>(rt: &T, row: &Row<'_>, n: u64) -> Result<Seen, Fail>
     requires { 0 < n }
 {
@@ -184,7 +184,8 @@ fn look<T: System>(rt: &T, row: &Row<'_>, n: u64) -> Result<Seen, Fail>
     Ok(seen)
 }
 
-/// That it is so at each call, up to one that no first life comes to; and that lives were looked at which show something.
+/// That it is so at each call, up to one that no first incarnation comes to; and that some stopped with lines acknowledged, and some
+/// tearings left two states.
 fn expect_row<T: System>(rt: &T, row: &Row<'_>) -> Result<(), Fail> {
     let mut seen = Seen::default();
     for n in 1..CALLS {

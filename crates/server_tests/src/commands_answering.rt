@@ -134,7 +134,7 @@ fn long_lines_are_one_line(rt: HostRuntime) -> Result<(), Fail> {
     Ok(())
 }
 
-/// How lines are given, the lines, the status, the answers, and what is told of a fault: reads of one byte change nothing, each reply is
+/// How lines are given, the lines, the status, the answers, and how a fault is reported: reads of one byte change nothing, each reply is
 /// written before the next read, and a read that fails leaves the answers to whole lines.
 const GIVEN: [(Streams, &str, u8, &str, &str); 3] = [
     (Streams::ByteByByte, MADE, 0, MADE_REPLY, ""),

@@ -150,7 +150,7 @@ struct Ended {
     faults: Vec<u8>,
 }
 
-/// The words of a call, which stand between spaces.
+/// The words of a call, which lie between spaces.
 fn split(alloc: Global, call: &Call<'_>) -> Result<Vec<String>, AllocError> {
     let mut words = Vec::new(alloc);
     for word in call.words.split_ascii_whitespace() {
@@ -297,7 +297,7 @@ const UNMET: Said<'static> = Said::Has("error: the following required arguments 
 
 const OUT_OF_RANGE: Said<'static> = Said::Is("waffd: geometry out of range\n");
 
-/// Wrong words, and what is said of them. Of each number of a geometry these are below its range, above it, and the greatest.
+/// Wrong words, and what is printed of them. Of each number of a geometry these are below its range, above it, and the greatest.
 const WRONG: [(&str, Said<'static>); 48] = [
     (
         "waffd plain --version",
@@ -412,7 +412,7 @@ fn wrong_words_are_told_on_the_standard_error(rt: HostRuntime) -> Result<(), Fai
     Ok(())
 }
 
-/// Calls whose output isn't taken, their status, and what is told of it where that is taken.
+/// Calls whose output isn't taken, their status, and what is printed of it where that is taken.
 const UNWRITTEN: [(&str, Streams, u8, &str); 6] = [
     (
         "waffd --help",
@@ -484,7 +484,7 @@ fn words_that_are_no_text_are_wrong_words(rt: HostRuntime) -> Result<(), Fail> {
     Ok(())
 }
 
-/// That no ticket was left to a message, which takes 2^64 of them to meet, is told so.
+/// How it is reported that no ticket was left to a message, which takes 2^64 of them to meet.
 #[test]
 fn that_no_ticket_is_left_has_its_text(rt: HostRuntime) -> Result<(), Fail> {
     let mut faults = Vec::new(rt.alloc());

@@ -156,7 +156,7 @@ fn a_device_may_be_longer_and_not_shorter(rt: HostRuntime) -> Result<(), Fail> {
     Ok(())
 }
 
-/// Damage to a device that was just made, and what is told of it.
+/// Damage to a device that was just made, and how it is reported.
 pub(crate) type Damage<'a> = (Changes<'a>, &'a str);
 
 /// What `show` and `serve` refuse alike.
@@ -205,7 +205,7 @@ fn expect_refusal<T: System>(
     Ok(())
 }
 
-/// Behind a point that was cut short a record that is none: `serve` finishes the point before it tells so.
+/// Behind a point that was cut short a record that is none: `serve` finishes the point before it reports that.
 const BAD_BEHIND: Changes<'static> = &[(128, 1), (2340, 1)];
 
 const BAD_RECORD: &str = "waffd: bad record 1 0\n";

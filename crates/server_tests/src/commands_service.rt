@@ -18,8 +18,8 @@ fn shown(alloc: Global, area: u8, records: u8, summary: &str) -> Result<String, 
     )
 }
 
-/// What is set in a device that was made, the call that serves it, the input and the output, and the area and the summary that `show` tells
-/// of it afterwards.
+/// What is set in a device that was made, the call that serves it, the input and the output, and the area and the summary that `show`
+/// prints of it afterwards.
 type Incarnation<'a> = (Changes<'a>, &'a str, &'a str, &'a str, u8, &'a str);
 
 const THREE_CHANGES: &str = "makevol 0 0\ncreate 0 0 0\nwrite 0 0 0 0 61\n";
@@ -123,7 +123,7 @@ const INCARNATIONS: [Incarnation<'static>; 11] = [
     ),
 ];
 
-/// That `show` prints this of the device in a file, and that the next life goes on from there, also behind one whose output is closed.
+/// That `show` prints this of the device in a file, and that the next run goes on from there, also behind one whose output is closed.
 fn expect_next<T: System>(
     rt: &T,
     path: &str,

@@ -11,7 +11,7 @@ use std::test::Fail;
 
 const CHANGES: &str = "makevol 0 0\ncreate 0 0 0\nwrite 0 0 0 0 61\n";
 
-/// What is answered to none of them, of the first, of two and of all, and what a summary says then.
+/// What is answered to none of them, to the first, to two and to all, and what a summary answers then.
 const STAGES: [(&str, &str); 4] = [
     ("", "summary 0 0 0\n"),
     ("done\n", "summary 1 0 0\n"),

@@ -135,7 +135,7 @@ fn a_core_that_came_back_is_served_on(rt: HostRuntime) -> Result<(), Fail> {
     Ok(())
 }
 
-/// Serves the first input. Where memory is refused nothing was read or written, and the core that comes back is served on.
+/// Serves the first input. Where memory is refused nothing was read or written, and the core that is given back is served on.
 fn serve_at_next_try<T: Threads + Wait + Sync>(
     rt: &T,
     alloc: Global,

@@ -1,4 +1,4 @@
-//! What a client sees that crashes the device each time it is told lines.
+//! What a client sees that crashes the device each time lines are sent to it.
 ghost use Rattle.std.specs.Prelude.{◌≡◌, false, IfOk};
 ghost use Rattle.legal_runs.specs.Laws.{IsIdle};
 ghost use Rattle.scheduler.specs.CoreView.{core_state_of};
@@ -16,7 +16,7 @@ use std::test::Fail;
 use std::thread::Threads;
 use workers::OpenGate;
 
-/// These are read one by one, each after the one before was told its answer.
+/// These are read one by one, each after the answer to the one before was sent.
 const LINES: &[u8] =
     b"makevol 0 0\ncreate 0 0 0\nwrite 0 0 0 0 61\nread 0 0 0 0\nwrite 0 0 0 1 62\ncreate 0 0 0\n";
 
@@ -26,7 +26,7 @@ const ANSWERS: &[u8] = b"done\ndone\ndone\nblock 61\ndone\nerror exists\n";
 /// What is asked of what each crash left.
 const QUESTIONS: &[u8] = b"usage 0 0\nread 0 0 0 0\nread 0 0 0 1\n";
 
-/// What is found once one line was told, two, and so on.
+/// What is found once one line was sent, two, and so on.
 const FOUND: [&[u8]; 6] = [
     b"usage 0 0 open\nerror file\nerror file\n",
     b"usage 1 0 open\nhole\nhole\n",
@@ -48,7 +48,7 @@ fn opened(alloc: Global) -> Result<Core<MemDisk>, Wrong>
     }
 }
 
-/// What a crash left has just the changes that had been told.
+/// What a crash left has just the changes that had been acknowledged.
 fn finds<T: Threads + Wait + Sync + Abort>(
     rt: &T,
     alloc: Global,

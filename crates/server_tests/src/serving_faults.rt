@@ -34,7 +34,7 @@ const ORDERS: [[usize; 10]; 2] = [
     [0, 1, 3, 2, 4, 6, 5, 7, 8, 9],
 ];
 
-/// Some changes, and what a server tells after them.
+/// Some changes, and what a server answers to the questions after them.
 #[derive(Drop)]
 pub(crate) struct Known {
     /// The sum of 2 to the power of each one's place.
@@ -52,7 +52,7 @@ impl Known {
     }
 }
 
-/// A device that stands for the first so many changes and on which the others are served, and what may be found on it.
+/// A device that recovers to the first so many changes and on which the others are served, and what may be found on it.
 #[derive(Drop)]
 pub(crate) struct Play {
     there: usize,
@@ -93,7 +93,7 @@ fn first(count: usize) -> u32 {
 }
 
 impl Play {
-    /// One on a device that was formatted, with other bytes at some places, so that it stands for the first so many changes.
+    /// One on a device that was formatted, with other bytes at some places, so that it recovers to the first so many changes.
     pub(crate) fn new(alloc: Global, changes: &[(usize, u8)], there: usize) -> Result<Play, Wrong> {
         let Ok(g) = Geometry::new(SMALL) else {
             return Err(Wrong::Unfit);
@@ -138,20 +138,20 @@ impl Play {
         crash: Crash,
     ) -> Result<Met, Wrong> {
         let mut device = MemDisk::of_bytes(alloc, self.blank.to_vec(alloc)?)?;
-        let n = set_fuse(&mut device, crash);
+        let n = set_injected_fault(&mut device, crash);
         let notes = Notes::new();
         let lines = self.lines.as_slice();
         let left = session(rt, alloc, device, way, lines, PIPED, &OpenGate, &notes);
         let Left { device, end, .. } = left;
         let is_whole = device.calls() < n;
-        // No call follows the one that failed, also where the core that came back is asked for more.
+        // No call follows the one that failed, also where the core that was given back is asked for more.
         let is_last = is_whole || device.calls() == n;
         if !is_last || !is_told(end, is_whole) || !has_said(&notes, way) {
             return Err(Wrong::Untold(crash));
         }
         let answered = notes.taken.get() as usize;
         let is_chained = answered >= 2 && is_chained(device.bytes());
-        // The fuses of the device that is opened are off.
+        // No fault is injected into the device that is opened.
         let left = if crash.kind < KINDS {
             device.crash(torn(alloc, crash.kind)?)
         } else {
@@ -167,7 +167,7 @@ impl Play {
 }
 
 /// Lets the call of this crash fail, or stop the device for good: which call that is.
-pub(crate) fn set_fuse(device: &mut MemDisk, crash: Crash) -> u64 {
+pub(crate) fn set_injected_fault(device: &mut MemDisk, crash: Crash) -> u64 {
     let n = crash.call.max(1);
     if crash.kind < KINDS {
         device.stop_at(n);
@@ -226,14 +226,14 @@ struct Openings {
 }
 
 impl Openings {
-    /// Where a device of these bytes stands among the opened ones.
+    /// The place of a device of these bytes among the opened ones.
     fn place_of(&self, bytes: &[u8]) -> Option<usize> {
         self.seen
             .iter()
             .position(|seen| seen.bytes.as_slice() == bytes)
     }
 
-    /// Opens the device that a crash left, also stopped at each of its calls and torn again, and tells where it stands.
+    /// Opens the device that a crash left, also stopped at each of its calls and torn again, and gives its place.
     fn open(
         &mut self,
         alloc: Global,
@@ -340,7 +340,7 @@ fn stops_in_a_point<T: Threads + Wait + Sync>(
     n: u64,
 ) -> Result<(bool, bool), Wrong> {
     let mut device: MemDisk = device_with(alloc, SMALL, &[])?;
-    let n = set_fuse(&mut device, Crash { call: n, kind: 0 });
+    let n = set_injected_fault(&mut device, Crash { call: n, kind: 0 });
     let notes = Notes::new();
     let left = session(
         rt,
@@ -378,7 +378,7 @@ fn a_device_stops_with_records_in_both_halves(rt: HostRuntime) -> Result<(), Fai
     Err(Wrong::Endless.into())
 }
 
-/// Images of version 1 and how many changes the devices stand for: none; and three of them, where a cut was in progress: the image has
+/// Images of version 1 and to how many changes the devices recover: none; and three of them, where a cut was in progress: the image has
 /// the volume, half 0 the file, and half 1 behind it the block.
 const OLD_IMAGES: [(&[(usize, u8)], usize); 2] = [
     (&[(4424, 1)], 0),

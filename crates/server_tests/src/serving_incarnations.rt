@@ -1,5 +1,5 @@
 //! Servers on devices that an earlier one has left, which was stopped and torn; they are stopped and torn too.
-use crate::serving_faults::{CHANGES, MOST_CALLS, Play, is_told, set_fuse, way};
+use crate::serving_faults::{CHANGES, MOST_CALLS, Play, is_told, set_injected_fault, way};
 use crate::serving_noting::Notes;
 use crate::serving_running::{Left as Stopped, PIPED, SMALL, session};
 use affinity::Geometry;
@@ -11,12 +11,12 @@ use std::test::Fail;
 use std::thread::Threads;
 use workers::OpenGate;
 
-/// What comes of a life in which all changes are served behind some that are there: many of them are refused then.
+/// What comes of an incarnation in which all changes are served behind some that are there: many of them are refused then.
 #[derive(Drop)]
 struct Second {
     /// What they are answered.
     answers: Vec<u8>,
-    /// What is told once the first so many were served.
+    /// What is answered to the questions once the first so many were served.
     tellings: Vec<Vec<u8>>,
 }
 
@@ -72,7 +72,7 @@ impl Second {
     }
 }
 
-/// What comes of a second life behind each beginning of the changes.
+/// What comes of a second incarnation behind each beginning of the changes.
 fn seconds(alloc: Global, questions: &Questions) -> Result<Vec<Second>, Wrong> {
     let mut seconds = Vec::new(alloc);
     for there in 0..=CHANGES.len() {
@@ -81,14 +81,14 @@ fn seconds(alloc: Global, questions: &Questions) -> Result<Vec<Second>, Wrong> {
     Ok(seconds)
 }
 
-/// A device that the first life left, and which beginning of the changes it stands for.
+/// A device that the first incarnation left, and to which beginning of the changes it recovers.
 #[derive(Drop)]
 struct Left {
     bytes: Vec<u8>,
     there: usize,
 }
 
-/// Serves all changes on a device that the first life left, which stops at this call and is torn: whether it ended before that.
+/// Serves all changes on a device that the first incarnation left, which stops at this call and is torn: whether it ended before that.
 fn live_again<T: Threads + Wait + Sync>(
     rt: &T,
     alloc: Global,
@@ -98,7 +98,7 @@ fn live_again<T: Threads + Wait + Sync>(
     crash: Crash,
 ) -> Result<bool, Wrong> {
     let mut device = MemDisk::of_bytes(alloc, left.bytes.to_vec(alloc)?)?;
-    let n = set_fuse(&mut device, crash);
+    let n = set_injected_fault(&mut device, crash);
     let mut lines = Vec::new(alloc);
     for line in CHANGES {
         lines.extend_from_slice(line.as_bytes())?;
@@ -136,10 +136,10 @@ fn live_again<T: Threads + Wait + Sync>(
     }
 }
 
-/// Of how many calls of a second life it is stopped at one, with each device at another.
+/// Of how many calls of a second incarnation it is stopped at one, with each device at another.
 const SPREAD: usize = 7;
 
-/// Lets a second life be stopped at every seventh call.
+/// Lets a second incarnation be stopped at every seventh call.
 fn live_on<T: Threads + Wait + Sync>(
     rt: &T,
     alloc: Global,
@@ -157,7 +157,7 @@ fn live_on<T: Threads + Wait + Sync>(
     Err(Wrong::Endless)
 }
 
-/// Lets the first life be stopped at this call and be torn in this way: whether it ended before that, and the device that it left.
+/// Lets the first incarnation be stopped at this call and be torn in this way: whether it ended before that, and the device that it left.
 fn leave<T: Threads + Wait + Sync>(
     rt: &T,
     alloc: Global,
@@ -178,7 +178,7 @@ fn leave<T: Threads + Wait + Sync>(
     }
 }
 
-/// Lets the first life be stopped at each call and be torn in each way, and a second one go on with each device that it leaves.
+/// Lets the first incarnation be stopped at each call and be torn in each way, and a second one go on with each device that it leaves.
 fn live_twice<T: Threads + Wait + Sync>(
     rt: &T,
     alloc: Global,

@@ -52,7 +52,7 @@ impl Gate for Counting<'_> {
     fn answered(&self, _ticket: u64) {}
 }
 
-/// Serves these lines, of which so many bytes are read at a time. No job begins while more lines are open than slots.
+/// Serves these lines, of which so many bytes are read at a time. No job begins while more lines are outstanding than slots.
 fn keeps_to_slots<T: Threads + Wait + Sync + Abort>(
     rt: &T,
     alloc: Global,

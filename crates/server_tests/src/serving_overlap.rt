@@ -87,7 +87,7 @@ const AT_ONCE: [AtOnce; 6] = [
         tries: 1_000_000,
         want: b"done\ndone\ndone\ndone\n",
     },
-    // The answer to message 0 waits with two lines behind it. It is told, since message 3 could not be read else.
+    // The answer to message 0 waits with two lines behind it. It is sent, since message 3 could not be read else.
     AtOnce {
         numbers: FOUR,
         lines: b"punch 0 0 0 0\npunch 0 0 0 1\npunch 0 0 0 2\npunch 0 0 0 3\n",

@@ -1,4 +1,4 @@
-//! How far the consistency point in progress goes on behind an answer, while a job is out, and before a reply is told.
+//! How far the consistency point in progress goes on behind an answer, while a job is in flight, and before a reply is sent.
 use crate::serving_noting::{Count, Flag, Notes, Noting, Pieces};
 use crate::serving_running::{
     End, PIPED, Way, ends, holds, serve_lines, serve_on, session, writes,
@@ -142,7 +142,7 @@ impl Gate for Watching<'_> {
 
 const TWICE: &[u8] = b"punch 0 0 0 0\npunch 0 0 0 0\n";
 
-/// The point that message 0 makes due is in progress while job 1 is out: nothing is answered meanwhile, so no piece is written.
+/// The point that message 0 makes due is in progress while job 1 is in flight: nothing is answered meanwhile, so no piece is written.
 #[test]
 fn no_piece_is_written_while_a_job_is_out_and_none_is_answered(
     rt: HostRuntime,
@@ -183,7 +183,7 @@ impl Gate for AtAnswer<'_> {
     }
 }
 
-/// Looks, when it is told lines, how many pieces were written since the last of them was answered: one at most.
+/// Looks, when lines are sent to it, how many pieces were written since the last of them was answered: one at most.
 #[derive(Drop)]
 struct Prompt<'a> {
     output: Vec<u8>,
@@ -208,7 +208,7 @@ impl Write for Prompt<'_> {
 /// Changes of 14 bytes, of which a client sends two at a time.
 const PAIRS: &[u8] = b"punch 0 0 0 0\npunch 0 0 0 0\npunch 0 0 0 1\npunch 0 0 0 1\n";
 
-/// A client sends two changes and waits for both replies. The second is told before the rest of the point that the first made due.
+/// A client sends two changes and waits for both replies. The second is sent before the rest of the point that the first made due.
 #[test]
 fn no_reply_waits_for_a_whole_point(rt: HostRuntime) -> Result<(), Fail> {
     let notes = Notes::new();

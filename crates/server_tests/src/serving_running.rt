@@ -40,7 +40,7 @@ pub(crate) enum End {
     /// Its device was refused.
     Unopened(OpenFault),
     Fault(ServeFault),
-    /// Its device failed, and the core that came back goes on as if it had not.
+    /// Its device failed, and the core that was given back goes on as if it had not.
     Deaf,
 }
 
@@ -75,7 +75,7 @@ pub(crate) fn serial(alloc: Global, numbers: [u16; 8], lines: &[u8]) -> Result<V
     }
 }
 
-/// Whether a core says that its device has failed, whatever it is asked.
+/// Whether a core reports that its device has failed, whatever it is asked.
 fn says_failed<D: Disk>(core: &mut Core<D>) -> bool {
     core.arrive(&Msg::Summary) == Err(ArriveRefusal::Failed)
         && matches!(core.grant(), Granted::Failed)

@@ -234,7 +234,7 @@ fn no_workers_are_refused(rt: HostRuntime) -> Result<(), Fail> {
     let left = serve_new(&rt, rt.alloc(), NO_WORKERS, LINES, streams, &notes)?;
     ends(&rt, left.end, End::Fault(ServeFault::NoWorkers));
     holds(&rt, notes.reads.get() == 0 && notes.writes.get() == 0);
-    // The core came back, and its device is served on as if nothing had been.
+    // The core was given back, and its device is served on as if nothing had been.
     let (_, output) = serve_lines(&rt, rt.alloc(), left.device, WAYS[0], LINES)?;
     let want = serial(rt.alloc(), SMALL, LINES)?;
     writes(&rt, output.as_slice(), want.as_slice());

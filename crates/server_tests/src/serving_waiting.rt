@@ -18,7 +18,7 @@ use workers::Gate;
 /// How often a worker looks whether it may go on, before it gives up.
 const MOST_TRIES: u32 = 1_000_000;
 
-/// Holds job 1 until the output is written to: by then the dispatcher has let go out what may go out after message 0.
+/// Holds job 1 until the output is written to: by then the dispatcher has granted what may be granted after message 0.
 #[derive(Drop)]
 struct Held<'a> {
     notes: &'a Notes,
@@ -106,7 +106,7 @@ fn meet<T: Threads + Wait + Sync + Abort>(
 #[test]
 fn nothing_goes_out_while_a_point_is_due(rt: HostRuntime) -> Result<(), Fail> {
     let lines = b"write 0 0 0 0 61\nwrite 0 0 0 1 62\nwrite 0 0 0 0 63\n";
-    // After message 0 message 2 may go, where no point is due.
+    // After message 0 message 2 may be granted, where no point is due.
     for (every, is_early) in [(0, true), (1, false)] {
         let met = meet(&rt, rt.alloc(), every, lines, 0)?;
         ends(&rt, met.end, End::Whole);
@@ -123,7 +123,7 @@ fn jobs_that_are_out_are_logged_behind_a_failed_write(rt: HostRuntime) -> Result
     let Ok((shown, _)) = inspect(rt.alloc(), met.device) else {
         return Err(Wrong::Unfit.into());
     };
-    // Nothing more goes out then.
+    // Nothing more is granted then.
     holds(&rt, met.answered && shown.records == 2);
     Ok(())
 }

@@ -1,4 +1,4 @@
-//! A client that doesn't trust: each time it is told lines it crashes a copy of the device, and keeps what had been sent with what the
+//! A client that doesn't trust: each time lines are sent to it it crashes a copy of the device, and keeps what had been sent with what the
 //! crash left. That this holds all that was sent is the contract of `serve_watched`.
 
 ghost use Rattle.std.specs.Prelude.{◌≡◌, ◌≤◌, ◌++◌, All, List, ℕ, [], false, IfOk, OnOk, Some};
@@ -13,7 +13,7 @@ ghost use Rattle.server_tests.specs.Sights.{AreHeld, IsHeld, IsSentAt};
 use disk::{MemDisk, Torn};
 use message::WriteFault;
 use scheduler::Core;
-use serving::{ServeError, ReplySink, serve_to};
+use serving::{ReplySink, ServeError, serve_to};
 use std::alloc::{AllocError, Global};
 use std::io::Read;
 use std::marker::{Brand, Model, PhantomData};
@@ -21,7 +21,7 @@ use std::sync::Wait;
 use std::thread::Threads;
 use workers::Gate;
 
-/// What had been told when a copy of the device was crashed, and what the crash left.
+/// What had been sent when a copy of the device was crashed, and what the crash left.
 #[derive(Drop)]
 pub struct Sight {
     pub sent: Vec<u8>,
@@ -43,7 +43,7 @@ impl Beginning for Brand {
     ghost start = { None };
 }
 
-/// Is told lines, and looks each time at what a crash would leave. A contract sees what it was told.
+/// Takes lines, and looks each time at what a crash would leave. A contract sees what was sent.
 #[derive(Drop)]
 struct Watch<B: Beginning> {
     alloc: Global,
@@ -74,7 +74,7 @@ fn joined(alloc: Global, front: &[u8], rest: &[u8]) -> Result<Vec<u8>, AllocErro
     Ok(both)
 }
 
-/// What is told once these lines are, and what a crash of the device leaves.
+/// What is sent once these lines are, and what a crash of the device leaves.
 fn see(
     alloc: Global,
     before: &[u8],
@@ -92,7 +92,7 @@ fn see(
 }
 
 impl<B: Beginning> Watch<B> {
-    /// Keeps what it sees of this device, where it is told these lines.
+    /// Keeps what it sees of this device, where these lines are sent.
     fn look(&mut self, lines: &[u8], disk: &MemDisk) -> Result<(), AllocError>
         requires held { (sight : List ℕ) → IsCrashImage (medium_of disk.now) sight → IsSentAt B.start (self.old ++ lines.now) sight }
         ensures sent { OnOk result (self.new ≡ self.old ++ lines.now) }
@@ -187,9 +187,9 @@ fn start_watching<T: Threads + Wait + Sync, R: Read, G: Gate + Sync, B: Beginnin
     serve_client(rt, plan, core, r, client, gate)
 }
 
-/// Serves the lines of a reader to a client that crashes a copy of the device each time it is told lines. Gives how the server ended,
-/// all that was sent, and what the client saw: whatever the server has told when, and however it ends, what each crash left holds all
-/// that had been told, and is opened again.
+/// Serves the lines of a reader to a client that crashes a copy of the device each time lines are sent to it. Gives how the server
+/// ended, all that was sent, and what the client saw: whatever the server has sent when, and however it ends, what each crash left
+/// holds all that had been sent, and is opened again.
 pub fn serve_watched<T: Threads + Wait + Sync, R: Read, G: Gate + Sync>(
     rt: &T,
     alloc: Global,

@@ -1,4 +1,4 @@
--- What lines say in the output, and that a session goes on with fewer lines in its row.
+-- The answers to lines in the output, and that a session goes on with fewer lines in its reorder buffer.
 use Rattle.std.proofs.Common.{◌≡◌, ℕ, Bool, true, false, List, [], ◌∷◌, ◌++◌, Option, None, refl, ap, sym, ◌∙◌, subst, map, append_assoc}
 use Rattle.std.specs.Prelude.{Result, Ok, Err, OnErr, OnOk}
 use Rattle.std.proofs.lemmas.Bool.{true≢false}
@@ -11,7 +11,7 @@ use Rattle.serving.specs.Lines.{AreKnown, Line, is_completed, text}
 use Rattle.meaning.specs.Output.{joined}
 use Rattle.legal_runs.proofs.Lists.{all_join}
 
--- ---- what lines say
+-- ---- the answers to lines
 
 pub texts_both : (retired more : List Line) → joined (map text (retired ++ more)) ≡ joined (map text retired) ++ joined (map text more)
 texts_both [] more = refl
@@ -19,7 +19,7 @@ texts_both (x ∷ retired) more = ap (λ z. text x ++ z) (texts_both retired mor
 
 -- ---- fewer lines in the reorder buffer
 
--- The first lines of the old row, each of which is answered, were written behind what was written before, and the new row is left.
+-- The first lines of the old reorder buffer, each completed, were written behind what was written before, and the new one is left.
 pub record Retires (old new : List Line) (before written : Option (List ℕ)) : Type 0 where
   pub retired : List Line
   pub were : old ≡ retired ++ new

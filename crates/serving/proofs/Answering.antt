@@ -49,7 +49,7 @@ module _ (g : Geometry) (reply_pairs : List (ℕ × Reply)) (ticket : ℕ) (repl
       let same : t ≡ ticket = ap (λ (q : ℕ × Reply). q.0) e in true≢false (sym (eq-eqb t ticket same) ∙ other))
       (in_more reply_pairs (t, r) (in_contained more (t, r) there))
 
-  -- What was known of a line that is answered is known of it still.
+  -- What was known of a line that is completed is known of it still.
   known_still : (n : ℕ) (o : Option Msg) (known : Line) → is_completed known ≡ true → IsKnown g reply_pairs n o known → IsKnown g more n o known
   known_still n None NoMessage done k = tt
   known_still n None OutOfRange done k = absurd k
@@ -88,7 +88,7 @@ module _ (g : Geometry) (reply_pairs : List (ℕ × Reply)) (ticket : ℕ) (repl
     lines_answered (next_ticket n (admitted_in g (message_of l))) ls retired row done.1 k.1,
   )
 
--- A message was answered, and so is its line in the reorder buffer.
+-- A message was answered, and its line in the reorder buffer is completed.
 pub answered_goes_on : (keeps : Type 0) (old new : MachineView) (ticket : ℕ) (reply : Reply) → RunsBetween keeps old new [] ((ticket, reply) ∷ [])
     → (row : List Line) (start : MachineView) (input left : Option (List ℕ)) (ended : Bool) (before written : Option (List ℕ))
     → ServingProgress keeps start old row input left ended before written

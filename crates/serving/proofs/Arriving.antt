@@ -91,7 +91,7 @@ known_anyway g reply_pairs n (Some m) OutOfRange fresh k = k
 known_anyway g reply_pairs n (Some m) (Pending t) fresh k = (k.0, k.1, subst (NoneIsTo reply_pairs) (sym k.1) fresh)
 known_anyway g reply_pairs n (Some m) (Completed t r) fresh k = let none = k.2.1 in absurd (omega (arith, none))
 
--- A line is taken.
+-- A line is consumed.
 pub serves_taken : (keeps : Type 0) (start old new : MachineView) (taken : List (List ℕ)) (retired row : List Line) (line : List ℕ) (known : Line)
     → IsIdle (core_state_of start.core) → IsTaken keeps old new (message_of line) known → IsServing keeps start old taken retired row
     → IsServing keeps start new (taken ++ line ∷ []) retired (row ++ known ∷ [])
@@ -106,7 +106,7 @@ serves_taken keeps start old new taken retired row line known idle t s =
     (known_anyway start.core.geometry s.reply_pairs old.core.next o known fresh
     (subst (λ (y : Geometry). IsKnown y [] old.core.next o known) s.passes.geometry t.is_known))
 
--- ---- what a ticket and a refusal tell
+-- ---- what follows from a ticket and from a refusal
 
 module _ (k : ℕ) (w x : CoreState) where
   abbrev result : Bool → Bool → Bool → Bool → Outcome × CoreState
@@ -177,7 +177,7 @@ module _ (keeps : Type 0) (old new : CoreView) (m : Msg) (hands : List Holding) 
     not_range = not_range;
   }
 
-  -- Its line is taken, or it is refused.
+  -- Its line is consumed, or it is refused.
   abbrev pub ArrivesSo : Result ℕ ArriveRefusal → Type 0
   ArrivesSo (Ok t) = IsTaken keeps was now (Some m) (Pending t)
   ArrivesSo (Err arrivals.Range) = IsTaken keeps was now (Some m) OutOfRange

@@ -1,4 +1,4 @@
--- Stretches of a run, one after the other.
+-- Segments of a run, one after the other.
 use Rattle.std.proofs.Common.{◌≡◌, ℕ, ◌+◌, List, ◌++◌, ap, sym, ◌∙◌, subst, add_assoc}
 use Rattle.std.specs.Prelude.{count_by, if◌then◌else◌}
 use Rattle.std.proofs.lemmas.List.{map-append}
@@ -15,7 +15,7 @@ use Rattle.runs.specs.Machine.{MachineView, machine_of}
 use Rattle.runs.specs.Stages.{AreSafe, Stage, device_after, events_of}
 use Rattle.serving.specs.Runs.{RunsBetween}
 
--- how many of the events tell that the device failed
+-- how many of the events report that the device failed
 abbrev rises : List Event → ℕ
 rises events = count_by (λ e. e.rose) events
 

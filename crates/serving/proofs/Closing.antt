@@ -48,7 +48,7 @@ pub record PromisesAll (keeps : Type 0) (start : MachineView) (new : CoreView) (
   pub run : (new.failed ≡ false → new.doubt ≡ []) → (keeps → RecoversNow new) → HasRunSo keeps start new input before written result
   pub ends : EndsSo start.core new input behind before written result
 
--- nothing is out once all is home
+-- nothing is in flight once all is collected
 all_empty : (n : ℕ) → full (map hand_in (map lent_hand (replicate n None))) ≡ 0
 all_empty zero = refl
 all_empty (suc n) = all_empty n
@@ -280,7 +280,7 @@ has_workers old p (Err faults.Device) e = tt
 has_workers old p (Err faults.Write) e = tt
 has_workers old p (Err faults.NoWorkers) e = absurd e
 
--- Where there are workers, their want is not answered.
+-- Where there are workers, their want is not reported.
 pub refuses_none : (workers : ℕ) → workers ≢ 0 → (result : Result (Unit {0}) ServeFault) → HasWorkers result → RefusesNone workers result
 refuses_none workers some (Ok tt) h = some
 refuses_none workers some (Err faults.NoWorkers) h = absurd h
@@ -313,7 +313,7 @@ places_first lent n none = ap (λ (l : List (Option JobView)). length l) none �
 
 module _ (keeps : Type 0) (s : Start) (dispatch_seat : DispatchSeatView) (row : ReorderBufferView) (out : List ℕ) (left : Option (List ℕ)) (drained ended : Bool)
     (behind : Option (List ℕ)) where
-  -- Before its first read a server is under way.
+  -- Before its first read a server satisfies the invariant.
   pub first : IsIdle (core_state_of s.core) → s.core.doubt ≡ [] → row.lines ≡ [] → row.slots ≤ s.core.slots → out ≡ [] → left ≡ s.input
       → drained ≡ false → ended ≡ false → dispatch_seat.bench.slots ≡ s.places → dispatch_seat.lent ≡ replicate s.places None
       → SessionInvariant keeps s (record {
@@ -353,7 +353,7 @@ module _ (keeps : Type 0) (s : Start) (dispatch_seat : DispatchSeatView) (row : 
         };
       }
 
--- A call that may begin is under way.
+-- A call that may begin satisfies the invariant.
 pub first_at : (keeps : Type 0) (o : Option Start) (core : CoreView) (dispatch_seat : DispatchSeatView) (row : ReorderBufferView) (out : List ℕ) (left input sent : Option (List ℕ))
     (drained ended : Bool) (behind : Option (List ℕ)) (places : ℕ) → CanBegin o core places input sent row
     → out ≡ [] → left ≡ input → drained ≡ false → ended ≡ false → dispatch_seat.bench.slots ≡ places → dispatch_seat.lent ≡ replicate places None

@@ -58,7 +58,7 @@ no_ticket_out_of_range : AreKnown small [] 7 (codes "makevol 9 0" ∷ []) (Pendi
 unfolding message_of kind_named number_in_word
 no_ticket_out_of_range h = cc
 
--- What these lines say is what the serial server writes.
+-- The answers to these lines are what the serial server writes.
 what_they_say : joined (map text (Completed 7 Done ∷ OutOfRange ∷ NoMessage ∷ [])) ≡ codes "done\nerror range\nerror line\n"
 what_they_say = refl
 

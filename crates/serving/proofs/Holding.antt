@@ -1,4 +1,4 @@
--- What may be told is held by whatever a crash leaves of the device.
+-- What may be sent is held by whatever a crash leaves of the device.
 use Rattle.std.proofs.Common.{◌≡◌, ℕ, true, List, ◌++◌, Option, Some, sym, subst, map, append_assoc}
 use Rattle.std.proofs.KnownBytes.{Appends-trans}
 use Rattle.std.specs.Io.KnownBytes.{Appends}
@@ -20,7 +20,7 @@ use Rattle.serving.proofs.Logged.{holds_all, written_are_kept}
 
 module _ (keeps : Type 0) (s : Start) (sent later : Option (List ℕ)) (now : CoreView) (bytes : List ℕ) (m : MaySendFrom keeps s sent now bytes)
     (appends : Appends sent later bytes) where
-  -- Once it is told, it is among the lines that were sent.
+  -- Once it is sent, it is among the lines that were sent.
   served_on : HasServed keeps (start_machine s) now m.row s.input s.before later
   served_on =
       let h = m.served in

@@ -1,4 +1,4 @@
--- A session stays under way: one lemma for each kind of step, and what being under way tells.
+-- A session keeps its invariant: one lemma for each kind of step, and what follows from the invariant.
 use Rattle.std.proofs.Common.{◌≡◌, ◌≢◌, ◌≤◌, ◌<◌, ◌+◌, ℕ, Bool, true, false, List, [], ◌∷◌, ◌++◌, Option, Some, None, refl, ap, sym, ◌∙◌, subst, length, map, drop, append_assoc, append-nil, arith}
 use Rattle.std.proofs.lemmas.List.{length-append, length-map}
 use Rattle.std.specs.Prelude.{IfSome, IsTrue, MatchBool}
@@ -46,19 +46,19 @@ why_on g old new left drained behind ends_of_reading.ReadFailed next failed h = 
 why_on g old new left drained behind ends_of_reading.TicketsExhausted next failed h = (next ∙ h.0, h.1)
 why_on g old new left drained behind ends_of_reading.DeviceFailed next failed h = failed h
 
--- what was said of a reorder buffer, where the output may have failed
+-- what was retired of a reorder buffer, where the output may have failed
 retires_unless : (b : Bool) (row rest : List Line) (old now : Option (List ℕ)) → Retires row rest old now → Retires row rest (known_unless b old) (known_unless b now)
 retires_unless true row rest old now retires = record { retired = retires.retired; were = retires.were; are_completed = retires.are_completed; output = tt }
 retires_unless false row rest old now retires = retires
 
--- What waits is said behind what was sent.
+-- What waits is retired behind what was sent.
 retires_waiting : (waiting row : List Line) (out : List ℕ) (sent : Option (List ℕ)) → AreCompleted waiting → out ≡ joined (map text waiting)
     → Retires (waiting ++ row) row sent (so_far sent out)
 retires_waiting waiting row out None answered is = record { retired = waiting; were = refl; are_completed = answered; output = tt }
 retires_waiting waiting row out (Some bytes) answered is =
     record { retired = waiting; were = refl; are_completed = answered; output = ap (λ (l : List ℕ). bytes ++ l) is }
 
--- A line that is answered is left by a further answer.
+-- A line that is completed is left by a further answer.
 is_left : (ticket : ℕ) (reply : Reply) (line : Line) → is_completed line ≡ true → complete_one ticket reply line ≡ line
 is_left ticket reply NoMessage answered = refl
 is_left ticket reply OutOfRange answered = refl
@@ -72,7 +72,7 @@ are_left ticket reply (line ∷ waiting) row answered =
     ap (λ (x : Line). x ∷ map (complete_one ticket reply) (waiting ++ row)) (is_left ticket reply line answered.0)
     ∙ ap (λ (l : List Line). line ∷ l) (are_left ticket reply waiting row answered.1)
 
--- the oldest line, where it is answered, and the others
+-- the oldest line, where it is completed, and the others
 pub record Fronts (lines rest : List Line) : Type 0 where
   pub line : Line
   pub were : lines ≡ line ∷ rest
@@ -113,7 +113,7 @@ module _ (keeps : Type 0) where
         (retires_unless p.output_failed (h.waiting ++ p.row.lines) p.row.lines p.sent (so_far p.sent p.out)
         (retires_waiting h.waiting p.row.lines p.out p.sent h.are_completed h.out_is)) s.input left drained (known_unless p.output_failed s.before) h.goes
 
-  -- ---- what being under way tells
+  -- ---- what follows from the invariant
 
   pub holds_of : (o : Option Start) (p : SessionView) → SessionInvariantFrom keeps o p → Holds (machine p)
   holds_of None p u = absurd u
@@ -164,7 +164,7 @@ module _ (keeps : Type 0) where
             }) p.stop u.reads;
       }
 
-  -- A message is answered, and so is its line in the reorder buffer.
+  -- A message is answered, and its line in the reorder buffer is completed.
   pub on_answer : (o : Option Start) (p : SessionView) (core : CoreView) (row : ReorderBufferView) (ticket : ℕ) (reply : Reply) → SessionInvariantFrom keeps o p
       → Holds (with_lent core p.dispatch_seat.lent) × RunsBetween keeps (machine p) (with_lent core p.dispatch_seat.lent) [] ((ticket, reply) ∷ [])
       → row.lines ≡ map (complete_one ticket reply) p.row.lines → row.slots ≡ p.row.slots
@@ -196,7 +196,7 @@ module _ (keeps : Type 0) where
             }) p.stop u.reads;
       }
 
-  -- The oldest line of the reorder buffer waits to be told.
+  -- The oldest line of the reorder buffer waits to be sent.
   on_add_text : (o : Option Start) (p : SessionView) (row : ReorderBufferView) (out : List ℕ) → SessionInvariantFrom keeps o p
       → row.lines ≡ drop 1 p.row.lines → can_retire p.row.lines ≡ true → out ≡ p.out ++ retired_text p.row.lines → row.slots ≡ p.row.slots
       → SessionInvariantFrom keeps o (record p { row = row; out = out })
@@ -225,7 +225,7 @@ module _ (keeps : Type 0) where
             }) p.stop u.reads;
       }
 
-  -- So it does where it is answered, and else nothing moves.
+  -- So it does where it is completed, and else nothing moves.
   pub on_retire_front : (o : Option Start) (p : SessionView) (row : ReorderBufferView) (out : List ℕ) (retired : Bool) → SessionInvariantFrom keeps o p
       → retired ≡ can_retire p.row.lines → MatchBool retired (out ≡ p.out ++ retired_text p.row.lines) (out ≡ p.out)
       → MatchBool retired (row.lines ≡ drop 1 p.row.lines) (row ≡ p.row) → row.slots ≡ p.row.slots
@@ -235,7 +235,7 @@ module _ (keeps : Type 0) where
       subst (λ (r : ReorderBufferView). SessionInvariantFrom keeps o (record p { row = r; out = out })) (sym left)
       (subst (λ (l : List ℕ). SessionInvariantFrom keeps o (record p { out = l })) (sym added) u)
 
-  -- All that waits is told.
+  -- All that waits is sent.
   pub on_send : (o : Option Start) (p : SessionView) (out : List ℕ) (sent : Option (List ℕ)) (n : ℕ) → SessionInvariantFrom keeps o p
       → out ≡ [] → Appends p.sent sent p.out → n ≡ length p.row.lines
       → SessionInvariantFrom keeps o (record p { out = out; sent = sent; open_lines = n })
@@ -267,7 +267,7 @@ module _ (keeps : Type 0) where
         }) p.stop u.reads;
   }
 
-  -- It could not be told.
+  -- It could not be sent.
   pub on_break : (o : Option Start) (p : SessionView) (sent : Option (List ℕ)) → SessionInvariantFrom keeps o p
       → SessionInvariantFrom keeps o (record p { sent = sent; output_failed = true })
   on_break None p sent u = absurd u
@@ -290,7 +290,7 @@ module _ (keeps : Type 0) where
         }) p.stop u.reads;
   }
 
-  -- What waits may be told, where the core is as it always is.
+  -- What waits may be sent, where the core is as it always is.
   pub may_send : (o : Option Start) (p : SessionView) → SessionInvariantFrom keeps o p → p.output_failed ≡ false → (p.core.failed ≡ false → p.core.doubt ≡ [])
       → (keeps → RecoversNow p.core) → MaySend keeps o p.sent p.core p.out
   may_send None p u whole none recovers = absurd u
@@ -420,7 +420,7 @@ module _ (keeps : Type 0) where
       let h = to_row s p p.left p.drained (reading s p none u) in
       next_follows keeps (start_machine s) (machine p) h.taken h.retired p.row.lines h.serving
 
-  -- Where fewer lines are open than there are slots, the reorder buffer has room for a further one.
+  -- Where fewer lines are outstanding than there are slots, the reorder buffer has room for a further one.
   pub has_place : (o : Option Start) (p : SessionView) → SessionInvariantFrom keeps o p → p.open_lines < p.row.slots → length p.row.lines < p.row.slots
   has_place None p u room = absurd u
   has_place (Some s) p u room =

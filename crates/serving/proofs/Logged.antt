@@ -1,4 +1,4 @@
--- What was told is on the device: what a crash leaves since any event of a run, and that each line that was written is of a message
+-- What was sent is on the device: what a crash leaves since any event of a run, and that each line that was written is of a message
 -- that was logged.
 use Rattle.std.proofs.Common.{◌≡◌, ℕ, zero, suc, ◌≤◌, Bool, true, List, [], ◌∷◌, ◌++◌, Option, Some, None, refl, ap, sym, ◌∙◌, subst, length, take, drop, map, inl, inr, ⊎_elim, append_assoc, arith}
 use Rattle.std.specs.Prelude.{if◌then◌else◌}
@@ -9,7 +9,7 @@ use Rattle.affinity.specs.declared.geometry.Geometry.{Geometry}
 use Rattle.disk.proofs.Moments.{counts_now}
 use Rattle.disk.specs.Device.{IsCrashImage, Medium}
 use Rattle.disk.specs.Moments.{left_since, moment}
-use Rattle.legal_runs.proofs.Answering.{run_told}
+use Rattle.legal_runs.proofs.Answering.{run_replies}
 use Rattle.legal_runs.proofs.Arrivals.{run_ascending}
 use Rattle.legal_runs.proofs.Crashes.{went_first}
 use Rattle.legal_runs.proofs.Elements.{contains_in, holds_of, in_contained}
@@ -52,7 +52,7 @@ module _ (keeps : Type 0) (start : MachineView) (new : CoreView) (input : Option
   abbrev events : List Event
   events = events_of stages
 
-  -- What recovers to the run since event k holds all that was logged by then.
+  -- What recovers to a state of the run since event k holds all that was logged by then.
   holds_since : (k : ℕ) (c : List ℕ) → RecoversForRun g w events k c → HoldsLog g (committed_in start.core) (arrived events) (went w (take k events)) c
   holds_since k c s =
       let after = s.left.after in
@@ -137,7 +137,7 @@ module _ (keeps : Type 0) (start : MachineView) (new : CoreView) (row : List Lin
   abbrev run_log : List Replied
   run_log = went (machine_of start) (events_of h.stages)
 
-  -- A message of the input that was told a reply by its ticket was logged with it.
+  -- A message of the input that was sent a reply by its ticket was logged with it.
   was_logged : (ticket : ℕ) (m : Msg) (reply : Reply) → IsIn (ticket, m) (ticketed start.core.next (admitted start.core.geometry h.taken))
       → Contains (answered (events_of h.stages)) (ticket, reply) → Contains run_log (ticket, m, reply)
   was_logged ticket m reply asks told =
@@ -146,7 +146,7 @@ module _ (keeps : Type 0) (start : MachineView) (new : CoreView) (row : List Lin
       let events = events_of h.stages in
       let came = arrived events in
       let one = said_of (answered_messages w events) (ticket, reply)
-      (subst (IsIn (ticket, reply)) (sym (run_told g w events h.run.legal)) (in_contained (answered events) (ticket, reply) told)) in
+      (subst (IsIn (ticket, reply)) (sym (run_replies g w events h.run.legal)) (in_contained (answered events) (ticket, reply) told)) in
       let its : IsIn (ticket, one.0) came =
       in_contained came (ticket, one.0)
       (holds_of (λ (a : Replied). Contains came (entry a)) (answered_messages w events) (answered_came g w events h.run.legal idle) (ticket, one.0, reply) one.1) in

@@ -52,13 +52,13 @@ out_of_range g m h = ap (λ (b : Bool). if b then m ∷ [] else []) h
 
 -- ---- a part of the messages is a part of the lines
 
--- Each of these lines spells the message beside it.
+-- Each of these lines encodes the message beside it.
 abbrev pub Spell : List (List ℕ) → List Entry → Type 0
 Spell [] [] = Unit {0}
 Spell (line ∷ ls) (e ∷ es) = (message_of line ≡ Some e.1) × Spell ls es
 Spell _ _ = ⊥
 
--- This part of the lines spells these messages, which lead where the lines lead.
+-- This part of the lines encodes these messages, which lead where the lines lead.
 pub record SpellsPart (g : Geometry) (es : List Entry) (ls : List (List ℕ)) : Type 0 where
   pub part : List (List ℕ)
   pub spell : Spell part es
@@ -223,7 +223,7 @@ ranges_too g m h = elim (is_in_range g m) as (λ b. (if b then m ∷ [] else [])
 some_is : (m k : Msg) → Some m ≡ Some k → m ≡ k
 some_is m k h = cc
 
--- The first message is told its own reply, and the replies to come are told behind it.
+-- The first message is given its own reply, and the replies to come are given behind it.
 its_reply : (g : Geometry) (x : State) (n : ℕ) (m : Msg) (log : List Replied) (es : List Entry) → AllByRecursion (λ e. n + 1 ≤ e.0) es
     → HaveSerialReplies g x n log ((n, m) ∷ es) → (k : Msg) (reply : Reply) → IsIn (n, k, reply) log → reply ≡ reply_to g x m
 its_reply g x n m log es h serial_all k reply is = ⊎_elim
@@ -331,7 +331,7 @@ longer g part (line ∷ ls) rest h = ⊎_elim
     (λ (k : AllByRecursion (λ other. are_related_lines g (message_of line) (message_of other) ≡ false) part × IsClosedPart g part ls).
     inr (k.0, longer g part ls rest k.1)) h
 
--- Where the first lines of an input were taken, and a log has what was written for the first of these, it leads where a restart may go on.
+-- Where the first lines of an input were consumed, and a log has what was written for the first of these, it leads where a restart may go on.
 pub recovers_to : (g : Geometry) (x : State) (n : ℕ) (input : List ℕ) (taken rest written : List (List ℕ)) (log more : List Replied)
     → lines input ≡ taken ++ rest → AreInLog g log n taken written → IsSerialLog g x (ticketed n (admitted g taken)) (log ++ more)
     → RecoversTo g x (fold g x (loggable (log ++ more))) input (joined written)

@@ -1,4 +1,4 @@
--- What the line at the front of the reorder buffer says.
+-- The answer to the line at the front of the reorder buffer.
 use Rattle.std.proofs.Common.{◌≡◌, ◌+◌, true, false, List, [], ◌∷◌, drop, length, refl, ap, sym, arith}
 use Rattle.std.proofs.lemmas.Bool.{true≢false}
 use Rattle.serving.specs.Lines.{Completed, Line, NoMessage, OutOfRange, Pending, is_completed, text}

@@ -1,4 +1,4 @@
--- What comes back from the bench: the job of a place has run, and its result is given back.
+-- What is collected from the bench: the job of a place has run, and its result is given back.
 use Rattle.std.proofs.Common.{◌≡◌, ℕ, ◌<◌, zero, suc, true, false, List, [], ◌∷◌, Option, Some, None, refl, ap, sym, ◌∙◌, subst, length, map, set, arith}
 use Rattle.std.specs.Prelude.{option_map, slice_get, get_or}
 use Rattle.std.proofs.lemmas.Option.{slice_get-get_or, slice_get-map}

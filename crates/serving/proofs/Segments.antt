@@ -34,7 +34,7 @@ module _ (keeps : Type 0) (old new : MachineView) (step : Step) (outcome : Outco
   abbrev event : Event
   event = record { step = step; outcome = outcome; rose = k.rose; state_after = machine_of new }
 
-  -- A step is A segment of a run.
+  -- A step is a segment of a run.
   pub step_passes : RunsBetween keeps old new (arrives step outcome) (answers outcome)
   step_passes = record {
     stages = record { event = event; medium = new.core.medium } ∷ [];
@@ -48,7 +48,7 @@ module _ (keeps : Type 0) (old new : MachineView) (step : Step) (outcome : Outco
     any_moment = λ kept. (k.any_moment kept, tt);
   }
 
--- A stretch in which nothing arrives and nothing is answered leaves what is known of the lines.
+-- A segment in which nothing arrives and nothing is answered leaves what is known of the lines.
 pub quiet_goes_on : (keeps : Type 0) (old new : MachineView) → RunsBetween keeps old new [] [] → (row : List Line) (start : MachineView)
     (input left : Option (List ℕ)) (ended : Bool) (before written : Option (List ℕ)) → ServingProgress keeps start old row input left ended before written
     → ServingProgress keeps start new row input left ended before written
@@ -81,7 +81,7 @@ pub still_failed : (keeps : Type 0) (old new : MachineView) (come : List Entry) 
 still_failed keeps old new come reply_pairs p failed =
     ap (λ (w : Hands). w.core.failed) (sym p.ends) ∙ run_fails old.core.geometry (machine_of old) _ p.legal failed
 
--- A step of the core alone, in which nothing arrives or is answered, and nothing goes out or comes back.
+-- A step of the core alone, in which nothing arrives or is answered, and nothing is dispatched or collected.
 pub core_is_quiet : (keeps : Type 0) (old new : CoreView) (step : Step) (outcome : Outcome) → IsCoreStep keeps old new step outcome
     → moves_what_is_out step ≡ false → arrives step outcome ≡ [] → answers outcome ≡ [] → (hands : List Holding)
     → Holds (record { core = old; hands = hands }) → IsInternal keeps (record { core = old; hands = hands }) (record { core = new; hands = hands })

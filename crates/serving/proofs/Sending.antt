@@ -1,4 +1,4 @@
--- What goes out to the bench: the eligible message with the least ticket, to the first place where nothing is lent.
+-- What is dispatched to the bench: the eligible message with the least ticket, to the first place where nothing is lent.
 use Rattle.std.proofs.Common.{◌≡◌, ℕ, ◌+◌, Bool, true, false, List, [], ◌∷◌, Option, Some, None, refl, ap, sym, ◌∙◌, subst, length, map, set}
 use Rattle.std.specs.Prelude.{MatchOption, if◌then◌else◌, is_none, nat_lt, not, position}
 use Rattle.std.specs.List.{position_or_len}
@@ -110,7 +110,7 @@ module _ (keeps : Type 0) (old new : CoreView) (lent : List (Option JobView)) (n
   sends granted.Failed after what g l =
       subst (λ (x : List (Option JobView)). IsInternal keeps (with_lent old lent) (with_lent new x)) (sym l.1) (none_goes_any_more g.0 g.1)
 
--- what is lent then, and what is sent of it
+-- what is lent then, and what is reported of it
 module _ (k : ℕ) (lent after : List (Option JobView)) (what : Dispatched) where
   pub as_many : (r : Granted) → Lends k lent r after what → length after ≡ length lent
   as_many (granted.Job job) l = ap (λ (x : List (Option JobView)). length x) l.1 ∙ set-length lent k (Some job)

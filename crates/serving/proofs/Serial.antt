@@ -78,11 +78,11 @@ admitted-append g (l ∷ ls) ms =
 -- ---- the lines
 
 module _ (g : Geometry) (replies : List (ℕ × Reply)) where
-  -- Each reply was given to a message before ticket n, or is told from here on.
+  -- Each reply was given to a message before ticket n, or is given from here on.
   abbrev pub HaveSerialReplies : State → ℕ → List Msg → Type 0
   HaveSerialReplies x n ms = (p : ℕ × Reply) → IsIn p replies → (p.0 < n) ⊎ IsIn p (serial_replies g x (ticketed n ms))
 
-  -- A line that is answered is answered as the serial server answers it, and the replies behind it go on.
+  -- A line that is completed is answered as the serial server answers it, and the replies behind it go on.
   record IsServedBy (x : State) (n : ℕ) (ms : List Msg) (o : Option Msg) (known : Line) : Type 0 where
     retires : text known ≡ answer_line g x o
     tells : HaveSerialReplies (state_after_line g x o) (next_ticket n (admitted_in g o)) ms
@@ -133,16 +133,16 @@ module _ (g : Geometry) (replies : List (ℕ × Reply)) where
         tells = subst (λ (l : List Msg). HaveSerialReplies (next_state g x m) (next_ticket n l) ms) (sym one) (with_ticket x n ms m on);
       }
 
-  -- The lines that are answered are the first lines of the serial server.
-  pub said_is_serial : (x : State) (n : ℕ) (ls more : List (List ℕ)) (retired row : List Line) → HaveSerialReplies x n (admitted g ls)
+  -- The lines that are completed are the first lines of the serial server.
+  pub retired_is_serial : (x : State) (n : ℕ) (ls more : List (List ℕ)) (retired row : List Line) → HaveSerialReplies x n (admitted g ls)
       → AreKnown g replies n ls (retired ++ row) → AllByRecursion (λ line. is_completed line ≡ true) retired
       → map text retired ≡ take (length retired) (output_lines g x (ls ++ more))
-  said_is_serial x n ls more [] row h k done = refl
-  said_is_serial x n [] more (known ∷ retired) row h k done = absurd k
-  said_is_serial x n (l ∷ ls) more (known ∷ retired) row h k done =
+  retired_is_serial x n ls more [] row h k done = refl
+  retired_is_serial x n [] more (known ∷ retired) row h k done = absurd k
+  retired_is_serial x n (l ∷ ls) more (known ∷ retired) row h k done =
       let o = message_of l in
       let one = served_line x n (admitted g ls) o known h k.0 done.0 in
-      let rest = said_is_serial (state_after_line g x o) (next_ticket n (admitted_in g o)) ls more retired row one.tells k.1 done.1 in
+      let rest = retired_is_serial (state_after_line g x o) (next_ticket n (admitted_in g o)) ls more retired row one.tells k.1 done.1 in
       λ i. one.retires i ∷ rest i
 
   pub as_many : (n : ℕ) (ls : List (List ℕ)) (row : List Line) → AreKnown g replies n ls row → length row ≡ length ls
@@ -156,7 +156,7 @@ module _ (g : Geometry) (replies : List (ℕ × Reply)) where
       → AreKnown g replies n ls (retired ++ []) → AllByRecursion (λ line. is_completed line ≡ true) retired
       → map text retired ≡ output_lines g x ls
   all_said x n ls retired h k done =
-      said_is_serial x n ls [] retired [] h k done
+      retired_is_serial x n ls [] retired [] h k done
       ∙ (λ i. take (many i) (output_lines g x (ls ++ [])))
       ∙ take-output_lines g x ls []
     where

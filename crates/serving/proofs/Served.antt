@@ -34,7 +34,7 @@ use Rattle.runs.specs.Machine.{MachineView, machine_of}
 use Rattle.runs.specs.Stages.{events_of}
 use Rattle.serving.specs.declared.server.ServeFault.TheVariants as faults
 use Rattle.serving.proofs.Inside.{idle_again}
-use Rattle.serving.proofs.Serial.{HaveSerialReplies, all_said, asked_leads_there, messages-ticketed, next_from, said_is_serial, told_earlier}
+use Rattle.serving.proofs.Serial.{HaveSerialReplies, all_said, asked_leads_there, messages-ticketed, next_from, retired_is_serial, told_earlier}
 
 module _ (keeps : Type 0) (start now : MachineView) (idle : IsIdle (core_state_of start.core)) where
   abbrev g : Geometry
@@ -74,9 +74,9 @@ module _ (keeps : Type 0) (start now : MachineView) (idle : IsIdle (core_state_o
         ∙ asked_leads_there g x taken
 
     begins : (more : List (List ℕ)) → map text retired ≡ take (length retired) (output_lines g x (taken ++ more))
-    begins more = said_is_serial g s.reply_pairs x start.core.next taken more retired row all_told s.known s.answered
+    begins more = retired_is_serial g s.reply_pairs x start.core.next taken more retired row all_told s.known s.answered
 
-  -- all that was taken is answered
+  -- all that was consumed is answered
   served : (taken : List (List ℕ)) (retired : List Line) → IsServing keeps start now taken retired [] → IsIdle (core_state_of now.core)
       → AreServed g x (committed_in now.core) taken (joined (map text retired))
   served taken retired s ends = record {

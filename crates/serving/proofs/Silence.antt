@@ -1,4 +1,4 @@
--- Where all that has arrived is still inside, no reply may be told.
+-- Where all that has arrived is still inside, no reply may be sent.
 use Rattle.std.proofs.Common.{◌≡◌, ◌⊎◌, inl, inr, refl, ℕ, ◌+◌, List, [], ◌∷◌, ◌++◌, Option, Some, None, ap, sym, subst, length, map, arith}
 use Rattle.std.specs.Prelude.{slice_index_or}
 use Rattle.std.specs.List.{AllByRecursion}
@@ -22,7 +22,7 @@ use Rattle.meaning.specs.Output.{joined}
 use Rattle.scheduler.specs.CoreView.{CoreView, core_state_of}
 use Rattle.serving.specs.Lines.{Completed, AreCompleted, AreKnown, IsKnown, Line, NoMessage, OutOfRange, Pending, admitted_in, next_ticket, text}
 use Rattle.serving.specs.Runs.{inside}
-use Rattle.serving.specs.Output.{HasNoReply, MaySendFrom, MaySend, Start, TellsNoReply, start_machine}
+use Rattle.serving.specs.Output.{HasNoReply, MaySendFrom, MaySend, Start, SendsNoReply, start_machine}
 use Rattle.serving.proofs.Counting.{run_counts}
 use Rattle.serving.proofs.Inside.{idle_inside}
 use Rattle.serving.proofs.Tickets.{run_next}
@@ -76,7 +76,7 @@ module _ (keeps : Type 0) (s : Start) (sent : Option (List ℕ)) (now : CoreView
       (subst (λ (l : List (ℕ × Reply)). AreKnown s.core.geometry l s.core.next m.served.taken (m.served.retired ++ (m.next ++ m.row))) none_answered m.served.known)
       m.are_completed
 
--- Each such line says that it has none.
+-- Each such line reports that it has none.
 say_none : (ls : List Line) → AllByRecursion HasNoReply ls → AllByRecursion (λ line. (line ≡ no_message) ⊎ (line ≡ reply_line (Refused Range))) (map text ls)
 say_none [] all = tt
 say_none (NoMessage ∷ ls) all = (inl refl, say_none ls all.1)
@@ -85,10 +85,10 @@ say_none (Pending t ∷ ls) all = absurd all.0
 say_none (Completed t reply ∷ ls) all = absurd all.0
 
 pub no_reply : (keeps : Type 0) (s : Start) (sent : Option (List ℕ)) (now : CoreView) (bytes : List ℕ) → inside (core_state_of now) + s.core.next ≡ now.next
-    → MaySend keeps (Some s) sent now bytes → TellsNoReply bytes
+    → MaySend keeps (Some s) sent now bytes → SendsNoReply bytes
 no_reply keeps s sent now bytes all_inside m = (map text m.next, m.bytes_are, say_none m.next (is_silent keeps s sent now bytes m all_inside))
 
--- No such line tells that a message was carried out.
+-- No such line reports that a message was carried out.
 not_done : (ls : List Line) → AllByRecursion HasNoReply ls → reply_line Done ≡ joined (map text ls) → ⊥
 not_done [] all is = let h = ap (λ (l : List ℕ). length l) is in absurd (omega (arith, h))
 not_done (NoMessage ∷ ls) all is = let h = ap (λ (l : List ℕ). slice_index_or l 0 0) is in absurd (omega (arith, h))

@@ -187,8 +187,8 @@ log_leads g x (a ∷ log) h =
       | false ↦ λ e. ap (λ y. fold g y (loggable log)) (sym (unlogged_changes_nothing g x a.1 (ap (is_loggable a.1) (sym reply) ∙ e))) ∙ rest
     ] refl
 
--- A serial log in the order of its tickets: of all that arrived some, without a gap. They lead where the log leads, and each is told what
--- the log has for it.
+-- A serial log in the order of its tickets: of all that arrived some, without a gap. They lead where the log leads, and each is given
+-- what the log has for it.
 pub record IsSortedLog (g : Geometry) (x : State) (arrivals : List Entry) (log : List Replied) (sorted : List Entry) : Type 0 where
   pub no_gap : HasNoGap g sorted arrivals
   pub state : fold g x (loggable log) ≡ fold g x (messages sorted)

@@ -65,7 +65,7 @@ gives : (line : List ℕ) (left now_left : Option (List ℕ)) → IfSome left (�
 gives line None now_left found = tt
 gives line (Some bs) now_left found = (now_left, found)
 
--- Where there is a slot for it, no more is read for the reason that this tells.
+-- Where there is a slot for it, no more is read for the reason that this gives.
 pub stops_at_refusal : (keeps : Type 0) (old new : MachineView) (left now_left behind : Option (List ℕ)) (drained : Bool) (line : List ℕ) (m : Msg)
     (why : ArriveRefusal) → message_of line ≡ Some m → IfSome left (λ bs. GivesLine line bs now_left) → IsRefusedLine keeps old new m why
     → ((arrive old.core.geometry (core_state_of old.core) m).0 ≢ outcomes.ArriveRefused arrivals.Full)

@@ -1,4 +1,4 @@
--- Lines that are taken of the input, each with its message.
+-- Lines that are consumed of the input, each with its message.
 use Rattle.std.proofs.Common.{◌≡◌, ℕ, true, false, Bool, List, [], ◌∷◌, ◌++◌, Option, Some, None, sym, refl, subst}
 use Rattle.std.specs.Prelude.{IfSome, Result, Ok, Err, ◌&&◌}
 use Rattle.std.specs.Io.KnownBytes.{IsAtEnd}
@@ -36,7 +36,7 @@ module _ (keeps : Type 0) (old new : CoreView) (none : old.failed ≡ false → 
   abbrev now : MachineView
   now = record { core = new; hands = hands }
 
-  -- It is taken, and this is known of it; or its message is refused.
+  -- It is consumed, and this is known of it; or its message is refused.
   abbrev pub ComesSo : Option Msg → Result (Option ℕ) ArriveRefusal → Type 0
   ComesSo o (Ok (Some ticket)) = IsTaken keeps was now o (Pending ticket)
   ComesSo o (Ok None) = IsTaken keeps was now o NoMessage

@@ -1,4 +1,4 @@
--- What a server has done when it ends.
+-- Statement for operators: What a server has done when it ends.
 use Rattle.std.specs.Prelude.{◌≡◌, ◌≤◌, ◌+◌, ◌-◌, ◌^◌, ℕ, true, false, List, [], ◌∷◌, ◌++◌, map, take, length, count_by, Option, Some, None, Result, Ok, Err}
 use Rattle.std.specs.Io.KnownBytes.{Appends, IsAtEnd}
 use Rattle.std.specs.List.{AllByRecursion}
@@ -27,12 +27,12 @@ pub record AreServed (g : Geometry) (start now : State) (ls : List (List ℕ)) (
   pub output : written ≡ joined (output_lines g start ls)
   pub state : now ≡ state_after_lines g start ls
 
--- So were just the whole lines of what was taken of the input.
+-- The same for just the whole lines of what was consumed of the input.
 pub record ServesWholeLines (g : Geometry) (start now : State) (left : Option (List ℕ)) (input written : List ℕ) : Type 0 where
   pub output : AnswersWholeLines g start left input written
   pub state : now ≡ state_after_lines g start output.whole
 
--- So were just the lines before one whose message is in range.
+-- The same for just the lines before one whose message is in range.
 pub record ServesLinesBefore (g : Geometry) (start now : State) (input written : List ℕ) : Type 0 where
   pub before : List (List ℕ)
   pub line : List ℕ
@@ -61,9 +61,9 @@ pub record HasRunLines (keeps : Type 0) (start : MachineView) (new : CoreView)
   pub geometry : new.geometry ≡ start.core.geometry
   pub arrived_are : arrived (events_of stages) ≡ ticketed start.core.next (admitted start.core.geometry taken)
   pub device : device_after start.core.medium stages ≡ new.medium
-  -- the device failed as often as the events tell
+  -- the device failed as often as the events say
   pub failures : new.medium.faults ≡ start.core.medium.faults + count_by (λ e. e.rose) (events_of stages)
-  -- what a crash leaves at each moment of each event
+  -- what a crash leaves at each crash point of each event
   pub any_moment : keeps → AreSafe start.core.geometry (machine_of start) start.core.medium stages
   -- For every k: a crash at any moment since event k ended leaves a device that recovers to a state which the run may leave.
   pub crash : keeps → (k : ℕ) (c : List ℕ) → k ≤ length stages
@@ -82,12 +82,12 @@ pub record HasServed (keeps : Type 0) (start : MachineView) (new : CoreView) (ro
   pub are_completed : AllByRecursion (λ line. is_completed line ≡ true) retired
   pub output : Appends before written (joined (map text retired))
 
--- ---- what each answer says of the core before and after, of the input and what is left of it, and of what was written
+-- ---- what each answer promises of the core before and after, of the input and what is left of it, and of what was written
 
 abbrev pub committed_in : CoreView → State
 committed_in core = (core_state_of core).committed
 
--- No message is out with a worker, and each that was logged is answered.
+-- No message is in flight with a worker, and each that was logged is answered.
 pub record IsWoundUp (core : CoreView) : Type 0 where
   pub none_out : core.out ≡ []
   pub none_logged : core.logged ≡ []
@@ -100,7 +100,8 @@ EndsSo old new input left before written (Ok _) = IsIdle (core_state_of new) × 
     × WritesOutput input before written (λ bytes w. AreServed old.geometry (committed_in old) (committed_in new) (lines bytes) w)
 EndsSo old new input left before written (Err faults.Read) = IsIdle (core_state_of new) × (new.failed ≡ false)
     × WritesOutput input before written (ServesWholeLines old.geometry (committed_in old) (committed_in new) left)
-EndsSo old new input left before written (Err faults.Exhausted) = IsIdle (core_state_of new) × (new.failed ≡ false) × (new.next ≡ 2 ^ 64 - 1)
+EndsSo old new input left before written (Err faults.Exhausted) = IsIdle (core_state_of new) × (new.failed ≡ false)
+    × (new.next ≡ 2 ^ 64 - 1)
     × WritesOutput input before written (ServesLinesBefore old.geometry (committed_in old) (committed_in new))
 EndsSo old new input left before written (Err faults.Device) = (new.failed ≡ true) × IsWoundUp new
     × WritesOutput input before written (IsBeginning old.geometry (committed_in old))

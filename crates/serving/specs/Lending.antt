@@ -1,4 +1,4 @@
--- What goes out to the places of a bench, why none does, and when all is home.
+-- Inner: What is dispatched to the places of a bench, why nothing is, and when nothing is in flight.
 use Rattle.std.specs.Prelude.{◌≡◌, ℕ, true, List, Option, Some, None, is_none, length, position, replicate, slice_set}
 use Rattle.affinity.specs.declared.geometry.Geometry.{Geometry}
 use Rattle.legal_runs.specs.CoreState.{CoreState}
@@ -10,21 +10,21 @@ use Rattle.scheduler.specs.declared.granted.Granted.TheVariants as granted
 use Rattle.serving.specs.declared.dispatch.Dispatched.{Dispatched}
 use Rattle.serving.specs.declared.dispatch.Dispatched.TheVariants as dispatched
 
--- What was granted is lent at place k, if it is a job; and this tells it.
+-- What was granted is lent at place k, if it is a job; and this reports it.
 abbrev pub Lends : ℕ → List (Option JobView) → Granted → List (Option JobView) → Dispatched → Type 0
 Lends k lent (granted.Job job) new_lent what = (what ≡ dispatched.Job) × (new_lent ≡ slice_set lent k (Some job))
 Lends k lent granted.NoneEligible new_lent what = (what ≡ dispatched.NoneEligible) × (new_lent ≡ lent)
 Lends k lent granted.NoRoom new_lent what = (what ≡ dispatched.NoRoom) × (new_lent ≡ lent)
 Lends k lent granted.Failed new_lent what = (what ≡ dispatched.Failed) × (new_lent ≡ lent)
 
--- A message went out of this core state as a job, which is lent at place k. Or none did, for this reason, and nothing has changed.
+-- A message of this core state was dispatched as a job, which is lent at place k. Or none was, for this reason, and nothing has changed.
 abbrev pub DispatchesTo : Geometry → ℕ → CoreState → List (Option JobView) → CoreState → List (Option JobView) → Dispatched → Type 0
 DispatchesTo g k old lent new new_lent dispatched.Job = (job : JobView) × IsGrantOf g old new job × (new_lent ≡ slice_set lent k (Some job))
 DispatchesTo g k old lent new new_lent dispatched.NoneEligible = IsNoGrant g old new outcomes.NoneEligible × (new_lent ≡ lent)
 DispatchesTo g k old lent new new_lent dispatched.NoRoom = IsNoGrant g old new outcomes.NoRoom × (new_lent ≡ lent)
 DispatchesTo g k old lent new new_lent dispatched.Failed = (old.failed ≡ true) × (new ≡ old) × (new_lent ≡ lent)
 
--- Why no further message goes out of this core state: something is lent at each place, or no message may go.
+-- Why no further message of this core state is dispatched: something is lent at each place, or no message may be.
 abbrev pub IsEndOfDispatch : Geometry → CoreState → List (Option JobView) → Dispatched → Type 0
 IsEndOfDispatch g w lent dispatched.Job = position is_none lent ≡ None
 IsEndOfDispatch g w lent dispatched.NoneEligible = IsNoGrant g w w outcomes.NoneEligible

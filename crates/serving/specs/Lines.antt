@@ -1,4 +1,4 @@
--- Which lines take a ticket, and what is known of each line that was read.
+-- Statement for operators: Which lines take a ticket, and what is known of each line that was read.
 use Rattle.std.specs.Prelude.{◌≡◌, ℕ, ◌+◌, true, false, List, [], ◌∷◌, ◌++◌, if◌then◌else◌, Option, Some, None}
 use Rattle.std.specs.List.{Contains}
 use Rattle.affinity.specs.declared.geometry.Geometry.{Geometry}
@@ -39,7 +39,7 @@ abbrev pub NoneIsTo : List (ℕ × Reply) → ℕ → Type 0
 NoneIsTo replies ticket = (reply : Reply) → Contains replies (ticket, reply) → ⊥
 
 -- This is known of the line of a message, or of none. Its ticket is n, if it takes one, and the reply to it is among these; or, where the
--- line is not answered, none of them is to it.
+-- line is not completed, none of them is to it.
 abbrev pub IsKnown : Geometry → List (ℕ × Reply) → ℕ → Option Msg → Line → Type 0
 IsKnown g replies n None NoMessage = Unit {0}
 IsKnown g replies n (Some m) OutOfRange = is_in_range g m ≡ false

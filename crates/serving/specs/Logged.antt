@@ -1,4 +1,4 @@
--- What was written for the lines that were taken, beside the log that a device holds.
+-- Statement for operators: What was written for the lines that were consumed, beside the log that a device holds.
 use Rattle.std.specs.Prelude.{◌≡◌, ◌⊎◌, ℕ, true, false, List, [], ◌∷◌, ◌++◌, Option, Some, None}
 use Rattle.std.specs.List.{Contains}
 use Rattle.affinity.specs.declared.geometry.Geometry.{Geometry}
@@ -24,7 +24,7 @@ IsInLog g log n None line = line ≡ no_message
 IsInLog g log n (Some m) line = ((is_in_range g m ≡ false) × (line ≡ reply_line (Refused Range)))
     ⊎ ((is_in_range g m ≡ true) × ((reply : Reply) × (line ≡ reply_line reply) × Contains log (n, m, reply)))
 
--- It has these lines for the first of the lines that were taken. The first that takes a ticket takes n, and each further one the next.
+-- It has these lines for the first of the lines that were consumed. The first that takes a ticket takes n, and each further one the next.
 abbrev pub AreInLog : Geometry → List Replied → ℕ → List (List ℕ) → List (List ℕ) → Type 0
 AreInLog g log n taken [] = Unit {0}
 AreInLog g log n [] (line ∷ lines) = ⊥

@@ -1,4 +1,4 @@
--- What a server may tell, and when.
+-- Statement for engineers: What a server may send, and when.
 use Rattle.std.specs.Prelude.{◌≡◌, ◌⊎◌, ℕ, List, [], ◌++◌, map, replicate, Option, Some, None}
 use Rattle.std.specs.Io.KnownBytes.{Appends}
 use Rattle.std.specs.List.{AllByRecursion}
@@ -17,7 +17,7 @@ use Rattle.serving.specs.Lines.{Completed, AreCompleted, Line, Pending, admitted
 use Rattle.serving.specs.Runs.{with_lent}
 use Rattle.serving.specs.Logged.{AreInLog, HoldsLog}
 
--- where the call of a server begins: its core, how many jobs it may lend, its input, and what was sent before
+-- where the call of a server begins: its core, how many jobs it may offer, its input, and what was sent before
 pub record Start : Type 0 where
   pub core : CoreView
   pub places : ℕ
@@ -28,7 +28,7 @@ pub record Start : Type 0 where
 abbrev pub start_machine : Start → MachineView
 start_machine s = with_lent s.core (replicate s.places None)
 
--- What was told since the start is on a device of these bytes. It is lines for the first lines of the input; each that took a ticket is
+-- What was sent since the start is on a device of these bytes. It is lines for the first lines of the input; each that took a ticket is
 -- in a log with that reply; and the bytes recover to where the log leads from the state at the start, perhaps with more of the messages
 -- that arrived. They are opened again.
 pub record HoldsSent (s : Start) (sent : Option (List ℕ)) (bytes : List ℕ) : Type 0 where
@@ -42,11 +42,11 @@ pub record HoldsSent (s : Start) (sent : Option (List ℕ)) (bytes : List ℕ) :
   pub header : HasHeader s.core.geometry bytes
   pub not_refused : refused s.core.geometry bytes ≡ None
 
--- These bytes may be told where this was told before. Since the start a legal run has led to the core as it is now, and a crash of its
--- device leaves what holds all that was logged in that run. What was told are the first answers of the run, to the lines in order, and the
+-- These bytes may be sent where this was sent before. Since the start a legal run has led to the core as it is now, and a crash of its
+-- device leaves what holds all that was logged in that run. What was sent are the first answers of the run, to the lines in order, and the
 -- bytes are the next ones.
 pub record MaySendFrom (keeps : Type 0) (s : Start) (sent : Option (List ℕ)) (now : CoreView) (bytes : List ℕ) : Type 0 where
-  -- at the start nothing was waiting, held or in doubt
+  -- at the start nothing was waiting, held or in `doubt`
   pub idle : IsIdle (core_state_of s.core)
   pub sure : s.core.doubt ≡ []
   pub next : List Line
@@ -55,17 +55,17 @@ pub record MaySendFrom (keeps : Type 0) (s : Start) (sent : Option (List ℕ)) (
   pub are_completed : AreCompleted next
   pub bytes_are : bytes ≡ joined (map text next)
 
--- Before a call has begun there is no start, and nothing may be told.
+-- Before a call has begun there is no start, and nothing may be sent.
 abbrev pub MaySend : Type 0 → Option Start → Option (List ℕ) → CoreView → List ℕ → Type 0
 MaySend keeps None sent now bytes = ⊥
 MaySend keeps (Some s) sent now bytes = MaySendFrom keeps s sent now bytes
 
--- These bytes are lines, each of which tells that a line is no message, or that a message is out of range.
-abbrev pub TellsNoReply : List ℕ → Type 0
-TellsNoReply bytes = (ls : List (List ℕ)) × (bytes ≡ joined ls)
+-- These bytes are lines, each of which reports that a line is no message, or that a message is out of range.
+abbrev pub SendsNoReply : List ℕ → Type 0
+SendsNoReply bytes = (ls : List (List ℕ)) × (bytes ≡ joined ls)
     × AllByRecursion (λ line. (line ≡ no_message) ⊎ (line ≡ reply_line (Refused Range))) ls
 
--- a line that is answered without a message: it is none, or one that is out of range
+-- a line that is completed without a reply to a message: it is none, or one that is out of range
 abbrev pub HasNoReply : Line → Type 0
 HasNoReply (Pending ticket) = ⊥
 HasNoReply (Completed ticket reply) = ⊥

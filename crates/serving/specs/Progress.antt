@@ -1,4 +1,5 @@
--- How far a server has come: the lines that it has read, those of them that it has answered in the output, and the run behind them.
+-- Statement for engineers: How far a server has come: the lines that it has read, those of them that it has answered in the output, and the
+-- run behind them.
 use Rattle.std.specs.Prelude.{◌≡◌, ℕ, Bool, true, List, ◌++◌, map, Option}
 use Rattle.std.specs.Io.KnownBytes.{Appends}
 use Rattle.std.specs.List.{AllByRecursion}
@@ -9,7 +10,7 @@ use Rattle.meaning.specs.Progress.{TakesLines}
 use Rattle.serving.specs.Lines.{AreKnown, Line, admitted, is_completed, text, ticketed}
 use Rattle.serving.specs.Runs.{RunsBetween}
 
--- From its start the server has come to this machine. It has taken these lines, of which the first ones are answered in the
+-- From its start the server has come to this machine. It has consumed these lines, of which the first ones are answered in the
 -- output, and the others are the reorder buffer.
 pub record IsServing (keeps : Type 0) (start now : MachineView) (taken : List (List ℕ)) (retired row : List Line) : Type 0 where
   -- each ticket that was answered, with its reply
@@ -20,7 +21,7 @@ pub record IsServing (keeps : Type 0) (start now : MachineView) (taken : List (L
   pub known : AreKnown start.core.geometry reply_pairs start.core.next taken (retired ++ row)
   pub answered : AllByRecursion (λ line. is_completed line ≡ true) retired
 
--- From its start the server has come to this machine and this row of lines. It has taken lines of the input, of which this is
+-- From its start the server has come to this machine and this reorder buffer. It has consumed lines of the input, of which this is
 -- left, and it has written the answers to those that are not in the reorder buffer.
 pub record ServingProgress (keeps : Type 0) (start now : MachineView) (row : List Line)
     (input left : Option (List ℕ)) (ended : Bool) (before written : Option (List ℕ)) : Type 0 where

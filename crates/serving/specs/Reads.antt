@@ -1,4 +1,4 @@
--- What reading a line has done: it is taken, and its message has arrived if it takes a ticket; or its message is refused.
+-- Inner: What reading a line has done: it is consumed, and its message has arrived if it takes a ticket; or its message is refused.
 use Rattle.std.specs.Prelude.{◌≡◌, ◌≢◌, List, ◌∷◌, ◌++◌, [], Option, Some, Result, Ok, Err}
 use Rattle.legal_runs.specs.Events.{arrive}
 use Rattle.legal_runs.specs.declared.outcomes.ArriveRefusal.{ArriveRefusal}
@@ -12,7 +12,7 @@ use Rattle.serving.specs.Runs.{Holds, IsInternal, RunsBetween}
 use Rattle.serving.specs.declared.session.ReadEnd.{ReadEnd}
 use Rattle.serving.specs.declared.session.ReadEnd.TheVariants as ends_of_reading
 
--- A line of this message, or of none, is taken: the message arrives, if it takes a ticket, and this is known of the line.
+-- A line of this message, or of none, is consumed: the message arrives, if it takes a ticket, and this is known of the line.
 pub record IsTaken (keeps : Type 0) (old new : MachineView) (m : Option Msg) (known : Line) : Type 0 where
   pub holds : Holds new
   pub passes : RunsBetween keeps old new (ticketed old.core.next (admitted_in old.core.geometry m)) []
@@ -29,8 +29,8 @@ abbrev pub read_end_of : ArriveRefusal → ReadEnd
 read_end_of arrivals.Exhausted = ends_of_reading.TicketsExhausted
 read_end_of _ = ends_of_reading.DeviceFailed
 
--- A line of this message, or of none, is taken, and is the last of the new row; or its message is refused, so that no more is read, and
--- the reorder buffer is the same.
+-- A line of this message, or of none, is consumed, and is the last of the new reorder buffer; or its message is refused, so that no more
+-- is read, and the reorder buffer is the same.
 abbrev pub TakesLine : Type 0 → MachineView → List Line → MachineView → List Line → Option Msg → Result (Unit {0}) ReadEnd → Type 0
 TakesLine keeps old row new new_row m (Ok _) = (known : Line) × IsTaken keeps old new m known × (new_row ≡ row ++ known ∷ [])
 TakesLine keeps old row new new_row m (Err stop) =

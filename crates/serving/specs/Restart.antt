@@ -1,4 +1,4 @@
--- What a restart after a crash goes on from, in words of lines: which were acknowledged, and which others are there.
+-- Statement for clients: What a restart after a crash goes on from, in words of lines: which were acknowledged, and which others are there.
 use Rattle.std.specs.Prelude.{◌≡◌, ◌⊎◌, ℕ, Bool, false, ◌&&◌, List, [], ◌∷◌, ◌++◌, Option, Some}
 use Rattle.std.specs.List.{AllByRecursion}
 use Rattle.affinity.specs.Path.{are_related}
@@ -11,7 +11,7 @@ use Rattle.messages.specs.declared.Msg.{Msg}
 use Rattle.meaning.specs.Output.{WritesOutput, joined, output_lines, state_after_lines}
 use Rattle.meaning.specs.State.{State}
 
--- Two lines are related if the messages that they spell are in range, at related places.
+-- Two lines are related if the messages that they encode are in range, at related places.
 abbrev pub are_related_lines : Geometry → Option Msg → Option Msg → Bool
 are_related_lines g (Some m) (Some n) = is_in_range g m && is_in_range g n && are_related (place g m) (place g n)
 are_related_lines g _ _ = false

@@ -1,4 +1,5 @@
--- A segment of a server's run: its machine, which is the core with what is lent, before and after, and what a crash meanwhile may leave.
+-- Statement for operators: A segment of a server's run: its machine, which is the core with what is lent, before and after, and what a
+-- crash meanwhile may leave.
 use Rattle.std.specs.Prelude.{◌≡◌, ◌+◌, ℕ, List, [], map, length, count_by, Option, Some, None}
 use Rattle.legal_runs.specs.Runs.{IsLegal, answered, arrived, last}
 use Rattle.legal_runs.specs.CoreState.{Entry, CoreState, held}
@@ -20,7 +21,7 @@ lent_hand (Some job) = has.Job job
 abbrev pub with_lent : CoreView → List (Option JobView) → MachineView
 with_lent core lent = record { core = core; hands = map lent_hand lent }
 
--- ---- A segment of a run
+-- ---- a segment of a run
 
 -- how many messages wait or are held
 abbrev pub inside : CoreState → ℕ
@@ -36,14 +37,14 @@ pub record RunsBetween (keeps : Type 0) (old new : MachineView) (come : List Ent
   pub come_are : arrived (events_of stages) ≡ come
   pub reply_pairs_are : answered (events_of stages) ≡ reply_pairs
   pub device : device_after old.core.medium stages ≡ new.core.medium
-  -- the device failed as often as the events tell
+  -- the device failed as often as the events say
   pub failures : new.core.medium.faults ≡ old.core.medium.faults + count_by (λ e. e.rose) (events_of stages)
-  -- what a crash leaves at each moment of each event
+  -- what a crash leaves at each crash point of each event
   pub any_moment : keeps → AreSafe old.core.geometry (machine_of old) old.core.medium stages
 
 -- ---- what the hands have
 
--- Each hand that isn't empty has the job of a message that is out, or what came of it; each message in one hand.
+-- Each hand that isn't empty has the job of a message in flight, or its result; each message in one hand.
 abbrev pub Holds : MachineView → Type 0
 Holds m = HoldsJobs m.core.geometry (core_state_of m.core) m.hands
 

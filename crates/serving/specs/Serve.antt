@@ -1,4 +1,4 @@
--- What a server promises of its whole call, by the answer that it gives.
+-- Statement for operators: What a server promises of its whole call, by the answer that it gives.
 use Rattle.std.specs.Prelude.{◌≡◌, ◌≢◌, ℕ, false, List, [], Option, Some, None, Result, Ok, Err, OnOk, replicate}
 use Rattle.runs.specs.Machine.{MachineView}
 use Rattle.runs.specs.Stages.{Stage}
@@ -24,8 +24,8 @@ pub record HasServedAll (keeps : Type 0) (start : MachineView) (new : CoreView) 
   pub served : HasServed keeps start new [] input before written
   pub all : AreAll input served.taken
 
--- There is a run behind what was written. Each line that was taken is answered in the output, but for a row of them where the device
--- failed, of which the first was not answered. Where the output failed it is open what was written.
+-- There is a run behind what was written. Each line that was consumed is answered in the output, but for the reorder buffer where the
+-- device failed, whose first line is not completed. Where the output failed it is unknown what was written.
 abbrev pub HasRunSo : Type 0 → MachineView → CoreView → Option (List ℕ) → Option (List ℕ) → Option (List ℕ)
     → Result (Unit {0}) ServeFault → Type 0
 HasRunSo keeps start new input before written (Ok _) = HasServedAll keeps start new input before written

@@ -1,4 +1,4 @@
--- Where a session is, that it is under way since its start, and how a call moves it.
+-- Inner: Where a session is, its invariant since its start, and how a call moves it.
 use Rattle.std.specs.Prelude.{◌≡◌, ◌≢◌, ◌+◌, ◌≤◌, ◌-◌, ◌^◌, ℕ, Bool, true, false, List, [], ◌++◌, length, map, Option, Some, None, IfSome, IsTrue, MatchResult, OnErr, Result, Ok, Err}
 use Rattle.std.specs.Io.KnownBytes.{IsAtEnd}
 use Rattle.affinity.specs.declared.geometry.Geometry.{Geometry}
@@ -32,13 +32,13 @@ pub record SessionView : Type 0 where
   -- the core, and what is lent
   pub core : CoreView
   pub dispatch_seat : DispatchSeatView
-  -- the lines that were read and not said yet, the answers that wait to be told, and what was sent
+  -- the lines that were read and not retired yet, the answers that wait to be sent, and what was sent
   pub row : ReorderBufferView
   pub out : List ℕ
   pub sent : Option (List ℕ)
   -- how many lines were read and are not answered in the output
   pub open_lines : ℕ
-  -- whether telling has failed, and why no more is read, if it is so
+  -- whether sending has failed, and why no more is read, if it is so
   pub output_failed : Bool
   pub stop : Option ReadEnd
   -- what is unread, whether all of it is, whether its end was seen, and what the reader has left behind what is held
@@ -53,7 +53,7 @@ machine p = with_lent p.core p.dispatch_seat.lent
 
 -- ---- why no more is read
 
--- Where so much was left of the input when it was last read, and so much is left behind: this is why no more is read.
+-- This is why no more is read, where so much was left of the input when it was last read, and so much is left behind.
 abbrev pub IsReadEnd : Geometry → CoreView → Option (List ℕ) → Bool → Option (List ℕ) → ReadEnd → Type 0
 IsReadEnd g now left drained behind ends_of_reading.EndOfInput = IsAtEnd left × IsAtEnd behind
 IsReadEnd g now left drained behind ends_of_reading.ReadFailed = (drained ≡ false) × IfSome left (λ bs. LosesFront bs behind)
@@ -62,7 +62,7 @@ IsReadEnd g now left drained behind ends_of_reading.TicketsExhausted = (now.next
     × (message_of line ≡ Some m) × (is_in_range g m ≡ true))
 IsReadEnd g now left drained behind ends_of_reading.DeviceFailed = now.failed ≡ true
 
--- ---- under way
+-- ---- the session invariant
 
 -- known, unless the output has failed
 abbrev pub known_unless : Bool → Option (List ℕ) → Option (List ℕ)
@@ -70,18 +70,18 @@ known_unless true known = None
 known_unless false known = known
 
 -- From the start a legal run has led to this place, and so much of the input is left. The answers that wait are those of the next lines
--- that are to be told, each of which is answered in the run; behind them are the lines of the reorder buffer.
+-- that are to be sent, each of which is completed; behind them are the lines of the reorder buffer.
 pub record SessionProgress (keeps : Type 0) (s : Start) (p : SessionView) (left : Option (List ℕ)) (drained : Bool) : Type 0 where
   pub waiting : List Line
   pub are_completed : AreCompleted waiting
   pub out_is : p.out ≡ joined (map text waiting)
-  -- Open are the lines whose answers wait and those of the reorder buffer. There are never more of them than slots.
+  -- Outstanding are the lines whose answers wait and those of the reorder buffer. There are never more of them than slots.
   pub counted : p.open_lines ≡ length waiting + length p.row.lines
   pub bounded : p.open_lines ≤ p.row.slots
   pub goes : ServingProgress keeps (start_machine s) (machine p) (waiting ++ p.row.lines) s.input left drained
       (known_unless p.output_failed s.before) (known_unless p.output_failed p.sent)
 
--- So it has, and no more is read for this reason.
+-- A legal run has led here, and no more is read for this reason.
 pub record HasEndedReading (keeps : Type 0) (s : Start) (p : SessionView) (stop : ReadEnd) : Type 0 where
   pub left : Option (List ℕ)
   pub drained : Bool
@@ -93,7 +93,7 @@ ReadsOrHasEnded keeps s p None = SessionProgress keeps s p p.left p.drained
 ReadsOrHasEnded keeps s p (Some stop) = HasEndedReading keeps s p stop
 
 pub record SessionInvariant (keeps : Type 0) (s : Start) (p : SessionView) : Type 0 where
-  -- nothing was in the core or in doubt at the start, and the reorder buffer has no more places than it has slots
+  -- nothing was in the core or its `doubt` at the start, and the reorder buffer has no more places than the core has slots
   pub idle : IsIdle (core_state_of s.core)
   pub sure : s.core.doubt ≡ []
   pub fits : p.row.slots ≤ s.core.slots
@@ -103,14 +103,15 @@ pub record SessionInvariant (keeps : Type 0) (s : Start) (p : SessionView) : Typ
   pub knows : IsTrue p.ended → IsAtEnd p.behind
   pub reads : ReadsOrHasEnded keeps s p p.stop
 
--- Before a call has begun there is no start, and no place is under way.
+-- Before a call has begun there is no start, and no place satisfies the invariant.
 abbrev pub SessionInvariantFrom : Type 0 → Option Start → SessionView → Type 0
 SessionInvariantFrom keeps None p = ⊥
 SessionInvariantFrom keeps (Some s) p = SessionInvariant keeps s p
 
--- A call may begin at this start: nothing is in the core or in doubt, it works, and the reorder buffer is empty and has no more places than it has
--- slots.
-pub record CanBegin (start : Option Start) (core : CoreView) (places : ℕ) (input sent : Option (List ℕ)) (row : ReorderBufferView) : Type 0 where
+-- A call may begin at this start: nothing is in the core or its `doubt`, it works, and the reorder buffer is empty and has no more
+-- places than the core has slots.
+pub record CanBegin (start : Option Start) (core : CoreView) (places : ℕ) (input sent : Option (List ℕ))
+    (row : ReorderBufferView) : Type 0 where
   pub is : start ≡ Some (record { core = core; places = places; input = input; before = sent })
   pub idle : IsIdle (core_state_of core)
   pub works : core.failed ≡ false
@@ -132,7 +133,8 @@ HasHalted p = p.output_failed ≡ false → p.core.failed ≡ true
 abbrev pub IsSessionStep : {A : Type 0} → SessionView → SessionView → Result A Halted → Type 0
 IsSessionStep old new result = (new.stop ≡ old.stop) × MatchResult result (λ _. new.output_failed ≡ old.output_failed) (λ _. HasHalted new)
 
--- Where a consistency point was to begin, and was answered so: it has begun, or waits for a message that is held; or the session halts.
+-- Where a consistency point was to begin, and was answered so: it has begun, or waits for a message that is held; or the session has
+-- halted.
 abbrev pub BeginsOrWaits : Result (Unit {0}) PointRefusal → Result (Unit {0}) Halted → Type 0
 BeginsOrWaits (Ok _) result = OnErr result ⊥
 BeginsOrWaits (Err why) result = MatchResult result (λ _. why ≡ refusals.Held) (λ _. why ≢ refusals.Held)
@@ -151,7 +153,7 @@ pub record IsServed (p : SessionView) : Type 0 where
   pub works : p.core.failed ≡ false
   pub whole : p.output_failed ≡ false
 
--- So it is, since no more was read for this reason; and at the end of the input no record of the log is in force.
+-- All is served, and no more was read for this reason; and at the end of the input no record of the log is in force.
 pub record HasFinished (keeps : Type 0) (p : SessionView) (stop : ReadEnd) : Type 0 where
   pub is : p.stop ≡ Some stop
   pub served : IsServed p
@@ -164,7 +166,7 @@ end_of ends_of_reading.ReadFailed = Err faults.Read
 end_of ends_of_reading.TicketsExhausted = Err faults.Exhausted
 end_of ends_of_reading.DeviceFailed = Err faults.Device
 
--- What ended it, by the answer of the call. Where something has failed, all jobs are back, and what was logged is answered.
+-- What ended it, by the answer of the call. Where something has failed, all jobs are collected, and what was logged is answered.
 abbrev pub EndsBy : SessionView → Result (Unit {0}) ServeFault → Type 0
 EndsBy p (Ok _) = IsServed p × (p.stop ≡ Some ends_of_reading.EndOfInput)
 EndsBy p (Err faults.Read) = IsServed p × (p.stop ≡ Some ends_of_reading.ReadFailed)

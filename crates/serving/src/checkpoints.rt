@@ -5,8 +5,8 @@ ghost use Rattle.legal_runs.specs.CoreState.{held};
 ghost use Rattle.scheduler.specs.CoreView.{core_state_of};
 ghost use Rattle.serving.specs.Session.{BeginsOrWaits, IsSessionStep, steps_left};
 
-use crate::session::{Halted, Session};
 use crate::output::ReplySink;
+use crate::session::{Halted, Session};
 use disk::Disk;
 use legal_runs::PointRefusal;
 use messages::Reply;
@@ -27,14 +27,14 @@ impl CheckpointTrigger {
         CheckpointTrigger { every, since: 0 }
     }
 
-    /// A message is answered so. Counts it if it changed something, and so was logged.
+    /// Counts a message with this reply, if it changed something, and so was logged.
     pub(crate) fn count(&mut self, reply: &Reply) {
         if matches!(reply, Reply::Done) {
             self.since = self.since.saturating_add(1);
         }
     }
 
-    /// A consistency point was to begin, and the core has answered so. It has begun, or will where no message is held any more; else the
+    /// A consistency point was to begin, with this answer of the core. It has begun, or will where no message is held any more; else the
     /// device has failed.
     fn begin(&mut self, cut: Result<(), PointRefusal>) -> Result<(), Halted>
         ensures { BeginsOrWaits cut result }
@@ -89,8 +89,8 @@ impl<'c, R: Read, D: Disk, L: ReplySink<D>> Session<'c, R, D, L> {
         self.trigger.begin(cut)
     }
 
-    /// Where no job is out and no message may go out or be read: takes the consistency point in progress a step on, or begins one where it
-    /// is due or a message lacks room in the log alone. Whether it did either.
+    /// Where no job is in flight and no message may be dispatched or read: takes the consistency point in progress a step on, or begins
+    /// one where it is due or a message lacks room in the log alone. Whether it did either.
     pub(crate) fn step_point(&mut self, lacks_room: bool) -> Result<bool, Halted>
         ensures moves { IsSessionStep self.old self.new result }
     {

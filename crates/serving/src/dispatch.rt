@@ -1,5 +1,5 @@
-//! One turn of a session: messages go out, and what came back is logged in one go and answered; where nothing else can be done,
-//! it waits or begins a consistency point.
+//! One iteration of a session: messages are dispatched, and what was collected is logged in one go and answered; where nothing else
+//! can be done, it waits or begins a consistency point.
 
 ghost use Rattle.std.specs.Prelude.{◌≡◌, ◌<◌, ◌≤◌, ◌-◌, ◌↔◌, IsTrue, OnErr, OnOk, Some, [], None, false, is_none, length, position, true};
 ghost use Rattle.scheduler.specs.CoreView.{core_state_of};
@@ -7,8 +7,8 @@ ghost use Rattle.serving.specs.Lending.{DispatchesTo, IsEndOfDispatch, NoneInFli
 ghost use Rattle.serving.specs.Session.{KeepsStreams, IsSessionStep};
 
 use crate::gated_runtime::GatedRuntime;
-use crate::session::{Halted, Session, or_halt};
 use crate::output::ReplySink;
+use crate::session::{Activity, Halted, Session, or_halt};
 use disk::Disk;
 use messages::Reply;
 use scheduler::Granted;
@@ -17,31 +17,31 @@ use std::io::Read;
 use std::thread::yield_now;
 use workers::{Bench, DispatchSeat};
 
-/// How many messages may come back before what ran is logged: the log writes as many records with one write of their bodies and
+/// How many messages may be collected before what ran is logged: the log writes as many records with one write of their bodies and
 /// one of their gates.
 const BATCH: usize = 64;
 
-/// How often all places are looked at in a reorder buffer in vain before a batch is logged as it is: some ten times as long as a thread takes to
-/// wake up. Each further message spares the log a write, and no reply waits longer than that for a job that is slow.
+/// How many looks at all places in succession may be in vain before a batch is logged as it is: some ten times as long as a thread
+/// takes to wake up. Each further message spares the log a write, and no reply waits longer than that for a job that is slow.
 const PATIENCE: usize = 16384;
 
-/// How often they are looked at until other threads may go first, if they wait for a processor.
+/// After how many looks other threads may go first, if they wait for a processor.
 const LOOKS: usize = 32;
 
-/// What has come back in one turn, and what kept messages from going out. Gathering ends since the count falls; one that begins elsewhere
-/// makes a longer or a shorter batch, which no contract forbids.
+/// What was collected in one iteration, and what kept messages from being dispatched. Collecting ends since the count falls; a count
+/// that begins elsewhere makes a longer or a shorter batch, which no contract forbids.
 #[derive(Clone, Copy)]
 struct Batch {
-    /// How many more messages may come back before what ran is logged.
+    /// How many more messages may be collected before what ran is logged.
     left: usize,
     /// Whether one of them changed something, so that it has to be written to the log.
     changed: bool,
-    /// Whether some message lacked room in the log alone, when messages went out last.
+    /// Whether some message lacked room in the log alone, when messages were dispatched last.
     lacks_room: bool,
 }
 
 impl Batch {
-    /// One in which nothing has come back yet.
+    /// One in which nothing was collected yet.
     fn new(lacks_room: bool) -> Batch {
         Batch {
             left: BATCH,
@@ -50,7 +50,7 @@ impl Batch {
         }
     }
 
-    /// A message has come back, which changed something or didn't.
+    /// A message was collected, which changed something or didn't.
     fn add(&mut self, changed: bool)
         ensures { self.new.left ≡ self.old.left - 1 }
     {
@@ -58,41 +58,46 @@ impl Batch {
         self.changed = self.changed || changed;
     }
 
-    /// Whether something has come back.
+    /// Whether something was collected.
     fn has_come(&self) -> bool {
         self.left < BATCH
     }
 
-    /// Whether what ran is to be logged before more comes back.
+    /// Whether what ran is to be logged before more is collected.
     fn is_full(&self) -> bool
         ensures { IsTrue result ↔ (self.now.left ≡ 0) }
     {
         self.left == 0
     }
 
-    /// Whether it gains nothing by more: it is full, or what has come back is logged without a write.
+    /// Whether it gains nothing by more: it is full, or what was collected is logged without a write.
     fn is_ripe(&self) -> bool {
         self.is_full() || self.has_come() && !self.changed
     }
 }
 
-/// What came of it where a message was to go out.
+/// What came of dispatching a message.
 #[derive(Clone, Copy)]
 enum Dispatched {
-    /// The message went out, and its job is offered to the workers.
+    /// The message is dispatched, and its job is offered to the workers.
     Job,
     /// None is eligible, and none waits only for room in the log.
     NoneEligible,
     /// No message is eligible, and some message lacks room in the log alone.
     NoRoom,
-    /// Nothing goes out, since the device has failed.
+    /// Nothing is dispatched, since the device has failed.
     Failed,
 }
 
-/// Lends what was granted to the workers at place k of a bench, the first where nothing is lent, if it is a job. It is inlined, so that
-/// the job isn't moved once more.
+/// Offers what was granted to the workers at place k of a bench, the first where nothing is lent, if it is a job. It is inlined, so
+/// that the job isn't moved once more.
 #[inline(always)]
-fn offer_granted(bench: &Bench, dispatch_seat: &mut DispatchSeat, k: usize, granted: Granted) -> Dispatched
+fn offer_granted(
+    bench: &Bench,
+    dispatch_seat: &mut DispatchSeat,
+    k: usize,
+    granted: Granted,
+) -> Dispatched
     requires bench { dispatch_seat.old.bench ≡ bench.now }
     requires place { k < bench.now.slots }
     requires first { position is_none dispatch_seat.old.lent ≡ Some k }
@@ -120,7 +125,7 @@ fn pause(looks: usize) {
 }
 
 impl<'c, R: Read, D: Disk, L: ReplySink<D>> Session<'c, R, D, L> {
-    /// Lets the eligible message with the least ticket go out to place k, the first where nothing is lent.
+    /// Dispatches the eligible message with the least ticket to place k, the first where nothing is lent.
     fn dispatch_to(&mut self, k: usize) -> Dispatched
         requires first { position is_none self.old.dispatch_seat.lent ≡ Some k }
         ensures as_before { KeepsStreams self.old self.new }
@@ -133,8 +138,8 @@ impl<'c, R: Read, D: Disk, L: ReplySink<D>> Session<'c, R, D, L> {
         offer_granted(self.bench, &mut self.dispatch_seat, k, granted)
     }
 
-    /// Lets eligible messages go out, the one with the least ticket first, until something is lent at each place or none goes any
-    /// more: why. `Dispatched::Job` tells that no place is left.
+    /// Dispatches eligible messages, the one with the least ticket first, until something is lent at each place or no further one can be
+    /// dispatched: why. `Dispatched::Job` means that no place is left.
     fn dispatch_all(&mut self) -> Dispatched
         ensures as_before { KeepsStreams self.old self.new }
         ensures ended { IsEndOfDispatch self.new.core.geometry (core_state_of self.new.core) self.new.dispatch_seat.lent result }
@@ -148,15 +153,15 @@ impl<'c, R: Read, D: Disk, L: ReplySink<D>> Session<'c, R, D, L> {
         Dispatched::Job
     }
 
-    /// Lets messages go out, unless a consistency point is due by the number of records: whether one lacks room in the log
-    /// alone. None goes out where the device has failed, as the next log tells.
+    /// Dispatches messages, unless a consistency point is due by the number of records: whether one lacks room in the log
+    /// alone. None is dispatched where the device has failed, as the next log reports.
     fn dispatch_ready(&mut self) -> bool
         ensures as_before { KeepsStreams self.old self.new }
     {
         !self.trigger.is_due(self.core.left()) && matches!(self.dispatch_all(), Dispatched::NoRoom)
     }
 
-    /// Takes back what came of the job at place k, if it is there: whether it changed something.
+    /// Collects the result of the job at place k, if it was delivered: whether it changed something.
     fn collect_one(&mut self, k: usize) -> Option<bool>
         requires place { k < length self.old.dispatch_seat.lent }
         ensures as_before { KeepsStreams self.old self.new }
@@ -172,7 +177,7 @@ impl<'c, R: Read, D: Disk, L: ReplySink<D>> Session<'c, R, D, L> {
         Some(changed)
     }
 
-    /// Looks once at each place, and takes back what came of jobs that are out, until the batch is full: whether something did.
+    /// Looks once at each place, and collects the results that were delivered, until the batch is full: whether there was one.
     fn collect_delivered(&mut self, batch: &mut Batch) -> bool
         ensures as_before { KeepsStreams self.old self.new }
         ensures failed { self.new.core.failed ≡ self.old.core.failed }
@@ -191,7 +196,7 @@ impl<'c, R: Read, D: Disk, L: ReplySink<D>> Session<'c, R, D, L> {
         came
     }
 
-    /// Waits for the jobs that are out, and takes back what comes of them. Nothing is lent then.
+    /// Waits for the jobs in flight, and collects their results. Nothing is lent then.
     pub(crate) fn drain_workers<W: GatedRuntime>(&mut self, rt: &W)
         ensures as_before { KeepsStreams self.old self.new }
         ensures failed { self.new.core.failed ≡ self.old.core.failed }
@@ -208,8 +213,8 @@ impl<'c, R: Read, D: Disk, L: ReplySink<D>> Session<'c, R, D, L> {
         }
     }
 
-    /// Lets messages go out and takes back what comes of them, until the batch is worth a write of the log, nothing is lent any more,
-    /// or nothing came back in a while. Where something came, further messages go out, so that jobs run meanwhile. It waits for nobody.
+    /// Dispatches messages and collects results, until the batch is worth a write of the log, nothing is lent any more, or nothing was
+    /// collected in a while. Where something was, further messages are dispatched, so that jobs run meanwhile. It waits for nobody.
     fn dispatch_and_collect(&mut self) -> Batch
         ensures as_before { KeepsStreams self.old self.new }
     {
@@ -228,7 +233,7 @@ impl<'c, R: Read, D: Disk, L: ReplySink<D>> Session<'c, R, D, L> {
         batch
     }
 
-    /// Logs all that ran, in one go. Where nothing ran, it tells no more than whether the device works.
+    /// Logs all that ran, in one go. Where nothing ran, it reports no more than whether the device works.
     pub(crate) fn log_what_ran(&mut self) -> Result<usize, Halted>
         ensures moves { IsSessionStep self.old self.new result }
         ensures same { (self.new.row ≡ self.old.row) × (self.new.out ≡ self.old.out) × (self.new.dispatch_seat ≡ self.old.dispatch_seat) }
@@ -241,7 +246,7 @@ impl<'c, R: Read, D: Disk, L: ReplySink<D>> Session<'c, R, D, L> {
         or_halt(self.core.log(count))
     }
 
-    /// Logs what ran in one go, answers it, and lets the lines that are next in order wait to be told. A consistency point in progress
+    /// Logs what ran in one go, answers it, and retires the lines that are next in order. A consistency point in progress
     /// goes on by one step behind each answer.
     fn log_and_reply<W: GatedRuntime>(&mut self, rt: &W) -> Result<(), Halted>
         ensures moves { IsSessionStep self.old self.new result }
@@ -257,44 +262,55 @@ impl<'c, R: Read, D: Disk, L: ReplySink<D>> Session<'c, R, D, L> {
         Ok(())
     }
 
-    /// Whether at least half as many answers wait as lines may be open. They are told then, so that other lines are read in their place
-    /// while the rest are worked off.
+    /// Whether at least half as many answers wait as lines may be outstanding. They are sent then, so that other lines are read in their
+    /// place while the rest are worked off.
     fn half_waits(&self) -> bool {
         let slots = self.row.slots();
         self.open_lines.saturating_sub(self.row.len()) >= slots - slots / 2
     }
 
-    /// Where no message goes out or comes back: tells what waits. If a line may be read then that is held, this is all; else it waits for
-    /// a result where a job is out, or takes a step of a consistency point. Whether nothing is left to do but to read.
-    fn flush_or_wait<W: GatedRuntime>(&mut self, rt: &W, lacks_room: bool) -> Result<bool, Halted>
+    /// Where no message is dispatched or collected: sends what waits. If then a line is held that may be read, this is all; else it waits
+    /// for a result where a job is in flight, or takes a step of a consistency point.
+    fn flush_or_wait<W: GatedRuntime>(
+        &mut self,
+        rt: &W,
+        lacks_room: bool,
+    ) -> Result<Activity, Halted>
         ensures moves { IsSessionStep self.old self.new result }
     {
         self.flush_replies()?;
         if self.can_read() {
-            return Ok(false);
+            return Ok(Activity::Busy);
         }
         if self.dispatch_seat.any_lent() {
             self.bench.wait(rt, &mut self.dispatch_seat);
-            return Ok(false);
+            return Ok(Activity::Busy);
         }
         let stepped = self.step_point(lacks_room)?;
-        Ok(!stepped)
+        Ok(if stepped {
+            Activity::Busy
+        } else {
+            Activity::Idle
+        })
     }
 
-    /// Whether each line that was read is answered, and no further one is held: its client may wait for what is to be told.
+    /// Whether each line that was read is retired, and no further one is held: its client may wait for what is to be sent.
     fn has_caught_up(&self) -> bool {
         self.stop.is_none() && self.row.len() == 0 && !self.lines.holds_line()
     }
 
-    /// Does what can be done: whether nothing is left to do but to read. Where lines were read just before, it rests only if each is
-    /// answered.
-    pub(crate) fn advance<W: GatedRuntime>(&mut self, rt: &W, read: bool) -> Result<bool, Halted>
+    /// Does what can be done. Where lines were read just before, or results came, it waits for nothing, unless each line is retired.
+    pub(crate) fn advance<W: GatedRuntime>(
+        &mut self,
+        rt: &W,
+        read: Activity,
+    ) -> Result<Activity, Halted>
         ensures moves { IsSessionStep self.old self.new result }
     {
         let batch = self.dispatch_and_collect();
         self.log_and_reply(rt)?;
-        if (read || batch.has_come()) && !self.has_caught_up() {
-            return Ok(false);
+        if (matches!(read, Activity::Busy) || batch.has_come()) && !self.has_caught_up() {
+            return Ok(Activity::Busy);
         }
         self.flush_or_wait(rt, batch.lacks_room)
     }

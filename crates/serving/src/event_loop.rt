@@ -1,5 +1,5 @@
 //! The loop of a session: lines are read and worked off, until no more is read and each is answered. Where the device or the output
-//! has failed, jobs that are out come back, and what can still be done is done.
+//! has failed, jobs in flight are collected, and what can still be done is done.
 
 ghost use Rattle.std.specs.Prelude.{◌≡◌, Err, IfSome, MatchResult, None, OnOk, Some, [], false};
 ghost use Rattle.serving.specs.Serve.{HasEmptyLog};
@@ -8,9 +8,9 @@ ghost use Rattle.serving.specs.declared.session.ReadEnd.{ReadEnd};
 ghost use Rattle.serving.specs.declared.session.ReadEnd.TheVariants as ends_of_reading;
 
 use crate::gated_runtime::GatedRuntime;
-use crate::server::ServeFault;
-use crate::session::{Halted, Session, ReadEnd, or_halt};
 use crate::output::ReplySink;
+use crate::server::ServeFault;
+use crate::session::{Activity, Halted, ReadEnd, Session, or_halt};
 use disk::Disk;
 use std::io::Read;
 use std::sync::Wait;
@@ -29,7 +29,7 @@ fn reported_for(stop: Option<ReadEnd>) -> Result<(), ServeFault>
 }
 
 impl<'c, R: Read, D: Disk, L: ReplySink<D>> Session<'c, R, D, L> {
-    /// Ends where something has failed: jobs that are out come back. What ran is logged, unless the device has failed; all that is
+    /// Ends where something has failed: jobs in flight are collected. What ran is logged, unless the device has failed; all that is
     /// logged is answered; and the lines next in order are still written, unless the output has failed. Why the server ends then.
     fn end_early<W: GatedRuntime>(&mut self, rt: &W) -> ServeFault
         requires halted { HasHalted self.old }
@@ -56,7 +56,7 @@ impl<'c, R: Read, D: Disk, L: ReplySink<D>> Session<'c, R, D, L> {
     }
 
     /// Sends all that waits, and makes the last consistency point at the end of the input: nothing waits or is held then, and the log is
-    /// empty behind it. The device works then: nothing is left to log, and a log of nothing tells whether it has failed.
+    /// empty behind it. The device works then: nothing is left to log, and a log of nothing reports whether it has failed.
     fn finish(&mut self, stop: ReadEnd) -> Result<(), Halted>
         requires row { self.old.row.lines ≡ [] }
         requires none { self.old.core.left ≡ None }
@@ -77,20 +77,21 @@ impl<'c, R: Read, D: Disk, L: ReplySink<D>> Session<'c, R, D, L> {
     fn serve_lines<W: GatedRuntime>(&mut self, rt: &W) -> Result<(), Halted>
         ensures served { MatchResult result (λ _. (stop : ReadEnd) × HasFinished D.keeps self.new stop) (λ _. HasHalted self.new) }
     {
-        let mut idle = false;
+        let mut last = Activity::Busy;
         for _ in rt.forever() {
-            let read = self.read_more(idle);
+            let read = self.read_more(last);
             let ended = self.ended();
             if let Some(stop) = ended {
                 return self.finish(stop);
             }
-            idle = self.advance(rt, read)?;
+            last = self.advance(rt, read)?;
         }
         unreachable!()
     }
 }
 
-impl<'c, R: Read, D: Disk, L: ReplySink<D>> DispatcherTask<Result<(), ServeFault>> for Session<'c, R, D, L> {
+impl<'c, R: Read, D: Disk, L: ReplySink<D>> DispatcherTask<Result<(), ServeFault>>
+    for Session<'c, R, D, L> {
     ghost use Rattle.std.specs.Prelude.{◌≡◌, OnOk, false};
     ghost use Rattle.serving.specs.Serve.{HasEmptyLog};
     ghost use Rattle.serving.specs.Session.{EndsBy};

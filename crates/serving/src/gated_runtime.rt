@@ -1,9 +1,9 @@
-//! With what a session works beside its bench: the runtime of its call, with the gate that is told of the jobs.
+//! With what a session works beside its bench: the runtime of its call, with the gate that is notified of the jobs.
 
 use std::sync::Wait;
 use workers::Gate;
 
-/// A runtime with the gate that is told of the jobs.
+/// A runtime with the gate that is notified of the jobs.
 pub(crate) trait GatedRuntime: Wait {
     /// The message of this ticket was just answered.
     fn answered(&self, ticket: u64);

@@ -8,17 +8,18 @@ ghost use Rattle.serving.specs.Reads.{TakesLine};
 ghost use Rattle.reorder_buffer.specs.ReorderBuffer.{AreConsecutive, with_tickets};
 ghost use Rattle.serving.specs.Runs.{Holds};
 
-use crate::session::{Session, ReadEnd};
 use crate::output::ReplySink;
+use crate::session::{Activity, ReadEnd, Session};
 use disk::Disk;
 use legal_runs::ArriveRefusal;
-use reorder_buffer::{Line, ReorderBuffer};
 use message::Found;
+use reorder_buffer::{Line, ReorderBuffer};
 use scheduler::Core;
 use std::io::Read;
 
-/// Takes a line of these bytes into the reorder buffer, and its message, if it is one, into the core. One that is out of range takes no ticket. Or
-/// its message is refused, and this is why no more is read. Where the reorder buffer has a place for the line, the core has a slot for its message.
+/// Takes a line of these bytes into the reorder buffer, and its message, if it is one, into the core. One that is out of range takes no
+/// ticket. Or its message is refused, and this is why no more is read. Where the reorder buffer has a place for the line, the core has a
+/// slot for its message.
 fn take<D: Disk>(core: &mut Core<D>, row: &mut ReorderBuffer, line: &[u8]) -> Result<(), ReadEnd>
     requires room { length row.old.lines < row.old.slots }
     requires order { AreConsecutive (with_tickets row.old.lines ++ Pending core.old.next ∷ []) }
@@ -43,12 +44,13 @@ fn take<D: Disk>(core: &mut Core<D>, row: &mut ReorderBuffer, line: &[u8]) -> Re
             Ok(())
         }
         Err(ArriveRefusal::Exhausted) => Err(ReadEnd::TicketsExhausted),
+        // The core has a slot wherever the reorder buffer has a place, so this is never the case.
         Err(ArriveRefusal::Full) => Err(ReadEnd::DeviceFailed),
         Err(ArriveRefusal::Failed) => Err(ReadEnd::DeviceFailed),
     }
 }
 
-/// Whether a further line may be read: nothing has stopped it, and fewer lines are open than there are slots.
+/// Whether a further line may be read: reading has not ended, and fewer lines are outstanding than there are slots.
 fn may_read(stop: Option<ReadEnd>, open_lines: usize, slots: usize) -> bool
     ensures { IsTrue result ↔ ((stop ≡ None) × (open_lines < slots)) }
 {
@@ -56,8 +58,8 @@ fn may_read(stop: Option<ReadEnd>, open_lines: usize, slots: usize) -> bool
 }
 
 impl<'c, R: Read, D: Disk, L: ReplySink<D>> Session<'c, R, D, L> {
-    /// Reads the next line, if there is one, while fewer lines are open than there are slots: whether there was one. Else the session has
-    /// stopped.
+    /// Reads the next line, if there is one, while fewer lines are outstanding than there are slots: whether there was one. Else reading
+    /// has ended.
     fn read_next(&mut self) -> bool
         requires reads { self.old.stop ≡ None }
         requires room { self.old.open_lines < self.old.row.slots }
@@ -104,18 +106,18 @@ impl<'c, R: Read, D: Disk, L: ReplySink<D>> Session<'c, R, D, L> {
         may_read(self.stop, self.open_lines, self.row.slots()) && self.lines.holds_line()
     }
 
-    /// Reads lines that are held, while fewer lines are open than there are slots. Where it may wait, the next line is read first, also if
-    /// none is held: others may come with it, and a change is logged with theirs, not by itself. Whether there was one. None is read once
-    /// the session has stopped.
-    pub(crate) fn read_more(&mut self, may_wait: bool) -> bool
+    /// Reads lines that are held, while fewer lines are outstanding than there are slots. Where all else was idle, the next line is read
+    /// first, also if none is held: others may come with it, and a change is logged with theirs, not by itself. None is read once reading
+    /// has ended.
+    pub(crate) fn read_more(&mut self, last: Activity) -> Activity
         ensures whole { self.new.output_failed ≡ self.old.output_failed }
     {
-        let mut read = false;
+        let mut read = Activity::Idle;
         while may_read(self.stop, self.open_lines, self.row.slots())
-            && ((may_wait && !read) || self.lines.holds_line())
+            && (matches!((last, read), (Activity::Idle, Activity::Idle)) || self.lines.holds_line())
             && self.read_next()
         {
-            read = true;
+            read = Activity::Busy;
         }
         read
     }

@@ -29,7 +29,7 @@ ghost use Rattle.serving.specs.Ends.{EndsSo, HasRunLines, HasServed, IsWoundUp, 
 ghost use Rattle.serving.specs.Progress.{ServingProgress};
 ghost use Rattle.serving.specs.Restart.{BytesRecover};
 ghost use Rattle.serving.specs.Logged.{AreInLog, HoldsLog};
-ghost use Rattle.serving.specs.Output.{HoldsSent, MaySend, Start, TellsNoReply};
+ghost use Rattle.serving.specs.Output.{HoldsSent, MaySend, Start, SendsNoReply};
 ghost use Rattle.serving.specs.Lines.{AreKnown, Line, admitted, is_completed, text, ticketed};
 ghost use Rattle.runs.specs.Machine.{MachineView, machine_of};
 ghost use Rattle.runs.specs.Stages.{Stage, device_after, events_of};
@@ -39,7 +39,7 @@ ghost use Rattle.serving.specs.declared.server.ServeFault.TheVariants as faults;
 use disk::Disk;
 
 /// Lines whose messages got the serial server's replies by ticket are answered as the serial server answers them,
-/// as far as they are answered; and their messages lead where the lines lead there.
+/// as far as they are completed; and their messages lead where the lines lead there.
 pub fn known_lines_are_serial()
     ensures output { (g : Geometry) (x : State) (n : ℕ) (ls : List (List ℕ)) (replies : List (ℕ × Reply)) (retired row : List Line)
         → ((reply : ℕ × Reply) → Contains replies reply → Contains (serial_replies g x (ticketed n (admitted g ls))) reply)
@@ -48,9 +48,10 @@ pub fn known_lines_are_serial()
     ensures state { (g : Geometry) (x : State) (ls : List (List ℕ)) → fold g x (admitted g ls) ≡ state_after_lines g x ls }
 {}
 
-/// A segment of a run that goes on where another ended makes one stretch with it.
+/// A segment of a run that goes on where another ended makes one segment with it.
 pub fn segments_join<D: Disk>()
-    ensures { (old mid new : MachineView) (come more : List Entry) (replies others : List (ℕ × Reply)) → RunsBetween D.keeps old mid come replies
+    ensures { (old mid new : MachineView) (come more : List Entry) (replies others : List (ℕ × Reply))
+        → RunsBetween D.keeps old mid come replies
         → RunsBetween D.keeps mid new more others → RunsBetween D.keeps old new (come ++ more) (replies ++ others) }
 {}
 
@@ -82,10 +83,12 @@ pub fn each_message_inside_has_its_line<D: Disk>()
 /// there is a legal run.
 pub fn serving_ends_as_the_serial_server<D: Disk>()
     ensures whole { (start now : MachineView) (input left : Option (List ℕ)) (ended : Bool) (before written : Option (List ℕ))
-        → IsIdle (core_state_of start.core) → ServingProgress D.keeps start now [] input left ended before written → now.core.failed ≡ false → IsAtEnd left
+        → IsIdle (core_state_of start.core) → ServingProgress D.keeps start now [] input left ended before written
+        → now.core.failed ≡ false → IsAtEnd left
         → EndsSo start.core now.core input left before written (Ok tt) }
     ensures read { (start now : MachineView) (input left behind before written : Option (List ℕ)) → IsIdle (core_state_of start.core)
-        → ServingProgress D.keeps start now [] input left false before written → now.core.failed ≡ false → IfSome left (λ bs. LosesFront bs behind)
+        → ServingProgress D.keeps start now [] input left false before written → now.core.failed ≡ false
+        → IfSome left (λ bs. LosesFront bs behind)
         → EndsSo start.core now.core input behind before written (Err faults.Read) }
     ensures exhausted { (start now : MachineView) (input left behind : Option (List ℕ)) (ended : Bool) (before written : Option (List ℕ))
         (line : List ℕ) (m : Msg) → IsIdle (core_state_of start.core) → ServingProgress D.keeps start now [] input left ended before written
@@ -103,7 +106,7 @@ pub fn serving_ends_as_the_serial_server<D: Disk>()
         → HasServed D.keeps start now.core row input before written }
 {}
 
-/// Where nothing was in doubt in the beginning, the device holds what was answered. Each line that was written for a message with a
+/// Where `doubt` was empty in the beginning, the device holds what was answered. Each line that was written for a message with a
 /// ticket is of a message logged in its run, with that ticket and that reply. A crash at any moment since event k ended
 /// leaves what recovers to where all that was logged by then leads, perhaps with more of the messages that arrived; and so, when the
 /// server has ended, for all that was logged in the run.
@@ -123,25 +126,26 @@ pub fn what_was_sent_is_on_the_device<D: Disk>()
         → AreInLog start.core.geometry (went (machine_of start) (events_of h.stages)) start.core.next h.taken (map text h.retired) }
 {}
 
-/// What may be told is on the device: once it is told, whatever a crash leaves of the device, as it was then, holds all that was sent.
+/// What may be sent is on the device: once it is sent, whatever a crash leaves of the device, as it was then, holds all that was sent.
 pub fn what_may_be_sent_is_on_the_device<D: Disk>()
     ensures { (s : Start) (sent later : Option (List ℕ)) (now : CoreView) (bytes : List ℕ) → MaySend D.keeps (Some s) sent now bytes
         → D.keeps → Appends sent later bytes → (c : List ℕ) → IsCrashImage now.medium c → HoldsSent s later c }
 {}
 
-/// What may be told is recovered: once it is told, whatever a crash leaves of the device, as it was then, recovers to a state with each line
-/// that was told, and with a closed part of the lines behind them.
+/// What may be sent is recovered: once it is sent, whatever a crash leaves of the device, as it was then, recovers to a state with each
+/// line that was sent, and with a closed part of the lines behind them.
 pub fn what_may_be_sent_is_recovered<D: Disk>()
     ensures { (s : Start) (sent later : Option (List ℕ)) (now : CoreView) (bytes : List ℕ) → MaySend D.keeps (Some s) sent now bytes
         → D.keeps → Appends sent later bytes → (c : List ℕ) → IsCrashImage now.medium c
         → BytesRecover s.core.geometry (committed_in s.core) s.input s.before later c }
 {}
 
-/// Nothing may be told too early: as long as each message that has arrived is still inside, waiting or held, no call may tell a reply,
-/// among whatever other lines: it tells lines that are no message or out of range. So none tells that a message was carried out.
+/// Nothing may be sent too early: as long as each message that has arrived is still inside, waiting or held, no call may send a reply,
+/// among whatever other lines: it sends lines for what is no message or out of range. So none reports that a message was carried out.
 pub fn nothing_is_sent_before_it_is_answered<D: Disk>()
-    ensures none { (s : Start) (sent : Option (List ℕ)) (now : CoreView) (bytes : List ℕ) → inside (core_state_of now) + s.core.next ≡ now.next
-        → MaySend D.keeps (Some s) sent now bytes → TellsNoReply bytes }
+    ensures none { (s : Start) (sent : Option (List ℕ)) (now : CoreView) (bytes : List ℕ)
+        → inside (core_state_of now) + s.core.next ≡ now.next
+        → MaySend D.keeps (Some s) sent now bytes → SendsNoReply bytes }
     ensures done { (s : Start) (sent : Option (List ℕ)) (now : CoreView) → inside (core_state_of now) + s.core.next ≡ now.next
         → MaySend D.keeps (Some s) sent now (reply_line Done) → ⊥ }
 {}

@@ -1,22 +1,22 @@
 //! Serving lines: what a server that runs many messages at once has written when it ends, and that it is what the serial
 //! server writes.
 //!
-//! `serve` is the whole call, with its memory and its threads, for a writer; `serve_to` is the same for whoever is told lines, of whom
-//! `telling` says when. The definitions stand in `specs/`, and the laws that they obey are the contracts of the functions of `laws`,
-//! which do nothing. `session` has what a server holds while it serves, and what is always true of it. A line is read in `reading`;
-//! one `turn` sends messages out, takes back what came, logs it and answers it, and `telling` tells the lines of the `row` that are
-//! next in order. `points` has the consistency points, and `ending` the loop from line to line with its ends.
+//! `serve` is the whole call, with its memory and its threads, for a writer; `serve_to` is the same for any sink of lines. The definitions
+//! are in `specs/`, and the laws that they obey are the contracts of the functions of `laws`, which do nothing. `session` has what a
+//! server holds while it serves, and what is always true of it. `input` reads a line. An iteration of `dispatch` dispatches messages,
+//! collects results, logs them and answers them. `output` sends the lines of the reorder buffer that are next in order, under the
+//! condition of `ReplySink`. `checkpoints` has the consistency points, and `event_loop` the loop from line to line with its ends.
 #![tactic(auto)]
 
+mod checkpoints;
+mod dispatch;
 mod event_loop;
 mod gated_runtime;
-pub mod laws;
-mod checkpoints;
 mod input;
+pub mod laws;
+mod output;
 mod server;
 mod session;
-mod output;
-mod dispatch;
 
-pub use server::{ServeError, ServeFault, serve, serve_to};
 pub use output::ReplySink;
+pub use server::{ServeError, ServeFault, serve, serve_to};

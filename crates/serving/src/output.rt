@@ -1,4 +1,4 @@
-//! Whom a server tells its lines, and what it tells: nothing but what a crash of the device can't take back.
+//! Where a server sends its lines, and what it sends: nothing but what a crash of the device can't take back.
 
 ghost use Rattle.std.specs.Prelude.{◌≡◌, ◌+◌, [], false, length, true, IfOk, IsFalse, IsTrue, OnOk};
 ghost use Rattle.message.specs.Waiting.{FitsReply};
@@ -13,8 +13,8 @@ use message::WriteFault;
 use scheduler::Core;
 use std::io::Read;
 
-/// Whom a server tells its lines. Its condition binds each call when it is made, in every body, also in one that never returns: what
-/// is told was answered before, and whatever a crash leaves of the device then holds it.
+/// Where a server sends its lines. Its condition binds each call when it is made, in every body, also in one that never returns: what
+/// is sent was answered before, and whatever a crash leaves of the device then holds it.
 pub trait ReplySink<D: Disk> {
     ghost use Rattle.std.specs.Prelude.{List, ℕ, Option, OnOk};
     ghost use Rattle.std.specs.Io.KnownBytes.{Appends};
@@ -23,22 +23,22 @@ pub trait ReplySink<D: Disk> {
     /// Where the call of the server began whose lines are sent, once it has.
     ghost start: { Option Start };
 
-    /// What was told, if it is known.
+    /// What was sent, if it is known.
     ghost sent: { Self → Option (List ℕ) };
 
-    /// Tells lines, each with its newline, after those that were told before. The core is as it is now.
+    /// Sends lines, each with its newline, after those that were sent before. The core is as it is now.
     ///
     /// # Errors
     ///
-    /// `WriteFault` where they could not be told. What was told of them is unknown then.
+    /// `WriteFault` where they could not be sent. What was sent of them is unknown then.
     fn send(&mut self, lines: &[u8], core: &Core<D>) -> Result<(), WriteFault>
         requires may { MaySend D.keeps start (sent self.old) core.now lines.now }
         ensures sent { OnOk result (Appends (sent self.old) (sent self.new) lines.now) };
 }
 
 impl<'c, R: Read, D: Disk, L: ReplySink<D>> Session<'c, R, D, L> {
-    /// Answers the message that was logged first, if there is one: its line in the reorder buffer has its reply then. Counts it for the points
-    /// if it changed something, saturating. Whether there was one.
+    /// Answers the message that was logged first, if there is one: its line in the reorder buffer is completed then. Counts it for the
+    /// points if it changed something, saturating. Whether there was one.
     pub(crate) fn answer_first<W: GatedRuntime>(&mut self, rt: &W) -> bool
         ensures as_before { KeepsStreams self.old self.new }
         ensures dispatch_seat { self.new.dispatch_seat ≡ self.old.dispatch_seat }
@@ -57,7 +57,7 @@ impl<'c, R: Read, D: Disk, L: ReplySink<D>> Session<'c, R, D, L> {
         true
     }
 
-    /// Tells all that waits, unless it could not tell something before.
+    /// Sends all that waits, unless something could not be sent before.
     pub(crate) fn flush_replies(&mut self) -> Result<(), Halted>
         ensures moves { IsSessionStep self.old self.new result }
         ensures same { (self.new.core ≡ self.old.core) × (self.new.row ≡ self.old.row) × (self.new.dispatch_seat ≡ self.old.dispatch_seat) }
@@ -84,7 +84,7 @@ impl<'c, R: Read, D: Disk, L: ReplySink<D>> Session<'c, R, D, L> {
         }
     }
 
-    /// Tells all that waits where the longest answer has no room behind it.
+    /// Sends all that waits where the longest answer has no room behind it.
     fn flush_if_full(&mut self) -> Result<(), Halted>
         ensures moves { IsSessionStep self.old self.new result }
         ensures same { (self.new.core ≡ self.old.core) × (self.new.row ≡ self.old.row) × (self.new.dispatch_seat ≡ self.old.dispatch_seat) }
@@ -97,7 +97,7 @@ impl<'c, R: Read, D: Disk, L: ReplySink<D>> Session<'c, R, D, L> {
         }
     }
 
-    /// Lets the oldest line of the reorder buffer wait to be told, if it is answered: whether it is. It leaves the reorder buffer then.
+    /// Retires the oldest line of the reorder buffer, if it is completed: whether it is. Its answer waits to be sent then.
     fn retire_first(&mut self) -> Result<bool, Halted>
         ensures moves { IsSessionStep self.old self.new result }
         ensures same { (self.new.core ≡ self.old.core) × (self.new.dispatch_seat ≡ self.old.dispatch_seat) }
@@ -109,7 +109,7 @@ impl<'c, R: Read, D: Disk, L: ReplySink<D>> Session<'c, R, D, L> {
         Ok(retired)
     }
 
-    /// Lets the lines at the front of the reorder buffer wait to be told, up to the first that is not answered.
+    /// Retires the lines at the front of the reorder buffer, up to the first that is not completed.
     pub(crate) fn retire_ready(&mut self) -> Result<(), Halted>
         ensures moves { IsSessionStep self.old self.new result }
         ensures same { (self.new.core ≡ self.old.core) × (self.new.dispatch_seat ≡ self.old.dispatch_seat) }
@@ -119,7 +119,7 @@ impl<'c, R: Read, D: Disk, L: ReplySink<D>> Session<'c, R, D, L> {
         Ok(())
     }
 
-    /// Answers all that is logged, and tells the lines that are next in order.
+    /// Answers all that is logged, and sends the lines that are next in order.
     pub(crate) fn answer_and_flush<W: GatedRuntime>(&mut self, rt: &W) -> Result<(), Halted>
         ensures moves { IsSessionStep self.old self.new result }
         ensures dispatch_seat { self.new.dispatch_seat ≡ self.old.dispatch_seat }

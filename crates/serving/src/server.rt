@@ -7,11 +7,11 @@ ghost use Rattle.serving.specs.Serve.{ServesSo, handed_back};
 ghost use Rattle.serving.specs.Session.{CanBegin, reported};
 
 use crate::checkpoints::CheckpointTrigger;
-use crate::session::Session;
 use crate::output::ReplySink;
+use crate::session::Session;
 use disk::Disk;
-use reorder_buffer::ReorderBuffer;
 use message::{LentReader, LineReader, Loan, ReplyBuffer, WriteFault};
+use reorder_buffer::ReorderBuffer;
 use scheduler::Core;
 use std::alloc::{AllocError, Global};
 use std::io::{Read, Write};
@@ -50,8 +50,8 @@ pub struct ServeError<D: Disk> {
     pub fault: ServeFault,
 }
 
-// What a server has before it reads: room for what is read, for the lines that are not said and for the answers that wait, and a bench
-// with its seats. Nothing lies there yet.
+// What a server has before it reads: room for what is read, for the lines that are not retired and for the answers that wait, and a
+// bench with its seats. Nothing lies there yet.
 struct Room {
     input: Vec<u8>,
     row: ReorderBuffer,
@@ -66,7 +66,7 @@ struct Room {
     ghost none_lent: { dispatch_seat.lent ≡ replicate bench.slots None },
 }
 
-// Takes the memory for lines of which at most `slots` are open, and lays a bench with a place for each worker.
+// Takes the memory for lines of which at most `slots` are outstanding, and lays a bench with a place for each worker.
 fn take_room(alloc: Global, slots: usize, workers: usize) -> Result<Room, AllocError>
     requires { workers ≤ 64 }
     ensures row { IfOk result (λ room. room.row.slots ≡ slots) }
@@ -105,7 +105,7 @@ fn hand_back<D: Disk>(
     Err(ServeError { core, fault })
 }
 
-// Serves the lines of a reader that is lent. It hands back the reader and whom it told, too.
+// Serves the lines of a reader that is lent. It hands back the reader and the sink, too.
 fn serve_lent<
     'a,
     'c,
@@ -170,7 +170,7 @@ fn serve_lent<
     (hand_back(core, ended), reader, sink)
 }
 
-/// Answers each line that a reader has left with one line, which it tells, while so many workers, each a thread of its own, run
+/// Answers each line that a reader has left with one line, which it sends, while so many workers, each a thread of its own, run
 /// the messages. The lines and the core are as the serial server would leave them, whatever the workers do when. A consistency
 /// point is made after `every` records, if that isn't 0, where the log has no room, and at the end. All memory is taken before
 /// the first read, and the threads have ended when it returns. Lines are sent under the condition of `ReplySink::send` and in no other
@@ -179,7 +179,7 @@ fn serve_lent<
 /// # Errors
 ///
 /// The core, as it is then, and a fault. `ServeFault::NoWorkers` where there are none, and `ServeFault::OutOfMemory` where there
-/// is no memory or a thread can't be started: nothing was read or told. Then `ServeFault::Read`, `ServeFault::Exhausted`,
+/// is no memory or a thread can't be started: nothing was read or sent. Then `ServeFault::Read`, `ServeFault::Exhausted`,
 /// `ServeFault::Device` and `ServeFault::Write`, as they say.
 pub fn serve_to<T: Threads + Wait + Sync, R: Read, L: ReplySink<D>, D: Disk + Drop, G: Gate + Sync>(
     rt: &T,
@@ -241,7 +241,7 @@ impl Beginning for Brand {
     ghost name = { 0 };
 }
 
-// A writer that is lent, and is told lines. Its type names the loan, so that no other writer can be put in its place.
+// A writer that is lent, to which lines are sent. Its type names the loan, so that no other writer can be put in its place.
 struct Output<'w, W, B: Beginning> {
     w: &'w mut W,
     of: PhantomData<B>,

@@ -1,13 +1,13 @@
 //! A session: the core, the dispatcher's seat, the lines that were read, and the answers that wait, with the input of the call and
-//! whom it tells. It is under way: from the start of the call a legal run has led to where it is.
+//! its sink. Its invariant: from the start of the call a legal run has led to where it is.
 
 ghost use Rattle.std.specs.Prelude.{◌≡◌, MatchResult, OnOk, Ok};
 
 use crate::checkpoints::CheckpointTrigger;
 use crate::output::ReplySink;
 use disk::Disk;
-use reorder_buffer::ReorderBuffer;
 use message::{LineReader, ReplyBuffer};
+use reorder_buffer::ReorderBuffer;
 use scheduler::Core;
 use std::io::Read;
 use std::marker::Model;
@@ -26,7 +26,16 @@ pub(crate) enum ReadEnd {
     DeviceFailed,
 }
 
-/// A session ends before it has answered what it has read: the device has failed, or lines could not be sent, as the session says.
+/// What a part of the loop has done.
+#[derive(Clone, Copy)]
+pub(crate) enum Activity {
+    /// Something, or more may be done at once.
+    Busy,
+    /// Nothing. Where all of the loop is idle, it may wait for input.
+    Idle,
+}
+
+/// A session ends before it has answered what it has read: the device or the output has failed, as the session records.
 #[derive(Clone, Copy)]
 pub(crate) struct Halted;
 
@@ -46,9 +55,9 @@ pub(crate) struct Session<'c, R: Read, D: Disk, L: ReplySink<D>> {
     pub(crate) core: Core<D>,
     /// The dispatcher's seat at the bench.
     pub(crate) dispatch_seat: DispatchSeat,
-    /// The lines that were read and not said yet.
+    /// The lines that were read and not retired yet.
     pub(crate) row: ReorderBuffer,
-    /// The answers that wait to be told.
+    /// The answers that wait to be sent.
     pub(crate) out: ReplyBuffer,
     /// When consistency points are due.
     pub(crate) trigger: CheckpointTrigger,
@@ -56,13 +65,13 @@ pub(crate) struct Session<'c, R: Read, D: Disk, L: ReplySink<D>> {
     pub(crate) lines: LineReader<R>,
     /// Why no more of it is read, once that is so.
     pub(crate) stop: Option<ReadEnd>,
-    /// How many lines are open: read, and not answered in the output. They are in the reorder buffer, or their answers wait.
+    /// How many lines are outstanding: read, and not answered in the output. They are in the reorder buffer, or their answers wait.
     pub(crate) open_lines: usize,
-    /// Whom it tells the lines.
+    /// Where it sends the lines.
     pub(crate) sink: L,
-    /// Whether that has failed. Nothing more is told then.
+    /// Whether that has failed. Nothing more is sent then.
     pub(crate) output_failed: bool,
-    /// The bench where its jobs are lent.
+    /// The bench where its jobs are offered.
     pub(crate) bench: &'c Bench,
 }
 

@@ -30,7 +30,7 @@ none_there zero k = refl
 none_there (suc n) zero = refl
 none_there (suc n) (suc k) = refl
 
--- entries that were put in a row, with zeros behind
+-- entries that were joined, with zeros after them
 pub entries_again : (es : List BlockEntry) → AllByRecursion IsSpellable es → (n k : ℕ) → length es ≤ n → entries_in n (flat_map entry_bytes es ++ replicate k 0) ≡ es
 entries_again [] all n k fits = none_there n k
 entries_again (e ∷ es) all zero k fits = absurd (omega (arith, fits))
@@ -38,5 +38,6 @@ entries_again (e ∷ es) all (suc n) k fits =
     let rest : List ℕ = flat_map entry_bytes es ++ replicate k 0 in
     let apart : flat_map entry_bytes (e ∷ es) ++ replicate k 0 ≡ entry_bytes e ++ rest = append_assoc (entry_bytes e) (flat_map entry_bytes es) (replicate k 0) in
     let first : entry_in (take 520 (entry_bytes e ++ rest)) ≡ e = ap entry_in (take_at (entry_bytes e) rest 520 (length-entry e all.0)) ∙ entry_again e all.0 in
-    let others : entries_in n (drop 520 (entry_bytes e ++ rest)) ≡ es = ap (entries_in n) (drop_at (entry_bytes e) rest 520 (length-entry e all.0)) ∙ entries_again es all.1 n k (omega (arith, fits)) in
+    let others : entries_in n (drop 520 (entry_bytes e ++ rest)) ≡ es = ap (entries_in n) (drop_at (entry_bytes e) rest 520 (length-entry e all.0))
+    ∙ entries_again es all.1 n k (omega (arith, fits)) in
     ap (entries_in (suc n)) apart ∙ (λ i. first i ∷ others i)

@@ -1,4 +1,4 @@
--- Ascending entries are told by what they hold of each block; and how entries that ascend are joined.
+-- Ascending entries are determined by what they hold of each block; and how entries that ascend are joined.
 use Rattle.std.proofs.Common.{◌≡◌, ℕ, ◌<◌, ◌≤◌, Bool, true, false, ◌&&◌, List, [], ◌∷◌, ◌++◌, Option, Some, None, refl, sym, ◌∙◌, ap, arith, ◌⊎◌, inl, inr, ⊎_elim}
 use Rattle.std.specs.Prelude.{◌==◌, if◌then◌else◌}
 use Rattle.std.specs.List.{AllByRecursion}
@@ -23,7 +23,8 @@ content-before f b [] before = refl
 content-before f b (e ∷ es) before = ap (λ (t : Bool). if t then Some e.content else content_at es f b) (no_block_of f b e before.0) ∙ content-before f b es before.1
 
 content-head : (e : BlockEntry) (es : List BlockEntry) → content_at (e ∷ es) e.file e.block ≡ Some e.content
-content-head e es = ap (λ (t : Bool). if t then Some e.content else content_at es e.file e.block) (and_from (e.file == e.file) (e.block == e.block) (eq-eqb e.file e.file refl) (eq-eqb e.block e.block refl))
+content-head e es = ap (λ (t : Bool). if t then Some e.content else content_at es e.file e.block)
+    (and_from (e.file == e.file) (e.block == e.block) (eq-eqb e.file e.file refl) (eq-eqb e.block e.block refl))
 
 before_both : (f b i j k l : ℕ) → PrecedesEntry f b i j → PrecedesEntry i j k l → PrecedesEntry f b k l
 before_both f b i j k l first second =

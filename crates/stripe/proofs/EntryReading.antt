@@ -111,12 +111,13 @@ module _ (g : Geometry) (files s : ℕ) (bytes : List ℕ) (long : length bytes 
     unmarked : get_or (drop (n * 520) bytes) 0 0 ≢ 1 → entries_in (g.quota - n) (drop (n * 520) bytes) ≡ []
     unmarked off =
         let more : g.quota - n ≡ suc (g.quota - suc n) = omega (arith, few) in
-        ap (λ (k : ℕ). entries_in k (drop (n * 520) bytes)) more ∙ ap (λ (t : Bool). if t then entry_in (take 520 (drop (n * 520) bytes)) ∷ entries_in (g.quota - suc n) (drop 520 (drop (n * 520) bytes)) else []) (ne_eqb (get_or (drop (n * 520) bytes) 0 0) 1 off)
+        ap (λ (k : ℕ). entries_in k (drop (n * 520) bytes)) more ∙ ap (λ (t : Bool). if t then entry_in (take 520 (drop (n * 520) bytes))
+        ∷ entries_in (g.quota - suc n) (drop 520 (drop (n * 520) bytes)) else []) (ne_eqb (get_or (drop (n * 520) bytes) 0 0) 1 off)
 
     these : get_or (drop (n * 520) bytes) 0 0 ≢ 1 → es ≡ entries_in g.quota bytes
     these off = sym (append-nil es) ∙ sym (ap (λ (l : List BlockEntry). es ++ l) (unmarked off)) ∙ has.rest
 
-    -- Behind the last one only zeros may stand.
+    -- After the last one there may be only zeros.
     pub zeros_behind : get_or (drop (n * 520) bytes) 0 0 ≢ 1 → AllByRecursion (λ (b : ℕ). b ≡ 0) (drop (n * 520) bytes) → IsStripePiece g files s bytes × (es ≡ entries_in g.quota bytes)
     zeros_behind off all =
         let same = these off in
@@ -148,7 +149,8 @@ module _ (g : Geometry) (files s : ℕ) (bytes : List ℕ) (long : length bytes 
         let more : g.quota - n ≡ suc (g.quota - suc n) = omega (arith, few) in
         let here : entries_in (g.quota - n) (drop (n * 520) bytes) ≡ entry_in (row_at bytes n) ∷ entries_in (g.quota - suc n) (drop (suc n * 520) bytes) =
         ap (λ (k : ℕ). entries_in k (drop (n * 520) bytes)) more
-        ∙ ap (λ (t : Bool). if t then entry_in (take 520 (drop (n * 520) bytes)) ∷ entries_in (g.quota - suc n) (drop 520 (drop (n * 520) bytes)) else []) (eq-eqb (get_or (drop (n * 520) bytes) 0 0) 1 on)
+        ∙ ap (λ (t : Bool). if t then entry_in (take 520 (drop (n * 520) bytes))
+        ∷ entries_in (g.quota - suc n) (drop 520 (drop (n * 520) bytes)) else []) (eq-eqb (get_or (drop (n * 520) bytes) 0 0) 1 on)
         ∙ ap (λ (l : List ℕ). entry_in (row_at bytes n) ∷ entries_in (g.quota - suc n) l) next_at in
         sym (ap (λ (l : List BlockEntry). es ++ l) here) ∙ has.rest
 

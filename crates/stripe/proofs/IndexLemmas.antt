@@ -1,4 +1,4 @@
--- What an index and a row of buffers keep, and what an edit of both makes of the entries.
+-- What an index and an array of buffers keep, and what an edit of both makes of the entries.
 use Rattle.std.proofs.Common.{◌≡◌, ◌≢◌, ℕ, zero, suc, ◌+◌, ◌-◌, ◌<◌, ◌≤◌, Bool, true, false, ◌&&◌, ◌||◌, ◌==◌, nat_lt, List, [], ◌∷◌, ◌++◌, map, length, take, drop, length-drop, length-take, add-one, refl, sym, ap, ◌∙◌, inl, inr, arith, Option, Some, None, Ok, is_some, unwrap_or, slice_index_or, slice_set}
 use Rattle.std.proofs.lemmas.Bool.Decides.{eqb_tells, leb_tells}
 use Rattle.std.specs.List.{AllByRecursion, concat}

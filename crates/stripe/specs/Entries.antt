@@ -1,4 +1,4 @@
--- The blocks of a stripe as bytes: a row of entries of 520 bytes each.
+-- Format for operators: The blocks of a stripe as bytes: entries of 520 bytes each.
 use Rattle.std.specs.Prelude.{◌≡◌, ℕ, Bool, true, ◌&&◌, nat_lt, zero, suc, ◌*◌, ◌-◌, ◌==◌, List, [], ◌∷◌, ◌++◌, length, take, drop, get_or, replicate, if◌then◌else◌}
 use Rattle.std.specs.List.{flat_map, AllByRecursion}
 use Rattle.affinity.specs.Geometry.{group}
@@ -11,22 +11,22 @@ use Rattle.stripe.specs.Stripe.{BlockEntry, IsAscending}
 abbrev pub entry_bytes : BlockEntry → List ℕ
 entry_bytes e = 1 ∷ e.file ∷ [] ++ little_bytes 2 e.block ++ 0 ∷ 0 ∷ 0 ∷ 0 ∷ [] ++ e.content.0
 
--- entries one after the other, and zeros behind them where there could be more
+-- entries one after the other, and zeros after them where there could be more
 abbrev pub stripe_bytes : ℕ → List BlockEntry → List ℕ
 stripe_bytes quota es = flat_map entry_bytes es ++ replicate (quota * 520 - length (flat_map entry_bytes es)) 0
 
--- what a row of 520 bytes says, where it is an entry
+-- what 520 bytes decode to, where they are an entry
 abbrev pub entry_in : List ℕ → BlockEntry
 entry_in row = record { file = get_or row 1 0; block = little_number 2 (drop 2 row); content = record { 0 = drop 8 row } }
 
--- the entries that bytes begin with, at most n, each marked by 1
+-- the entries that bytes begin with, at most n, each beginning with 1
 abbrev pub entries_in : ℕ → List ℕ → List BlockEntry
 entries_in zero bytes = []
 entries_in (suc n) bytes = if get_or bytes 0 0 == 1 then entry_in (take 520 bytes) ∷ entries_in n (drop 520 bytes) else []
 
 -- ---- pieces
 
--- An entry can stand in stripe s of a volume with these files: its file is one of them, its block is in range and lies in that stripe.
+-- An entry can be in stripe s of a volume with these files: its file is one of them, its block is in range and lies in that stripe.
 abbrev pub can_stand : Geometry → ℕ → ℕ → ℕ → ℕ → Bool
 can_stand g files s f b = has_file files f && nat_lt b g.blocks && (group g f b == s)
 

@@ -1,4 +1,4 @@
--- How a `StripeParcel` keeps its blocks. No public clause cites this module.
+-- Inner: How a `StripeParcel` keeps its blocks.
 use Rattle.std.specs.Prelude.{◌≡◌, true, ◌⊎◌, ℕ, ◌+◌, ◌<◌, ◌≤◌, List, [], length, map, take, drop, slice_index_or, slice_set, unwrap_or, Option, None, IsTrue}
 use Rattle.std.specs.List.{AllByRecursion}
 use Rattle.messages.specs.declared.Block.{Block}
@@ -9,7 +9,7 @@ use Rattle.affinity.specs.declared.geometry.Geometry.{Geometry}
 use Rattle.stripe.specs.Entries.{entry_bytes, entry_in, can_stand}
 use Rattle.stripe.specs.Stripe.{BlockEntry, ComesBefore, IsAscending}
 
--- what stands where nothing is: no entry shows it
+-- what is given where nothing is: no entry shows it
 abbrev pub no_block : Block
 no_block = record { 0 = [] }
 
@@ -45,13 +45,13 @@ pub record IsSplit (es : List BlockEntry) (f b n : ℕ) : Type 0 where
   pub before : AllByRecursion (λ e. PrecedesEntry e.file e.block f b) (take n es)
   pub behind : AllByRecursion (λ e. PrecedesEntry e.file e.block f b → ⊥) (drop n es)
 
--- at an index stands block b of file f
+-- block b of file f is at an index
 pub record IsAt (es : List BlockEntry) (f b n : ℕ) : Type 0 where
   pub within : n < length es
   pub file : (slice_index_or es n no_entry).file ≡ f
   pub block : (slice_index_or es n no_entry).block ≡ b
 
--- block b of file f is not there, and would stand at an index
+-- block b of file f is not there, and would be at an index
 pub record IsGap (es : List BlockEntry) (f b n : ℕ) : Type 0 where
   pub within : n ≤ length es
   pub before : AllByRecursion (λ e. PrecedesEntry e.file e.block f b) (take n es)
@@ -61,7 +61,7 @@ pub record IsGap (es : List BlockEntry) (f b n : ℕ) : Type 0 where
 abbrev pub rewritten : List BlockEntry → ℕ → Block → List BlockEntry
 rewritten es n content = slice_set es n (record (slice_index_or es n no_entry) { content = content })
 
--- The bytes are an entry that can stand behind these.
+-- The bytes are an entry that can come after these.
 pub record IsNextEntry (g : Geometry) (files s : ℕ) (es : List BlockEntry) (row : List ℕ) : Type 0 where
   pub spelled : row ≡ entry_bytes (entry_in row)
   pub fits : can_stand g files s (entry_in row).file (entry_in row).block ≡ true

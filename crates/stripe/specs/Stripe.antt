@@ -1,4 +1,4 @@
--- The blocks of one stripe of a volume, as contracts see them.
+-- Statement for operators: The blocks of one stripe of a volume, as contracts see them.
 use Rattle.std.specs.Prelude.{◌≡◌, ◌⊎◌, ℕ, ◌<◌, ◌≤◌, ◌&&◌, ◌==◌, if◌then◌else◌, List, [], ◌∷◌, length, Option, Some, None}
 use Rattle.std.specs.List.{AllByRecursion}
 use Rattle.messages.specs.declared.Block.{Block}
@@ -23,7 +23,7 @@ content_at (e ∷ es) f b = if (f == e.file) && (b == e.block) then Some e.conte
 abbrev pub ComesBefore : BlockEntry → BlockEntry → Type 0
 ComesBefore d e = (d.file < e.file) ⊎ ((d.file ≡ e.file) × (d.block < e.block))
 
--- each entry comes before those behind it, so no block stands there twice
+-- each entry comes before those after it, so no block is there twice
 abbrev pub IsAscending : List BlockEntry → Type 0
 IsAscending [] = Unit {0}
 IsAscending (e ∷ es) = AllByRecursion (ComesBefore e) es × IsAscending es

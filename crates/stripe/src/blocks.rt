@@ -1,4 +1,4 @@
-//! A stripe: a row of buffers, and an index that says which block lies in which of them.
+//! A stripe: an array of buffers, and an index of which block lies in which of them.
 ghost use Rattle.std.specs.Prelude.{◌≡◌, ◌<◌, ◌≤◌, ◌&&◌, ◌||◌, ◌==◌, true, is_some, length, nat_lt, [], Some, None, IfOk, MatchResult, option_copied, if◌then◌else◌, insert, vec_capacity};
 ghost use Rattle.std.specs.List.{remove_range};
 ghost use Rattle.stripe.specs.Stripe.{StripePart, StripeRule, NowHolds, content_at};
@@ -17,7 +17,7 @@ pub struct StripeParcel {
     index: Vec<IndexEntry>, // ascending by file, then block
 }
 
-// Where a block of a file lies in the row of buffers.
+// Where a block of a file lies in the array of buffers.
 #[derive(Clone, Copy)]
 struct IndexEntry {
     file: u16,
@@ -116,7 +116,7 @@ impl StripeParcel {
         })
     }
 
-    // The index of a block, or the one at which it would stand.
+    // The index of a block, or the one at which it would be.
     fn find(&self, f: u16, b: u16) -> Result<usize, usize>
         ensures found { MatchResult result (IsAt self.now.entries f b) (IsGap self.now.entries f b) }
         ensures most { length self.now.entries ≤ 64 }

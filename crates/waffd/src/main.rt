@@ -1,4 +1,4 @@
-//! `waffd`: a server for messages about files of 512-byte blocks, as a program.
+//! Trusted: `waffd`, a server for messages about files of 512-byte blocks, as a program.
 #![tactic(auto)]
 
 mod streams;

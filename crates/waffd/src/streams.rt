@@ -1,4 +1,4 @@
-//! The numbers of the three standard streams.
+//! Trusted: the numbers of the three standard streams.
 use std::fs::File;
 use std::io;
 use std::rt::Files;

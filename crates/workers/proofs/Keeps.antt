@@ -17,7 +17,7 @@ use Rattle.workers.specs.declared.seats.View.{View}
 use Rattle.workers.specs.declared.seats.View.TheVariants.{Dispatcher, Idle, Claimed}
 use Rattle.workers.proofs.Rows.{set_at, there}
 
--- The kinds of view are told apart.
+-- The kinds of view are distinct.
 dispatch_seat_is_no_claim : (r k : ℕ) (l : LentRow) (job : JobView) → Dispatcher r l ≡ Claimed k job → ⊥
 dispatch_seat_is_no_claim r k l job e = cc
 
@@ -39,7 +39,7 @@ one_dispatch_seat r q l m e = ((cc), (cc))
 one_job : (a b : JobView) → Some a ≡ Some b → a ≡ b
 one_job a b e = cc
 
--- A place stands as before where its word, what is lent and whether it was readied are as before.
+-- The state of a place is as before where its word, what is lent and whether it was readied are as before.
 stands_still : (r q k word word' : ℕ) (o o' : Option JobView) (home : Home) → PlaceState r k word o home
     → (k < q → k < r) → (q ≤ k → r ≤ k) → word' ≡ word → o' ≡ o → PlaceState q k word' o' home
 stands_still r q k word word' o o' home (is_empty w l before after) less more ew eo = is_empty (ew ∙ w) (eo ∙ l) (λ h. before (less h)) (λ h. after (more h))
@@ -155,7 +155,7 @@ aside s h id v ws me long same = subst (λ vs. BenchRule record { words = ws; ho
   places = λ k x at. stands_still h.resting h.resting k _ _ _ _ x (h.places k x at) (λ a. a) (λ a. a) (same k) refl;
 }
 
--- a event count is rung, or the bench is closed
+-- an event count is signaled, or the bench is stopped
 pub offer_count : (slots id : ℕ) (me : Sat) (i : ℕ) (f : ℕ → ℕ) → i < 6 → Allows BenchRule slots id me i f (λ n w. w ≡ me)
 offer_count slots id me i f low s h long at fits =
     (me.0, keeps, tt, aside s h id me.0 _ at (length-set s.words i _) (λ k. get_or-set_other s.words i (k + 6) _ 0 (λ e. omega arith)), refl)
@@ -164,7 +164,7 @@ offer_count slots id me i f low s h long at fits =
 fails : (s : Board) (h : BenchRule s) (id i : ℕ) (v : View) → get_elem? s.views id ≡ some v → BenchRule (stepped s i (get_or s.words i 0) id [] v keeps)
 fails s h id i v me = aside s h id v _ me (length-set s.words i _) (λ k. ap (λ ws. get_or ws (k + 6) 0) (set-get_or s.words i 0))
 
--- what stands at a place whose word is 0, 1 or 3
+-- the state of a place whose word is 0, 1 or 3
 at_offered : (r k word : ℕ) (o : Option JobView) (home : Home) → PlaceState r k word o home → word ≡ 1
     → (job : JobView) × (o ≡ Some job) × (home ≡ some (Some (Offered job)))
 at_offered r k word o home (is_empty w l b a) e = absurd (omega arith)
@@ -194,7 +194,7 @@ at_empty r k word o home (is_delivered job done w l at run) e = absurd (none_is_
 unclaimed : (s : Board) (h : BenchRule s) (k n : ℕ) → get_or s.words (k + 6) 0 ≡ n → n ≢ 2 → (seat : ℕ) (job : JobView) → get_elem? s.views seat ≡ some (Claimed k job) → ⊥
 unclaimed s h k n e ne seat job at = ne (sym e ∙ (h.claims seat k job at).0)
 
--- what a step on the word of place k tells of that place, it tells as its kind
+-- what a step on the word of place k gives for that place, its kind gives
 of_place : (told : ℕ → Sat → ℕ → Sat → Type 0) (slots id k : ℕ) (me : Sat) (f : ℕ → ℕ) (st : Step (Option CellContent)) → st.word ≡ k + 6
     → Allows BenchRule slots id me (k + 6) f (λ n w. told k me n w) → Allows BenchRule slots id me (k + 6) f (λ n w. OfPlace told st me n w)
 of_place told slots id k me f st here allowed s h long at fits =
@@ -235,7 +235,8 @@ offers_at slots id k lent job held near empty s h long at fits =
       refl,
     )
 
-pub offers : (slots id k : ℕ) (me : Sat) (lent : LentRow) (job : JobView) (held : List (ℕ × Option CellContent)) → me ≡ (Dispatcher 0 lent, (k, Some (Offered job)) ∷ held) → k < slots → lent_at lent k ≡ None
+pub offers : (slots id k : ℕ) (me : Sat) (lent : LentRow) (job : JobView) (held : List (ℕ × Option CellContent)) → me
+    ≡ (Dispatcher 0 lent, (k, Some (Offered job)) ∷ held) → k < slots → lent_at lent k ≡ None
     → Allows BenchRule slots id me (k + 6) (λ _. 1) (λ n w. OfPlace {F = Option CellContent} (λ i m _. Offers i m) (step slots (k + 6) 1 0 none) me 1 w)
 offers slots id k me lent job held is near empty = of_place (λ i m _. Offers i m) slots id k me (λ _. 1) (step slots (k + 6) 1 0 none) refl
     (subst (λ m. Allows BenchRule slots id m (k + 6) (λ _. 1) (λ n w. Offers k m w)) (sym is) (offers_at slots id k lent job held near empty))
@@ -283,7 +284,8 @@ collects_at : (slots id k : ℕ) (lent : LentRow) (held : List (ℕ × Option Ce
     → Allows BenchRule slots id (Dispatcher 0 lent, held) (k + 6) (λ n. either (eqb n 3) 0 n) (λ n w. Collects k (Dispatcher 0 lent, held) n w)
 collects_at slots id k lent held near s h long at fits =
     let n = get_or s.words (k + 6) 0 in let t = there s.homes k (omega arith) in let d = the_dispatch_seat s h id 0 lent at in
-    let F : ℕ → Type 0 = λ m. (w : View) × (a : Act (Option CellContent)) × Valid s.homes held a × BenchRule (stepped s (k + 6) m id held w a) × Collects k (Dispatcher 0 lent, held) n (w, carried_after held a) in
+    let F : ℕ → Type 0 = λ m. (w : View) × (a : Act (Option CellContent)) × Valid s.homes held a × BenchRule (stepped s (k + 6) m id held w a)
+    × Collects k (Dispatcher 0 lent, held) n (w, carried_after held a) in
     exchanged n 3 0 F
     (λ e. let o = at_answered h.resting k n _ t.0 (h.places k t.0 t.1) e in (
       Dispatcher 0 (set lent k None),

@@ -1,4 +1,4 @@
--- The dispatcher's seat from one moment of an offer or a collection to the next.
+-- The dispatcher's seat from one step of an offer or a collection to the next.
 use Rattle.std.proofs.Common.{◌≡◌, ℕ, zero, suc, false, replicate, ◌+◌, ◌<◌, Bool, List, [], ◌∷◌, map, length, set, Option, None, Some, is_some, refl, sym, ap, ◌∙◌, arith}
 use Rattle.std.proofs.lemmas.List.{map-set}
 use Rattle.atomic_table.specs.Table.{rest}
@@ -13,7 +13,7 @@ use Rattle.workers.specs.declared.job_cell.CellContent.TheVariants.{Offered, Del
 use Rattle.workers.specs.declared.seats.View.TheVariants.{Dispatcher, Claimed}
 use Rattle.workers.proofs.Turning.{others, spare_from_start, spare_from_end, spare_from_empty, lent_rest, back_rest}
 
--- a row that begins with x
+-- a list that begins with x
 pub headed : (xs : List (ℕ × Option CellContent)) (x : ℕ × Option CellContent) (r : List (ℕ × Option CellContent)) → xs ≡ x ∷ r → xs ≡ x ∷ rest xs
 headed xs x r e = e ∙ ap (λ ys. x ∷ rest ys) (sym e)
 
@@ -27,7 +27,7 @@ same_head xs r s k x y e f = ap first_of (sym e ∙ f)
 pub starts : (m : Sat) (ls : LentRow) → m ≡ (Dispatcher 0 ls, spare 0 ls) → m.1 ≡ spare_from 0 ls
 starts m ls e = ap (λ (n : Sat). n.1) e ∙ sym (spare_from_start ls)
 
--- brought round to place k
+-- rotated to place k
 pub turned_to : (m n : Sat) (ls : LentRow) (xs ys : List (ℕ × Option CellContent)) → m ≡ (Dispatcher 0 ls, xs) → n ≡ (m.0, ys) → n ≡ (Dispatcher 0 ls, ys)
 turned_to m n ls xs ys e f = f ∙ λ i. ((e i).0, ys)
 
@@ -54,7 +54,7 @@ flags_of fs m ls xs e f = e ∙ sym (ap (λ (n : Sat). map is_some (lent_of n.0)
 pub flag_set : (fs : List Bool) (k : ℕ) (ls : LentRow) (o : Option JobView) → fs ≡ map is_some ls → set fs k (is_some o) ≡ map is_some (set ls k o)
 flag_set fs k ls o e = ap (λ gs. set gs k (is_some o)) e ∙ sym (map-set is_some ls k o)
 
--- brought round to the end
+-- rotated to the end
 pub settles : (j n : ℕ) (ls : LentRow) (m w : Sat) → m ≡ (Dispatcher 0 ls, spare_from j ls) → w ≡ (m.0, spare_from n (lent_of m.0)) → n ≡ length ls → w ≡ (Dispatcher 0 ls, spare 0 ls)
 settles j n ls m w e f long = f ∙ (ap (λ (y : Sat). (y.0, spare_from n (lent_of y.0))) e ∙ λ i. (Dispatcher 0 ls, spare_from_end n ls long i))
 
@@ -77,7 +77,7 @@ counted fs ls e = ap length e ∙ mapped_length ls
 pub within : (z : TableId) (m : Sat) (fs : List Bool) (k : ℕ) → IsDispatchSeat z m fs → k < z.slots → k < length (lent_of m.0)
 within z m fs k d h = let e = counted fs (lent_of m.0) d.flagged in let p = d.places in omega arith
 
--- The result of place k was taken: it is that of the job that was lent there, whose slot has come back.
+-- The result of place k was taken: it is that of the job that was lent there, whose slot the seat has again.
 pub taken : (k : ℕ) (ls : LentRow) (job : JobView) (done : Done) (m n w : Sat) → m ≡ (Dispatcher 0 ls, spare_from k ls) → lent_at (lent_of m.0) k ≡ Some job
     → n ≡ (Dispatcher 0 (set (lent_of m.0) k None), (k, Some (Delivered done)) ∷ m.1) → w ≡ (n.0, (k, None) ∷ rest n.1) → k < length ls
     → (lent_at ls k ≡ Some job) × (w ≡ (Dispatcher 0 (set ls k None), spare_from k (set ls k None)))
@@ -92,7 +92,8 @@ pub one_job : (a b : JobView) → Some (Offered a) ≡ Some (Offered b) → a �
 one_job a b e = cc
 
 -- a worker puts the result into the slot from which it took the job
-pub answered : (k : ℕ) (job : JobView) (x y z : Option CellContent) (m n w : Sat) → m ≡ (Claimed k job, (k, x) ∷ []) → n ≡ (m.0, (k, y) ∷ rest m.1) → w ≡ (n.0, (k, z) ∷ rest n.1) → w ≡ (Claimed k job, (k, z) ∷ [])
+pub answered : (k : ℕ) (job : JobView) (x y z : Option CellContent) (m n w : Sat) → m ≡ (Claimed k job, (k, x) ∷ []) → n ≡ (m.0, (k, y) ∷ rest m.1)
+    → w ≡ (n.0, (k, z) ∷ rest n.1) → w ≡ (Claimed k job, (k, z) ∷ [])
 answered k job x y z m n w e f g = g ∙ ap (λ (u : Sat). (u.0, (k, z) ∷ rest u.1)) (f ∙ ap (λ (u : Sat). (u.0, (k, y) ∷ rest u.1)) e)
 
 pub no_flags : (n : ℕ) → replicate n false ≡ map is_some (replicate {A = Option JobView} n None)

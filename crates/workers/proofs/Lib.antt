@@ -1,4 +1,4 @@
--- The lemmas of this crate: the rule of the bench at each step, and the dispatcher's seat with its row of slots.
+-- The lemmas of this crate: the rule of the bench at each step, and the dispatcher's seat with its slots.
 pub mod Rows
 pub mod Keeps
 pub mod Turning

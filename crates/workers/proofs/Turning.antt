@@ -1,4 +1,4 @@
--- The row of slots that the dispatcher's seat holds, as it is brought round.
+-- The slots that the dispatcher's seat holds, as they are rotated.
 use Rattle.std.proofs.Common.{◌≡◌, ℕ, zero, suc, ◌+◌, ◌<◌, Bool, true, false, List, [], ◌∷◌, ◌++◌, map, length, get_or, set, take, drop, replicate, Option, None, Some, is_some, refl, sym, ap, ◌∙◌, append_assoc, arith, drop-cons}
 use Rattle.std.proofs.lemmas.List.{take-set, drop-set-lt, get_or-set_same, length-set}
 use Rattle.atomic_table.specs.Table.{turned}
@@ -47,7 +47,7 @@ spare_before k ls h = let e : 0 + k ≡ k = omega arith in spare_take 0 k ls h �
 abbrev pub others : ℕ → LentRow → List (ℕ × Option CellContent)
 others k ls = spare (suc k) (drop (suc k) ls) ++ spare 0 (take k ls)
 
--- the row begins with the slot of a place where nothing is lent
+-- the list begins with the slot of a place where nothing is lent
 pub spare_from_empty : (k : ℕ) (ls : LentRow) → k < length ls → lent_at ls k ≡ None → spare_from k ls ≡ (k, None) ∷ (spare (suc k) (drop (suc k) ls) ++ spare 0 (take k ls))
 spare_from_empty k ls h e = ap (λ ys. ys ++ spare 0 (take k ls)) (ap (spare k) (drop-cons ls k None h) ∙ spare_one k _ _ e)
 
@@ -61,7 +61,9 @@ turns k ls h e = let one : suc k ≡ k + 1 = omega arith in
 
 passes_job : (k : ℕ) (ls : LentRow) (job : JobView) → k < length ls → lent_at ls k ≡ Some job → spare_from k ls ≡ spare_from (k + 1) ls
 passes_job k ls job h e = let one : suc k ≡ k + 1 = omega arith in
-    spare_from_lent k ls job h e ∙ (ap (λ ys. spare (suc k) (drop (suc k) ls) ++ ys) (sym (spare_before k ls h ∙ (ap (λ o. spare 0 (take k ls) ++ spare k (o ∷ [])) e ∙ append_none (spare 0 (take k ls))))) ∙ ap (λ m. spare_from m ls) one)
+    spare_from_lent k ls job h e ∙ (ap (λ ys. spare (suc k) (drop (suc k) ls) ++ ys)
+    (sym (spare_before k ls h ∙ (ap (λ o. spare 0 (take k ls) ++ spare k (o ∷ [])) e ∙ append_none (spare 0 (take k ls)))))
+    ∙ ap (λ m. spare_from m ls) one)
 
 is_job : (o : Option JobView) → is_some o ≡ true → (job : JobView) × (o ≡ Some job)
 is_job None e = absurd (cc)
@@ -82,7 +84,7 @@ passes k ls flag h e on = let t = is_job (lent_at ls k) (sym e ∙ on) in passes
 pub turns_empty : (k : ℕ) (ls : LentRow) (flag : Bool) → k < length ls → flag ≡ is_some (lent_at ls k) → flag ≡ false → turned (spare_from k ls) ≡ spare_from (k + 1) ls
 turns_empty k ls flag h e off = turns k ls h (is_nothing (lent_at ls k) (sym e ∙ off))
 
--- what is left once the slot of place k went out with a job
+-- what is left once a job was offered in the slot of place k
 pub lent_rest : (k : ℕ) (ls : LentRow) (job : JobView) → k < length ls → spare (suc k) (drop (suc k) ls) ++ spare 0 (take k ls) ≡ spare_from (k + 1) (set ls k (Some job))
 lent_rest k ls job h = let one : suc k ≡ k + 1 = omega arith in let wide : k < length (set ls k (Some job)) = let e = length-set ls k (Some job) in omega arith in
     sym (ap (λ m. spare_from m (set ls k (Some job))) (sym one) ∙ (ap (λ ys. spare (suc k) ys ++ spare 0 (take (suc k) (set ls k (Some job)))) (drop-set-lt (suc k) ls k (Some job) (omega arith))
@@ -90,7 +92,7 @@ lent_rest k ls job h = let one : suc k ≡ k + 1 = omega arith in let wide : k <
     ∙ (ap (λ o. spare 0 (take k (set ls k (Some job))) ++ spare k (o ∷ [])) (get_or-set_same ls k (Some job) None h)
     ∙ (append_none (spare 0 (take k (set ls k (Some job)))) ∙ ap (spare 0) (take-set ls k (Some job)))))))
 
--- the row once the slot of place k has come back
+-- the list once the seat has the slot of place k again
 pub back_rest : (k : ℕ) (ls : LentRow) (job : JobView) → k < length ls → lent_at ls k ≡ Some job → (k, None) ∷ spare_from k ls ≡ spare_from k (set ls k None)
 back_rest k ls job h e = ap (λ ys. (k, None) ∷ ys) (spare_from_lent k ls job h e)
     ∙ sym (spare_from_empty k (set ls k None) (let w = length-set ls k None in omega arith) (get_or-set_same ls k None None h)

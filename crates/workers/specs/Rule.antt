@@ -1,4 +1,5 @@
--- The one rule of the table: how each place stands, by its word, and what each seat knows of it. It holds between any two steps.
+-- Statement for engineers: The one rule of the table: the state of each place, by its word, and what each seat knows of it. It holds
+-- between any two steps.
 use Rattle.std.specs.Prelude.{◌≡◌, ℕ, ◌+◌, ◌<◌, ◌≤◌, List, length, slice_index, slice_index_or, Option, None, Some}
 use mathlib.Core.Option.{none, some}
 use lib.ListN.{get_elem?}
@@ -14,7 +15,7 @@ use Rattle.workers.specs.declared.seats.View.TheVariants.{Dispatcher, Claimed}
 abbrev pub Board : Type 0
 Board = State (Option CellContent) View
 
--- a slot: out with a seat, or at home with what it holds
+-- a slot: with a seat, or at home with what it holds
 abbrev pub Home : Type 0
 Home = mathlib.Core.Option.Option (Option CellContent)
 
@@ -25,13 +26,13 @@ LentRow = List (Option JobView)
 abbrev pub lent_at : LentRow → ℕ → Option JobView
 lent_at lent k = slice_index_or lent k None
 
--- Word 0 is the stop word, 1 and 2 are the bells, and 3, 4 and 5 say who waits at them: of these six nothing is said. Behind them each
--- place has its word.
+-- Word 0 is the stop word, 1 and 2 are the event counts, and 3, 4 and 5 record who waits for them: the rule leaves these six free.
+-- Behind them each place has its word.
 abbrev pub word_of : ℕ → ℕ
 word_of k = k + 6
 
--- How place k stands, by its word, by what is lent there and by its slot. The places below `resting` are yet to be readied: there the slot
--- is still at home.
+-- The state of place k, by its word, by what is lent there and by its slot. The places below `resting` are yet to be readied: there the
+-- slot is still at home.
 pub data PlaceState (resting k word : ℕ) (lent : Option JobView) (home : Home) : Type 0 where
   is_empty : word ≡ 0 → lent ≡ None → (k < resting → home ≡ some None) → (resting ≤ k → home ≡ none) → PlaceState resting k word lent home
   is_offered : (job : JobView) → word ≡ 1 → lent ≡ Some job → home ≡ some (Some (Offered job)) → PlaceState resting k word lent home

@@ -1,4 +1,4 @@
--- The seats as clauses see them.
+-- Statement for engineers: The seats as clauses see them.
 use Rattle.std.specs.Prelude.{◌≡◌, ℕ, ◌+◌, ◌≤◌, suc, Bool, List, [], ◌∷◌, ◌++◌, length, map, take, drop, slice_set, is_some, Option, None, Some}
 use Rattle.atomic_table.specs.Table.{Me}
 use Rattle.atomic_table.specs.Seated.{TableId}
@@ -31,7 +31,7 @@ lent_of _ = []
 abbrev pub idle : Me (Option CellContent) View
 idle = (Idle, [])
 
--- the slots of the places where nothing is lent, in order, of a row whose first place is i
+-- the slots of the places where nothing is lent, in order, of a list whose first place is i
 abbrev pub spare : ℕ → List (Option JobView) → List (ℕ × Option CellContent)
 spare i [] = []
 spare i (None ∷ lent) = (i, None) ∷ spare (suc i) lent
@@ -41,7 +41,7 @@ spare i (Some job ∷ lent) = spare (suc i) lent
 abbrev pub spare_from : ℕ → List (Option JobView) → List (ℕ × Option CellContent)
 spare_from i lent = spare i (drop i lent) ++ spare 0 (take i lent)
 
--- A dispatcher's seat at rest: it has the slot of each place where nothing is lent, and the flags say which these are.
+-- A dispatcher's seat at rest: it has the slot of each place where nothing is lent, and the flags show which these are.
 pub record IsDispatchSeat (z : TableId) (me : Me (Option CellContent) View) (flags : List Bool) : Type 0 where
   pub bench : IsBench z
   pub seat : me ≡ (Dispatcher 0 (lent_of me.0), spare 0 (lent_of me.0))

@@ -1,4 +1,4 @@
--- What each kind of step tells the seat that makes it: of the seat before, the number found and the seat after.
+-- Statement for engineers: What a seat knows after each kind of step: a relation of the seat before, the number found and the seat after.
 use Rattle.std.specs.Prelude.{◌≡◌, ◌≢◌, ℕ, List, ◌∷◌, slice_set, Option, None, Some}
 use Rattle.atomic_table.specs.Table.{Me, Step, rest}
 use Rattle.parcel.specs.Run.{JobView, IsJobRun}
@@ -44,6 +44,6 @@ Collects k m found w =
     × (w ≡ (Dispatcher 0 (slice_set (lent_of m.0) k None), (k, Some (Delivered done)) ∷ m.1)))
     × (found ≢ 3 → w ≡ m)
 
--- a step on the word of a place tells what its kind tells of that place
+-- of a step on the word of a place: what its kind gives for that place
 abbrev pub OfPlace : {F : Type 0} → (ℕ → Sat → ℕ → Sat → Type 0) → Step F → Sat → ℕ → Sat → Type 0
 OfPlace told st m found w = (k : ℕ) → st.word ≡ word_of k → told k m found w

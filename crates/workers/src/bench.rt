@@ -7,10 +7,10 @@ ghost use Rattle.workers.specs.Seats.{IsAtBench, IsBench, IsDispatchSeat, HasCol
 ghost use Rattle.workers.specs.declared.job_cell.CellContent.TheVariants.{Delivered};
 ghost use Rattle.workers.specs.declared.seats.View.TheVariants.{Dispatcher};
 
+use crate::event_counts::wake_worker;
+use crate::job_cell::JobCell;
 use crate::seats::{DispatchSeat, Seat, View, WorkSeat, turn_to};
 use crate::steps::{self, Handoff, Words};
-use crate::job_cell::JobCell;
-use crate::event_counts::wake_worker;
 use crate::words::{DELIVERED, FIRST_PLACE, MOST_PLACES, OFFER_EVENT};
 use atomic_table::Table;
 use parcel::{Done, Job};
@@ -67,8 +67,8 @@ impl Bench {
         Ok((Bench { table }, dispatch_seat, seats))
     }
 
-    /// Lends a job to the workers at place k, and wakes one that sleeps where none looks on. Hands it back
-    /// where something is lent there.
+    /// Lends a job to the workers at place k, and wakes one that sleeps if none spins. Hands the job back
+    /// if something is lent there.
     #[inline(always)]
     pub fn offer(&self, seat: &mut DispatchSeat, k: usize, job: Job) -> Result<(), Job>
         requires { (seat.old.bench ≡ self.now) × (k < self.now.slots) }
@@ -105,7 +105,7 @@ impl Bench {
         Some(take_delivered(words, &mut seat.seat, &mut seat.lent, k))
     }
 
-    /// Tells the workers to end, each once it has delivered what it has claimed.
+    /// Signals the workers to end, each once it has delivered what it has claimed.
     pub fn stop(&self, seat: &mut DispatchSeat)
         requires { seat.old.bench ≡ self.now }
         ensures { seat.new ≡ seat.old }
@@ -135,7 +135,7 @@ fn lay(
     }
 }
 
-// `places` empty trays.
+// `places` empty cells.
 fn empty_cells(alloc: Global, places: usize) -> Result<Vec<JobCell>, AllocError>
     ensures { IfOk result (λ cells. cells.items ≡ replicate places None) }
 {
@@ -165,7 +165,7 @@ fn seat_workers(
     Ok(seats)
 }
 
-// Takes the slots of all places, from the last one down, so that they lie in order.
+// Takes the slots of all places, from the last one down, so that they are in order.
 fn ready_all(words: &Words, seat: &mut Seat, places: usize)
     requires bench { IsAtBench words.now.table_id seat.old.table_id }
     requires places { places ≡ words.now.table_id.slots }
@@ -197,7 +197,7 @@ fn put_offer(words: &Words, seat: &mut Seat, lent: &mut [bool], k: usize, job: J
     turn_to(seat, lent, k + 1, lent.len());
 }
 
-// Takes the slot of a place where something is lent, if its result was delivered. Else all stays.
+// Takes the slot of a place where something is lent, if its result was delivered. Else nothing changes.
 fn try_collect(words: &Words, seat: &mut Seat, lent: &[bool], k: usize) -> bool
     requires bench { (seat.old.table_id ≡ words.now.table_id) × (k < words.now.table_id.slots) }
     requires dispatch_seat { IsDispatchSeat words.now.table_id seat.old.me lent.now }
@@ -216,7 +216,8 @@ fn try_collect(words: &Words, seat: &mut Seat, lent: &[bool], k: usize) -> bool
 // Takes the result out of the slot of a place that was won.
 fn take_delivered(words: &Words, seat: &mut Seat, lent: &mut [bool], k: usize) -> Done
     requires bench { (seat.old.table_id ≡ words.now.table_id) × (k < words.now.table_id.slots) × IsBench words.now.table_id }
-    requires won { (row : LentRow) × HasCollected k row seat.old.me × (lent.old ≡ map is_some row) × (length lent.old ≡ words.now.table_id.slots) }
+    requires won { (row : LentRow) × HasCollected k row seat.old.me × (lent.old ≡ map is_some row)
+        × (length lent.old ≡ words.now.table_id.slots) }
     ensures bench { seat.new.table_id ≡ seat.old.table_id }
     ensures dispatch_seat { IsDispatchSeat words.now.table_id seat.new.me lent.new }
     ensures lent { lent_of seat.new.me.0 ≡ lent_of seat.old.me.0 }

@@ -23,12 +23,12 @@ pub trait DispatcherTask<E> {
         requires { can_begin self.old }
         ensures { gives self.old self.new result };
 
-    /// Tells the workers to end, those too that were started before one that couldn't be.
+    /// Signals the workers to end, also those that were started before one that couldn't be.
     fn stop_workers(&mut self)
         ensures { self.new ≡ self.old };
 }
 
-/// Tells the proof that what was lent through this reference is its owner's again.
+/// For the proof alone: what was lent through this reference is its owner's again.
 pub fn know_returned<T>(lent: &mut T)
     ensures { lent.new ≡ lent.old }
 {

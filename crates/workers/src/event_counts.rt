@@ -4,19 +4,19 @@ ghost use Rattle.workers.specs.Seats.{IsAtBench, IsBench};
 
 use crate::seats::Seat;
 use crate::steps::{self, Words};
-use crate::words::{DELIVERY_EVENT, SPINNERS, OFFER_EVENT, SLEEPERS, SLEPT_AT, low_half};
+use crate::words::{DELIVERY_EVENT, OFFER_EVENT, SLEEPERS, SLEPT_AT, SPINNERS, low_half};
 use std::hint::spin_loop;
 use std::sync::Wait;
 use std::thread::yield_now;
 
-/// How often a worker looks at the event count of the offers in a row.
+/// How often a worker reads the event count of the offers in one spin.
 const SPINS: usize = 64;
 
-/// How many such rows of looks it makes before it sleeps, and lets other threads go first after each: for
-/// longer than the dispatcher takes to write the replies of 32 lines, after which it offers again.
+/// How many such spins it makes before it sleeps, letting other threads go first after each: for longer
+/// than the dispatcher takes to write the replies of 32 lines, after which it offers again.
 const SPIN_ROUNDS: usize = 32;
 
-/// Sleeps while the event count of the deliveries has this number, and gives the one that it has then.
+/// Sleeps while the event count of the deliveries has this number, and returns the one that it has then.
 pub fn wait_delivery<R: Wait>(words: &Words, seat: &mut Seat, rt: &R, seen: u64) -> u64
     requires { IsAtBench words.now.table_id seat.old.table_id }
     ensures { (seat.new.table_id ≡ seat.old.table_id) × (seat.new.me ≡ seat.old.me) }
@@ -36,7 +36,7 @@ pub fn wait_delivery<R: Wait>(words: &Words, seat: &mut Seat, rt: &R, seen: u64)
     number
 }
 
-/// Rings the event count of the deliveries, and wakes the dispatcher if it sleeps at the number that the ring found: whether it does.
+/// Adds one to the event count of the deliveries, and wakes the dispatcher if it sleeps at the number found. Returns whether it does.
 pub fn signal_delivery(words: &Words, seat: &mut Seat) -> bool
     requires { IsAtBench words.now.table_id seat.old.table_id }
     ensures { (seat.new.table_id ≡ seat.old.table_id) × (seat.new.me ≡ seat.old.me) }
@@ -49,7 +49,7 @@ pub fn signal_delivery(words: &Words, seat: &mut Seat) -> bool
     sleeps
 }
 
-/// Wakes a worker that sleeps on the event count of the offers, unless one looks on there.
+/// Wakes a worker that sleeps on the event count of the offers, unless one spins there.
 pub fn wake_worker(words: &Words)
     requires { IsBench words.now.table_id }
 {
@@ -58,7 +58,7 @@ pub fn wake_worker(words: &Words)
     }
 }
 
-// Whether the event count of the offers has another number than this one within some looks.
+// Whether the event count of the offers is seen with another number than this one in one spin.
 fn is_offered_now(words: &Words, seen: u64) -> bool
     requires { IsBench words.now.table_id }
 {
@@ -71,7 +71,7 @@ fn is_offered_now(words: &Words, seen: u64) -> bool
     false
 }
 
-// Whether it has another one soon: other threads may go first meanwhile, if they wait for a processor.
+// Whether it is soon: meanwhile other threads that wait for a processor may go first.
 fn is_offered_soon(words: &Words, seen: u64) -> bool
     requires { IsBench words.now.table_id }
 {
@@ -84,7 +84,7 @@ fn is_offered_soon(words: &Words, seen: u64) -> bool
     false
 }
 
-/// Looks on for a while, and then sleeps, while the event count of the offers has this number.
+/// Spins for a while, and then sleeps, while the event count of the offers has this number.
 pub fn spin_then_sleep<R: Wait>(words: &Words, seat: &mut Seat, rt: &R, seen: u64)
     requires { IsAtBench words.now.table_id seat.old.table_id }
     ensures { (seat.new.table_id ≡ seat.old.table_id) × (seat.new.me ≡ seat.old.me) }

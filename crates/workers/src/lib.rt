@@ -1,14 +1,14 @@
-//! The bench: the one place where threads meet. A job is offered at a place, some worker runs it, and
-//! its result is collected there.
+//! The bench: threads meet nowhere else. A job is offered at a place, some worker runs it, and its result
+//! is collected there.
 #![tactic(auto)]
 
 mod bench;
 mod dispatcher_task;
+mod event_counts;
 mod gate;
+mod job_cell;
 mod seats;
 mod steps;
-mod job_cell;
-mod event_counts;
 mod words;
 mod work;
 

@@ -128,8 +128,8 @@ impl WorkSeat {
     }
 }
 
-// Brings the slots of a dispatcher's seat round, from those of the places from `from` on to those from `to` on.
-// A seat reaches the slot at the head of its row alone.
+// Rotates the slots of a dispatcher's seat: those of the places from `to` on come first, and no longer those from
+// `from` on. A seat reaches its first slot alone.
 pub fn turn_to(seat: &mut Seat, lent: &[bool], from: usize, to: usize)
     requires places { (from ≤ to) × (to ≤ length lent.now) }
     requires flags { lent.now ≡ map is_some (lent_of seat.old.me.0) }
@@ -142,7 +142,7 @@ pub fn turn_to(seat: &mut Seat, lent: &[bool], from: usize, to: usize)
     }
 }
 
-// Brings the slot of place k after the others, if the seat has it.
+// Moves the slot of place k behind the others, if the seat has it.
 fn turn_past(seat: &mut Seat, is_lent: bool, k: usize)
     requires place { k < length (lent_of seat.old.me.0) }
     requires flag { is_lent ≡ is_some (lent_at (lent_of seat.old.me.0) k) }

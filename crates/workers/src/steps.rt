@@ -1,5 +1,5 @@
-//! The kinds of atomic step on the table, each one try: eight that hand jobs and results through, and three by which a thread says that it
-//! waits. Nothing else changes a word. A slot is filled between them.
+//! The kinds of atomic step on the table, each one try: eight that hand jobs and results over, and three by which a thread records
+//! that it waits. Nothing else changes a word. A slot is filled between them.
 ghost use Rattle.std.specs.Prelude.{◌≡◌, ◌+◌, ◌<◌, [], ◌∷◌, replicate, slice_set, None, Some, IsTrue, IsFalse};
 ghost use Rattle.atomic_table.specs.Table.{rest};
 ghost use Rattle.parcel.specs.Run.{JobView, IsJobRun};
@@ -10,9 +10,9 @@ ghost use Rattle.workers.specs.Steps.{Readies, Offers, Claims, Delivers, Collect
 ghost use Rattle.workers.specs.declared.job_cell.CellContent.TheVariants.{Offered, Delivered};
 ghost use Rattle.workers.specs.declared.seats.View.TheVariants.{Dispatcher, Idle, Claimed};
 
-use crate::seats::{Seat, View};
 use crate::job_cell::JobCell;
-use crate::words::{DELIVERED, CLAIMED, EMPTY, FIRST_PLACE, OFFERED, SLEPT_AT, STOP};
+use crate::seats::{Seat, View};
+use crate::words::{CLAIMED, DELIVERED, EMPTY, FIRST_PLACE, OFFERED, SLEPT_AT, STOP};
 use atomic_table::{Play, Shared, Split, TableRule};
 use parcel::{Done, Job};
 
@@ -28,7 +28,7 @@ impl TableRule<JobCell, View, usize> for Handoff {
     ghost first = { λ places. Dispatcher places (replicate places None) };
 }
 
-// What each kind of step tells its seat, and how a worker's view comes out of the dispatcher's.
+// What its seat knows after each kind of step, and how a worker's view comes out of the dispatcher's.
 struct Joining;
 
 struct Readying;
@@ -142,7 +142,7 @@ pub fn collect(words: &Words, seat: &mut Seat, k: usize) -> bool
     words.compare_exchange::<Collecting>(seat, k + FIRST_PLACE, DELIVERED, EMPTY) == DELIVERED
 }
 
-/// Rings a event count, and gives the number that it had.
+/// Adds one to an event count, and returns the number that it had.
 pub fn ring(words: &Words, seat: &mut Seat, event: usize) -> u64
     requires bench { IsAtBench words.now.table_id seat.old.table_id }
     requires event { event < FIRST_PLACE }
@@ -151,7 +151,7 @@ pub fn ring(words: &Words, seat: &mut Seat, event: usize) -> u64
     words.fetch_add::<Aside>(seat, event, 1)
 }
 
-/// Says by the stop word that the bench is stopped.
+/// Sets the stop word: the bench is stopped.
 pub fn close(words: &Words, seat: &mut Seat)
     requires bench { IsAtBench words.now.table_id seat.old.table_id }
     ensures { (seat.new.table_id ≡ seat.old.table_id) × (seat.new.me ≡ seat.old.me) }
@@ -159,7 +159,7 @@ pub fn close(words: &Words, seat: &mut Seat)
     words.store::<Aside>(seat, STOP, 1);
 }
 
-/// Counts the worker among those that sleep, or among those that look on.
+/// Counts the worker among those that sleep, or among those that spin.
 pub fn count_in(words: &Words, seat: &mut Seat, who: usize)
     requires bench { IsAtBench words.now.table_id seat.old.table_id }
     requires who { who < FIRST_PLACE }
@@ -177,7 +177,7 @@ pub fn count_out(words: &Words, seat: &mut Seat, who: usize)
     words.fetch_sub::<Aside>(seat, who, 1);
 }
 
-/// Says at which number of the event count of the deliveries the dispatcher goes to sleep.
+/// Records at which number of the event count of the deliveries the dispatcher goes to sleep.
 pub fn announce_sleep(words: &Words, seat: &mut Seat, number: u64)
     requires { IsAtBench words.now.table_id seat.old.table_id }
     ensures { (seat.new.table_id ≡ seat.old.table_id) × (seat.new.me ≡ seat.old.me) }

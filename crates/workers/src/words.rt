@@ -4,19 +4,20 @@ ghost use Rattle.std.specs.Prelude.{◌≡◌, ◌%◌, ◌^◌};
 /// The word that is 0 at first, and 1 once the bench is stopped.
 pub const STOP: usize = 0;
 
-/// The event count of the offers, on which workers sleep: how often it was rung. It wraps.
+/// The event count of the offers, on which workers sleep: how often it was signaled. It wraps.
 pub const OFFER_EVENT: usize = 1;
 
-/// The event count of the deliveries, on which the dispatcher sleeps: how often it was rung. It wraps.
+/// The event count of the deliveries, on which the dispatcher sleeps: how often it was signaled. It wraps.
 pub const DELIVERY_EVENT: usize = 2;
 
 /// How many workers sleep on the event count of the offers, or are about to.
 pub const SLEEPERS: usize = 3;
 
-/// How many workers look on at the event count of the offers.
+/// How many workers spin on the event count of the offers.
 pub const SPINNERS: usize = 4;
 
-/// The number of the event count of the deliveries at which the dispatcher sleeps or slept last. At first it is 0, at which it would sleep first.
+/// The number of the event count of the deliveries at which the dispatcher sleeps or slept last. It is 0 at first, at which it
+/// would sleep first.
 pub const SLEPT_AT: usize = 5;
 
 /// How many words there are before those of the places.
@@ -37,7 +38,7 @@ pub const CLAIMED: u64 = 2;
 /// A place's word: its slot has the result of the job that was offered there.
 pub const DELIVERED: u64 = 3;
 
-/// The low half of a event count's number, by which a thread sleeps on it.
+/// The low half of an event count's number, by which a thread sleeps on it.
 pub fn low_half(number: u64) -> u32
     ensures { result ≡ number % 2 ^ 32 }
 {

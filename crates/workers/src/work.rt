@@ -6,11 +6,11 @@ ghost use Rattle.workers.specs.declared.job_cell.CellContent.TheVariants.{Offere
 ghost use Rattle.workers.specs.declared.seats.View.TheVariants.{Claimed};
 
 use crate::bench::Bench;
+use crate::event_counts::{signal_delivery, sleep, spin_then_sleep, wait_delivery, wake_worker};
 use crate::gate::Gate;
 use crate::seats::{DispatchSeat, Seat, WorkSeat};
 use crate::steps::{self, Words};
-use crate::event_counts::{wait_delivery, spin_then_sleep, sleep, signal_delivery, wake_worker};
-use crate::words::{FIRST_PLACE, OFFERED, OFFER_EVENT, STOP};
+use crate::words::{FIRST_PLACE, OFFER_EVENT, OFFERED, STOP};
 use parcel::run;
 use std::alloc::AllocError;
 use std::sync::Wait;
@@ -108,7 +108,7 @@ impl Bench {
     }
 }
 
-// Wakes another worker where a place after k has a job too. An offer wakes none while one looks on, and that
+// Wakes another worker where a place after k has a job too. An offer wakes none while one spins, and that
 // one may be held up by the job that it has claimed.
 fn wake_another(words: &Words, k: usize, places: usize)
     requires bench { IsBench words.now.table_id }
@@ -138,8 +138,8 @@ fn serve_round<G: Gate>(words: &Words, seat: &mut Seat, places: usize, gate: &G)
     round
 }
 
-// Does the job of a place if it can be claimed. Says whether the dispatcher slept when its result was
-// delivered.
+// Does the job of a place if it can be claimed. Returns whether the dispatcher slept when its result
+// was delivered.
 fn serve_place<G: Gate>(
     words: &Words,
     seat: &mut Seat,
@@ -162,7 +162,7 @@ fn serve_place<G: Gate>(
     Some(run_claimed(words, seat, k, gate))
 }
 
-// Runs the job of the place that the seat has claimed, and delivers its result. Says whether the
+// Runs the job of the place that the seat has claimed, and delivers its result. Returns whether the
 // dispatcher slept.
 fn run_claimed<G: Gate>(words: &Words, seat: &mut Seat, k: usize, gate: &G) -> bool
     requires bench { IsAtBench words.now.table_id seat.old.table_id }

@@ -1,4 +1,4 @@
-//! What a journal tells without a call of its device, and the device at its end.
+//! What a journal gives without a call of its device, and the device at its end.
 ghost use Rattle.std.specs.Prelude.{◌≡◌, false};
 ghost use Rattle.journal.specs.Journal.{IsCommitted};
 

@@ -9,7 +9,7 @@ ghost use Rattle.parcel.specs.Tree.{standing_at};
 use super::{Root, Standing, Vol};
 use affinity::Place;
 
-/// The standing at a place. Of what is out it has `false` and 0.
+/// The standing at a place. For what is out it has `false` and 0.
 pub(crate) fn standing_at(root: &Option<Root>, place: Place) -> Standing
     ensures { result ≡ standing_at (path place) (in_child in_root root.now) }
 {
@@ -27,7 +27,7 @@ pub(crate) fn standing_at(root: &Option<Root>, place: Place) -> Standing
     }
 }
 
-// The marks of a volume, and its files.
+// The flags of a volume, and its files.
 fn standing_in(root: &Option<Root>, a: u16, v: u16) -> Standing
     ensures made { result.made ≡ marks_made (in_child in_root root.now (volume a v)) }
     ensures sealed { result.sealed ≡ marks_sealed (in_child in_root root.now (volume a v)) }

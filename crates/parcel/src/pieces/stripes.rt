@@ -22,7 +22,7 @@ pub(super) fn write_stripe(stripe: &StripeParcel, g: &Geometry, s: usize, out: &
         → x.blocks (a, v, f, b) ≡ content_at stripe.now.entries f b)
         → out.new ≡ stripe_piece g.now x a v s }
 {
-    // A stripe keeps its blocks in their order, and `len` says so.
+    // A stripe keeps its blocks in their order: the proof gets that from `len`.
     let most = usize::from(g.quota);
     prove!(stripe.len() <= most);
     stripe.write_piece(out);

@@ -1,4 +1,4 @@
-//! A volume's piece of an image: its marks, its files and its label, in 64 bytes.
+//! A volume's piece of an image: its flags, its files and its label, in 64 bytes.
 ghost use Rattle.std.specs.Prelude.{◌≡◌, ◌↔◌, ◌^◌, ◌-◌, length, unwrap_or, if◌then◌else◌, Some, None, IsTrue, IsFalse};
 ghost use Rattle.meaning.specs.Serial.{no_label};
 ghost use Rattle.parcel.specs.Pieces.{volume_piece_of, decoded_label, decoded_piece, spelled, volume_with};
@@ -11,14 +11,14 @@ use byteorder::{ByteOrder, LittleEndian};
 use device_map::VOLUME_PIECE_SIZE;
 use image::layout::VERSION;
 
-/// Where the files and the label stand in a volume's piece, and the zeros after them.
+/// Where the files and the label are in a volume's piece, and the zeros after them.
 const FILES_AT: usize = 8;
 
 const LABEL_AT: usize = 16;
 
 const ZEROS_AT: usize = 48;
 
-/// What a volume's piece says.
+/// What a volume's piece decodes to.
 #[derive(Clone, Copy)]
 pub(crate) struct VolumePiece {
     made: bool,
@@ -45,7 +45,7 @@ fn all_files(g: &Geometry) -> u64
     u64::MAX >> (64 - g.files)
 }
 
-/// The label in the bytes of a volume's piece. Before version 2 there is none, and zeros stand for it.
+/// The label in the bytes of a volume's piece. Before version 2 there is none, and zeros are given for it.
 fn label_decoded(version: u8, bytes: &[u8]) -> [u8; 32]
     requires size { length bytes.now ≡ 64 }
     ensures { result ≡ decoded_label version bytes.now }
@@ -70,7 +70,7 @@ impl VolumePiece {
         }
     }
 
-    /// What bytes say as a volume's piece, whatever else they spell. Of the files those of the
+    /// Bytes decoded as a volume's piece, whatever else they spell. Of the files those of the
     /// geometry are looked at.
     fn decoded(g: &Geometry, version: u8, bytes: &[u8]) -> VolumePiece
         requires size { length bytes.now ≡ 64 }
@@ -99,7 +99,7 @@ impl VolumePiece {
         out[ZEROS_AT..].copy_from_slice(&[0; 16]);
     }
 
-    /// Gives a volume the marks, the files and the label.
+    /// Gives a volume the flags, the files and the label.
     fn put_into(&self, volume: &mut Vol)
         ensures { volume.new ≡ volume_with self.now volume.old }
     {
@@ -129,7 +129,7 @@ pub(super) fn write_volume(volume: &Vol, out: &mut [u8])
     VolumePiece::of(volume).write(out);
 }
 
-/// Takes in a volume's piece: whether the bytes are what they say, spelled. Where they aren't, the
+/// Takes in a volume's piece: whether the bytes spell what they decode to. Where they don't, the
 /// volume stays.
 pub(super) fn read_volume(volume: &mut Vol, g: &Geometry, version: u8, bytes: &[u8]) -> bool
     requires size { length bytes.now ≡ 64 }

@@ -16,7 +16,7 @@ struct Seen {
     sealed: bool,
     /// Whether what the message makes is there already.
     exists: bool,
-    /// Whether the file that it speaks of is there.
+    /// Whether its file is there.
     file: bool,
     /// Whether there is room for the block that it writes.
     room: bool,
@@ -77,7 +77,7 @@ pub(crate) fn make_refusal(message: &Msg, made: bool) -> Option<Refusal>
     seen.refusal(message)
 }
 
-/// Why a volume can't be asked about, sealed or unsealed.
+/// Why a question about a volume, its sealing or its unsealing is refused.
 pub(crate) fn volume_refusal(message: &Msg, made: bool) -> Option<Refusal>
     requires { tests message.now ≡ Range ∷ Volume ∷ [] }
     ensures { result ≡ unless made Volume None }

@@ -13,7 +13,7 @@ use messages::{Block, Msg, Refusal};
 use std::alloc::AllocError;
 
 impl Server {
-    /// Sets a block of a file, and says whether there was none.
+    /// Sets a block of a file, and gives whether there was none.
     fn set_block(
         &mut self,
         a: u16,
@@ -30,7 +30,7 @@ impl Server {
         Ok(self.blocks.insert((a, v, f, b), *content)?.is_none())
     }
 
-    /// Puts a block where there is one already, and says whether there is. It is found once, and
+    /// Puts a block where there is one already, and gives whether there is. It is found once, and
     /// nothing else is moved.
     pub(super) fn overwrite(&mut self, a: u16, v: u16, f: u16, b: u16, content: &Block) -> bool
         ensures there { result ≡ is_some ((server_state self.old).blocks (a, v, f, b)) }
@@ -47,7 +47,7 @@ impl Server {
         }
     }
 
-    /// Takes a block out of its file, and says whether there was one.
+    /// Takes a block out of its file, and gives whether there was one.
     fn clear_block(&mut self, a: u16, v: u16, f: u16, b: u16) -> bool
         ensures there { result ≡ is_some ((server_state self.old).blocks (a, v, f, b)) }
         ensures state { server_state self.new ≡ effect (server_state self.old) (Msg.Punch a v f b) }

@@ -1,4 +1,4 @@
-//! What a message changes that passes its tests.
+//! What a message that passes its tests changes.
 
 ghost use Rattle.std.specs.Prelude.{◌≡◌, OnOk, OnErr, None, false};
 ghost use Rattle.affinity.specs.declared.geometry.Geometry.{Geometry};
@@ -68,7 +68,7 @@ impl Server {
         self.sealed.remove(&(a, v));
     }
 
-    /// Does what a message says that passes its tests.
+    /// Carries out a message that passes its tests.
     pub(super) fn apply(&mut self, g: &Geometry, m: &Msg) -> Result<(), AllocError>
         requires passed { refusal g.now (server_state self.old) m.now ≡ None }
         requires sound { IsConsistent g.now self.old }

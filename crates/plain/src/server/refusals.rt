@@ -20,7 +20,7 @@ fn refused_if(fails: bool, why: Refusal) -> Option<Refusal>
 }
 
 impl Server {
-    /// Whether a block is there already, or its stripe has less blocks than its quota.
+    /// Whether a block is there already, or its stripe has fewer blocks than its quota.
     fn has_room(&self, g: &Geometry, a: u16, v: u16, f: u16, b: u16) -> bool
         requires counted { IsCounted g.now self.now }
         ensures { result ≡ (is_some ((server_state self.now).blocks (a, v, f, b))

@@ -26,7 +26,7 @@ impl Server {
     }
 
     /// The block that answers a read, where it lies, so that it isn't copied. Where there is none,
-    /// or the message is answered otherwise, `answer` tells what it is answered.
+    /// or the reply is another, `answer` gives the reply.
     pub(crate) fn block_shown(&self, g: &Geometry, m: &Msg) -> Option<&Block>
         requires sound { IsConsistent g.now self.now }
         ensures { IfSome result (λ content.
@@ -93,8 +93,8 @@ impl Server {
     }
 
     /// The block that answers a `read`, where it lies: a block that is there has a file and a
-    /// volume, so that one look finds it. Where there is none, a `read` that passes its tests is
-    /// told of a hole.
+    /// volume, so that one look-up finds it. Where there is none, the reply to a `read` that passes
+    /// its tests is a hole.
     pub(crate) fn block_by(&self, g: &Geometry, kind: Kind, numbers: [u16; 4]) -> Option<&Block>
         requires sound { IsConsistent g.now self.now }
         ensures shown { IfSome result (λ content.

@@ -13,7 +13,7 @@ use messages::Block;
 /// How many bytes an entry has.
 const ENTRY_SIZE: usize = 520;
 
-/// How many bytes stand before the content of a block in its entry.
+/// How many bytes come before the content of a block in its entry.
 const ENTRY_HEAD: usize = 8;
 
 /// Whether a file is one of those that a number has as its bits.
@@ -23,7 +23,7 @@ fn has_file(files: u64, file: u16) -> bool
     file < 64 && (files >> file) & 1 == 1
 }
 
-/// Whether a block can stand in stripe `s` of a volume with these files.
+/// Whether a block can be in stripe `s` of a volume with these files.
 fn can_stand(g: &Geometry, files: u64, s: u16, file: u16, block: u16) -> bool
     ensures { result ≡ can_stand g.now files s file block }
 {
@@ -86,8 +86,8 @@ impl StripeParcel {
     }
 
     /// Takes in the blocks of a piece of stripe `s` of a volume with these files, none being there
-    /// before: whether the bytes are such a piece. Where they aren't, no clause says which blocks are
-    /// there.
+    /// before: whether the bytes are such a piece. Where they aren't, it is unspecified which blocks
+    /// are there.
     pub fn read_piece(&mut self, g: &Geometry, files: u64, s: u16, bytes: &[u8]) -> bool
         requires empty { self.old.entries ≡ [] }
         requires quota { self.old.quota ≡ g.now.quota }
@@ -109,8 +109,8 @@ impl StripeParcel {
         true
     }
 
-    /// Takes in an entry after all that are there, if it is one and can stand there: whether it
-    /// was.
+    /// Takes in an entry after all that are there, if it is one and can be there: whether it
+    /// was taken.
     fn push(&mut self, g: &Geometry, files: u64, s: u16, row: &[u8]) -> bool
         requires row { length row.now ≡ 520 }
         requires marked { get_or row.now 0 0 ≡ 1 }

@@ -14,4 +14,5 @@ returns c =
     let one = c.in_ok-subcommand.ensures.shape (no_globals _ _ _ _ (ap (λ (a : App). a.top.is_plain) plain_is)) ∙ ap₂ with_subcommand c.bare.ensures (ap (λ (a : App). a.top) plain_is) in
     let two = c.in_ok-subcommand-2.ensures.shape (no_globals _ _ _ _ (ap (λ (a : App). a.top.is_plain) format_is)) ∙ ap₂ with_subcommand one (ap (λ (a : App). a.top) format_is) in
     let three = c.in_ok-subcommand-3.ensures.shape (no_globals _ _ _ _ (ap (λ (a : App). a.top.is_plain) show_is)) ∙ ap₂ with_subcommand two (ap (λ (a : App). a.top) show_is) in
-    IfOk-weaker c.subcommand-4.result _ _ (λ made adds. adds.shape (no_globals _ _ _ _ (ap (λ (a : App). a.top.is_plain) serve_is)) ∙ ap₂ with_subcommand three (ap (λ (a : App). a.top) serve_is)) c.subcommand-4.ensures
+    IfOk-weaker c.subcommand-4.result _ _ (λ made adds. adds.shape (no_globals _ _ _ _ (ap (λ (a : App). a.top.is_plain) serve_is))
+    ∙ ap₂ with_subcommand three (ap (λ (a : App). a.top) serve_is)) c.subcommand-4.ensures

@@ -5,7 +5,7 @@ use Rattle.arguments.specs.Arguments.{IsRequested, findings, waffd}
 use Rattle.arguments.proofs.Reading.{Holds, holds, holds_requested, if_err, if_ok}
 use Rattle.arguments.proofs.parsing.read_words.Goals as goal
 
--- clap took the words, and the options tell the rest
+-- clap took the words, and the options give the rest
 taken : (c : goal.Joined-matches) → Holds (map string_bytes c.args.words.now) c.requested.result
 taken c =
     let words = map string_bytes c.args.words.now in

@@ -41,9 +41,12 @@ returns-in_ok-store-clause-shut g c = λ k.
 pub returns-else-is_open-clause-shut : goal.returns-else-is_open-clause-shut
 returns-else-is_open-clause-shut g c = λ k.
     calm_shut _ (g.D.Disk.medium c.read_at.new.self)
-    (now_calm (g.D.Disk.medium c.args.disk.now) (g.D.Disk.medium c.sync.new.self) (g.D.Disk.medium c.read_at.new.self) _ (c.in_ok-sync.ensures.syncs k).ok (c.in_ok-read_at.ensures.reads k).ok (c.read_at.auto.out))
+    (now_calm (g.D.Disk.medium c.args.disk.now) (g.D.Disk.medium c.sync.new.self) (g.D.Disk.medium c.read_at.new.self) _
+    (c.in_ok-sync.ensures.syncs k).ok (c.in_ok-read_at.ensures.reads k).ok (c.read_at.auto.out))
     (c.read_at.ensures.call.1 ∙ c.sync.ensures.call.1)
-    (λ is_open. c.is_open.ensures.shut c.if-is_open.false (sym (now_read (g.D.Disk.medium c.args.disk.now) (g.D.Disk.medium c.sync.new.self) (g.D.Disk.medium c.read_at.new.self) _ (c.in_ok-sync.ensures.syncs k).ok (c.in_ok-read_at.ensures.reads k).ok (c.read_at.auto.out)) ∙ is_open))
+    (λ is_open. c.is_open.ensures.shut c.if-is_open.false (sym (now_read (g.D.Disk.medium c.args.disk.now) (g.D.Disk.medium c.sync.new.self)
+    (g.D.Disk.medium c.read_at.new.self) _ (c.in_ok-sync.ensures.syncs k).ok (c.in_ok-read_at.ensures.reads k).ok (c.read_at.auto.out))
+    ∙ is_open))
 
 pub returns-in_err-sync-clause-beyond : goal.returns-in_err-sync-clause-beyond
 returns-in_err-sync-clause-beyond g c = λ k l. beyond_sync l _ _ c.sync.result (c.sync.ensures.syncs k)
@@ -56,8 +59,10 @@ returns-else-is_open-clause-beyond g c = λ k l. after_read _ _ _ _ (beyond_sync
 
 pub returns-in_err-store-clause-beyond : goal.returns-in_err-store-clause-beyond
 returns-in_err-store-clause-beyond g c = λ k l.
-    beyond_then l _ _ _ (after_read _ _ _ _ (beyond_sync l _ _ c.sync.result (c.sync.ensures.syncs k)) _ _ c.read_at.result (c.read_at.ensures.reads k)) (beyond_write l 0 1 _ _ (omega arith) (c.store.ensures.any_moment k))
+    beyond_then l _ _ _ (after_read _ _ _ _ (beyond_sync l _ _ c.sync.result (c.sync.ensures.syncs k)) _ _ c.read_at.result
+    (c.read_at.ensures.reads k)) (beyond_write l 0 1 _ _ (omega arith) (c.store.ensures.any_moment k))
 
 pub returns-in_ok-store-clause-beyond : goal.returns-in_ok-store-clause-beyond
 returns-in_ok-store-clause-beyond g c = λ k l.
-    beyond_then l _ _ _ (after_read _ _ _ _ (beyond_sync l _ _ c.sync.result (c.sync.ensures.syncs k)) _ _ c.read_at.result (c.read_at.ensures.reads k)) (beyond_write l 0 1 _ _ (omega arith) (c.store.ensures.any_moment k))
+    beyond_then l _ _ _ (after_read _ _ _ _ (beyond_sync l _ _ c.sync.result (c.sync.ensures.syncs k)) _ _ c.read_at.result
+    (c.read_at.ensures.reads k)) (beyond_write l 0 1 _ _ (omega arith) (c.store.ensures.any_moment k))

@@ -53,7 +53,8 @@ returns-in_err-take_piece-clause-refused g c =
     c.loop-n.invariant.at c.piece_size.ensures.size few now (g.D.Disk.medium c.loop-n.disk).now c.read.new.out
     (same_bytes (g.D.Disk.medium c.args.disk.now) (g.D.Disk.medium c.loop-n.disk) (c.loop-n.invariant.untouched k)) (c.in_ok-read.ensures.bytes k) in
     bad_queued c.args.tree.now.geometry c.loop-n.tree.geometry c.loop-n.invariant.geometry (part_bytes (layout_of c.args.tree.now.geometry) (image c.args.number) now) c.args.version c.loop-n.n
-    (c.requires.version k) below (state_in c.loop-n.tree) (c.loop-n.invariant.decoded k) c.read.new.out there c.in_err-take_piece.ensures.good.1 (c.loop-n.invariant.good k) _ c.in_err-take_piece.ensures.bad)
+    (c.requires.version k) below (state_in c.loop-n.tree) (c.loop-n.invariant.decoded k) c.read.new.out there c.in_err-take_piece.ensures.good.1
+    (c.loop-n.invariant.good k) _ c.in_err-take_piece.ensures.bad)
 
 pub loop-n-preserved : goal.loop-n-preserved
 loop-n-preserved g c =

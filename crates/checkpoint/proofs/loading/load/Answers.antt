@@ -43,7 +43,8 @@ returns-in_err-chained-clause-refused g c =
     let image_as : image_fault c.in_ok-tree.tree.geometry (part_bytes (layout_of c.in_ok-tree.tree.geometry) (image c.in_ok-area.area) (g.D.Disk.medium c.named_area.new.disk).now)
     ≡ image_fault c.in_ok-g.g (part_bytes (layout_of c.in_ok-g.g) (image c.in_ok-area.area) now) =
     λ i. image_fault (c.in_ok-tree.ensures.geometry i) (part_bytes (layout_of (c.in_ok-tree.ensures.geometry i)) (image c.in_ok-area.area) (second i)) in
-    let third = same_bytes (g.D.Disk.medium c.args.disk.now) (g.D.Disk.medium c.read_image.new.disk) (c.read_image.ensures.untouched k ∙ c.named_area.ensures.untouched k ∙ c.read_header.ensures.untouched k) in
+    let third = same_bytes (g.D.Disk.medium c.args.disk.now) (g.D.Disk.medium c.read_image.new.disk)
+    (c.read_image.ensures.untouched k ∙ c.named_area.ensures.untouched k ∙ c.read_header.ensures.untouched k) in
     let good = sym image_as ∙ c.in_ok-version.ensures.sound k in
     chain_refused c.in_ok-g.g now (c.in_ok-g.ensures.header k) c.in_ok-g.ensures.whole c.in_ok-area.area names good _
     (subst (λ (bytes : List ℕ). IsFaultOfBytes (fault_if (are_chained (layout_of c.in_ok-g.g) bytes) BadChain None) c.in_err-chained.field-0.0) third (c.in_err-chained.ensures.refused k)))
@@ -66,7 +67,8 @@ returns-in_err-records-clause-refused g c =
     let image_as : image_fault c.in_ok-tree.tree.geometry (part_bytes (layout_of c.in_ok-tree.tree.geometry) (image c.in_ok-area.area) (g.D.Disk.medium c.named_area.new.disk).now)
     ≡ image_fault c.in_ok-g.g (part_bytes (layout_of c.in_ok-g.g) (image c.in_ok-area.area) now) =
     λ i. image_fault (c.in_ok-tree.ensures.geometry i) (part_bytes (layout_of (c.in_ok-tree.ensures.geometry i)) (image c.in_ok-area.area) (second i)) in
-    let third = same_bytes (g.D.Disk.medium c.args.disk.now) (g.D.Disk.medium c.read_image.new.disk) (c.read_image.ensures.untouched k ∙ c.named_area.ensures.untouched k ∙ c.read_header.ensures.untouched k) in
+    let third = same_bytes (g.D.Disk.medium c.args.disk.now) (g.D.Disk.medium c.read_image.new.disk)
+    (c.read_image.ensures.untouched k ∙ c.named_area.ensures.untouched k ∙ c.read_header.ensures.untouched k) in
     let good = sym image_as ∙ c.in_ok-version.ensures.sound k in
     let fourth = same_bytes (g.D.Disk.medium c.args.disk.now) (g.D.Disk.medium c.chain_of.new.disk)
     (c.chain_of.ensures.untouched k ∙ c.read_image.ensures.untouched k ∙ c.named_area.ensures.untouched k ∙ c.read_header.ensures.untouched k) in
@@ -87,7 +89,8 @@ returns-clause-loaded g c = λ k.
     let image_as : image_fault c.in_ok-tree.tree.geometry (part_bytes (layout_of c.in_ok-tree.tree.geometry) (image c.in_ok-area.area) (g.D.Disk.medium c.named_area.new.disk).now)
     ≡ image_fault c.in_ok-g.g (part_bytes (layout_of c.in_ok-g.g) (image c.in_ok-area.area) now) =
     λ i. image_fault (c.in_ok-tree.ensures.geometry i) (part_bytes (layout_of (c.in_ok-tree.ensures.geometry i)) (image c.in_ok-area.area) (second i)) in
-    let third = same_bytes (g.D.Disk.medium c.args.disk.now) (g.D.Disk.medium c.read_image.new.disk) (c.read_image.ensures.untouched k ∙ c.named_area.ensures.untouched k ∙ c.read_header.ensures.untouched k) in
+    let third = same_bytes (g.D.Disk.medium c.args.disk.now) (g.D.Disk.medium c.read_image.new.disk)
+    (c.read_image.ensures.untouched k ∙ c.named_area.ensures.untouched k ∙ c.read_header.ensures.untouched k) in
     let good = sym image_as ∙ c.in_ok-version.ensures.sound k in
     let fourth = same_bytes (g.D.Disk.medium c.args.disk.now) (g.D.Disk.medium c.chain_of.new.disk)
     (c.chain_of.ensures.untouched k ∙ c.read_image.ensures.untouched k ∙ c.named_area.ensures.untouched k ∙ c.read_header.ensures.untouched k) in
@@ -97,7 +100,8 @@ returns-clause-loaded g c = λ k.
     sym (λ i. read (c.in_ok-tree.ensures.geometry i) (part_bytes (layout_of (c.in_ok-tree.ensures.geometry i)) (image c.in_ok-area.area) (second i))) ∙ c.in_ok-version.ensures.read k in
     let one = sym (ap (λ (bytes : List ℕ). are_chained (layout_of c.in_ok-g.g) bytes) third) ∙ c.in_ok-chained.ensures.sound k in
     loaded c.in_ok-g.g now _ (c.in_ok-records.ensures.geometry ∙ geometry) (c.in_ok-g.ensures.header k)
-    (not_refused c.in_ok-g.g now (c.in_ok-g.ensures.header k) c.in_ok-g.ensures.whole c.in_ok-area.area names good state decoded one (sym (λ i. in_force_fault (geometry i) state c.in_ok-area.area (fourth i)) ∙ c.in_ok-records.ensures.sound k))
+    (not_refused c.in_ok-g.g now (c.in_ok-g.ensures.header k) c.in_ok-g.ensures.whole c.in_ok-area.area names good state decoded one
+    (sym (λ i. in_force_fault (geometry i) state c.in_ok-area.area (fourth i)) ∙ c.in_ok-records.ensures.sound k))
     names
     (c.in_ok-version.ensures.version k ∙ (λ i. version_in (part_bytes (layout_of (c.in_ok-tree.ensures.geometry i)) (image c.in_ok-area.area) (second i))))
     (c.in_ok-records.ensures.count k ∙ (λ i. length (in_force (layout_of (geometry i)) c.in_ok-area.area (fourth i))))

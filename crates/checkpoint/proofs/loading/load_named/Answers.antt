@@ -41,7 +41,8 @@ returns-in_err-chained-clause-refused g c =
     let second = same_bytes (g.D.Disk.medium c.args.disk.now) (g.D.Disk.medium c.read_image.new.disk) (c.read_image.ensures.untouched k ∙ c.named_area.ensures.untouched k) in
     let good = sym (ap (λ (l : List ℕ). image_fault geometry (part_bytes (layout_of geometry) (image c.in_ok-area.area) l)) first) ∙ c.in_ok-version.ensures.sound k in
     chain_refused geometry now (c.requires.header k) c.requires.parts c.in_ok-area.area names good _
-    (subst (λ (o : Option OpenFault). IsFaultOfBytes o c.in_err-chained.field-0.0) (λ i. fault_if (are_chained (layout_of (c.geometry-g.ensures i)) (second i)) BadChain None) (c.in_err-chained.ensures.refused k)))
+    (subst (λ (o : Option OpenFault). IsFaultOfBytes o c.in_err-chained.field-0.0)
+    (λ i. fault_if (are_chained (layout_of (c.geometry-g.ensures i)) (second i)) BadChain None) (c.in_err-chained.ensures.refused k)))
 
 pub returns-in_err-records-clause-refused : goal.returns-in_err-records-clause-refused
 returns-in_err-records-clause-refused g c =
@@ -53,7 +54,8 @@ returns-in_err-records-clause-refused g c =
     let first = same_bytes (g.D.Disk.medium c.args.disk.now) (g.D.Disk.medium c.named_area.new.disk) (c.named_area.ensures.untouched k) in
     let names = c.in_ok-area.ensures.area k ∙ ap (λ (h : Geometry). named_area (layout_of h) now) c.geometry-g.ensures in
     let second = same_bytes (g.D.Disk.medium c.args.disk.now) (g.D.Disk.medium c.read_image.new.disk) (c.read_image.ensures.untouched k ∙ c.named_area.ensures.untouched k) in
-    let third = same_bytes (g.D.Disk.medium c.args.disk.now) (g.D.Disk.medium c.chain_of.new.disk) (c.chain_of.ensures.untouched k ∙ c.read_image.ensures.untouched k ∙ c.named_area.ensures.untouched k) in
+    let third = same_bytes (g.D.Disk.medium c.args.disk.now) (g.D.Disk.medium c.chain_of.new.disk)
+    (c.chain_of.ensures.untouched k ∙ c.read_image.ensures.untouched k ∙ c.named_area.ensures.untouched k) in
     let good = sym (ap (λ (l : List ℕ). image_fault geometry (part_bytes (layout_of geometry) (image c.in_ok-area.area) l)) first) ∙ c.in_ok-version.ensures.sound k in
     let state = state_in c.read_image.new.tree in
     let decoded : read geometry (part_bytes (layout_of geometry) (image c.in_ok-area.area) now) ≡ Some state =
@@ -72,7 +74,8 @@ returns-clause-loaded g c = λ k.
     let now = (g.D.Disk.medium c.args.disk.now).now in
     let first = same_bytes (g.D.Disk.medium c.args.disk.now) (g.D.Disk.medium c.named_area.new.disk) (c.named_area.ensures.untouched k) in
     let second = same_bytes (g.D.Disk.medium c.args.disk.now) (g.D.Disk.medium c.read_image.new.disk) (c.read_image.ensures.untouched k ∙ c.named_area.ensures.untouched k) in
-    let third = same_bytes (g.D.Disk.medium c.args.disk.now) (g.D.Disk.medium c.chain_of.new.disk) (c.chain_of.ensures.untouched k ∙ c.read_image.ensures.untouched k ∙ c.named_area.ensures.untouched k) in
+    let third = same_bytes (g.D.Disk.medium c.args.disk.now) (g.D.Disk.medium c.chain_of.new.disk)
+    (c.chain_of.ensures.untouched k ∙ c.read_image.ensures.untouched k ∙ c.named_area.ensures.untouched k) in
     let state = state_in c.read_image.new.tree in
     let log = ap (λ (l : Log). l.geometry) c.name.ensures ∙ ap (λ (l : Log). l.geometry) c.requires.log in
     record {
@@ -89,7 +92,8 @@ returns-clause-loaded g c = λ k.
 
 pub returns-clause-records : goal.returns-clause-records
 returns-clause-records g c = λ k.
-    let third = same_bytes (g.D.Disk.medium c.args.disk.now) (g.D.Disk.medium c.chain_of.new.disk) (c.chain_of.ensures.untouched k ∙ c.read_image.ensures.untouched k ∙ c.named_area.ensures.untouched k) in
+    let third = same_bytes (g.D.Disk.medium c.args.disk.now) (g.D.Disk.medium c.chain_of.new.disk)
+    (c.chain_of.ensures.untouched k ∙ c.read_image.ensures.untouched k ∙ c.named_area.ensures.untouched k) in
     let log = ap (λ (l : Log). l.geometry) c.name.ensures ∙ ap (λ (l : Log). l.geometry) c.requires.log in
     c.in_ok-records.ensures.count k ∙ (λ i. length (front (layout_of (log i)) c.in_ok-area.area (third i)))
 

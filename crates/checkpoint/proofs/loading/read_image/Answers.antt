@@ -18,7 +18,8 @@ returns-in_err-version-clause-refused g c =
     (λ k.
     let now = (g.D.Disk.medium c.args.disk.now).now in
     head_refused c.args.tree.now.geometry (part_bytes (layout_of c.args.tree.now.geometry) (image c.args.area) now) _
-    (subst (λ (h : Geometry). IsFaultOfBytes (fault_if (not (has_head (part_bytes (layout_of h) (image c.args.area) now))) BadVersion None) c.in_err-version.field-0.0) c.geometry.ensures (c.in_err-version.ensures.refused k)))
+    (subst (λ (h : Geometry). IsFaultOfBytes (fault_if (not (has_head (part_bytes (layout_of h) (image c.args.area) now))) BadVersion None)
+    c.in_err-version.field-0.0) c.geometry.ensures (c.in_err-version.ensures.refused k)))
 
 pub returns-in_err-read_pieces-clause-refused : goal.returns-in_err-read_pieces-clause-refused
 returns-in_err-read_pieces-clause-refused g c =
@@ -29,5 +30,7 @@ returns-in_err-read_pieces-clause-refused g c =
     let same = same_bytes (g.D.Disk.medium c.args.disk.now) (g.D.Disk.medium c.version_of.new.disk) (c.version_of.ensures.untouched k) in
     pieces_refused c.args.tree.now.geometry (part_bytes (layout_of c.args.tree.now.geometry) (image c.args.area) now)
     (sym (ap (λ (h : Geometry). has_head (part_bytes (layout_of h) (image c.args.area) now)) c.geometry.ensures) ∙ c.in_ok-version.ensures.head k) _
-    (subst (λ (bytes : List ℕ). IsFaultOfBytes (fault_or_later BadPiece (first_bad_piece c.args.tree.now.geometry (part_bytes (layout_of c.args.tree.now.geometry) (image c.args.area) bytes)) None) c.in_err-read_pieces.field-0.0)
+    (subst (λ (bytes : List ℕ). IsFaultOfBytes (fault_or_later BadPiece
+    (first_bad_piece c.args.tree.now.geometry (part_bytes (layout_of c.args.tree.now.geometry) (image c.args.area) bytes)) None)
+    c.in_err-read_pieces.field-0.0)
     same (c.in_err-read_pieces.ensures.refused k)))

@@ -14,7 +14,8 @@ returns-in_err-m-clause-refused g c =
     let p = err_from_is_err_and c.from_residual.result c.from_residual.ensures.1 in
     rw (p.1, p.2)
     (λ k.
-    let bytes = records_are_bytes (layout c.args.log.now) c.args.half c.args.i (g.D.Disk.medium c.args.disk.now).now c.requires.half c.requires.i c.requires.parts (g.met.D.Disk.bytes c.args.disk.now) in
+    let bytes = records_are_bytes (layout c.args.log.now) c.args.half c.args.i (g.D.Disk.medium c.args.disk.now).now c.requires.half c.requires.i
+    c.requires.parts (g.met.D.Disk.bytes c.args.disk.now) in
     read_fault c.args.tree.now.geometry c.args.log.now.geometry c.requires.geometry (state_in c.args.tree.now) c.args.half c.args.i _ bytes.0 bytes.1
     c.in_err-m.field-0.0 (c.in_err-m.ensures.record k) c.in_err-m.ensures.about)
 

@@ -41,10 +41,12 @@ returns-clause-whole c =
     record {
       all_in = subst (λ (i : Geometry). IsIn i [] (in_tree c.restore.new.self)) (sym same)
           (all_in_again c.geometry-g.result c.args.m _ _ c.new.result c.new.ensures c.in-Some.place (placed _ _ _ _ _ c.kind.ensures c.numbers.ensures c.in-Some.ensures.placed)
-          c.run-done.result c.run-done.ensures (in_tree c.args.tree.now) (in_tree c.lend.new.self) (in_tree c.restore.new.self) c.args.tree.now.geometry c.geometry-g.ensures c.in-Some-lend.ensures.some
+          c.run-done.result c.run-done.ensures (in_tree c.args.tree.now) (in_tree c.lend.new.self) (in_tree c.restore.new.self)
+          c.args.tree.now.geometry c.geometry-g.ensures c.in-Some-lend.ensures.some
           c.lend.new.self.geometry (c.geometry-g.ensures ∙ sym c.lend.ensures.geometry) c.into_parcels.result c.into_parcels.ensures c.in-Ok.ensures.ok c.requires.whole.all_in);
       state = subst (λ (i : Geometry). IsState i (tree_state i (in_tree c.restore.new.self))) (sym same)
           (state_again c.geometry-g.result c.args.m _ _ c.new.result c.new.ensures c.in-Some.place (placed _ _ _ _ _ c.kind.ensures c.numbers.ensures c.in-Some.ensures.placed)
-          c.run-done.result c.run-done.ensures (in_tree c.args.tree.now) (in_tree c.lend.new.self) (in_tree c.restore.new.self) c.args.tree.now.geometry c.geometry-g.ensures c.in-Some-lend.ensures.some
+          c.run-done.result c.run-done.ensures (in_tree c.args.tree.now) (in_tree c.lend.new.self) (in_tree c.restore.new.self)
+          c.args.tree.now.geometry c.geometry-g.ensures c.in-Some-lend.ensures.some
           c.lend.new.self.geometry (c.geometry-g.ensures ∙ sym c.lend.ensures.geometry) c.into_parcels.result c.into_parcels.ensures c.in-Ok.ensures.ok c.know_message.ensures c.requires.whole.state);
     }

@@ -1,4 +1,4 @@
--- Two lives, from what is said of each.
+-- Two incarnations, from what is promised of each.
 use Rattle.disk.specs.Memory.{medium_of, memory_of}
 use Rattle.commands.proofs.Promise.{goes_on}
 use Rattle.commands.proofs.again.serve_again.Goals as goal

@@ -1,4 +1,4 @@
--- Behind what was there stand the numbers so far, each after a space.
+-- Behind what was there are the numbers so far, each after a space.
 use Rattle.std.proofs.Common.{◌≡◌, ◌++◌, take}
 use Rattle.std.specs.List.{flat_map}
 use Rattle.messages.specs.Replies.{spaced}

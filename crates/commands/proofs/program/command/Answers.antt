@@ -14,13 +14,15 @@ returns-in-Err-clause-served g c = λ geometry asks.
 pub returns-in-Ok-run-clause-served : goal.returns-in-Ok-run-clause-served
 returns-in-Ok-run-clause-served g c = λ geometry asks.
     let words = map string_bytes c.args.words.now in
-    served words c.in-Ok.request geometry (Ok c.in-Ok-run.field-0) (g.R.Read.remaining c.args.r.now) (g.R.Read.remaining c.run.new.r) (g.W.Write.contents c.args.w.now) (g.W.Write.contents c.run.new.w) c.in-Ok.ensures.ok asks c.in-Ok-run.ensures
+    served words c.in-Ok.request geometry (Ok c.in-Ok-run.field-0) (g.R.Read.remaining c.args.r.now) (g.R.Read.remaining c.run.new.r)
+    (g.W.Write.contents c.args.w.now) (g.W.Write.contents c.run.new.w) c.in-Ok.ensures.ok asks c.in-Ok-run.ensures
 
 pub returns-in-Err-run-clause-served : goal.returns-in-Err-run-clause-served
 returns-in-Err-run-clause-served g c = λ geometry asks.
     let words = map string_bytes c.args.words.now in
     rw c.report.ensures
-    (served words c.in-Ok.request geometry (Err c.in-Err-run.fault) (g.R.Read.remaining c.args.r.now) (g.R.Read.remaining c.run.new.r) (g.W.Write.contents c.args.w.now) (g.W.Write.contents c.run.new.w) c.in-Ok.ensures.ok asks c.in-Err-run.ensures)
+    (served words c.in-Ok.request geometry (Err c.in-Err-run.fault) (g.R.Read.remaining c.args.r.now) (g.R.Read.remaining c.run.new.r)
+    (g.W.Write.contents c.args.w.now) (g.W.Write.contents c.run.new.w) c.in-Ok.ensures.ok asks c.in-Err-run.ensures)
 
 -- a device is made
 
@@ -32,13 +34,15 @@ returns-in-Err-clause-formatted g c = λ path geometry asks.
 pub returns-in-Ok-run-clause-formatted : goal.returns-in-Ok-run-clause-formatted
 returns-in-Ok-run-clause-formatted g c = λ path geometry asks.
     let words = map string_bytes c.args.words.now in
-    formatted words c.in-Ok.request path geometry (Ok c.in-Ok-run.field-0) (g.R.Read.remaining c.args.r.now) (g.R.Read.remaining c.run.new.r) (g.W.Write.contents c.args.w.now) (g.W.Write.contents c.run.new.w) c.in-Ok.ensures.ok asks c.in-Ok-run.ensures
+    formatted words c.in-Ok.request path geometry (Ok c.in-Ok-run.field-0) (g.R.Read.remaining c.args.r.now) (g.R.Read.remaining c.run.new.r)
+    (g.W.Write.contents c.args.w.now) (g.W.Write.contents c.run.new.w) c.in-Ok.ensures.ok asks c.in-Ok-run.ensures
 
 pub returns-in-Err-run-clause-formatted : goal.returns-in-Err-run-clause-formatted
 returns-in-Err-run-clause-formatted g c = λ path geometry asks.
     let words = map string_bytes c.args.words.now in
     rw c.report.ensures
-    (formatted words c.in-Ok.request path geometry (Err c.in-Err-run.fault) (g.R.Read.remaining c.args.r.now) (g.R.Read.remaining c.run.new.r) (g.W.Write.contents c.args.w.now) (g.W.Write.contents c.run.new.w) c.in-Ok.ensures.ok asks c.in-Err-run.ensures)
+    (formatted words c.in-Ok.request path geometry (Err c.in-Err-run.fault) (g.R.Read.remaining c.args.r.now) (g.R.Read.remaining c.run.new.r)
+    (g.W.Write.contents c.args.w.now) (g.W.Write.contents c.run.new.w) c.in-Ok.ensures.ok asks c.in-Err-run.ensures)
 
 -- a device is shown
 
@@ -50,13 +54,15 @@ returns-in-Err-clause-shown g c = λ path asks.
 pub returns-in-Ok-run-clause-shown : goal.returns-in-Ok-run-clause-shown
 returns-in-Ok-run-clause-shown g c = λ path asks.
     let words = map string_bytes c.args.words.now in
-    shown words c.in-Ok.request path (Ok c.in-Ok-run.field-0) (g.R.Read.remaining c.args.r.now) (g.R.Read.remaining c.run.new.r) (g.W.Write.contents c.args.w.now) (g.W.Write.contents c.run.new.w) c.in-Ok.ensures.ok asks c.in-Ok-run.ensures
+    shown words c.in-Ok.request path (Ok c.in-Ok-run.field-0) (g.R.Read.remaining c.args.r.now) (g.R.Read.remaining c.run.new.r)
+    (g.W.Write.contents c.args.w.now) (g.W.Write.contents c.run.new.w) c.in-Ok.ensures.ok asks c.in-Ok-run.ensures
 
 pub returns-in-Err-run-clause-shown : goal.returns-in-Err-run-clause-shown
 returns-in-Err-run-clause-shown g c = λ path asks.
     let words = map string_bytes c.args.words.now in
     rw c.report.ensures
-    (shown words c.in-Ok.request path (Err c.in-Err-run.fault) (g.R.Read.remaining c.args.r.now) (g.R.Read.remaining c.run.new.r) (g.W.Write.contents c.args.w.now) (g.W.Write.contents c.run.new.w) c.in-Ok.ensures.ok asks c.in-Err-run.ensures)
+    (shown words c.in-Ok.request path (Err c.in-Err-run.fault) (g.R.Read.remaining c.args.r.now) (g.R.Read.remaining c.run.new.r)
+    (g.W.Write.contents c.args.w.now) (g.W.Write.contents c.run.new.w) c.in-Ok.ensures.ok asks c.in-Err-run.ensures)
 
 -- a device is served
 
@@ -68,13 +74,15 @@ returns-in-Err-clause-served_on g c = λ path s asks.
 pub returns-in-Ok-run-clause-served_on : goal.returns-in-Ok-run-clause-served_on
 returns-in-Ok-run-clause-served_on g c = λ path s asks.
     let words = map string_bytes c.args.words.now in
-    served_on words c.in-Ok.request path s (Ok c.in-Ok-run.field-0) (g.R.Read.remaining c.args.r.now) (g.R.Read.remaining c.run.new.r) (g.W.Write.contents c.args.w.now) (g.W.Write.contents c.run.new.w) c.in-Ok.ensures.ok asks c.in-Ok-run.ensures
+    served_on words c.in-Ok.request path s (Ok c.in-Ok-run.field-0) (g.R.Read.remaining c.args.r.now) (g.R.Read.remaining c.run.new.r)
+    (g.W.Write.contents c.args.w.now) (g.W.Write.contents c.run.new.w) c.in-Ok.ensures.ok asks c.in-Ok-run.ensures
 
 pub returns-in-Err-run-clause-served_on : goal.returns-in-Err-run-clause-served_on
 returns-in-Err-run-clause-served_on g c = λ path s asks.
     let words = map string_bytes c.args.words.now in
     rw c.report.ensures
-    (served_on words c.in-Ok.request path s (Err c.in-Err-run.fault) (g.R.Read.remaining c.args.r.now) (g.R.Read.remaining c.run.new.r) (g.W.Write.contents c.args.w.now) (g.W.Write.contents c.run.new.w) c.in-Ok.ensures.ok asks c.in-Err-run.ensures)
+    (served_on words c.in-Ok.request path s (Err c.in-Err-run.fault) (g.R.Read.remaining c.args.r.now) (g.R.Read.remaining c.run.new.r)
+    (g.W.Write.contents c.args.w.now) (g.W.Write.contents c.run.new.w) c.in-Ok.ensures.ok asks c.in-Err-run.ensures)
 
 -- words that are refused ask for nothing
 
@@ -92,13 +100,15 @@ returns-in-Err-clause-unserved g c = λ no_service. rw c.report_refusal.ensures 
 pub returns-in-Ok-run-clause-unserved : goal.returns-in-Ok-run-clause-unserved
 returns-in-Ok-run-clause-unserved g c = λ no_service.
     let words = map string_bytes c.args.words.now in
-    inl (helped words c.in-Ok.request (Ok c.in-Ok-run.field-0) (g.R.Read.remaining c.args.r.now) (g.R.Read.remaining c.run.new.r) (g.W.Write.contents c.args.w.now) (g.W.Write.contents c.run.new.w) no_service c.in-Ok.ensures.ok c.in-Ok-run.ensures)
+    inl (helped words c.in-Ok.request (Ok c.in-Ok-run.field-0) (g.R.Read.remaining c.args.r.now) (g.R.Read.remaining c.run.new.r)
+    (g.W.Write.contents c.args.w.now) (g.W.Write.contents c.run.new.w) no_service c.in-Ok.ensures.ok c.in-Ok-run.ensures)
 
 pub returns-in-Err-run-clause-unserved : goal.returns-in-Err-run-clause-unserved
 returns-in-Err-run-clause-unserved g c = λ no_service.
     let words = map string_bytes c.args.words.now in
     rw c.report.ensures
-    (inl (helped words c.in-Ok.request (Err c.in-Err-run.fault) (g.R.Read.remaining c.args.r.now) (g.R.Read.remaining c.run.new.r) (g.W.Write.contents c.args.w.now) (g.W.Write.contents c.run.new.w) no_service c.in-Ok.ensures.ok c.in-Err-run.ensures))
+    (inl (helped words c.in-Ok.request (Err c.in-Err-run.fault) (g.R.Read.remaining c.args.r.now) (g.R.Read.remaining c.run.new.r)
+    (g.W.Write.contents c.args.w.now) (g.W.Write.contents c.run.new.w) no_service c.in-Ok.ensures.ok c.in-Err-run.ensures))
 
 -- the word `plain` alone asks for the standard geometry
 

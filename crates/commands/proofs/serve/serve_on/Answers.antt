@@ -1,4 +1,4 @@
--- A refused opening leaves input and output; else the device comes back with all that its server promises.
+-- A refused opening leaves input and output; else the device is given back with all that its server promises.
 use Rattle.std.proofs.Common.{ℕ, refl, sym, subst}
 use Rattle.std.specs.Prelude.{Result, Err}
 use Rattle.disk.specs.Device.{AreBytes, Medium}

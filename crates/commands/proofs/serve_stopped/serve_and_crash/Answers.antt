@@ -1,4 +1,4 @@
--- What serving says of any device, of the one in memory that is crashed.
+-- What serving promises of any device, of the one in memory that is crashed.
 use Rattle.disk.specs.Memory.{medium_of, memory_of}
 use Rattle.commands.proofs.Kept.{told_so}
 use Rattle.commands.proofs.Promise.{opened_then}

@@ -1,4 +1,4 @@
--- The fuse that is set is no part of the medium.
+-- The injected fault that is set is no part of the medium.
 use Rattle.std.proofs.Common.{◌≡◌, ap, subst}
 use Rattle.disk.specs.Device.{Medium}
 use Rattle.disk.specs.Memory.{Memory, medium_of, memory_of}

@@ -18,4 +18,5 @@ at_most a v s q few_a few_v few_s few_q =
 pub returns-clause-most : goal.returns-clause-most
 returns-clause-most c =
     let g = c.args.g.now in
-    at_most _ _ _ _ (omega (arith, c.from.ensures, g.aggregates_range.1)) (omega (arith, c.from-2.ensures, g.volumes_range.1)) (omega (arith, c.from-3.ensures, g.stripes_range.1)) (omega (arith, c.from-4.ensures, g.quota_range.1))
+    at_most _ _ _ _ (omega (arith, c.from.ensures, g.aggregates_range.1)) (omega (arith, c.from-2.ensures, g.volumes_range.1))
+    (omega (arith, c.from-3.ensures, g.stripes_range.1)) (omega (arith, c.from-4.ensures, g.quota_range.1))

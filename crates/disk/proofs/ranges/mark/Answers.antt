@@ -8,4 +8,5 @@ pub returns-clause-marked : goal.returns-clause-marked
 returns-clause-marked c =
     let size : length (take (c.args.start + c.args.n - c.args.start) (drop c.args.start c.args.marks.now)) ≡ c.args.n =
     simp (length-take, length-drop) (omega (arith, c.requires)) in
-    overlaid_part c.args.marks.now _ _ (replicate c.args.n true) _ (omega (arith, c.requires, length-replicate c.args.n true)) (omega (arith, length-replicate c.args.n true)) (c.fill.ensures.after (λ y is. is) ∙ ap (λ m. replicate m true) size)
+    overlaid_part c.args.marks.now _ _ (replicate c.args.n true) _ (omega (arith, c.requires, length-replicate c.args.n true))
+    (omega (arith, length-replicate c.args.n true)) (c.fill.ensures.after (λ y is. is) ∙ ap (λ m. replicate m true) size)

@@ -1,4 +1,4 @@
--- A mark that is set adds one to the count, a clear one adds nothing.
+-- A flag that is set adds one to the count, a clear one adds nothing.
 use Rattle.std.proofs.Common.{◌≡◌, arith, true, false, get_or}
 use Rattle.std.proofs.lemmas.Grind.{common_steps}
 use Rattle.journal.proofs.Rows.{count_after}

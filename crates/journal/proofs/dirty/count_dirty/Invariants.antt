@@ -1,4 +1,4 @@
--- The count so far is that of the marks so far, and no greater than their number.
+-- The count so far is that of the flags so far, and no greater than their number.
 use Rattle.std.proofs.Common.{◌≡◌, ◌≤◌, take}
 use Rattle.journal.specs.DirtyPieces.{count_dirty}
 use Rattle.journal.proofs.dirty.count_dirty.Given as goal

@@ -1,4 +1,4 @@
--- Of the pieces so far those are marked that the message may change, and all others are as they were.
+-- Of the pieces so far those that the message may change are dirty, and all others are as they were.
 use Rattle.journal.proofs.Rows.{AreMarked}
 use Rattle.journal.proofs.dirty.dirty_one.Given as goal
 

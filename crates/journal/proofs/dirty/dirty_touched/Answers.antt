@@ -1,4 +1,4 @@
--- Each message adds its marks to those of the messages before it.
+-- Each message adds its flags to those of the messages before it.
 use Rattle.std.proofs.Common.{◌∙◌, List, refl, subst, arith}
 use Rattle.std.proofs.lemmas.List.{take_all}
 use Rattle.journal.specs.DirtyPieces.{DirtiesTouched}

@@ -1,4 +1,4 @@
--- Each piece was looked at; where none is marked, their count is 0.
+-- Each piece was looked at; where none is dirty, their count is 0.
 use Rattle.std.proofs.Common.{arith}
 use Rattle.journal.proofs.Rows.{clear_next, none_counted}
 use Rattle.journal.proofs.dirty.first_dirty.Goals as goal

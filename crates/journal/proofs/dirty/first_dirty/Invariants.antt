@@ -1,4 +1,4 @@
--- No piece before this one is marked.
+-- No piece before this one is dirty.
 use Rattle.journal.specs.Keeping.{AreCleanBefore}
 use Rattle.journal.proofs.dirty.first_dirty.Given as goal
 

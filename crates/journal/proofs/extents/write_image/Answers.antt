@@ -37,7 +37,9 @@ write_run-requires-clause-inside g c =
 
 pub returns-in_err-write_run-clause-any_moment : goal.returns-in_err-write_run-clause-any_moment
 returns-in_err-write_run-clause-any_moment g c = λ k.
-    patch_moments c.args.g.now c.args.area c.loop-n.from c.loop-n.at c.args.bytes.now (g.D.Disk.medium c.args.disk.now) (g.D.Disk.medium c.loop-n.disk) (g.D.Disk.medium c.write_run.new.disk) c.requires.area c.requires.size c.requires.whole (c.loop-n.invariant.so_far k) (c.write_run.ensures.any_moment k)
+    patch_moments c.args.g.now c.args.area c.loop-n.from c.loop-n.at c.args.bytes.now (g.D.Disk.medium c.args.disk.now)
+    (g.D.Disk.medium c.loop-n.disk) (g.D.Disk.medium c.write_run.new.disk) c.requires.area c.requires.size c.requires.whole
+    (c.loop-n.invariant.so_far k) (c.write_run.ensures.any_moment k)
 
 pub loop-n-preserved : goal.loop-n-preserved
 loop-n-preserved g c =
@@ -54,14 +56,21 @@ loop-n-preserved g c =
             len = ap (λ d. length (g.D.Disk.medium d).now) w.disk-is ∙ w.write_run.ensures.call.1 ∙ c.loop-n.invariant.len;
             faults = ap (λ d. (g.D.Disk.medium d).faults) w.disk-is ∙ w.in_ok-write_run.ensures.call.0 ∙ c.loop-n.invariant.faults;
             runs = λ k.
-                run_closed c.args.dirty.now c.loop-n.n c.loop-n.from c.loop-n.at _ _ (moment (g.D.Disk.medium c.args.disk.now)) (moment (g.D.Disk.medium c.loop-n.disk)) _ (omega (arith, few, c.requires.dirty)) unmarked (omega (arith, w.at-is, w.from-is))
+                run_closed c.args.dirty.now c.loop-n.n c.loop-n.from c.loop-n.at _ _ (moment (g.D.Disk.medium c.args.disk.now))
+                (moment (g.D.Disk.medium c.loop-n.disk)) _ (omega (arith, few, c.requires.dirty)) unmarked (omega (arith, w.at-is, w.from-is))
                 (λ some. ap (λ d. moment (g.D.Disk.medium d)) w.disk-is ∙ w.in_ok-write_run.ensures.takes some k)
                 (λ none. ap (λ d. moment (g.D.Disk.medium d)) (w.disk-is ∙ w.write_run.ensures.none none))
                 (c.loop-n.invariant.runs k);
             so_far = λ k.
-                along_patch c.args.g.now c.args.area (c.loop-n.at + c.extent_size.result) c.if-not-is_dirty.from c.args.bytes.now (g.D.Disk.medium c.args.disk.now) (g.D.Disk.medium w.write_run.new.disk) (g.D.Disk.medium c.if-not-is_dirty.disk) w.from-is (ap (λ d. g.D.Disk.medium d) w.disk-is)
-                (patch_passed c.args.g.now c.args.area c.loop-n.n c.loop-n.at (c.loop-n.at + c.extent_size.result) c.args.bytes.now c.args.dirty.now (g.D.Disk.medium c.args.disk.now) (g.D.Disk.medium w.write_run.new.disk) (c.requires.unmarked k) few unmarked c.loop-n.invariant.place (omega (arith, c.extent_size.ensures.size))
-                (patched c.args.g.now c.args.area c.loop-n.from c.loop-n.at c.args.bytes.now (g.D.Disk.medium c.args.disk.now) (g.D.Disk.medium c.loop-n.disk) (g.D.Disk.medium w.write_run.new.disk) c.requires.area c.requires.size c.requires.whole (c.loop-n.invariant.so_far k) (w.write_run.ensures.any_moment k)
+                along_patch c.args.g.now c.args.area (c.loop-n.at + c.extent_size.result) c.if-not-is_dirty.from c.args.bytes.now
+                (g.D.Disk.medium c.args.disk.now) (g.D.Disk.medium w.write_run.new.disk) (g.D.Disk.medium c.if-not-is_dirty.disk) w.from-is
+                (ap (λ d. g.D.Disk.medium d) w.disk-is)
+                (patch_passed c.args.g.now c.args.area c.loop-n.n c.loop-n.at (c.loop-n.at + c.extent_size.result) c.args.bytes.now c.args.dirty.now
+                (g.D.Disk.medium c.args.disk.now) (g.D.Disk.medium w.write_run.new.disk) (c.requires.unmarked k) few unmarked
+                c.loop-n.invariant.place (omega (arith, c.extent_size.ensures.size))
+                (patched c.args.g.now c.args.area c.loop-n.from c.loop-n.at c.args.bytes.now (g.D.Disk.medium c.args.disk.now)
+                (g.D.Disk.medium c.loop-n.disk) (g.D.Disk.medium w.write_run.new.disk) c.requires.area c.requires.size c.requires.whole
+                (c.loop-n.invariant.so_far k) (w.write_run.ensures.any_moment k)
                 c.loop-n.invariant.order (omega (arith, inside, c.loop-n.invariant.place)) (w.write_run.ensures.same k) (w.in_ok-write_run.ensures.written k)));
           }
       | else-not-is_dirty w ↦
@@ -73,11 +82,15 @@ loop-n-preserved g c =
             len = ap (λ d. length (g.D.Disk.medium d).now) w.disk-is ∙ c.loop-n.invariant.len;
             faults = ap (λ d. (g.D.Disk.medium d).faults) w.disk-is ∙ c.loop-n.invariant.faults;
             runs = λ k.
-                run_goes_on c.args.dirty.now c.loop-n.n c.loop-n.from c.loop-n.at _ _ (moment (g.D.Disk.medium c.args.disk.now)) (moment (g.D.Disk.medium c.loop-n.disk)) _ (omega (arith, few, c.requires.dirty)) is_dirty w.from-is (omega (arith, w.at-is, c.extent_size.ensures.size, some)) c.loop-n.invariant.order
+                run_goes_on c.args.dirty.now c.loop-n.n c.loop-n.from c.loop-n.at _ _ (moment (g.D.Disk.medium c.args.disk.now))
+                (moment (g.D.Disk.medium c.loop-n.disk)) _ (omega (arith, few, c.requires.dirty)) is_dirty w.from-is
+                (omega (arith, w.at-is, c.extent_size.ensures.size, some)) c.loop-n.invariant.order
                 (ap (λ d. moment (g.D.Disk.medium d)) w.disk-is)
                 (c.loop-n.invariant.runs k);
             so_far = λ k.
-                along_patch c.args.g.now c.args.area c.loop-n.from c.if-not-is_dirty.from c.args.bytes.now (g.D.Disk.medium c.args.disk.now) (g.D.Disk.medium c.loop-n.disk) (g.D.Disk.medium c.if-not-is_dirty.disk) w.from-is (ap (λ d. g.D.Disk.medium d) w.disk-is) (c.loop-n.invariant.so_far k);
+                along_patch c.args.g.now c.args.area c.loop-n.from c.if-not-is_dirty.from c.args.bytes.now (g.D.Disk.medium c.args.disk.now)
+                (g.D.Disk.medium c.loop-n.disk) (g.D.Disk.medium c.if-not-is_dirty.disk) w.from-is (ap (λ d. g.D.Disk.medium d) w.disk-is)
+                (c.loop-n.invariant.so_far k);
           }
     ]
 
@@ -89,27 +102,37 @@ write_run-requires-2-clause-inside g c =
 
 pub returns-in_err-write_run-2-clause-any_moment : goal.returns-in_err-write_run-2-clause-any_moment
 returns-in_err-write_run-2-clause-any_moment g c = λ k.
-    patch_moments c.args.g.now c.args.area c.loop-n.from c.loop-n.at c.args.bytes.now (g.D.Disk.medium c.args.disk.now) (g.D.Disk.medium c.loop-n.disk) (g.D.Disk.medium c.write_run-2.new.disk) c.requires.area c.requires.size c.requires.whole (c.loop-n.invariant.so_far k) (c.write_run-2.ensures.any_moment k)
+    patch_moments c.args.g.now c.args.area c.loop-n.from c.loop-n.at c.args.bytes.now (g.D.Disk.medium c.args.disk.now)
+    (g.D.Disk.medium c.loop-n.disk) (g.D.Disk.medium c.write_run-2.new.disk) c.requires.area c.requires.size c.requires.whole
+    (c.loop-n.invariant.so_far k) (c.write_run-2.ensures.any_moment k)
 
 pub returns-in_err-make_last-clause-any_moment : goal.returns-in_err-make_last-clause-any_moment
 returns-in_err-make_last-clause-any_moment g c = λ k.
     after_sync _ _ _ _
-    (patch_moments c.args.g.now c.args.area c.loop-n.from c.loop-n.at c.args.bytes.now (g.D.Disk.medium c.args.disk.now) (g.D.Disk.medium c.loop-n.disk) (g.D.Disk.medium c.write_run-2.new.disk) c.requires.area c.requires.size c.requires.whole (c.loop-n.invariant.so_far k) (c.write_run-2.ensures.any_moment k))
+    (patch_moments c.args.g.now c.args.area c.loop-n.from c.loop-n.at c.args.bytes.now (g.D.Disk.medium c.args.disk.now)
+    (g.D.Disk.medium c.loop-n.disk) (g.D.Disk.medium c.write_run-2.new.disk) c.requires.area c.requires.size c.requires.whole
+    (c.loop-n.invariant.so_far k) (c.write_run-2.ensures.any_moment k))
     c.make_last.result (c.make_last.ensures.syncs k)
 
 pub returns-clause-any_moment : goal.returns-clause-any_moment
 returns-clause-any_moment g c = λ k.
     after_sync _ _ _ _
-    (patch_moments c.args.g.now c.args.area c.loop-n.from c.loop-n.at c.args.bytes.now (g.D.Disk.medium c.args.disk.now) (g.D.Disk.medium c.loop-n.disk) (g.D.Disk.medium c.write_run-2.new.disk) c.requires.area c.requires.size c.requires.whole (c.loop-n.invariant.so_far k) (c.write_run-2.ensures.any_moment k))
+    (patch_moments c.args.g.now c.args.area c.loop-n.from c.loop-n.at c.args.bytes.now (g.D.Disk.medium c.args.disk.now)
+    (g.D.Disk.medium c.loop-n.disk) (g.D.Disk.medium c.write_run-2.new.disk) c.requires.area c.requires.size c.requires.whole
+    (c.loop-n.invariant.so_far k) (c.write_run-2.ensures.any_moment k))
     c.make_last.result (c.make_last.ensures.syncs k)
 
 pub returns-clause-written : goal.returns-clause-written
 returns-clause-written g c = λ k.
     let all : c.loop-n.n ≡ piece_count c.args.g.now = grind (arith, common_steps) in
     let end : c.loop-n.at ≡ image_size c.args.g.now = c.loop-n.invariant.place ∙ ap (extent_at c.args.g.now) all ∙ extent_end c.args.g.now in
-    patch_synced c.args.g.now c.args.area c.args.bytes.now (g.D.Disk.medium c.args.disk.now) (g.D.Disk.medium c.write_run-2.new.disk) (g.D.Disk.medium c.make_last.new.disk) c.requires.area c.requires.size c.requires.whole
-    (along_patch c.args.g.now c.args.area c.loop-n.at (image_size c.args.g.now) c.args.bytes.now (g.D.Disk.medium c.args.disk.now) (g.D.Disk.medium c.write_run-2.new.disk) (g.D.Disk.medium c.write_run-2.new.disk) (sym end) refl
-    (patched c.args.g.now c.args.area c.loop-n.from c.loop-n.at c.args.bytes.now (g.D.Disk.medium c.args.disk.now) (g.D.Disk.medium c.loop-n.disk) (g.D.Disk.medium c.write_run-2.new.disk) c.requires.area c.requires.size c.requires.whole (c.loop-n.invariant.so_far k) (c.write_run-2.ensures.any_moment k)
+    patch_synced c.args.g.now c.args.area c.args.bytes.now (g.D.Disk.medium c.args.disk.now) (g.D.Disk.medium c.write_run-2.new.disk)
+    (g.D.Disk.medium c.make_last.new.disk) c.requires.area c.requires.size c.requires.whole
+    (along_patch c.args.g.now c.args.area c.loop-n.at (image_size c.args.g.now) c.args.bytes.now (g.D.Disk.medium c.args.disk.now)
+    (g.D.Disk.medium c.write_run-2.new.disk) (g.D.Disk.medium c.write_run-2.new.disk) (sym end) refl
+    (patched c.args.g.now c.args.area c.loop-n.from c.loop-n.at c.args.bytes.now (g.D.Disk.medium c.args.disk.now) (g.D.Disk.medium c.loop-n.disk)
+    (g.D.Disk.medium c.write_run-2.new.disk) c.requires.area c.requires.size c.requires.whole (c.loop-n.invariant.so_far k)
+    (c.write_run-2.ensures.any_moment k)
     c.loop-n.invariant.order (omega (arith, end)) (c.write_run-2.ensures.same k) (c.in_ok-write_run-2.ensures.written k)))
     ((c.in_ok-make_last.ensures.syncs k).ok)
 
@@ -138,7 +161,9 @@ returns-in_err-make_last-clause-takes g c =
     (λ k.
     let all : c.loop-n.n ≡ piece_count c.args.g.now = grind (arith, common_steps) in
     let ended =
-    run_ended c.args.dirty.now c.loop-n.n c.loop-n.from c.loop-n.at (moment (g.D.Disk.medium c.args.disk.now)) (moment (g.D.Disk.medium c.loop-n.disk)) (moment (g.D.Disk.medium c.write_run-2.new.disk)) (omega (arith, all, c.requires.dirty)) (c.loop-n.invariant.runs k)
+    run_ended c.args.dirty.now c.loop-n.n c.loop-n.from c.loop-n.at (moment (g.D.Disk.medium c.args.disk.now))
+    (moment (g.D.Disk.medium c.loop-n.disk)) (moment (g.D.Disk.medium c.write_run-2.new.disk)) (omega (arith, all, c.requires.dirty))
+    (c.loop-n.invariant.runs k)
     (λ some. c.in_ok-write_run-2.ensures.takes some k)
     (λ none. ap (λ d. moment (g.D.Disk.medium d)) (c.write_run-2.ensures.none none)) in
     omega (arith, ended, c.in_err-make_last.ensures.takes k))
@@ -147,7 +172,9 @@ pub returns-clause-takes : goal.returns-clause-takes
 returns-clause-takes g c = λ k.
     let all : c.loop-n.n ≡ piece_count c.args.g.now = grind (arith, common_steps) in
     let ended =
-    run_ended c.args.dirty.now c.loop-n.n c.loop-n.from c.loop-n.at (moment (g.D.Disk.medium c.args.disk.now)) (moment (g.D.Disk.medium c.loop-n.disk)) (moment (g.D.Disk.medium c.write_run-2.new.disk)) (omega (arith, all, c.requires.dirty)) (c.loop-n.invariant.runs k)
+    run_ended c.args.dirty.now c.loop-n.n c.loop-n.from c.loop-n.at (moment (g.D.Disk.medium c.args.disk.now))
+    (moment (g.D.Disk.medium c.loop-n.disk)) (moment (g.D.Disk.medium c.write_run-2.new.disk)) (omega (arith, all, c.requires.dirty))
+    (c.loop-n.invariant.runs k)
     (λ some. c.in_ok-write_run-2.ensures.takes some k)
     (λ none. ap (λ d. moment (g.D.Disk.medium d)) (c.write_run-2.ensures.none none)) in
     omega (arith, ended, c.in_ok-make_last.ensures.takes k)

@@ -1,4 +1,4 @@
--- All pieces are marked, so the frozen image is that of the whole state, and is written in one run.
+-- All pieces are dirty, so the snapshot is the image of the whole state, and is written in one run.
 use Rattle.std.proofs.Common.{Bool, List, length, sym, ◌∙◌, ap, subst, arith, true≢false}
 use Rattle.std.proofs.lemmas.Result.{err_from_is_err_and}
 use Rattle.affinity.specs.declared.geometry.Geometry.{Geometry}

@@ -42,7 +42,9 @@ returns-then-not-named-clause-alone g c = λ k.
     let w1 = g.D.Disk.medium c.load_named.new.disk in
     let only = c.load_named.ensures.untouched k in
     alone_recovers c.load_named.new.log w1 (state_in c.load_named.new.tree)
-    (held_after c.args.parts.now.tree.geometry c.load_named.new.log c.in_ok-named.named.area c.in_ok-named.named.chained false (state_in c.load_named.new.tree) w0 w1 c.in_ok-named.ensures.log (not_on c.in_ok-named.named.chained c.if-not-named.true) only (c.in_ok-named.ensures.loaded k))
+    (held_after c.args.parts.now.tree.geometry c.load_named.new.log c.in_ok-named.named.area c.in_ok-named.named.chained false
+    (state_in c.load_named.new.tree) w0 w1 c.in_ok-named.ensures.log (not_on c.in_ok-named.named.chained c.if-not-named.true) only
+    (c.in_ok-named.ensures.loaded k))
     (still_synced w0 w1 only (c.requires.calm k))
 
 pub returns-then-not-named-clause-was : goal.returns-then-not-named-clause-was
@@ -50,18 +52,22 @@ returns-then-not-named-clause-was g c = λ k.
     let geometry = c.args.parts.now.tree.geometry in
     let now = (g.D.Disk.medium c.args.disk.now).now in
     let x = state_in c.load_named.new.tree in
-    alone_holds geometry now c.in_ok-named.named.area x (subst (λ (t : Bool). NamedHolds geometry now c.in_ok-named.named.area t x) (not_on c.in_ok-named.named.chained c.if-not-named.true) (c.in_ok-named.ensures.loaded k))
+    alone_holds geometry now c.in_ok-named.named.area x (subst (λ (t : Bool). NamedHolds geometry now c.in_ok-named.named.area t x)
+    (not_on c.in_ok-named.named.chained c.if-not-named.true) (c.in_ok-named.ensures.loaded k))
 
 pub returns-then-not-named-clause-sound : goal.returns-then-not-named-clause-sound
 returns-then-not-named-clause-sound g c = λ k.
     let geometry = c.args.parts.now.tree.geometry in
     let now = (g.D.Disk.medium c.args.disk.now).now in
     let x = state_in c.load_named.new.tree in
-    alone_fine geometry now c.in_ok-named.named.area x (subst (λ (t : Bool). NamedHolds geometry now c.in_ok-named.named.area t x) (not_on c.in_ok-named.named.chained c.if-not-named.true) (c.in_ok-named.ensures.loaded k))
+    alone_fine geometry now c.in_ok-named.named.area x (subst (λ (t : Bool). NamedHolds geometry now c.in_ok-named.named.area t x)
+    (not_on c.in_ok-named.named.chained c.if-not-named.true) (c.in_ok-named.ensures.loaded k))
 
 pub replay_behind-requires-clause-holds : goal.replay_behind-requires-clause-holds
 replay_behind-requires-clause-holds g c = λ k.
-    held_after c.args.parts.now.tree.geometry c.load_named.new.log c.in_ok-named.named.area c.in_ok-named.named.chained true (state_in c.load_named.new.tree) (g.D.Disk.medium c.args.disk.now) (g.D.Disk.medium c.load_named.new.disk) c.in_ok-named.ensures.log (not_off c.in_ok-named.named.chained c.if-not-named.false) (c.load_named.ensures.untouched k) (c.in_ok-named.ensures.loaded k)
+    held_after c.args.parts.now.tree.geometry c.load_named.new.log c.in_ok-named.named.area c.in_ok-named.named.chained true
+    (state_in c.load_named.new.tree) (g.D.Disk.medium c.args.disk.now) (g.D.Disk.medium c.load_named.new.disk) c.in_ok-named.ensures.log
+    (not_off c.in_ok-named.named.chained c.if-not-named.false) (c.load_named.ensures.untouched k) (c.in_ok-named.ensures.loaded k)
 
 pub returns-in_err-replay_behind-clause-any_moment : goal.returns-in_err-replay_behind-clause-any_moment
 returns-in_err-replay_behind-clause-any_moment g c = λ k.
@@ -123,15 +129,19 @@ pub replay_behind-requires-clause-loaded : goal.replay_behind-requires-clause-lo
 replay_behind-requires-clause-loaded g c =
     let p = c.args.parts.now in
     let taken = c.requires.taken in
-    are_loaded p _ p.tree.geometry (renamed c.in_ok-named.named.area (new_log p.tree.geometry)) (g.D.Disk.medium c.load_named.new.disk) c.in_ok-named.ensures.log refl refl refl c.in_ok-named.ensures.whole c.in_ok-named.ensures.geometry
-    (record { frozen = refl; named_dirty = refl; other_dirty = refl; due = refl }) taken.frozen taken.named_dirty taken.other_dirty taken.all (omega (arith, c.requires.whole, c.load_named.ensures.call.1))
+    are_loaded p _ p.tree.geometry (renamed c.in_ok-named.named.area (new_log p.tree.geometry)) (g.D.Disk.medium c.load_named.new.disk)
+    c.in_ok-named.ensures.log refl refl refl c.in_ok-named.ensures.whole c.in_ok-named.ensures.geometry
+    (record { frozen = refl; named_dirty = refl; other_dirty = refl; due = refl }) taken.frozen taken.named_dirty taken.other_dirty taken.all
+    (omega (arith, c.requires.whole, c.load_named.ensures.call.1))
 
 pub returns-then-not-named-clause-loaded : goal.returns-then-not-named-clause-loaded
 returns-then-not-named-clause-loaded g c =
     let p = c.args.parts.now in
     let taken = c.requires.taken in
-    are_loaded p _ p.tree.geometry (renamed c.in_ok-named.named.area (new_log p.tree.geometry)) (g.D.Disk.medium c.load_named.new.disk) c.in_ok-named.ensures.log refl refl refl c.in_ok-named.ensures.whole c.in_ok-named.ensures.geometry
-    (record { frozen = refl; named_dirty = refl; other_dirty = refl; due = refl }) taken.frozen taken.named_dirty taken.other_dirty taken.all (omega (arith, c.requires.whole, c.load_named.ensures.call.1))
+    are_loaded p _ p.tree.geometry (renamed c.in_ok-named.named.area (new_log p.tree.geometry)) (g.D.Disk.medium c.load_named.new.disk)
+    c.in_ok-named.ensures.log refl refl refl c.in_ok-named.ensures.whole c.in_ok-named.ensures.geometry
+    (record { frozen = refl; named_dirty = refl; other_dirty = refl; due = refl }) taken.frozen taken.named_dirty taken.other_dirty taken.all
+    (omega (arith, c.requires.whole, c.load_named.ensures.call.1))
 
 pub returns-then-not-named-clause-room : goal.returns-then-not-named-clause-room
 returns-then-not-named-clause-room g c = record { frozen = refl; named_dirty = refl; other_dirty = refl; due = refl }
@@ -152,7 +162,8 @@ returns-in_err-replay_behind-clause-synced g c =
     rw (p.1, p.2)
     (λ not_device k.
     let log = c.load_named.new.log in
-    bad_synced log.geometry (other log.named) c.in_err-replay_behind.field-0.0 (g.D.Disk.medium c.load_named.new.disk) (g.D.Disk.medium c.replay_behind.new.disk) not_device (c.in_err-replay_behind.ensures.behind k))
+    bad_synced log.geometry (other log.named) c.in_err-replay_behind.field-0.0 (g.D.Disk.medium c.load_named.new.disk)
+    (g.D.Disk.medium c.replay_behind.new.disk) not_device (c.in_err-replay_behind.ensures.behind k))
 
 pub returns-in_err-named-clause-beyond : goal.returns-in_err-named-clause-beyond
 returns-in_err-named-clause-beyond g c = λ k.
@@ -193,7 +204,8 @@ returns-in_err-named-clause-takes g c =
 pub returns-then-not-named-clause-takes : goal.returns-then-not-named-clause-takes
 returns-then-not-named-clause-takes g c = λ k.
     let read = no_call (g.D.Disk.medium c.args.disk.now) (g.D.Disk.medium c.load_named.new.disk) (c.load_named.ensures.untouched k) in
-    let none = finish_is c.args.parts.now.tree.geometry (g.D.Disk.medium c.args.disk.now).now c.in_ok-named.named.area c.in_ok-named.named.chained false (state_in c.load_named.new.tree) (not_on c.in_ok-named.named.chained c.if-not-named.true) (c.in_ok-named.ensures.loaded k) in
+    let none = finish_is c.args.parts.now.tree.geometry (g.D.Disk.medium c.args.disk.now).now c.in_ok-named.named.area c.in_ok-named.named.chained
+    false (state_in c.load_named.new.tree) (not_on c.in_ok-named.named.chained c.if-not-named.true) (c.in_ok-named.ensures.loaded k) in
     omega (arith, read, none)
 
 pub returns-in_err-replay_behind-clause-takes : goal.returns-in_err-replay_behind-clause-takes
@@ -202,11 +214,13 @@ returns-in_err-replay_behind-clause-takes g c =
     rw p.1
     (λ k.
     let read = no_call (g.D.Disk.medium c.args.disk.now) (g.D.Disk.medium c.load_named.new.disk) (c.load_named.ensures.untouched k) in
-    let four = finish_is c.args.parts.now.tree.geometry (g.D.Disk.medium c.args.disk.now).now c.in_ok-named.named.area c.in_ok-named.named.chained true (state_in c.load_named.new.tree) (not_off c.in_ok-named.named.chained c.if-not-named.false) (c.in_ok-named.ensures.loaded k) in
+    let four = finish_is c.args.parts.now.tree.geometry (g.D.Disk.medium c.args.disk.now).now c.in_ok-named.named.area c.in_ok-named.named.chained
+    true (state_in c.load_named.new.tree) (not_off c.in_ok-named.named.chained c.if-not-named.false) (c.in_ok-named.ensures.loaded k) in
     omega (arith, read, four, c.in_err-replay_behind.ensures.takes k))
 
 pub returns-clause-takes : goal.returns-clause-takes
 returns-clause-takes g c = λ k.
     let read = no_call (g.D.Disk.medium c.args.disk.now) (g.D.Disk.medium c.load_named.new.disk) (c.load_named.ensures.untouched k) in
-    let four = finish_is c.args.parts.now.tree.geometry (g.D.Disk.medium c.args.disk.now).now c.in_ok-named.named.area c.in_ok-named.named.chained true (state_in c.load_named.new.tree) (not_off c.in_ok-named.named.chained c.if-not-named.false) (c.in_ok-named.ensures.loaded k) in
+    let four = finish_is c.args.parts.now.tree.geometry (g.D.Disk.medium c.args.disk.now).now c.in_ok-named.named.area c.in_ok-named.named.chained
+    true (state_in c.load_named.new.tree) (not_off c.in_ok-named.named.chained c.if-not-named.false) (c.in_ok-named.ensures.loaded k) in
     omega (arith, read, four, c.in_ok-replay_behind.ensures.takes k)

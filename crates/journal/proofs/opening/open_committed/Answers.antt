@@ -1,4 +1,4 @@
--- Header, memory, load and last checkpoint, in turn: a refusal is that of the bytes, a crash recovers to the same.
+-- Header, memory, load and last point, one after the other: a refusal is that of the bytes, a crash recovers to the same.
 use Rattle.std.proofs.Common.{◌≡◌, ◌≤◌, Bool, List, ℕ, length, refl, sym, ◌∙◌, ap, subst, arith}
 use Rattle.std.proofs.lemmas.Result.{err_from_is_err_and}
 use Rattle.affinity.specs.declared.geometry.Geometry.{Geometry}
@@ -53,7 +53,8 @@ returns-in_err-load_in_order-clause-any_moment g c = λ k.
     let only = c.read_header.ensures.untouched k in
     let head = subst (λ (h : Geometry). HasHeader h w0.now) (sym c.in_ok-parts.ensures.geometry) (c.in_ok-g.ensures.header k) in
     let fits = subst (λ (h : Geometry). device_size (layout_of h) ≤ length w0.now) (sym c.in_ok-parts.ensures.geometry) c.in_ok-g.ensures.whole in
-    as_alike t w0 w2 head fits (still_after t w0 w1 w2 (c.requires.calm k) only (c.load_in_order.ensures.any_moment k)) (alike_after t w0 w1 w2 head (c.requires.calm k) only (c.load_in_order.ensures.alike k))
+    as_alike t w0 w2 head fits (still_after t w0 w1 w2 (c.requires.calm k) only (c.load_in_order.ensures.any_moment k))
+    (alike_after t w0 w1 w2 head (c.requires.calm k) only (c.load_in_order.ensures.alike k))
 
 pub returns-in_err-load_in_order-clause-unwritten : goal.returns-in_err-load_in_order-clause-unwritten
 returns-in_err-load_in_order-clause-unwritten g c =
@@ -109,7 +110,8 @@ returns-clause-any_moment g c = λ k.
 pub returns-clause-made : goal.returns-clause-made
 returns-clause-made g c =
     made c.in_ok-parts.parts c.load_in_order.new.parts c.last_point.new.parts (g.D.Disk.medium c.load_in_order.new.disk) (g.D.Disk.medium c.last_point.new.disk) c.in_ok-parts.ensures.taken
-    c.in_ok-load_in_order.ensures.geometry c.in_ok-load_in_order.ensures.room c.in_ok-load_in_order.ensures.loaded c.last_point.ensures.room c.last_point.ensures.tree c.in_ok-last_point.ensures.log c.last_point.ensures.call.1
+    c.in_ok-load_in_order.ensures.geometry c.in_ok-load_in_order.ensures.room c.in_ok-load_in_order.ensures.loaded c.last_point.ensures.room
+    c.last_point.ensures.tree c.in_ok-last_point.ensures.log c.last_point.ensures.call.1
 
 pub returns-clause-made_of : goal.returns-clause-made_of
 returns-clause-made_of g c = λ k.
@@ -130,7 +132,8 @@ returns-clause-made_of g c = λ k.
     ∙ still_now t w1 w2 (g.met.D.Disk.bytes c.load_in_order.new.disk) (c.load_in_order.ensures.any_moment k) ∙ c.in_ok-load_in_order.ensures.was k in
     let all = subst (λ (row : List Bool). AreAllDirty loaded.halves.geometry row) (sym (λ i. (c.last_point.ensures.room.other_dirty i).items)) c.in_ok-load_in_order.ensures.loaded.all in
     subst (λ (tree : TreeView). IsMadeOf w0.now (record last { tree = tree }) w3) (sym c.last_point.ensures.tree)
-    (made_of (record last { tree = loaded.tree }) loaded.halves w0 w2 w3 last.frozen.items (g.met.D.Disk.bytes c.last_point.new.disk) head fine was c.in_ok-last_point.ensures.log c.in_ok-load_in_order.ensures.loaded.geometry refl c.last_point.ensures.frozen
+    (made_of (record last { tree = loaded.tree }) loaded.halves w0 w2 w3 last.frozen.items (g.met.D.Disk.bytes c.last_point.new.disk) head fine was
+    c.in_ok-last_point.ensures.log c.in_ok-load_in_order.ensures.loaded.geometry refl c.last_point.ensures.frozen
     c.in_ok-load_in_order.ensures.loaded.tree all (c.in_ok-load_in_order.ensures.alone k) held (c.in_ok-last_point.ensures.pointed k))
 
 pub returns-in_err-g-clause-memory : goal.returns-in_err-g-clause-memory

@@ -15,7 +15,8 @@ returns-in_err-settle-clause-any_moment g c = λ k. never_synced _ _ (c.settle.e
 
 pub returns-clause-any_moment : goal.returns-clause-any_moment
 returns-clause-any_moment g c = λ k.
-    synced_then (g.D.Disk.medium c.args.disk.now) (g.D.Disk.medium c.settle.new.disk) (g.D.Disk.medium c.open_committed.new.disk) (c.in_ok-settle.ensures.calm k) (c.settle.ensures.now k) (c.settle.ensures.any_moment k) (c.open_committed.ensures.any_moment k)
+    synced_then (g.D.Disk.medium c.args.disk.now) (g.D.Disk.medium c.settle.new.disk) (g.D.Disk.medium c.open_committed.new.disk)
+    (c.in_ok-settle.ensures.calm k) (c.settle.ensures.now k) (c.settle.ensures.any_moment k) (c.open_committed.ensures.any_moment k)
 
 pub returns-clause-made_of : goal.returns-clause-made_of
 returns-clause-made_of g c =
@@ -28,7 +29,8 @@ returns-clause-unwritten g c =
     let w2 = g.D.Disk.medium c.open_committed.new.disk in
     if_err c.open_committed.result _ _
     (λ e is k.
-    unwritten_from e w0 w1 w2 (c.settle.ensures.now k) (unwritten_then w0 w1 w2 (g.met.D.Disk.bytes c.args.disk.now) (c.in_ok-settle.ensures.calm k) (c.settle.ensures.now k) (c.settle.ensures.any_moment k)) (is k))
+    unwritten_from e w0 w1 w2 (c.settle.ensures.now k) (unwritten_then w0 w1 w2 (g.met.D.Disk.bytes c.args.disk.now) (c.in_ok-settle.ensures.calm k)
+    (c.settle.ensures.now k) (c.settle.ensures.any_moment k)) (is k))
     c.open_committed.ensures.unwritten
 
 pub returns-clause-memory : goal.returns-clause-memory
@@ -53,4 +55,5 @@ returns-in_err-settle-clause-takes g c =
 
 pub returns-clause-takes : goal.returns-clause-takes
 returns-clause-takes g c = λ k.
-    opening_after c.open_committed.result (g.D.Disk.medium c.args.disk.now) (g.D.Disk.medium c.settle.new.disk) (g.D.Disk.medium c.open_committed.new.disk) (c.settle.ensures.now k) (c.in_ok-settle.ensures.takes k) (c.open_committed.ensures.takes k)
+    opening_after c.open_committed.result (g.D.Disk.medium c.args.disk.now) (g.D.Disk.medium c.settle.new.disk)
+    (g.D.Disk.medium c.open_committed.new.disk) (c.settle.ensures.now k) (c.in_ok-settle.ensures.takes k) (c.open_committed.ensures.takes k)

@@ -40,8 +40,10 @@ returns-in_err-replay-clause-refused g c =
     let held' : state_in c.finish_cut.new.parts.tree ≡ x = ap state_in c.finish_cut.ensures.tree in
     let geometry : c.finish_cut.new.parts.tree.geometry ≡ c.args.parts.now.halves.geometry = (λ i. (c.finish_cut.ensures.tree i).geometry) ∙ c.requires.loaded.geometry in
     behind_refused c.args.parts.now.halves.geometry (g.D.Disk.medium c.args.disk.now).now c.args.parts.now.halves.named x (c.requires.holds k) _
-    (subst (λ (rs : List (List ℕ)). IsFaultOfBytes (records_fault c.args.parts.now.halves.geometry x (other c.args.parts.now.halves.named) rs) c.in_err-replay.field-0.0) (c.in_ok-finish_cut.ensures.finished k).front
-    (subst (λ (o : Option OpenFault). IsFaultOfBytes o c.in_err-replay.field-0.0) (λ i. records_fault (geometry i) (held' i) (half i) (front (layout_of (log i)) (half i) w1)) (c.in_err-replay.ensures.refused k))))
+    (subst (λ (rs : List (List ℕ)). IsFaultOfBytes (records_fault c.args.parts.now.halves.geometry x (other c.args.parts.now.halves.named) rs)
+    c.in_err-replay.field-0.0) (c.in_ok-finish_cut.ensures.finished k).front
+    (subst (λ (o : Option OpenFault). IsFaultOfBytes o c.in_err-replay.field-0.0)
+    (λ i. records_fault (geometry i) (held' i) (half i) (front (layout_of (log i)) (half i) w1)) (c.in_err-replay.ensures.refused k))))
 
 pub returns-in_err-replay-clause-behind : goal.returns-in_err-replay-clause-behind
 returns-in_err-replay-clause-behind g c =
@@ -68,7 +70,8 @@ returns-in_err-replay-clause-behind g c =
     (subst (λ (o : Option OpenFault). IsFaultOfBytes o c.in_err-replay.field-0.0) (λ i. records_fault (c.finish_cut.ensures.tree i).geometry (held' i) (half i) rs) fault)
     (c.requires.holds k).header why alike
     (ap (λ (l : List ℕ). named_area (layout_of c.args.parts.now.halves.geometry) l) (same_bytes (g.D.Disk.medium c.finish_cut.new.disk) w2 only) ∙ finished.named)
-    (ap (λ (l : List ℕ). read c.args.parts.now.halves.geometry (part_bytes (layout_of c.args.parts.now.halves.geometry) (image (other c.args.parts.now.halves.named)) l)) (same_bytes (g.D.Disk.medium c.finish_cut.new.disk) w2 only)
+    (ap (λ (l : List ℕ). read c.args.parts.now.halves.geometry (part_bytes (layout_of c.args.parts.now.halves.geometry)
+    (image (other c.args.parts.now.halves.named)) l)) (same_bytes (g.D.Disk.medium c.finish_cut.new.disk) w2 only)
     ∙ finished.reads ∙ ap (λ (n : ℕ). area_state c.args.parts.now.halves.geometry n w0.now) (c.requires.holds k).named)
     (still_synced (g.D.Disk.medium c.finish_cut.new.disk) w2 only finished.calm))
 
@@ -90,7 +93,8 @@ returns-clause-alone g c = λ k.
     ∙ sym (λ i. run (means (geometry i)) (Some (held' i)) (front (layout_of (log i)) (half i) w1)) ∙ c.in_ok-replay.ensures.done k in
     let held = behind_holds c.args.parts.now.halves.geometry (g.D.Disk.medium c.args.disk.now).now c.args.parts.now.halves.named x (c.requires.holds k) (state_in c.replay.new.tree) more in
     subst (λ (l : Log). IsAlone l (g.D.Disk.medium c.replay.new.disk)) (sym (c.in_ok-replay.ensures.log ∙ c.in_ok-finish_cut.ensures.log))
-    (alone_finished c.args.parts.now.halves (g.D.Disk.medium c.args.disk.now) (g.D.Disk.medium c.finish_cut.new.disk) (g.D.Disk.medium c.replay.new.disk) (state_in c.replay.new.tree) (g.met.D.Disk.bytes c.replay.new.disk)
+    (alone_finished c.args.parts.now.halves (g.D.Disk.medium c.args.disk.now) (g.D.Disk.medium c.finish_cut.new.disk)
+    (g.D.Disk.medium c.replay.new.disk) (state_in c.replay.new.tree) (g.met.D.Disk.bytes c.replay.new.disk)
     (same _ _ _ _ (c.finish_cut.ensures.any_moment k) (c.replay.ensures.untouched k)) held (c.in_ok-finish_cut.ensures.finished k) (c.replay.ensures.untouched k))
 
 pub returns-clause-was : goal.returns-clause-was

@@ -1,4 +1,4 @@
--- A marked piece is spelled at its place, the others stay, and all pieces with the head make up the image.
+-- A dirty piece is spelled at its place, the others stay, and all pieces with the head make up the image.
 use Rattle.std.proofs.Common.{◌≡◌, ◌+◌, ◌-◌, ◌<◌, ◌≤◌, ℕ, List, length, rules, refl, sym, ◌∙◌, ap, subst, arith}
 use Rattle.std.proofs.lemmas.Grind.{common_steps}
 use Rattle.image.specs.Image.{image_of}
@@ -41,7 +41,16 @@ slice_bounds-write_piece-end c =
     let few : c.loop-n.n < piece_count c.geometry-g.result = omega (arith, count, c.loop-n-test.true, c.requires.dirty) in
     let inside = piece_inside c.geometry-g.result c.loop-n.n few in
     let size : image_size c.geometry-g.result ≡ image_size c.args.tree.now.geometry = ap image_size same in
-    let within : c.loop-n.at + c.piece_size.result ≤ length c.loop-n.bytes = omega (arith, inside, size, c.requires.size, c.write_head.ensures.size, c.loop-n.invariant.size, c.loop-n.invariant.place, c.piece_size.ensures.size) in
+    let within : c.loop-n.at + c.piece_size.result ≤ length c.loop-n.bytes = omega (
+      arith,
+      inside,
+      size,
+      c.requires.size,
+      c.write_head.ensures.size,
+      c.loop-n.invariant.size,
+      c.loop-n.invariant.place,
+      c.piece_size.ensures.size,
+    ) in
     search rules
 
 pub loop-n-preserved : goal.loop-n-preserved
@@ -57,10 +66,12 @@ loop-n-preserved c =
           let over : c.loop-n.at + c.piece_size.result - c.loop-n.at ≡ c.piece_size.result = omega arith in
           let piece : w.write_piece.new.out ≡ piece_of 2 c.geometry-g.result x c.loop-n.n = w.write_piece.ensures ∙ ap (λ (g : Geometry). piece_of 2 g x c.loop-n.n) (sym same) in
           let is_state = subst (λ (g : Geometry). IsState g x) (sym same) c.requires.whole.state in
-          let long : length w.write_piece.new.out ≡ c.piece_size.result = ap length piece ∙ length-piece 2 c.geometry-g.result x (state_is_measured c.geometry-g.result x is_state) c.loop-n.n ∙ sym c.piece_size.ensures.size in
+          let long : length w.write_piece.new.out ≡ c.piece_size.result = ap length piece
+          ∙ length-piece 2 c.geometry-g.result x (state_is_measured c.geometry-g.result x is_state) c.loop-n.n ∙ sym c.piece_size.ensures.size in
           subst (λ (k : ℕ). IsFrozenTo c.geometry-g.result x c.args.dirty.now first (c.loop-n.n + 1) k c.if-is_dirty.bytes) (sym w.at-is)
           (subst (λ (l : List ℕ). IsFrozenTo c.geometry-g.result x c.args.dirty.now first (c.loop-n.n + 1) (c.loop-n.at + c.piece_size.result) l) (sym w.bytes-is)
-          (put_one c.geometry-g.result x c.args.dirty.now first c.loop-n.n c.loop-n.at c.piece_size.result c.loop-n.bytes size few c.piece_size.ensures.size c.loop-n.invariant (c.loop-n.at + c.piece_size.result - c.loop-n.at) w.write_piece.new.out over long piece))
+          (put_one c.geometry-g.result x c.args.dirty.now first c.loop-n.n c.loop-n.at c.piece_size.result c.loop-n.bytes size few
+          c.piece_size.ensures.size c.loop-n.invariant (c.loop-n.at + c.piece_size.result - c.loop-n.at) w.write_piece.new.out over long piece))
       | else-is_dirty w ↦
           subst (λ (k : ℕ). IsFrozenTo c.geometry-g.result x c.args.dirty.now first (c.loop-n.n + 1) k c.if-is_dirty.bytes) (sym w.at-is)
           (subst (λ (l : List ℕ). IsFrozenTo c.geometry-g.result x c.args.dirty.now first (c.loop-n.n + 1) (c.loop-n.at + c.piece_size.result) l) (sym w.bytes-is)

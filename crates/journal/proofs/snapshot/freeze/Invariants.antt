@@ -1,4 +1,4 @@
--- Up to here the bytes are those of the image, if the pieces that aren't marked were so at first.
+-- Up to here the bytes are those of the image, if the clean pieces were so at first.
 use Rattle.journal.proofs.FrozenBytes.{IsFrozenTo}
 use Rattle.parcel.specs.Tree.{state_in}
 use Rattle.journal.proofs.snapshot.freeze.Given as goal

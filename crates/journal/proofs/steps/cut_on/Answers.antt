@@ -20,14 +20,16 @@ pub returns-in_err-open_chain-clause-any_moment : goal.returns-in_err-open_chain
 returns-in_err-open_chain-clause-any_moment g c = λ k.
     let recovers = (c.requires.alone k).recovers in
     let is_area = named_below c.args.halves.now.geometry c.args.halves.now.named _ _ (g.D.Disk.medium c.args.disk.now) (g.met.D.Disk.bytes c.args.disk.now) recovers in
-    let chains = subst (λ (log : Log). Chains log (g.D.Disk.medium c.clear_other.new.disk) (g.D.Disk.medium c.open_chain.new.disk)) c.in_ok-clear_other.ensures.log (c.open_chain.ensures.any_moment k) in
+    let chains = subst (λ (log : Log). Chains log (g.D.Disk.medium c.clear_other.new.disk) (g.D.Disk.medium c.open_chain.new.disk))
+    c.in_ok-clear_other.ensures.log (c.open_chain.ensures.any_moment k) in
     chain_moments c.args.halves.now.geometry c.args.halves.now.named _ is_area _ _ _ recovers (c.clear_other.ensures.any_moment k) (c.in_ok-clear_other.ensures.cleared k) chains
 
 pub returns-clause-any_moment : goal.returns-clause-any_moment
 returns-clause-any_moment g c = λ k.
     let recovers = (c.requires.alone k).recovers in
     let is_area = named_below c.args.halves.now.geometry c.args.halves.now.named _ _ (g.D.Disk.medium c.args.disk.now) (g.met.D.Disk.bytes c.args.disk.now) recovers in
-    let chains = subst (λ (log : Log). Chains log (g.D.Disk.medium c.clear_other.new.disk) (g.D.Disk.medium c.open_chain.new.disk)) c.in_ok-clear_other.ensures.log (c.open_chain.ensures.any_moment k) in
+    let chains = subst (λ (log : Log). Chains log (g.D.Disk.medium c.clear_other.new.disk) (g.D.Disk.medium c.open_chain.new.disk))
+    c.in_ok-clear_other.ensures.log (c.open_chain.ensures.any_moment k) in
     chain_moments c.args.halves.now.geometry c.args.halves.now.named _ is_area _ _ _ recovers (c.clear_other.ensures.any_moment k) (c.in_ok-clear_other.ensures.cleared k) chains
 
 pub returns-clause-begun : goal.returns-clause-begun
@@ -51,7 +53,8 @@ returns-clause-begun g c = λ k.
         calm = chained.calm;
       };
       none = begun_none geometry named _ is_area w0 w1 w2 recovers clears cleared chains are c.requires.whole chained;
-      forced = begun_forced geometry named _ is_area w0 w1 w2 recovers clears cleared chains are c.requires.whole chained (g.met.D.Disk.bytes c.args.disk.now) (g.met.D.Disk.bytes c.open_chain.new.disk);
+      forced = begun_forced geometry named _ is_area w0 w1 w2 recovers clears cleared chains are c.requires.whole chained
+          (g.met.D.Disk.bytes c.args.disk.now) (g.met.D.Disk.bytes c.open_chain.new.disk);
       images = begun_images geometry named _ is_area w0 w1 w2 recovers clears cleared chains are c.requires.whole chained;
     }
 

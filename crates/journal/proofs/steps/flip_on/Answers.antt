@@ -25,7 +25,9 @@ returns-in_err-flip_root-clause-any_moment g c = λ k.
     let syncs = on_ok c.make_last.result _ (sym c.is_err.ensures.value ∙ c.if-is_err.false) (c.make_last.ensures.syncs k).ok in
     let is_area = named_below geometry named _ _ w0 (g.met.D.Disk.bytes c.args.disk.now) written.by.recovers in
     let flips = subst (λ (m : Medium). Flips c.args.halves.now m w2) syncs (c.flip_root.ensures.any_moment k) in
-    let so_far = subst (λ (m : Medium). CrashImagesAre w0 m (λ c'. holds geometry c' ≡ holds geometry w0.now)) syncs (sync_moments geometry named c.args.halves.now.used _ c.args.bytes.now w0 written.by.recovers (g.D.Disk.medium c.make_last.new.disk) c.make_last.result (c.make_last.ensures.syncs k)) in
+    let so_far = subst (λ (m : Medium). CrashImagesAre w0 m (λ c'. holds geometry c' ≡ holds geometry w0.now)) syncs
+    (sync_moments geometry named c.args.halves.now.used _ c.args.bytes.now w0 written.by.recovers (g.D.Disk.medium c.make_last.new.disk)
+    c.make_last.result (c.make_last.ensures.syncs k)) in
     name_moments geometry named c.args.halves.now.used _ c.args.bytes.now w0 written.by.recovers is_area written.by.some written.is written.behind w2 (g.met.D.Disk.bytes c.args.disk.now) so_far flips
 
 pub returns-clause-any_moment : goal.returns-clause-any_moment
@@ -38,7 +40,9 @@ returns-clause-any_moment g c = λ k.
     let syncs = on_ok c.make_last.result _ (sym c.is_err.ensures.value ∙ c.if-is_err.false) (c.make_last.ensures.syncs k).ok in
     let is_area = named_below geometry named _ _ w0 (g.met.D.Disk.bytes c.args.disk.now) written.by.recovers in
     let flips = subst (λ (m : Medium). Flips c.args.halves.now m w2) syncs (c.flip_root.ensures.any_moment k) in
-    let so_far = subst (λ (m : Medium). CrashImagesAre w0 m (λ c'. holds geometry c' ≡ holds geometry w0.now)) syncs (sync_moments geometry named c.args.halves.now.used _ c.args.bytes.now w0 written.by.recovers (g.D.Disk.medium c.make_last.new.disk) c.make_last.result (c.make_last.ensures.syncs k)) in
+    let so_far = subst (λ (m : Medium). CrashImagesAre w0 m (λ c'. holds geometry c' ≡ holds geometry w0.now)) syncs
+    (sync_moments geometry named c.args.halves.now.used _ c.args.bytes.now w0 written.by.recovers (g.D.Disk.medium c.make_last.new.disk)
+    c.make_last.result (c.make_last.ensures.syncs k)) in
     name_moments geometry named c.args.halves.now.used _ c.args.bytes.now w0 written.by.recovers is_area written.by.some written.is written.behind w2 (g.met.D.Disk.bytes c.args.disk.now) so_far flips
 
 pub returns-clause-flipped : goal.returns-clause-flipped
@@ -55,7 +59,8 @@ returns-clause-flipped g c = λ k.
     record {
       at = record {
         recovers = named_recovers geometry named c.args.halves.now.used _ c.args.bytes.now w0 written.by.recovers is_area written.by.some written.is written.behind w2 are flipped;
-        ready = named_ready geometry named c.args.halves.now.used _ c.args.bytes.now w0 written.by.recovers is_area written.by.some written.is written.behind w2 are flipped c.requires.whole written.ready;
+        ready = named_ready geometry named c.args.halves.now.used _ c.args.bytes.now w0 written.by.recovers is_area written.by.some written.is
+            written.behind w2 are flipped c.requires.whole written.ready;
         calm = flipped.calm;
       };
       before = named_before geometry named c.args.halves.now.used _ c.args.bytes.now w0 written.by.recovers is_area written.by.some written.is written.behind w2 are flipped;

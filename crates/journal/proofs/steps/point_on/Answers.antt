@@ -18,34 +18,46 @@ along P {a} {a'} {b} {b'} first second held = subst (λ y. P a' y) second (subst
 
 pub returns-in_err-clear_other-clause-any_moment : goal.returns-in_err-clear_other-clause-any_moment
 returns-in_err-clear_other-clause-any_moment g c = λ k.
-    clear_moments c.args.halves.now.geometry c.args.halves.now.named _ (omega (arith, c.named-area.ensures.named, c.named-area.ensures.half)) _ _ (c.requires.alone k).recovers (c.clear_other.ensures.any_moment k)
+    clear_moments c.args.halves.now.geometry c.args.halves.now.named _ (omega (arith, c.named-area.ensures.named, c.named-area.ensures.half)) _ _
+    (c.requires.alone k).recovers (c.clear_other.ensures.any_moment k)
 
 pub write_image-requires-clause-unmarked : goal.write_image-requires-clause-unmarked
 write_image-requires-clause-unmarked g c = λ k.
-    along (λ (x : Geometry) (n : ℕ). AgreeOnClean x c.args.dirty.now (image_in x (other n) (g.D.Disk.medium c.clear_other.new.disk)) c.args.bytes.now) (sym c.geometry-g.ensures) (sym c.named-area.ensures.named)
-    (still_unmarked c.args.halves.now.geometry (other c.args.halves.now.named) (other c.args.halves.now.named) c.args.dirty.now c.args.bytes.now (g.D.Disk.medium c.args.disk.now) (g.D.Disk.medium c.clear_other.new.disk) (omega arith) (c.in_ok-clear_other.ensures.cleared k) (c.requires.unmarked k))
+    along (λ (x : Geometry) (n : ℕ). AgreeOnClean x c.args.dirty.now (image_in x (other n) (g.D.Disk.medium c.clear_other.new.disk))
+    c.args.bytes.now) (sym c.geometry-g.ensures) (sym c.named-area.ensures.named)
+    (still_unmarked c.args.halves.now.geometry (other c.args.halves.now.named) (other c.args.halves.now.named) c.args.dirty.now c.args.bytes.now
+    (g.D.Disk.medium c.args.disk.now) (g.D.Disk.medium c.clear_other.new.disk) (omega arith) (c.in_ok-clear_other.ensures.cleared k)
+    (c.requires.unmarked k))
 
 pub returns-then-is_err-clause-any_moment : goal.returns-then-is_err-clause-any_moment
 returns-then-is_err-clause-any_moment g c = λ k.
-    let writes = along (λ (x : Geometry) (n : ℕ). ChangesOnly (g.D.Disk.medium c.clear_other.new.disk) (g.D.Disk.medium c.write_image.new.disk) (IsSameBut (layout_of x) (image (other n)))) c.geometry-g.ensures c.named-area.ensures.named (c.write_image.ensures.any_moment k) in
-    image_moments c.args.halves.now.geometry c.args.halves.now.named _ (omega (arith, c.named-area.ensures.named, c.named-area.ensures.half)) _ _ (c.requires.alone k).recovers (c.clear_other.ensures.any_moment k) _ writes
+    let writes = along (λ (x : Geometry) (n : ℕ). ChangesOnly (g.D.Disk.medium c.clear_other.new.disk) (g.D.Disk.medium c.write_image.new.disk)
+    (IsSameBut (layout_of x) (image (other n)))) c.geometry-g.ensures c.named-area.ensures.named (c.write_image.ensures.any_moment k) in
+    image_moments c.args.halves.now.geometry c.args.halves.now.named _ (omega (arith, c.named-area.ensures.named, c.named-area.ensures.half)) _ _
+    (c.requires.alone k).recovers (c.clear_other.ensures.any_moment k) _ writes
 
 pub returns-in_err-flip_root-clause-any_moment : goal.returns-in_err-flip_root-clause-any_moment
 returns-in_err-flip_root-clause-any_moment g c = λ k.
-    let writes = along (λ (x : Geometry) (n : ℕ). ChangesOnly (g.D.Disk.medium c.clear_other.new.disk) (g.D.Disk.medium c.write_image.new.disk) (IsSameBut (layout_of x) (image (other n)))) c.geometry-g.ensures c.named-area.ensures.named (c.write_image.ensures.any_moment k) in
-    let imaged = along (λ (x : Geometry) (n : ℕ). Imaged x (other n) c.args.bytes.now (g.D.Disk.medium c.clear_other.new.disk) (g.D.Disk.medium c.write_image.new.disk)) c.geometry-g.ensures c.named-area.ensures.named
+    let writes = along (λ (x : Geometry) (n : ℕ). ChangesOnly (g.D.Disk.medium c.clear_other.new.disk) (g.D.Disk.medium c.write_image.new.disk)
+    (IsSameBut (layout_of x) (image (other n)))) c.geometry-g.ensures c.named-area.ensures.named (c.write_image.ensures.any_moment k) in
+    let imaged = along (λ (x : Geometry) (n : ℕ). Imaged x (other n) c.args.bytes.now (g.D.Disk.medium c.clear_other.new.disk)
+    (g.D.Disk.medium c.write_image.new.disk)) c.geometry-g.ensures c.named-area.ensures.named
     (on_ok c.write_image.result _ (sym c.is_err.ensures.value ∙ c.if-is_err.false) c.write_image.ensures.written k) in
     let flips = subst (λ (log : Log). Flips log (g.D.Disk.medium c.write_image.new.disk) (g.D.Disk.medium c.flip_root.new.disk)) c.in_ok-clear_other.ensures.log (c.flip_root.ensures.any_moment k) in
-    flip_moments c.args.halves.now.geometry c.args.halves.now.named _ (omega (arith, c.named-area.ensures.named, c.named-area.ensures.half)) _ _ (c.requires.alone k).recovers (c.clear_other.ensures.any_moment k) _ writes
+    flip_moments c.args.halves.now.geometry c.args.halves.now.named _ (omega (arith, c.named-area.ensures.named, c.named-area.ensures.half)) _ _
+    (c.requires.alone k).recovers (c.clear_other.ensures.any_moment k) _ writes
     (c.requires.alone k).some c.args.bytes.now (c.requires.image k) (c.in_ok-clear_other.ensures.cleared k) imaged _ flips
 
 pub returns-clause-any_moment : goal.returns-clause-any_moment
 returns-clause-any_moment g c = λ k.
-    let writes = along (λ (x : Geometry) (n : ℕ). ChangesOnly (g.D.Disk.medium c.clear_other.new.disk) (g.D.Disk.medium c.write_image.new.disk) (IsSameBut (layout_of x) (image (other n)))) c.geometry-g.ensures c.named-area.ensures.named (c.write_image.ensures.any_moment k) in
-    let imaged = along (λ (x : Geometry) (n : ℕ). Imaged x (other n) c.args.bytes.now (g.D.Disk.medium c.clear_other.new.disk) (g.D.Disk.medium c.write_image.new.disk)) c.geometry-g.ensures c.named-area.ensures.named
+    let writes = along (λ (x : Geometry) (n : ℕ). ChangesOnly (g.D.Disk.medium c.clear_other.new.disk) (g.D.Disk.medium c.write_image.new.disk)
+    (IsSameBut (layout_of x) (image (other n)))) c.geometry-g.ensures c.named-area.ensures.named (c.write_image.ensures.any_moment k) in
+    let imaged = along (λ (x : Geometry) (n : ℕ). Imaged x (other n) c.args.bytes.now (g.D.Disk.medium c.clear_other.new.disk)
+    (g.D.Disk.medium c.write_image.new.disk)) c.geometry-g.ensures c.named-area.ensures.named
     (on_ok c.write_image.result _ (sym c.is_err.ensures.value ∙ c.if-is_err.false) c.write_image.ensures.written k) in
     let flips = subst (λ (log : Log). Flips log (g.D.Disk.medium c.write_image.new.disk) (g.D.Disk.medium c.flip_root.new.disk)) c.in_ok-clear_other.ensures.log (c.flip_root.ensures.any_moment k) in
-    flip_moments c.args.halves.now.geometry c.args.halves.now.named _ (omega (arith, c.named-area.ensures.named, c.named-area.ensures.half)) _ _ (c.requires.alone k).recovers (c.clear_other.ensures.any_moment k) _ writes
+    flip_moments c.args.halves.now.geometry c.args.halves.now.named _ (omega (arith, c.named-area.ensures.named, c.named-area.ensures.half)) _ _
+    (c.requires.alone k).recovers (c.clear_other.ensures.any_moment k) _ writes
     (c.requires.alone k).some c.args.bytes.now (c.requires.image k) (c.in_ok-clear_other.ensures.cleared k) imaged _ flips
 
 pub returns-clause-pointed : goal.returns-clause-pointed

@@ -1,4 +1,4 @@
--- The lemmas on lives.
+-- The lemmas on incarnations.
 use Rattle.legal_runs.proofs.Living.{no_incarnation, next_incarnation, incarnation_of_run, all_answered}
 use Rattle.legal_runs.proofs.laws.incarnations_follow_one_another.Goals as goal
 

@@ -1,4 +1,4 @@
--- The lemmas on what is in doubt.
+-- The lemmas on what is in `doubt`.
 use Rattle.legal_runs.proofs.Doubts.{event_doubts_ran, first_doubts, no_doubts, run_doubts_ran}
 use Rattle.legal_runs.proofs.laws.what_is_in_doubt_ran.Goals as goal
 

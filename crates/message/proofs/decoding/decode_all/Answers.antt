@@ -17,8 +17,11 @@ loop-i-preserved c =
           let each = greatest_small c.loop-i.greatest c.digit_value-high.result c.digit_value-low.result (rw (sym first, sym second) small) in
           let h = each.1 in
           let l = each.2 in
-          let byte : (c.digit_value-high.result * 16 % 256 + c.digit_value-low.result) % 256 ≡ value_of (get_or digits (2 * i) 0) * 16 + value_of (get_or digits (2 * i + 1) 0) = rw (sym high, sym low) (omega arith) in
-          decode_step digits c.loop-i.out i _ (omega arith) (omega arith) (pair_read (get_or digits (2 * i) 0) (get_or digits (2 * i + 1) 0) (2 * i) (rw (sym high) h) (rw (sym low) l) ∙ ap Ok (sym byte)) (c.loop-i.invariant.read each.0);
+          let byte : (c.digit_value-high.result * 16 % 256 + c.digit_value-low.result) % 256
+          ≡ value_of (get_or digits (2 * i) 0) * 16 + value_of (get_or digits (2 * i + 1) 0) = rw (sym high, sym low) (omega arith) in
+          decode_step digits c.loop-i.out i _ (omega arith) (omega arith)
+          (pair_read (get_or digits (2 * i) 0) (get_or digits (2 * i + 1) 0) (2 * i) (rw (sym high) h) (rw (sym low) l) ∙ ap Ok (sym byte))
+          (c.loop-i.invariant.read each.0);
       refused = λ great. elim (greatest_other c.loop-i.greatest c.digit_value-high.result c.digit_value-low.result (rw (sym first, sym second) great)) [
         | inl before ↦ c.loop-i.invariant.refused before
         | inr here ↦ elim here [

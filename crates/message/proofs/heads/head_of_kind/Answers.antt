@@ -1,4 +1,4 @@
--- A word behind the keyword of a summary spells none, and of a label the head says only that it is set.
+-- A word after the keyword of a summary spells none, and of a label the head has only that it is set.
 use Rattle.messages.specs.declared.Msg.TheVariants.{Summary}
 use Rattle.messages.specs.Lines.{words}
 use Rattle.message.proofs.Forms.{nothing_behind, label_sets}

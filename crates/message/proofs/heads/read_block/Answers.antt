@@ -5,7 +5,7 @@ use Rattle.messages.specs.Lines.{block_in_word, bytes_in_word}
 use Rattle.message.proofs.Blocks.{bytes_block, no_block}
 use Rattle.message.proofs.heads.read_block.Goals as goal
 
--- what is told of the bytes is told of the block
+-- what is shown of the bytes is shown of the block
 told : (r : Option (Unit {0})) (digits out : List ℕ) → MatchOption r (bytes_in_word 512 digits ≡ None) (λ _. bytes_in_word 512 digits ≡ Some out)
     → MatchOption r (block_in_word digits ≡ None) (λ _. block_in_word digits ≡ Some (record { 0 = out }))
 told (Some u) digits out h = bytes_block digits (record { 0 = out }) h

@@ -1,4 +1,4 @@
--- The aggregate's number stands before the first space, and the numbers of volume, file and block behind it.
+-- The aggregate's number comes before the first space, and the numbers of volume, file and block behind it.
 use Rattle.std.proofs.Common.{ap, sym, ◌∙◌}
 use Rattle.std.specs.Prelude.{option_map}
 use Rattle.messages.specs.Lines.{words}

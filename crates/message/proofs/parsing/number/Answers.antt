@@ -19,13 +19,17 @@ told v (Ok x) h fits = ap Some h.1
 told v (Err e) h fits = absurd (h fits)
 
 pub returns-then-is_empty : goal.returns-then-is_empty
-returns-then-is_empty c = sym (no_number c.args.word.now (λ n. let some = n.some in let none = eqb-true (length c.args.word.now) 0 (sym c.is_empty.ensures ∙ c.if-is_empty.true) in absurd (omega arith)))
+returns-then-is_empty c = sym (no_number c.args.word.now (λ n. let some = n.some
+    in let none = eqb-true (length c.args.word.now) 0 (sym c.is_empty.ensures ∙ c.if-is_empty.true) in absurd (omega arith)))
 
 pub returns-then-has_leading_zero : goal.returns-then-has_leading_zero
-returns-then-has_leading_zero c = sym (no_number c.args.word.now (λ n. let zero = c.has_leading_zero.ensures.0 c.if-has_leading_zero.true in let more = zero.0 in let one = n.plain zero.1 in absurd (omega arith)))
+returns-then-has_leading_zero c = sym (no_number c.args.word.now (λ n. let zero = c.has_leading_zero.ensures.0 c.if-has_leading_zero.true
+    in let more = zero.0 in let one = n.plain zero.1 in absurd (omega arith)))
 
 pub returns-then-not-is_ascii_digit : goal.returns-then-not-is_ascii_digit
-returns-then-not-is_ascii_digit c = sym (no_number c.args.word.now (λ n. true≢false (sym (digit_at c.args.word.now c.loop-digit.digit-index n.digits (omega arith)) ∙ sym c.is_ascii_digit.ensures.value ∙ c.if-not-is_ascii_digit.true)))
+returns-then-not-is_ascii_digit c = sym (no_number c.args.word.now (λ n. true≢false
+    (sym (digit_at c.args.word.now c.loop-digit.digit-index n.digits (omega arith)) ∙ sym c.is_ascii_digit.ensures.value
+    ∙ c.if-not-is_ascii_digit.true)))
 
 pub returns-then-value-gt65535 : goal.returns-then-value-gt65535
 returns-then-value-gt65535 c =

@@ -5,10 +5,12 @@ use Rattle.message.proofs.Numbers.{no_number, number_from}
 use Rattle.message.proofs.parsing.plain_number.Goals as goal
 
 pub returns-then-is_empty : goal.returns-then-is_empty
-returns-then-is_empty c = sym (no_number c.args.word.now (λ n. let some = n.some in let none = eqb-true (length c.args.word.now) 0 (sym c.is_empty.ensures ∙ c.if-is_empty.true) in absurd (omega arith)))
+returns-then-is_empty c = sym (no_number c.args.word.now (λ n. let some = n.some
+    in let none = eqb-true (length c.args.word.now) 0 (sym c.is_empty.ensures ∙ c.if-is_empty.true) in absurd (omega arith)))
 
 pub returns-then-has_leading_zero : goal.returns-then-has_leading_zero
-returns-then-has_leading_zero c = sym (no_number c.args.word.now (λ n. let zero = c.has_leading_zero.ensures.0 c.if-has_leading_zero.true in let more = zero.0 in let one = n.plain zero.1 in absurd (omega arith)))
+returns-then-has_leading_zero c = sym (no_number c.args.word.now (λ n. let zero = c.has_leading_zero.ensures.0 c.if-has_leading_zero.true
+    in let more = zero.0 in let one = n.plain zero.1 in absurd (omega arith)))
 
 pub returns : goal.returns
 returns c =

@@ -1,4 +1,4 @@
--- The aggregate's number stands before the first space, the volume's behind it, up to the end of the line.
+-- The aggregate's number comes before the first space, the volume's behind it, up to the end of the line.
 use Rattle.std.proofs.Common.{ap, sym, ◌∙◌}
 use Rattle.std.specs.Prelude.{option_map}
 use Rattle.messages.specs.Lines.{words}

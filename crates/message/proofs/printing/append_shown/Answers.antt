@@ -14,4 +14,5 @@ returns-clause-text c =
     let room = c.requires.room in
     let told = c.told-out in
     appends_same (shown_by c.args.bytes.now bytes c.shown_size.ensures.shown)
-    (appends_part c.args.out.now c.encode_to_slice.new.output (encode_lower bytes) c.args.at (c.args.at + 2 * length bytes - c.args.at) (c.args.at + 2 * length bytes) (omega arith) digits (omega arith) (omega arith))
+    (appends_part c.args.out.now c.encode_to_slice.new.output (encode_lower bytes) c.args.at (c.args.at + 2 * length bytes - c.args.at)
+    (c.args.at + 2 * length bytes) (omega arith) digits (omega arith) (omega arith))

@@ -1,4 +1,4 @@
--- A record has one message: the one that its fields say, where head and data are that message's and it is in range.
+-- A record has one message: the one that its fields encode, where head and data are that message's and it is in range.
 use Rattle.std.proofs.Common.{◌≡◌, Bool, List, ℕ, Some, None, true, false, ap, sym, ◌∙◌, refl}
 use Rattle.std.proofs.lemmas.Bool.{true≢false}
 use Rattle.std.proofs.lemmas.Option.{same_Some}

@@ -10,7 +10,8 @@ returns-in-Write c =
     let w = c.in-Write in
     let head : c.copy_from_slice.new.self ≡ record_head m = c.copy_from_slice.ensures.after ∙ c.head_of.ensures in
     let eight : length c.copy_from_slice.new.self ≡ 8 = ap length head ∙ length_head m in
-    let behind : c.copy_from_slice-in-Write.new.self ≡ data_of m = c.copy_from_slice-in-Write.ensures.after ∙ sym (data_of_write w.field-0 w.field-1 w.field-2 w.field-3 w.content) ∙ ap data_of (sym w.is) in
+    let behind : c.copy_from_slice-in-Write.new.self ≡ data_of m = c.copy_from_slice-in-Write.ensures.after
+    ∙ sym (data_of_write w.field-0 w.field-1 w.field-2 w.field-3 w.content) ∙ ap data_of (sym w.is) in
     let size = c.copy_from_slice-in-Write.ensures.len ∙ length_behind c.args.out.now c.copy_from_slice.new.self c.told-out eight in
     put_together c.args.out.now _ _ 512 c.told-out eight size refl ∙ (λ i. head i ++ behind i)
 
@@ -20,7 +21,8 @@ returns-in-SetLabel c =
     let s = c.in-SetLabel in
     let head : c.copy_from_slice.new.self ≡ record_head m = c.copy_from_slice.ensures.after ∙ c.head_of.ensures in
     let eight : length c.copy_from_slice.new.self ≡ 8 = ap length head ∙ length_head m in
-    let behind : c.copy_from_slice-in-SetLabel.new.self ≡ data_of m = c.copy_from_slice-in-SetLabel.ensures.after ∙ c.label_data.ensures ∙ sym (data_of_setlabel s.field-0 s.field-1 s.label) ∙ ap data_of (sym s.is) in
+    let behind : c.copy_from_slice-in-SetLabel.new.self ≡ data_of m = c.copy_from_slice-in-SetLabel.ensures.after ∙ c.label_data.ensures
+    ∙ sym (data_of_setlabel s.field-0 s.field-1 s.label) ∙ ap data_of (sym s.is) in
     let size = c.copy_from_slice-in-SetLabel.ensures.len ∙ length_behind c.args.out.now c.copy_from_slice.new.self c.told-out eight in
     put_together c.args.out.now _ _ 512 c.told-out eight size refl ∙ (λ i. head i ++ behind i)
 

@@ -1,4 +1,4 @@
--- The records so far stand in a row at the front, 520 bytes each.
+-- The records so far lie in a row at the front, 520 bytes each.
 use Rattle.std.proofs.Common.{◌≡◌, ◌*◌, ◌≤◌, length, take}
 use Rattle.std.specs.List.{concat}
 use Rattle.oplog.specs.Logged.{records_of}

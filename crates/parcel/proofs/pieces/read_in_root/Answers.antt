@@ -45,7 +45,8 @@ returns-clause-read c =
       now = r.now;
       there = ap (λ o. volume_in o i c.args.place.volume) c.in-Some.is ∙ ap (λ o. volume_below o c.args.place.volume) at ∙ r.there;
       read = r.read;
-      nodes = subst (λ o. PutsBack (i ∷ c.args.place.volume ∷ []) (in_volume r.now) (in_child in_root o) (in_row in_aggregate Inner (slice_set row.items i c.read_in_aggregate.new.at))) (sym c.in-Some.is)
+      nodes = subst (λ o. PutsBack (i ∷ c.args.place.volume ∷ []) (in_volume r.now) (in_child in_root o)
+          (in_row in_aggregate Inner (slice_set row.items i c.read_in_aggregate.new.at))) (sym c.in-Some.is)
           (row_put in_aggregate Inner row.items i c.read_in_aggregate.new.at below (c.args.place.volume ∷ []) (in_volume r.now)
           (subst (λ o. PutsBack (c.args.place.volume ∷ []) (in_volume r.now) (in_child in_aggregate o) (in_child in_aggregate c.read_in_aggregate.new.at)) (sym at) r.nodes));
     }

@@ -38,8 +38,10 @@ returns-then-not-read_in_root-clause-good c =
     let there : (q : Path) → old (a ∷ v ∷ q) ≡ in_child in_volume (volume_in c.t.inside.root a v) q = nodes_there g a v c.t.inside.root in
     let good = read_good c.args.version g p bytes c.read_in_root.result a v (volume_in c.t.inside.root a v) old new read there whole.state in
     let same : part_piece c.args.version g (with_part c.args.version g x a v p bytes) a v p ≡ piece_of c.args.version g (with_piece c.args.version g x n bytes) n =
-    (λ i. part_piece c.args.version g (with_part c.args.version g x (at.ensures.aggregate i) (at.ensures.volume i) (at.ensures.part i) bytes) (at.ensures.aggregate i) (at.ensures.volume i) (at.ensures.part i)) in
-    subst (λ (t : TreeView). (false ≡ true → bytes ≡ piece_of c.args.version t.geometry (with_piece c.args.version t.geometry (state_in t) n bytes) n) × (bytes ≡ piece_of c.args.version t.geometry (with_piece c.args.version t.geometry (state_in t) n bytes) n → false ≡ true)) c.t.view_is
+    (λ i. part_piece c.args.version g (with_part c.args.version g x (at.ensures.aggregate i) (at.ensures.volume i) (at.ensures.part i) bytes)
+    (at.ensures.aggregate i) (at.ensures.volume i) (at.ensures.part i)) in
+    subst (λ (t : TreeView). (false ≡ true → bytes ≡ piece_of c.args.version t.geometry (with_piece c.args.version t.geometry (state_in t) n bytes)
+    n) × (bytes ≡ piece_of c.args.version t.geometry (with_piece c.args.version t.geometry (state_in t) n bytes) n → false ≡ true)) c.t.view_is
     (λ on. absurd (true≢false (sym on)), λ spelled. sym c.if-not-read_in_root.true ∙ good.1 (spelled ∙ sym same))
 
 pub returns-clause-good : goal.returns-clause-good
@@ -59,8 +61,10 @@ returns-clause-good c =
     let there : (q : Path) → old (a ∷ v ∷ q) ≡ in_child in_volume (volume_in c.t.inside.root a v) q = nodes_there g a v c.t.inside.root in
     let good = read_good c.args.version g p bytes c.read_in_root.result a v (volume_in c.t.inside.root a v) old new read there whole.state in
     let same : part_piece c.args.version g (with_part c.args.version g x a v p bytes) a v p ≡ piece_of c.args.version g (with_piece c.args.version g x n bytes) n =
-    (λ i. part_piece c.args.version g (with_part c.args.version g x (at.ensures.aggregate i) (at.ensures.volume i) (at.ensures.part i) bytes) (at.ensures.aggregate i) (at.ensures.volume i) (at.ensures.part i)) in
-    subst (λ (t : TreeView). (true ≡ true → bytes ≡ piece_of c.args.version t.geometry (with_piece c.args.version t.geometry (state_in t) n bytes) n) × (bytes ≡ piece_of c.args.version t.geometry (with_piece c.args.version t.geometry (state_in t) n bytes) n → true ≡ true)) c.t.view_is
+    (λ i. part_piece c.args.version g (with_part c.args.version g x (at.ensures.aggregate i) (at.ensures.volume i) (at.ensures.part i) bytes)
+    (at.ensures.aggregate i) (at.ensures.volume i) (at.ensures.part i)) in
+    subst (λ (t : TreeView). (true ≡ true → bytes ≡ piece_of c.args.version t.geometry (with_piece c.args.version t.geometry (state_in t) n bytes)
+    n) × (bytes ≡ piece_of c.args.version t.geometry (with_piece c.args.version t.geometry (state_in t) n bytes) n → true ≡ true)) c.t.view_is
     (λ on. good.0 c.if-not-read_in_root.false ∙ same, λ spelled. refl)
 
 pub returns-clause-taken : goal.returns-clause-taken
@@ -100,7 +104,8 @@ returns-clause-whole c =
     let good = read_good c.args.version g p bytes c.read_in_root.result a v (volume_in c.t.inside.root a v) old new read there whole.state in
     let piece = subst (λ (t : TreeView). n < piece_count t.geometry) (sym c.t.view_is) c.requires.piece in
     let size : length bytes ≡ piece_part_size g p = subst (λ (t : TreeView). length bytes ≡ piece_size t.geometry n) (sym c.t.view_is) c.requires.size ∙ ap (piece_part_size g) (sym at.ensures.part) in
-    let none = subst (λ (t : TreeView). part_of t.geometry n ≡ 0 → (f b : ℕ) → (state_in t).blocks (aggregate_of t.geometry n, volume_of t.geometry n, f, b) ≡ None) (sym c.t.view_is) c.requires.empty in
+    let none = subst (λ (t : TreeView). part_of t.geometry n ≡ 0 → (f b : ℕ)
+    → (state_in t).blocks (aggregate_of t.geometry n, volume_of t.geometry n, f, b) ≡ None) (sym c.t.view_is) c.requires.empty in
     let empty : p ≡ 0 → (f b : ℕ) → x.blocks (a, v, f, b) ≡ None = λ first f b. (λ i. x.blocks (at.ensures.aggregate i, at.ensures.volume i, f, b)) ∙ none (sym at.ensures.part ∙ first) f b in
     let taken = read_taken c.args.version g p bytes c.read_in_root.result a v (volume_in c.t.inside.root a v) old new read there c.if-not-read_in_root.false in
     let has = has_then c.args.version g p bytes c.read_in_root.result a v (volume_in c.t.inside.root a v) old new read there in

@@ -11,7 +11,8 @@ loop-init g c = record { sound = c.requires.sound; knows = c.requires.knows; ans
 -- the input has ended
 pub returns-then-not-branch-clause-ok : goal.returns-then-not-branch-clause-ok
 returns-then-not-branch-clause-ok g c =
-    rw c.if-not-branch.true at c.in_ok-answer_next.ensures.answered (server_state c.args.server.now) (unread g.R.Read.remaining c.args.lines.now) (so_far (g.W.Write.contents c.args.w.now) c.args.out.now) c.loop.invariant.answered
+    rw c.if-not-branch.true at c.in_ok-answer_next.ensures.answered (server_state c.args.server.now) (unread g.R.Read.remaining c.args.lines.now)
+    (so_far (g.W.Write.contents c.args.w.now) c.args.out.now) c.loop.invariant.answered
 
 -- more lines than can be counted
 pub returns-clause-out_of_memory : goal.returns-clause-out_of_memory

@@ -9,5 +9,6 @@ abbrev pub invariant-loop : goal.invariant-loop
 invariant-loop g l = record {
   sound : IsConsistent l.g l.server;
   knows : KnowsEnd g.R.Read.remaining l.lines;
-  answered : HasAnswered l.g (server_state l.initial.server) (unread g.R.Read.remaining l.initial.lines) (unread g.R.Read.remaining l.lines) (is_drained l.lines) (server_state l.server) (so_far (g.W.Write.contents l.initial.w) l.initial.out) (so_far (g.W.Write.contents l.w) l.out);
+  answered : HasAnswered l.g (server_state l.initial.server) (unread g.R.Read.remaining l.initial.lines) (unread g.R.Read.remaining l.lines)
+      (is_drained l.lines) (server_state l.server) (so_far (g.W.Write.contents l.initial.w) l.initial.out) (so_far (g.W.Write.contents l.w) l.out);
 }

@@ -23,7 +23,8 @@ returns-in-Stripe c = λ p h.
     let g = c.args.g.now in
     let k = c.in-Stripe.ensures in
     subst (λ (q : Path). ◌≡◌ {A = List ℕ} (0 ∷ c.number_at-aggregate-in-Stripe.result ∷ c.number_at-volume.result ∷ c.number_at-in-Stripe.result ∷ []) (numbers_above g q))
-    (path_unique g (stripe c.in-Stripe.i c.in-Stripe.v c.in-Stripe.field-2) p c.args.a k h) (four _ _ _ _ _ _ _ _ refl c.number_at-aggregate-in-Stripe.ensures c.number_at-volume.ensures c.number_at-in-Stripe.ensures)
+    (path_unique g (stripe c.in-Stripe.i c.in-Stripe.v c.in-Stripe.field-2) p c.args.a k h)
+    (four _ _ _ _ _ _ _ _ refl c.number_at-aggregate-in-Stripe.ensures c.number_at-volume.ensures c.number_at-in-Stripe.ensures)
 
 pub returns-in-Logical : goal.returns-in-Logical
 returns-in-Logical c = λ p h.

@@ -1,4 +1,4 @@
--- Each number below the affinity is marked, and stays so.
+-- The ready flag of each number below the affinity is updated, and stays right.
 use Rattle.std.proofs.Common.{◌∙◌, sym, subst, refl, inl, inr, arith}
 use Rattle.std.proofs.lemmas.Bool.{cases_eq, and_parts, leb-true, ltb-true}
 use Rattle.run_queue.specs.ReadyTable.{IsReadyAt}

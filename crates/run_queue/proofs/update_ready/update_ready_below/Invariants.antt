@@ -1,4 +1,4 @@
--- The marks at earlier numbers are right.
+-- The ready flags at earlier numbers are right.
 use Rattle.std.proofs.Common.{◌≤◌, ◌<◌, ℕ}
 use Rattle.run_queue.specs.ReadyTable.{IsReadyAt, StayReady}
 use Rattle.run_queue.proofs.update_ready.update_ready_below.Given as goal

@@ -1,4 +1,4 @@
--- Each of the numbers is marked, and stays so.
+-- The ready flag of each of the numbers is updated, and stays right.
 use Rattle.std.proofs.Common.{◌==◌, ◌∙◌, ℕ, List, sym, ap, subst, refl, inl, inr, arith}
 use Rattle.std.specs.List.{list_any}
 use Rattle.std.proofs.lemmas.Bool.{eqb-true, or_cases, true≢false}

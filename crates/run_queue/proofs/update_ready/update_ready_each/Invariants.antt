@@ -1,4 +1,4 @@
--- The marks at the numbers so far are right.
+-- The ready flags at the numbers so far are right.
 use Rattle.std.proofs.Common.{◌≡◌, ◌==◌, ℕ, true, take}
 use Rattle.std.specs.List.{list_any}
 use Rattle.run_queue.specs.ReadyTable.{IsReadyAt, StayReady}

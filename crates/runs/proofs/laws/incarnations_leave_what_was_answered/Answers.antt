@@ -1,4 +1,4 @@
--- The lemmas on lives.
+-- The lemmas on incarnations.
 use Rattle.runs.proofs.Living.{incarnations_agree, incarnations_open, incarnations_stand}
 use Rattle.runs.proofs.laws.incarnations_leave_what_was_answered.Goals as goal
 

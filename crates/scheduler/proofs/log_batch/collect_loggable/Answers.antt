@@ -40,7 +40,8 @@ loop-preserved c =
     let value = sym (ap option_copied c.in-Some-get.is) ∙ c.get.ensures.value in
     record {
       at = c.next-at.ensures.slot ∙ ran_next c.args.slots.now c.args.replies.now c.requires.chains c.loop.counter c.in-Some.i first;
-      found = changing_more c.args.slots.now c.args.replies.now c.requires.chains c.loop.counter c.in-Some.i first c.in-Some-get.slot.now value c.loop.found c.one_if-found.result c.loop.invariant.found
+      found = changing_more c.args.slots.now c.args.replies.now c.requires.chains c.loop.counter c.in-Some.i first c.in-Some-get.slot.now value
+          c.loop.found c.one_if-found.result c.loop.invariant.found
           (c.one_if-found.ensures ∙ ap (λ b. cond b 1 0) (c.changing.ensures ∙ ap is_changing c.kind.ensures));
       few = let is = c.one_if-found.ensures in let one = at_most_one c.changing.result in let few = c.loop.invariant.few in omega (arith, is, one, few);
       batch = c.keep.ensures.batch

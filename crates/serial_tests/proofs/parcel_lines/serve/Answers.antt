@@ -17,7 +17,8 @@ restore-requires-clause-fits c =
     let same : g ≡ c.lend.new.self.geometry = cc in
     let suits : Suits g m c.run-done.result.parcels = subst (λ (j : JobView). Suits j.geometry j.message c.run-done.result.parcels) c.new.ensures c.run-done.ensures.suits in
     let there : IsAffinityOf g (place g m) c.in-Some.a =
-    subst (λ n. IsAffinityOf g (place_of g (kind m) n) c.in-Some.a) c.numbers.ensures (subst (λ k. IsAffinityOf g (place_of g k c.numbers.result) c.in-Some.a) c.kind.ensures c.in-Some.ensures.placed) in
+    subst (λ n. IsAffinityOf g (place_of g (kind m) n) c.in-Some.a) c.numbers.ensures
+    (subst (λ k. IsAffinityOf g (place_of g k c.numbers.result) c.in-Some.a) c.kind.ensures c.in-Some.ensures.placed) in
     subst (λ l. (q : Path) → IsAffinityOf c.lend.new.self.geometry q c.in-Some.a → IsKindOf q l → Fits c.lend.new.self.geometry q l) (sym c.into_parcels.ensures)
     (subst (λ (h : Geometry). (q : Path) → IsAffinityOf h q c.in-Some.a → IsKindOf q c.run-done.result.parcels → Fits h q c.run-done.result.parcels) same
     (fits_where_lent g m c.run-done.result.parcels c.in-Some.a there suits))

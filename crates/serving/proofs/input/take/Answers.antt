@@ -1,4 +1,4 @@
--- The lemmas on a line that is taken with its message, if it has one.
+-- The lemmas on a line that is consumed with its message, if it has one.
 use Rattle.std.proofs.Common.{◌∙◌, ◌++◌, ◌∷◌, [], ℕ, Err, Ok, ap, refl, subst, sym}
 use Rattle.legal_runs.specs.declared.outcomes.ArriveRefusal.TheVariants as arrivals
 use Rattle.reorder_buffer.specs.ReorderBuffer.{AreConsecutive, with_tickets}

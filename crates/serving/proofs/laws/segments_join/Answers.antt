@@ -1,4 +1,4 @@
--- The lemma of stretches.
+-- The lemma of segments.
 use Rattle.serving.proofs.Chain.{passes_on}
 use Rattle.serving.proofs.laws.segments_join.Goals as goal
 

@@ -1,4 +1,4 @@
--- A crash image that holds what went out recovers to a state with those lines and a closed part of the rest.
+-- A crash image that holds what was sent recovers to a state with those lines and a closed part of the rest.
 use Rattle.serving.specs.Ends.{committed_in}
 use Rattle.serving.proofs.Holding.{holds_sent}
 use Rattle.serving.proofs.Recovering.{bytes_recover}

@@ -1,4 +1,4 @@
--- What is promised of the writer, as of whom a server tells its lines.
+-- What is promised of the writer, as of the sink of a server's lines.
 use Rattle.serving.proofs.server.serve_writer.Goals as goal
 
 pub returns-clause-serves : goal.returns-clause-serves

@@ -1,4 +1,4 @@
--- So many empty trays so far.
+-- So many empty cells so far.
 use Rattle.std.proofs.Common.{◌≡◌, replicate, None}
 use Rattle.workers.proofs.bench.empty_cells.Given as goal
 

@@ -1,4 +1,4 @@
--- The place's slot is next in order; it takes the job and is offered, and the row is turned on without it.
+-- The place's slot is next in order; it takes the job and is offered, and the others are rotated on.
 use Rattle.std.proofs.Common.{◌+◌, ◌∙◌, set, Some, true, arith}
 use Rattle.std.proofs.lemmas.List.{length-set}
 use Rattle.workers.specs.Seats.{lent_of, spare, spare_from}

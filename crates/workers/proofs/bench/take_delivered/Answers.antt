@@ -1,4 +1,4 @@
--- The result leaves its slot, the flag goes down, and the row is turned on into the order of the free places.
+-- The result leaves its slot, the flag goes down, and the slots are rotated on into the order of the free places.
 use Rattle.std.proofs.Common.{ap, sym, ◌∙◌, set, None, false, arith}
 use Rattle.std.proofs.lemmas.List.{length-set}
 use Rattle.workers.specs.Steps.{Sat}

@@ -1,4 +1,4 @@
--- With the place's slot next in order the exchange is tried; if it fails, the row is turned on into its old order.
+-- With the place's slot next in order the exchange is tried; if it fails, the slots are rotated on into their old order.
 use Rattle.std.proofs.Common.{ap, sym, ◌∙◌, set, ◌∷◌, None, Some}
 use Rattle.workers.specs.Steps.{Sat}
 use Rattle.workers.specs.Rule.{lent_at}

@@ -1,4 +1,4 @@
--- A place where something is lent has no slot in the row; any other's is at the head, and is turned to the end.
+-- A place where something is lent has no slot in the list; any other's is first, and is moved to the end.
 use Rattle.std.proofs.Common.{ap, ◌∙◌}
 use Rattle.atomic_table.specs.Table.{turned}
 use Rattle.workers.specs.Seats.{lent_of}

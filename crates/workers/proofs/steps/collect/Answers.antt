@@ -1,4 +1,4 @@
--- One exchange of answered for empty: it wins the slot with the result of the lent job, or else changes nothing.
+-- One exchange of delivered for empty: it wins the slot with the result of the lent job, or else changes nothing.
 use Rattle.std.proofs.Common.{rules, arith, refl, eqb-true}
 use Rattle.std.proofs.lemmas.Bool.{eqb-false}
 use Rattle.workers.proofs.Keeps.{collects}

@@ -1,4 +1,4 @@
--- A event count belongs to no place, so one more on it keeps the rule of the bench.
+-- An event count belongs to no place, so adding one to it keeps the rule of the bench.
 use Rattle.std.proofs.Common.{rules, arith, ◌+◌, ◌%◌, ◌^◌}
 use Rattle.workers.proofs.Keeps.{offer_count}
 use Rattle.workers.proofs.steps.ring.Goals as goal

@@ -1,4 +1,4 @@
--- The slot at the head of the seat's row is the one that was taken last, with the job in it.
+-- The first slot of the seat is the one that was taken last, with the job in it.
 use Rattle.std.proofs.Common.{Some}
 use Rattle.workers.specs.declared.job_cell.CellContent.TheVariants.{Offered}
 use Rattle.workers.proofs.Lending.{same_head}

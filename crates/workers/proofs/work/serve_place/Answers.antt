@@ -1,4 +1,4 @@
--- A claim that succeeds gives the seat the slot with the job that is answered then.
+-- A claim that succeeds gives the seat the slot with the job that is run then.
 use Rattle.workers.proofs.work.serve_place.Goals as goal
 
 pub run_claimed-requires-clause-claimed : goal.run_claimed-requires-clause-claimed

@@ -1,4 +1,4 @@
--- A read that succeeds gives the bytes of the shadow, which stays as it is.
+-- A read that succeeds gives the bytes of the ghost device, which stays as it is.
 use Rattle.std.proofs.Common.{refl, rules, ◌≡◌}
 use Rattle.disk.specs.RealFile.{read_gives}
 use Rattle.disk.proofs.host.HostFileBackingFile.read_exact_at.Goals as goal

@@ -1,4 +1,4 @@
--- What is written are bytes below 256, so all bytes of the shadow still are.
+-- What is written are bytes below 256, so all bytes of the ghost device still are.
 use Rattle.std.proofs.Common.{sym, subst}
 use Rattle.disk.specs.Device.{AreBytes, Medium}
 use Rattle.disk.proofs.Bytes.{bytes_fit, bytes-overlaid}

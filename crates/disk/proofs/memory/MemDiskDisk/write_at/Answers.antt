@@ -18,7 +18,10 @@ invariant_of-self c =
       asked_size = grind (arith, common_steps);
       unsynced_size = grind (arith, common_steps);
       holds_unsynced = subst (λ (m : Medium). HoldsUnsynced span.start span.end m self.kept.items) (sym c.note.ensures)
-          (holds_lost self.span.start self.span.end span.start span.end c.args.at _ self.ghost_device.medium self.kept.items self.span.ordered (omega (arith, c.in_ok-start.ensures.start, c.in_ok-start.ensures.inside)) (omega (arith, c.in_ok-start.ensures.start, c.in_ok-start.ensures.inside)) (omega (arith, c.in_ok-start.ensures.start, c.in_ok-start.ensures.inside)) c.with-self.ensures.holds_old self.holds_unsynced);
+          (holds_lost self.span.start self.span.end span.start span.end c.args.at _ self.ghost_device.medium self.kept.items self.span.ordered
+          (omega (arith, c.in_ok-start.ensures.start, c.in_ok-start.ensures.inside))
+          (omega (arith, c.in_ok-start.ensures.start, c.in_ok-start.ensures.inside))
+          (omega (arith, c.in_ok-start.ensures.start, c.in_ok-start.ensures.inside)) c.with-self.ensures.holds_old self.holds_unsynced);
       fits = grind (arith, common_steps);
       are_bytes = subst (λ (m : Medium). AreBytes m.now) (sym c.note.ensures) self.are_bytes;
     }
@@ -34,7 +37,11 @@ invariant_of-self-2 c =
       asked_size = grind (arith, common_steps);
       unsynced_size = grind (arith, common_steps);
       holds_unsynced = subst (λ (m : Medium). HoldsUnsynced span.start span.end m self.kept.items) (sym c.note-2.ensures)
-          (holds_written self.span.start self.span.end span.start span.end c.args.at _ self.ghost_device.medium self.kept.items self.span.ordered (omega (arith, c.in_ok-start.ensures.start, c.in_ok-start.ensures.inside)) (omega (arith, c.in_ok-start.ensures.start, c.in_ok-start.ensures.inside)) (omega (arith, c.in_ok-start.ensures.start, c.in_ok-start.ensures.inside)) c.with-self.ensures.holds_old self.holds_unsynced c.args.bytes.now refl);
+          (holds_written self.span.start self.span.end span.start span.end c.args.at _ self.ghost_device.medium self.kept.items self.span.ordered
+          (omega (arith, c.in_ok-start.ensures.start, c.in_ok-start.ensures.inside))
+          (omega (arith, c.in_ok-start.ensures.start, c.in_ok-start.ensures.inside))
+          (omega (arith, c.in_ok-start.ensures.start, c.in_ok-start.ensures.inside)) c.with-self.ensures.holds_old self.holds_unsynced
+          c.args.bytes.now refl);
       fits = grind (arith, common_steps);
       are_bytes = subst (λ (m : Medium). AreBytes m.now) (sym c.note-2.ensures)
           (bytes-overlaid self.ghost_device.medium.now c.args.at c.args.bytes.now self.are_bytes (bytes_fit c.args.bytes.now (λ i. (c.type_inv.bytes i).fits)));

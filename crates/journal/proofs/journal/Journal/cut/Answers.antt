@@ -1,4 +1,4 @@
--- The committed state is frozen, the log goes on in the other half, and the other image's dirty pieces are left.
+-- A snapshot of the committed state is made, the log goes on in the other half, and the other image's dirty pieces are left.
 use Rattle.std.proofs.Common.{◌≡◌, ◌-◌, Bool, false, Option, Some, None, ℕ, List, length, replicate, sym, ◌∙◌, ap, subst, arith}
 use Rattle.std.proofs.lemmas.List.{length-replicate}
 use Rattle.affinity.specs.declared.geometry.Geometry.{Geometry}
@@ -35,14 +35,21 @@ returns-clause-committed g c = λ k.
     let alone : c.self.inside.left ≡ None = ap (λ (h : JournalView). h.left) c.self.view_is ∙ c.requires.alone in
     let geometry : c.args.tree.now.geometry ≡ c.self.inside.halves.geometry = c.requires.geometry ∙ sym (ap (λ (h : JournalView). h.geometry) c.self.view_is) in
     let is_state = subst (λ (x : Geometry). IsState x (state_in c.args.tree.now)) geometry c.requires.whole.state in
-    let frozen = whole_put c.self.inside.frozen.len c.freeze.new.bytes c.self.inside.frozen.items (c.freeze.ensures.size ∙ ap length c.deref_mut.ensures.value) (c.freeze.ensures.size ∙ c.deref_mut.ensures.len) in
+    let frozen = whole_put c.self.inside.frozen.len c.freeze.new.bytes c.self.inside.frozen.items
+    (c.freeze.ensures.size ∙ ap length c.deref_mut.ensures.value) (c.freeze.ensures.size ∙ c.deref_mut.ensures.len) in
     let w0 = g.D.Disk.medium c.self.inside.disk in
     let is : holds c.self.inside.halves.geometry w0.now ≡ Some (state_in c.args.tree.now) = ap committed c.self.view_is ∙ c.requires.state k in
-    let right = frozen_right c.self.inside.halves c.self.inside.frozen.items c.self.inside.named_dirty.items c.self.inside.other_dirty.items c.self.inside.due.items c.self.inside.left w0 (state_in c.args.tree.now) alone (c.self.invariant.7 fine k) is c.args.tree.now.geometry c.deref.result.now c.deref_mut.result.now geometry c.deref.ensures.value c.deref_mut.ensures.value in
-    let spelled : c.freeze.new.bytes ≡ image_of 2 c.self.inside.halves.geometry (state_in c.args.tree.now) = c.freeze.ensures.image right ∙ ap (λ (x : Geometry). image_of 2 x (state_in c.args.tree.now)) geometry in
+    let right = frozen_right c.self.inside.halves c.self.inside.frozen.items c.self.inside.named_dirty.items c.self.inside.other_dirty.items
+    c.self.inside.due.items c.self.inside.left w0 (state_in c.args.tree.now) alone (c.self.invariant.7 fine k) is c.args.tree.now.geometry
+    c.deref.result.now c.deref_mut.result.now geometry c.deref.ensures.value c.deref_mut.ensures.value in
+    let spelled : c.freeze.new.bytes ≡ image_of 2 c.self.inside.halves.geometry (state_in c.args.tree.now) = c.freeze.ensures.image right
+    ∙ ap (λ (x : Geometry). image_of 2 x (state_in c.args.tree.now)) geometry in
     let w1 = g.D.Disk.medium c.cut_on.new.disk in
     let begun = c.in_default.ensures.begun k in
-    ap (λ (x : Geometry). holds x w1.now) c.cut_on.ensures.geometry ∙ cut_committed c.self.inside.halves c.self.inside.frozen.items c.freeze.new.bytes c.self.inside.named_dirty.items c.self.inside.other_dirty.items c.self.inside.due.items c.self.inside.left w0 (state_in c.args.tree.now) alone (c.self.invariant.6 fine).1 (c.self.invariant.7 fine k) is is_state spelled (g.met.D.Disk.bytes c.self.inside.disk) w1 (g.met.D.Disk.bytes c.cut_on.new.disk) begun ∙ ap committed c.self.view_is
+    ap (λ (x : Geometry). holds x w1.now) c.cut_on.ensures.geometry ∙ cut_committed c.self.inside.halves c.self.inside.frozen.items
+    c.freeze.new.bytes c.self.inside.named_dirty.items c.self.inside.other_dirty.items c.self.inside.due.items c.self.inside.left w0
+    (state_in c.args.tree.now) alone (c.self.invariant.6 fine).1 (c.self.invariant.7 fine k) is is_state spelled
+    (g.met.D.Disk.bytes c.self.inside.disk) w1 (g.met.D.Disk.bytes c.cut_on.new.disk) begun ∙ ap committed c.self.view_is
 
 pub returns-clause-sound : goal.returns-clause-sound
 returns-clause-sound g c = λ k.
@@ -50,17 +57,30 @@ returns-clause-sound g c = λ k.
     let alone : c.self.inside.left ≡ None = ap (λ (h : JournalView). h.left) c.self.view_is ∙ c.requires.alone in
     let geometry : c.args.tree.now.geometry ≡ c.self.inside.halves.geometry = c.requires.geometry ∙ sym (ap (λ (h : JournalView). h.geometry) c.self.view_is) in
     let is_state = subst (λ (x : Geometry). IsState x (state_in c.args.tree.now)) geometry c.requires.whole.state in
-    let frozen = whole_put c.self.inside.frozen.len c.freeze.new.bytes c.self.inside.frozen.items (c.freeze.ensures.size ∙ ap length c.deref_mut.ensures.value) (c.freeze.ensures.size ∙ c.deref_mut.ensures.len) in
+    let frozen = whole_put c.self.inside.frozen.len c.freeze.new.bytes c.self.inside.frozen.items
+    (c.freeze.ensures.size ∙ ap length c.deref_mut.ensures.value) (c.freeze.ensures.size ∙ c.deref_mut.ensures.len) in
     let w0 = g.D.Disk.medium c.self.inside.disk in
     let is : holds c.self.inside.halves.geometry w0.now ≡ Some (state_in c.args.tree.now) = ap committed c.self.view_is ∙ c.requires.state k in
-    let right = frozen_right c.self.inside.halves c.self.inside.frozen.items c.self.inside.named_dirty.items c.self.inside.other_dirty.items c.self.inside.due.items c.self.inside.left w0 (state_in c.args.tree.now) alone (c.self.invariant.7 fine k) is c.args.tree.now.geometry c.deref.result.now c.deref_mut.result.now geometry c.deref.ensures.value c.deref_mut.ensures.value in
-    let spelled : c.freeze.new.bytes ≡ image_of 2 c.self.inside.halves.geometry (state_in c.args.tree.now) = c.freeze.ensures.image right ∙ ap (λ (x : Geometry). image_of 2 x (state_in c.args.tree.now)) geometry in
+    let right = frozen_right c.self.inside.halves c.self.inside.frozen.items c.self.inside.named_dirty.items c.self.inside.other_dirty.items
+    c.self.inside.due.items c.self.inside.left w0 (state_in c.args.tree.now) alone (c.self.invariant.7 fine k) is c.args.tree.now.geometry
+    c.deref.result.now c.deref_mut.result.now geometry c.deref.ensures.value c.deref_mut.ensures.value in
+    let spelled : c.freeze.new.bytes ≡ image_of 2 c.self.inside.halves.geometry (state_in c.args.tree.now) = c.freeze.ensures.image right
+    ∙ ap (λ (x : Geometry). image_of 2 x (state_in c.args.tree.now)) geometry in
     let w1 = g.D.Disk.medium c.cut_on.new.disk in
     let begun = c.in_default.ensures.begun k in
-    committed_of c.cut_on.new.halves (whole_items c.self.inside.frozen.len c.freeze.new.bytes c.self.inside.frozen.items) c.self.inside.named_dirty.items (whole_items c.swap.new.y.len c.clear_dirty.new.dirty c.swap.new.y.items) c.swap.new.x.items (Some c.count_dirty.result) c.self.inside.failed w1
-    (subst (λ (l : List ℕ). IsSoundJournal c.cut_on.new.halves l c.self.inside.named_dirty.items (whole_items c.swap.new.y.len c.clear_dirty.new.dirty c.swap.new.y.items) c.swap.new.x.items (Some c.count_dirty.result) w1) (sym frozen)
-    (subst (λ (l : Log). IsSoundJournal l c.freeze.new.bytes c.self.inside.named_dirty.items (whole_items c.swap.new.y.len c.clear_dirty.new.dirty c.swap.new.y.items) c.swap.new.x.items (Some c.count_dirty.result) w1) (sym c.in_default.ensures.log)
-    (cut_sound c.self.inside.halves c.self.inside.frozen.items c.freeze.new.bytes c.self.inside.named_dirty.items c.self.inside.other_dirty.items c.self.inside.due.items c.self.inside.left w0 (state_in c.args.tree.now) alone (c.self.invariant.6 fine).1 (c.self.invariant.7 fine k) is is_state spelled (g.met.D.Disk.bytes c.self.inside.disk) w1 (g.met.D.Disk.bytes c.cut_on.new.disk) (whole_items c.swap.new.y.len c.clear_dirty.new.dirty c.swap.new.y.items) c.swap.new.x.items c.count_dirty.result (ap (λ v. v.items) c.swap.ensures.x_after) begun)))
+    committed_of c.cut_on.new.halves (whole_items c.self.inside.frozen.len c.freeze.new.bytes c.self.inside.frozen.items)
+    c.self.inside.named_dirty.items (whole_items c.swap.new.y.len c.clear_dirty.new.dirty c.swap.new.y.items) c.swap.new.x.items
+    (Some c.count_dirty.result) c.self.inside.failed w1
+    (subst (λ (l : List ℕ). IsSoundJournal c.cut_on.new.halves l c.self.inside.named_dirty.items
+    (whole_items c.swap.new.y.len c.clear_dirty.new.dirty c.swap.new.y.items) c.swap.new.x.items (Some c.count_dirty.result) w1) (sym frozen)
+    (subst (λ (l : Log). IsSoundJournal l c.freeze.new.bytes c.self.inside.named_dirty.items
+    (whole_items c.swap.new.y.len c.clear_dirty.new.dirty c.swap.new.y.items) c.swap.new.x.items (Some c.count_dirty.result) w1)
+    (sym c.in_default.ensures.log)
+    (cut_sound c.self.inside.halves c.self.inside.frozen.items c.freeze.new.bytes c.self.inside.named_dirty.items c.self.inside.other_dirty.items
+    c.self.inside.due.items c.self.inside.left w0 (state_in c.args.tree.now) alone (c.self.invariant.6 fine).1 (c.self.invariant.7 fine k) is
+    is_state spelled (g.met.D.Disk.bytes c.self.inside.disk) w1 (g.met.D.Disk.bytes c.cut_on.new.disk)
+    (whole_items c.swap.new.y.len c.clear_dirty.new.dirty c.swap.new.y.items) c.swap.new.x.items c.count_dirty.result
+    (ap (λ v. v.items) c.swap.ensures.x_after) begun)))
 
 pub returns-clause-begun : goal.returns-clause-begun
 returns-clause-begun g c =
@@ -68,14 +88,17 @@ returns-clause-begun g c =
     let count = c.count_dirty.ensures ∙ ap count_dirty c.deref-2.ensures.value ∙ ap (λ v. count_dirty v.items) c.swap.ensures.x_after in
     let all : c.self.inside.halves.geometry.half - 0 ≡ c.self.inside.halves.geometry.half = omega arith in
     let named = c.self.inside.named_dirty.items in
-    let put = whole_put c.swap.new.y.len c.clear_dirty.new.dirty c.swap.new.y.items (ap length c.clear_dirty.ensures ∙ length-replicate _ false ∙ ap length c.deref_mut-2.ensures.value) (ap length c.clear_dirty.ensures ∙ length-replicate _ false ∙ c.deref_mut-2.ensures.len) in
+    let put = whole_put c.swap.new.y.len c.clear_dirty.new.dirty c.swap.new.y.items
+    (ap length c.clear_dirty.ensures ∙ length-replicate _ false ∙ ap length c.deref_mut-2.ensures.value)
+    (ap length c.clear_dirty.ensures ∙ length-replicate _ false ∙ c.deref_mut-2.ensures.len) in
     let long : length c.deref_mut-2.result.now ≡ length c.self.inside.other_dirty.items =
     ap length c.deref_mut-2.ensures.value ∙ ap (λ v. length v.items) c.swap.ensures.y_after ∙ c.self.invariant.5 ∙ sym c.self.invariant.4 in
     let others = put ∙ c.clear_dirty.ensures ∙ ap (λ (n : ℕ). replicate n false) long in
     ap (λ (l : Log). held_of l named (whole_items c.swap.new.y.len c.clear_dirty.new.dirty c.swap.new.y.items) (Some c.count_dirty.result) c.self.inside.failed w1) c.in_default.ensures.log
     ∙ ap (λ (l : List Bool). held_of (cut_now c.self.inside.halves) named l (Some c.count_dirty.result) c.self.inside.failed w1) others
     ∙ ap (λ (n : ℕ). held_of (cut_now c.self.inside.halves) named (unmarked c.self.inside.other_dirty.items) (Some n) c.self.inside.failed w1) count
-    ∙ ap (λ (n : ℕ). record (held_of (cut_now c.self.inside.halves) named (unmarked c.self.inside.other_dirty.items) (Some (count_dirty c.self.inside.other_dirty.items)) c.self.inside.failed w1) { room = n }) all
+    ∙ ap (λ (n : ℕ). record (held_of (cut_now c.self.inside.halves) named (unmarked c.self.inside.other_dirty.items)
+    (Some (count_dirty c.self.inside.other_dirty.items)) c.self.inside.failed w1) { room = n }) all
     ∙ ap (λ (h : JournalView). record h { room = h.geometry.half; left = Some (count_dirty h.dirty.others); dirty = cut_dirty h.dirty; medium = w1 }) c.self.view_is
 
 pub returns-clause-few : goal.returns-clause-few
@@ -99,15 +122,19 @@ invariant_of-self-2 g c =
     let alone : c.self.inside.left ≡ None = ap (λ (h : JournalView). h.left) c.self.view_is ∙ c.requires.alone in
     let geometry : c.args.tree.now.geometry ≡ c.self.inside.halves.geometry = c.requires.geometry ∙ sym (ap (λ (h : JournalView). h.geometry) c.self.view_is) in
     let is_state = subst (λ (x : Geometry). IsState x (state_in c.args.tree.now)) geometry c.requires.whole.state in
-    let frozen = whole_put c.self.inside.frozen.len c.freeze.new.bytes c.self.inside.frozen.items (c.freeze.ensures.size ∙ ap length c.deref_mut.ensures.value) (c.freeze.ensures.size ∙ c.deref_mut.ensures.len) in
+    let frozen = whole_put c.self.inside.frozen.len c.freeze.new.bytes c.self.inside.frozen.items
+    (c.freeze.ensures.size ∙ ap length c.deref_mut.ensures.value) (c.freeze.ensures.size ∙ c.deref_mut.ensures.len) in
     let log = c.in_default.ensures.log in
     let same = c.cut_on.ensures.geometry in
-    let cleared = whole_put c.swap.new.y.len c.clear_dirty.new.dirty c.swap.new.y.items (ap length c.clear_dirty.ensures ∙ length-replicate _ false ∙ ap length c.deref_mut-2.ensures.value) (ap length c.clear_dirty.ensures ∙ length-replicate _ false ∙ c.deref_mut-2.ensures.len) in (
+    let cleared = whole_put c.swap.new.y.len c.clear_dirty.new.dirty c.swap.new.y.items
+    (ap length c.clear_dirty.ensures ∙ length-replicate _ false ∙ ap length c.deref_mut-2.ensures.value)
+    (ap length c.clear_dirty.ensures ∙ length-replicate _ false ∙ c.deref_mut-2.ensures.len) in (
       omega (arith, c.self.invariant.0, c.cut_on.ensures.call.1, ap (λ (l : Log). device_size (layout l)) log),
       omega (arith, ap (λ (l : Log). l.used) log),
       ap length frozen ∙ c.freeze.ensures.size ∙ ap length c.deref_mut.ensures.value ∙ c.self.invariant.2 ∙ sym (ap image_size same),
       c.self.invariant.3 ∙ sym (ap piece_count same),
-      ap length cleared ∙ ap length c.clear_dirty.ensures ∙ length-replicate _ false ∙ ap length c.deref_mut-2.ensures.value ∙ ap (λ v. length v.items) c.swap.ensures.y_after ∙ c.self.invariant.5 ∙ sym (ap piece_count same),
+      ap length cleared ∙ ap length c.clear_dirty.ensures ∙ length-replicate _ false ∙ ap length c.deref_mut-2.ensures.value
+          ∙ ap (λ v. length v.items) c.swap.ensures.y_after ∙ c.self.invariant.5 ∙ sym (ap piece_count same),
       ap (λ v. length v.items) c.swap.ensures.x_after ∙ c.self.invariant.4 ∙ sym (ap piece_count same),
       (λ fine.
           let placed = subst (λ (o : Option ℕ). IsCutState c.self.inside.halves c.self.inside.due.items o) alone (c.self.invariant.6 fine).1 in (
@@ -117,13 +144,24 @@ invariant_of-self-2 g c =
       (λ fine k.
           let w0 = g.D.Disk.medium c.self.inside.disk in
           let is : holds c.self.inside.halves.geometry w0.now ≡ Some (state_in c.args.tree.now) = ap committed c.self.view_is ∙ c.requires.state k in
-          let right = frozen_right c.self.inside.halves c.self.inside.frozen.items c.self.inside.named_dirty.items c.self.inside.other_dirty.items c.self.inside.due.items c.self.inside.left w0 (state_in c.args.tree.now) alone (c.self.invariant.7 fine k) is c.args.tree.now.geometry c.deref.result.now c.deref_mut.result.now geometry c.deref.ensures.value c.deref_mut.ensures.value in
-          let spelled : c.freeze.new.bytes ≡ image_of 2 c.self.inside.halves.geometry (state_in c.args.tree.now) = c.freeze.ensures.image right ∙ ap (λ (x : Geometry). image_of 2 x (state_in c.args.tree.now)) geometry in
+          let right = frozen_right c.self.inside.halves c.self.inside.frozen.items c.self.inside.named_dirty.items c.self.inside.other_dirty.items
+          c.self.inside.due.items c.self.inside.left w0 (state_in c.args.tree.now) alone (c.self.invariant.7 fine k) is c.args.tree.now.geometry
+          c.deref.result.now c.deref_mut.result.now geometry c.deref.ensures.value c.deref_mut.ensures.value in
+          let spelled : c.freeze.new.bytes ≡ image_of 2 c.self.inside.halves.geometry (state_in c.args.tree.now) = c.freeze.ensures.image right
+          ∙ ap (λ (x : Geometry). image_of 2 x (state_in c.args.tree.now)) geometry in
           let w1 = g.D.Disk.medium c.cut_on.new.disk in
           let begun = c.in_default.ensures.begun k in
-          subst (λ (l : List ℕ). IsSoundJournal c.cut_on.new.halves l c.self.inside.named_dirty.items (whole_items c.swap.new.y.len c.clear_dirty.new.dirty c.swap.new.y.items) c.swap.new.x.items (Some c.count_dirty.result) w1) (sym frozen)
-          (subst (λ (l : Log). IsSoundJournal l c.freeze.new.bytes c.self.inside.named_dirty.items (whole_items c.swap.new.y.len c.clear_dirty.new.dirty c.swap.new.y.items) c.swap.new.x.items (Some c.count_dirty.result) w1) (sym c.in_default.ensures.log)
-          (cut_sound c.self.inside.halves c.self.inside.frozen.items c.freeze.new.bytes c.self.inside.named_dirty.items c.self.inside.other_dirty.items c.self.inside.due.items c.self.inside.left w0 (state_in c.args.tree.now) alone (c.self.invariant.6 fine).1 (c.self.invariant.7 fine k) is is_state spelled (g.met.D.Disk.bytes c.self.inside.disk) w1 (g.met.D.Disk.bytes c.cut_on.new.disk) (whole_items c.swap.new.y.len c.clear_dirty.new.dirty c.swap.new.y.items) c.swap.new.x.items c.count_dirty.result (ap (λ v. v.items) c.swap.ensures.x_after) begun))),
+          subst (λ (l : List ℕ). IsSoundJournal c.cut_on.new.halves l c.self.inside.named_dirty.items
+          (whole_items c.swap.new.y.len c.clear_dirty.new.dirty c.swap.new.y.items) c.swap.new.x.items (Some c.count_dirty.result) w1)
+          (sym frozen)
+          (subst (λ (l : Log). IsSoundJournal l c.freeze.new.bytes c.self.inside.named_dirty.items
+          (whole_items c.swap.new.y.len c.clear_dirty.new.dirty c.swap.new.y.items) c.swap.new.x.items (Some c.count_dirty.result) w1)
+          (sym c.in_default.ensures.log)
+          (cut_sound c.self.inside.halves c.self.inside.frozen.items c.freeze.new.bytes c.self.inside.named_dirty.items
+          c.self.inside.other_dirty.items c.self.inside.due.items c.self.inside.left w0 (state_in c.args.tree.now) alone
+          (c.self.invariant.6 fine).1 (c.self.invariant.7 fine k) is is_state spelled (g.met.D.Disk.bytes c.self.inside.disk) w1
+          (g.met.D.Disk.bytes c.cut_on.new.disk) (whole_items c.swap.new.y.len c.clear_dirty.new.dirty c.swap.new.y.items) c.swap.new.x.items
+          c.count_dirty.result (ap (λ v. v.items) c.swap.ensures.x_after) begun))),
       omega arith,
       (λ i few. absurd (omega (arith, few))),
     )

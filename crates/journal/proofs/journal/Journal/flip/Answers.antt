@@ -23,7 +23,8 @@ flip_on-requires-clause-written g c = λ k.
     let fine : c.self.inside.failed ≡ false = ap (λ (h : JournalView). h.failed) c.self.view_is ∙ c.requires.sound in
     let none : c.self.inside.left ≡ Some 0 = ap (λ (h : JournalView). h.left) c.self.view_is ∙ c.requires.written in
     subst (λ (l : List ℕ). IsWritten c.self.inside.halves l (g.D.Disk.medium c.self.inside.disk)) (sym c.deref.ensures.value)
-    (flip_asks c.self.inside.halves c.self.inside.frozen.items c.self.inside.named_dirty.items c.self.inside.other_dirty.items c.self.inside.due.items c.self.inside.left (g.D.Disk.medium c.self.inside.disk) none
+    (flip_asks c.self.inside.halves c.self.inside.frozen.items c.self.inside.named_dirty.items c.self.inside.other_dirty.items
+    c.self.inside.due.items c.self.inside.left (g.D.Disk.medium c.self.inside.disk) none
     c.self.invariant.0 c.self.invariant.2 c.self.invariant.5 (g.met.D.Disk.bytes c.self.inside.disk) (c.self.invariant.6 fine).1 (c.self.invariant.7 fine k))
 
 pub returns-in-Err-clause-any_moment : goal.returns-in-Err-clause-any_moment
@@ -38,7 +39,8 @@ pub returns-clause-committed : goal.returns-clause-committed
 returns-clause-committed g c = λ k.
     subst (λ (h : JournalView). holds c.flip_on.new.halves.geometry (g.D.Disk.medium c.flip_on.new.disk).now ≡ committed h) c.self.view_is
     (ap (λ (x : _). holds x (g.D.Disk.medium c.flip_on.new.disk).now) c.flip_on.ensures.geometry
-    ∙ holds_now c.self.inside.halves.geometry _ _ (holds c.self.inside.halves.geometry (g.D.Disk.medium c.self.inside.disk).now) (g.D.Disk.medium c.flip_on.new.disk) (g.met.D.Disk.bytes c.flip_on.new.disk) (c.in_default.ensures.flipped k).at.recovers)
+    ∙ holds_now c.self.inside.halves.geometry _ _ (holds c.self.inside.halves.geometry (g.D.Disk.medium c.self.inside.disk).now)
+    (g.D.Disk.medium c.flip_on.new.disk) (g.met.D.Disk.bytes c.flip_on.new.disk) (c.in_default.ensures.flipped k).at.recovers)
 
 pub returns-clause-sound : goal.returns-clause-sound
 returns-clause-sound g c = λ k.
@@ -46,10 +48,13 @@ returns-clause-sound g c = λ k.
     let none : c.self.inside.left ≡ Some 0 = ap (λ (h : JournalView). h.left) c.self.view_is ∙ c.requires.written in
     let sound = c.self.invariant.7 fine k in
     let placed = (c.self.invariant.6 fine).1 in
-    let written = flip_asks c.self.inside.halves c.self.inside.frozen.items c.self.inside.named_dirty.items c.self.inside.other_dirty.items c.self.inside.due.items c.self.inside.left (g.D.Disk.medium c.self.inside.disk) none
+    let written = flip_asks c.self.inside.halves c.self.inside.frozen.items c.self.inside.named_dirty.items c.self.inside.other_dirty.items
+    c.self.inside.due.items c.self.inside.left (g.D.Disk.medium c.self.inside.disk) none
     c.self.invariant.0 c.self.invariant.2 c.self.invariant.5 (g.met.D.Disk.bytes c.self.inside.disk) placed sound in
     committed_of c.flip_on.new.halves c.self.inside.frozen.items c.swap.new.x.items c.swap.new.y.items c.self.inside.due.items None c.self.inside.failed (g.D.Disk.medium c.flip_on.new.disk)
-    (flip_kept c.self.inside.halves c.flip_on.new.halves c.self.inside.frozen.items c.self.inside.named_dirty.items c.self.inside.other_dirty.items c.self.inside.due.items c.swap.new.x.items c.swap.new.y.items c.self.inside.left (g.D.Disk.medium c.self.inside.disk) (g.D.Disk.medium c.flip_on.new.disk) none
+    (flip_kept c.self.inside.halves c.flip_on.new.halves c.self.inside.frozen.items c.self.inside.named_dirty.items c.self.inside.other_dirty.items
+    c.self.inside.due.items c.swap.new.x.items c.swap.new.y.items c.self.inside.left (g.D.Disk.medium c.self.inside.disk)
+    (g.D.Disk.medium c.flip_on.new.disk) none
     c.in_default.ensures.log (ap (λ v. v.items) c.swap.ensures.x_after) (ap (λ v. v.items) c.swap.ensures.y_after)
     (g.met.D.Disk.bytes c.self.inside.disk) (g.met.D.Disk.bytes c.flip_on.new.disk) placed written sound (c.in_default.ensures.flipped k))
 
@@ -73,7 +78,8 @@ returns-clause-version g c = λ k.
     let written = flip_asks c.self.inside.halves c.self.inside.frozen.items c.self.inside.named_dirty.items c.self.inside.other_dirty.items c.self.inside.due.items c.self.inside.left w0 none
     c.self.invariant.0 c.self.invariant.2 c.self.invariant.5 (g.met.D.Disk.bytes c.self.inside.disk) placed sound in
     ap (λ (x : Geometry). named_version x w1.now) c.flip_on.ensures.geometry
-    ∙ flip_version c.self.inside.halves c.self.inside.frozen.items c.self.inside.named_dirty.items c.self.inside.other_dirty.items c.self.inside.due.items c.self.inside.left w0 none w1 (g.met.D.Disk.bytes c.flip_on.new.disk) written sound (c.in_default.ensures.flipped k)
+    ∙ flip_version c.self.inside.halves c.self.inside.frozen.items c.self.inside.named_dirty.items c.self.inside.other_dirty.items
+    c.self.inside.due.items c.self.inside.left w0 none w1 (g.met.D.Disk.bytes c.flip_on.new.disk) written sound (c.in_default.ensures.flipped k)
 
 pub returns-clause-images : goal.returns-clause-images
 returns-clause-images g c = λ k.
@@ -95,9 +101,12 @@ invariant_of-self-2 g c =
       (λ fine k.
           let sound = c.self.invariant.7 fine k in
           let placed = (c.self.invariant.6 fine).1 in
-          let written = flip_asks c.self.inside.halves c.self.inside.frozen.items c.self.inside.named_dirty.items c.self.inside.other_dirty.items c.self.inside.due.items c.self.inside.left (g.D.Disk.medium c.self.inside.disk) none
+          let written = flip_asks c.self.inside.halves c.self.inside.frozen.items c.self.inside.named_dirty.items c.self.inside.other_dirty.items
+          c.self.inside.due.items c.self.inside.left (g.D.Disk.medium c.self.inside.disk) none
           c.self.invariant.0 c.self.invariant.2 c.self.invariant.5 (g.met.D.Disk.bytes c.self.inside.disk) placed sound in
-          flip_kept c.self.inside.halves c.flip_on.new.halves c.self.inside.frozen.items c.self.inside.named_dirty.items c.self.inside.other_dirty.items c.self.inside.due.items c.swap.new.x.items c.swap.new.y.items c.self.inside.left (g.D.Disk.medium c.self.inside.disk) (g.D.Disk.medium c.flip_on.new.disk) none
+          flip_kept c.self.inside.halves c.flip_on.new.halves c.self.inside.frozen.items c.self.inside.named_dirty.items
+          c.self.inside.other_dirty.items c.self.inside.due.items c.swap.new.x.items c.swap.new.y.items c.self.inside.left
+          (g.D.Disk.medium c.self.inside.disk) (g.D.Disk.medium c.flip_on.new.disk) none
           log (ap (λ v. v.items) c.swap.ensures.x_after) (ap (λ v. v.items) c.swap.ensures.y_after)
           (g.met.D.Disk.bytes c.self.inside.disk) (g.met.D.Disk.bytes c.flip_on.new.disk) placed written sound (c.in_default.ensures.flipped k)),
       c.self.invariant.8,

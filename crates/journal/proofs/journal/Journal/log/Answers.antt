@@ -24,7 +24,8 @@ returns-in-Err-clause-any_moment g c = λ k x is.
     let out = subst (λ (h : JournalView). AreCarriedOut h.geometry x c.args.messages.now) (sym c.self.view_is) (c.requires.carried_out k x is) in
     subst (λ (h : JournalView). CrashImagesAre h.medium (g.D.Disk.medium c.append.new.disk) (HoldsSome h.geometry x c.args.messages.now)) c.self.view_is
     (log_moments c.self.inside.halves c.self.inside.frozen.items c.self.inside.named_dirty.items c.self.inside.other_dirty.items c.self.inside.due.items c.self.inside.left c.args.messages.now
-    (g.D.Disk.medium c.self.inside.disk) (g.D.Disk.medium c.append.new.disk) (g.met.D.Disk.bytes c.self.inside.disk) (c.self.invariant.7 fine k) (c.append.ensures.any_moment k) x (ap committed c.self.view_is ∙ is) out)
+    (g.D.Disk.medium c.self.inside.disk) (g.D.Disk.medium c.append.new.disk) (g.met.D.Disk.bytes c.self.inside.disk) (c.self.invariant.7 fine k)
+    (c.append.ensures.any_moment k) x (ap committed c.self.view_is ∙ is) out)
 
 pub returns-clause-any_moment : goal.returns-clause-any_moment
 returns-clause-any_moment g c = λ k x is.
@@ -32,7 +33,8 @@ returns-clause-any_moment g c = λ k x is.
     let out = subst (λ (h : JournalView). AreCarriedOut h.geometry x c.args.messages.now) (sym c.self.view_is) (c.requires.carried_out k x is) in
     subst (λ (h : JournalView). CrashImagesAre h.medium (g.D.Disk.medium c.append.new.disk) (HoldsSome h.geometry x c.args.messages.now)) c.self.view_is
     (log_moments c.self.inside.halves c.self.inside.frozen.items c.self.inside.named_dirty.items c.self.inside.other_dirty.items c.self.inside.due.items c.self.inside.left c.args.messages.now
-    (g.D.Disk.medium c.self.inside.disk) (g.D.Disk.medium c.append.new.disk) (g.met.D.Disk.bytes c.self.inside.disk) (c.self.invariant.7 fine k) (c.append.ensures.any_moment k) x (ap committed c.self.view_is ∙ is) out)
+    (g.D.Disk.medium c.self.inside.disk) (g.D.Disk.medium c.append.new.disk) (g.met.D.Disk.bytes c.self.inside.disk) (c.self.invariant.7 fine k)
+    (c.append.ensures.any_moment k) x (ap committed c.self.view_is ∙ is) out)
 
 pub returns-clause-committed : goal.returns-clause-committed
 returns-clause-committed g c = λ k.
@@ -42,7 +44,8 @@ returns-clause-committed g c = λ k.
     subst (λ (h : JournalView). holds c.append.new.self.geometry (g.D.Disk.medium c.append.new.disk).now ≡ option_map (λ x. fold h.geometry x c.args.messages.now) (committed h)) c.self.view_is
     (ap (λ (l : Log). holds l.geometry (g.D.Disk.medium c.append.new.disk).now) c.in_default.ensures.log
     ∙ log_told c.self.inside.halves c.self.inside.frozen.items c.self.inside.named_dirty.items c.self.inside.other_dirty.items c.self.inside.due.items c.self.inside.left c.args.messages.now
-    (g.D.Disk.medium c.self.inside.disk) (g.D.Disk.medium c.append.new.disk) (g.met.D.Disk.bytes c.self.inside.disk) (g.met.D.Disk.bytes c.append.new.disk) (c.self.invariant.7 fine k) out (c.in_default.ensures.added k))
+    (g.D.Disk.medium c.self.inside.disk) (g.D.Disk.medium c.append.new.disk) (g.met.D.Disk.bytes c.self.inside.disk)
+    (g.met.D.Disk.bytes c.append.new.disk) (c.self.invariant.7 fine k) out (c.in_default.ensures.added k))
 
 pub returns-clause-sound : goal.returns-clause-sound
 returns-clause-sound g c = λ k.
@@ -51,8 +54,10 @@ returns-clause-sound g c = λ k.
     λ x is. subst (λ (h : JournalView). AreCarriedOut h.geometry x c.args.messages.now) (sym c.self.view_is) (c.requires.carried_out k x (sym (ap committed c.self.view_is) ∙ is)) in
     let same : c.geometry-g.result ≡ c.self.inside.halves.geometry = c.geometry-g.ensures ∙ ap (λ (l : Log). l.geometry) c.in_default.ensures.log in
     committed_of c.append.new.self c.self.inside.frozen.items _ _ c.self.inside.due.items c.self.inside.left c.self.inside.failed (g.D.Disk.medium c.append.new.disk)
-    (log_kept c.self.inside.halves c.append.new.self c.self.inside.frozen.items c.self.inside.named_dirty.items c.self.inside.other_dirty.items c.self.inside.due.items c.dirty_touched.new.dirty c.dirty_touched-2.new.dirty c.self.inside.left c.args.messages.now
-    (g.D.Disk.medium c.self.inside.disk) (g.D.Disk.medium c.append.new.disk) c.in_default.ensures.log (g.met.D.Disk.bytes c.self.inside.disk) (g.met.D.Disk.bytes c.append.new.disk) (c.self.invariant.7 fine k) out (c.in_default.ensures.added k) (c.self.invariant.6 fine).1
+    (log_kept c.self.inside.halves c.append.new.self c.self.inside.frozen.items c.self.inside.named_dirty.items c.self.inside.other_dirty.items
+    c.self.inside.due.items c.dirty_touched.new.dirty c.dirty_touched-2.new.dirty c.self.inside.left c.args.messages.now
+    (g.D.Disk.medium c.self.inside.disk) (g.D.Disk.medium c.append.new.disk) c.in_default.ensures.log (g.met.D.Disk.bytes c.self.inside.disk)
+    (g.met.D.Disk.bytes c.append.new.disk) (c.self.invariant.7 fine k) out (c.in_default.ensures.added k) (c.self.invariant.6 fine).1
     (touched_along _ _ c.args.messages.now _ _ _ _ same c.deref_mut.ensures.value refl c.dirty_touched.ensures.touched)
     (touched_along _ _ c.args.messages.now _ _ _ _ same c.deref_mut-2.ensures.value refl c.dirty_touched-2.ensures.touched))
 
@@ -67,8 +72,10 @@ returns-clause-records g c = λ k.
 pub returns-clause-dirty_at : goal.returns-clause-dirty_at
 returns-clause-dirty_at g c =
     let same : c.geometry-g.result ≡ c.self.inside.halves.geometry = c.geometry-g.ensures ∙ ap (λ (l : Log). l.geometry) c.in_default.ensures.log in
-    let first = whole_put c.self.inside.named_dirty.len c.dirty_touched.new.dirty c.self.inside.named_dirty.items (c.dirty_touched.ensures.size ∙ ap length c.deref_mut.ensures.value) (c.dirty_touched.ensures.size ∙ c.deref_mut.ensures.len) in
-    let second = whole_put c.self.inside.other_dirty.len c.dirty_touched-2.new.dirty c.self.inside.other_dirty.items (c.dirty_touched-2.ensures.size ∙ ap length c.deref_mut-2.ensures.value) (c.dirty_touched-2.ensures.size ∙ c.deref_mut-2.ensures.len) in
+    let first = whole_put c.self.inside.named_dirty.len c.dirty_touched.new.dirty c.self.inside.named_dirty.items
+    (c.dirty_touched.ensures.size ∙ ap length c.deref_mut.ensures.value) (c.dirty_touched.ensures.size ∙ c.deref_mut.ensures.len) in
+    let second = whole_put c.self.inside.other_dirty.len c.dirty_touched-2.new.dirty c.self.inside.other_dirty.items
+    (c.dirty_touched-2.ensures.size ∙ ap length c.deref_mut-2.ensures.value) (c.dirty_touched-2.ensures.size ∙ c.deref_mut-2.ensures.len) in
     subst (λ (h : JournalView). AreBothTouched h.geometry c.args.messages.now h.dirty (record {
       named = whole_items c.self.inside.named_dirty.len c.dirty_touched.new.dirty c.self.inside.named_dirty.items;
       others = whole_items c.self.inside.other_dirty.len c.dirty_touched-2.new.dirty c.self.inside.other_dirty.items;
@@ -83,14 +90,17 @@ returns-clause-none g c = λ none.
     let used : c.self.inside.halves.used + length c.args.messages.now ≡ c.self.inside.halves.used = omega (arith, none) in
     let log = c.in_default.ensures.log in
     let same : c.geometry-g.result ≡ c.self.inside.halves.geometry = c.geometry-g.ensures ∙ ap (λ (l : Log). l.geometry) log in
-    let first = whole_put c.self.inside.named_dirty.len c.dirty_touched.new.dirty c.self.inside.named_dirty.items (c.dirty_touched.ensures.size ∙ ap length c.deref_mut.ensures.value) (c.dirty_touched.ensures.size ∙ c.deref_mut.ensures.len) in
-    let second = whole_put c.self.inside.other_dirty.len c.dirty_touched-2.new.dirty c.self.inside.other_dirty.items (c.dirty_touched-2.ensures.size ∙ ap length c.deref_mut-2.ensures.value) (c.dirty_touched-2.ensures.size ∙ c.deref_mut-2.ensures.len) in
+    let first = whole_put c.self.inside.named_dirty.len c.dirty_touched.new.dirty c.self.inside.named_dirty.items
+    (c.dirty_touched.ensures.size ∙ ap length c.deref_mut.ensures.value) (c.dirty_touched.ensures.size ∙ c.deref_mut.ensures.len) in
+    let second = whole_put c.self.inside.other_dirty.len c.dirty_touched-2.new.dirty c.self.inside.other_dirty.items
+    (c.dirty_touched-2.ensures.size ∙ ap length c.deref_mut-2.ensures.value) (c.dirty_touched-2.ensures.size ∙ c.deref_mut-2.ensures.len) in
     let named = same_dirty c.self.inside.halves.geometry c.args.messages.now _ _ none c.self.invariant.3 (ap length first ∙ c.dirty_touched.ensures.size ∙ ap length c.deref_mut.ensures.value)
     (touched_along _ _ c.args.messages.now _ _ _ _ same c.deref_mut.ensures.value first c.dirty_touched.ensures.touched) in
     let others = same_dirty c.self.inside.halves.geometry c.args.messages.now _ _ none c.self.invariant.4 (ap length second ∙ c.dirty_touched-2.ensures.size ∙ ap length c.deref_mut-2.ensures.value)
     (touched_along _ _ c.args.messages.now _ _ _ _ same c.deref_mut-2.ensures.value second c.dirty_touched-2.ensures.touched) in
     (λ i. held_of (log i) (named i) (others i) c.self.inside.left c.self.inside.failed (g.D.Disk.medium (c.append.ensures.none none i)))
-    ∙ ap (λ (n : ℕ). held_of (record c.self.inside.halves { used = n }) c.self.inside.named_dirty.items c.self.inside.other_dirty.items c.self.inside.left c.self.inside.failed (g.D.Disk.medium c.self.inside.disk)) used
+    ∙ ap (λ (n : ℕ). held_of (record c.self.inside.halves { used = n }) c.self.inside.named_dirty.items c.self.inside.other_dirty.items
+    c.self.inside.left c.self.inside.failed (g.D.Disk.medium c.self.inside.disk)) used
     ∙ c.self.view_is
 
 pub invariant_of-self-2 : goal.invariant_of-self-2
@@ -98,8 +108,10 @@ invariant_of-self-2 g c =
     let log = c.in_default.ensures.log in
     let geometry = ap (λ (l : Log). l.geometry) log in
     let same : c.geometry-g.result ≡ c.self.inside.halves.geometry = c.geometry-g.ensures ∙ geometry in
-    let first = whole_put c.self.inside.named_dirty.len c.dirty_touched.new.dirty c.self.inside.named_dirty.items (c.dirty_touched.ensures.size ∙ ap length c.deref_mut.ensures.value) (c.dirty_touched.ensures.size ∙ c.deref_mut.ensures.len) in
-    let second = whole_put c.self.inside.other_dirty.len c.dirty_touched-2.new.dirty c.self.inside.other_dirty.items (c.dirty_touched-2.ensures.size ∙ ap length c.deref_mut-2.ensures.value) (c.dirty_touched-2.ensures.size ∙ c.deref_mut-2.ensures.len) in (
+    let first = whole_put c.self.inside.named_dirty.len c.dirty_touched.new.dirty c.self.inside.named_dirty.items
+    (c.dirty_touched.ensures.size ∙ ap length c.deref_mut.ensures.value) (c.dirty_touched.ensures.size ∙ c.deref_mut.ensures.len) in
+    let second = whole_put c.self.inside.other_dirty.len c.dirty_touched-2.new.dirty c.self.inside.other_dirty.items
+    (c.dirty_touched-2.ensures.size ∙ ap length c.deref_mut-2.ensures.value) (c.dirty_touched-2.ensures.size ∙ c.deref_mut-2.ensures.len) in (
       omega (arith, c.self.invariant.0, c.append.ensures.call.1, ap (λ (l : Log). device_size (layout l)) log),
       omega (arith, c.self.invariant.1, ap (λ (l : Log). l.used) log, ap (λ (g : Geometry). g.half) geometry, ap (λ (h : JournalView). h.room) c.self.view_is, c.requires.room),
       c.self.invariant.2 ∙ sym (ap image_size geometry),
@@ -108,13 +120,17 @@ invariant_of-self-2 g c =
       c.self.invariant.5 ∙ sym (ap piece_count geometry),
       (λ fine. (
         ap (λ (l : Log). l.failed) log ∙ (c.self.invariant.6 fine).0,
-        subst (λ (l : Log). IsCutState l c.self.inside.due.items c.self.inside.left) (sym log) (placed_used c.self.inside.halves (c.self.inside.halves.used + length c.args.messages.now) c.self.inside.due.items c.self.inside.left (c.self.invariant.6 fine).1),
+        subst (λ (l : Log). IsCutState l c.self.inside.due.items c.self.inside.left) (sym log)
+            (placed_used c.self.inside.halves (c.self.inside.halves.used + length c.args.messages.now) c.self.inside.due.items c.self.inside.left
+            (c.self.invariant.6 fine).1),
       )),
       (λ fine k.
           let out : (x : State) → holds c.self.inside.halves.geometry (g.D.Disk.medium c.self.inside.disk).now ≡ Some x → AreCarriedOut c.self.inside.halves.geometry x c.args.messages.now =
           λ x is. subst (λ (h : JournalView). AreCarriedOut h.geometry x c.args.messages.now) (sym c.self.view_is) (c.requires.carried_out k x (sym (ap committed c.self.view_is) ∙ is)) in
-          log_kept c.self.inside.halves c.append.new.self c.self.inside.frozen.items c.self.inside.named_dirty.items c.self.inside.other_dirty.items c.self.inside.due.items _ _ c.self.inside.left c.args.messages.now
-          (g.D.Disk.medium c.self.inside.disk) (g.D.Disk.medium c.append.new.disk) log (g.met.D.Disk.bytes c.self.inside.disk) (g.met.D.Disk.bytes c.append.new.disk) (c.self.invariant.7 fine k) out (c.in_default.ensures.added k) (c.self.invariant.6 fine).1
+          log_kept c.self.inside.halves c.append.new.self c.self.inside.frozen.items c.self.inside.named_dirty.items c.self.inside.other_dirty.items
+          c.self.inside.due.items _ _ c.self.inside.left c.args.messages.now
+          (g.D.Disk.medium c.self.inside.disk) (g.D.Disk.medium c.append.new.disk) log (g.met.D.Disk.bytes c.self.inside.disk)
+          (g.met.D.Disk.bytes c.append.new.disk) (c.self.invariant.7 fine k) out (c.in_default.ensures.added k) (c.self.invariant.6 fine).1
           (touched_along _ _ c.args.messages.now _ _ _ _ same c.deref_mut.ensures.value first c.dirty_touched.ensures.touched)
           (touched_along _ _ c.args.messages.now _ _ _ _ same c.deref_mut-2.ensures.value second c.dirty_touched-2.ensures.touched)),
       c.self.invariant.8,

@@ -1,4 +1,4 @@
--- The frozen image is that of the committed state, and the clean pieces are on the device: a crash recovers to it.
+-- The snapshot is the image of the committed state, and the clean pieces are on the device: a crash recovers to it.
 use Rattle.std.proofs.Common.{◌≡◌, false, Option, Some, None, ℕ, Bool, List, length, sym, ◌∙◌, ap, subst, arith}
 use Rattle.std.proofs.lemmas.List.{length-replicate}
 use Rattle.affinity.specs.declared.geometry.Geometry.{Geometry}
@@ -30,12 +30,18 @@ point_on-requires-clause-alone g c = λ k.
     let alone : c.self.inside.left ≡ None = ap (λ (h : JournalView). h.left) c.self.view_is ∙ c.requires.alone in
     let geometry : c.args.tree.now.geometry ≡ c.self.inside.halves.geometry = c.requires.geometry ∙ sym (ap (λ (h : JournalView). h.geometry) c.self.view_is) in
     let is_state = subst (λ (x : Geometry). IsState x (state_in c.args.tree.now)) geometry c.requires.whole.state in
-    let frozen = whole_put c.self.inside.frozen.len c.freeze.new.bytes c.self.inside.frozen.items (c.freeze.ensures.size ∙ ap length c.deref_mut.ensures.value) (c.freeze.ensures.size ∙ c.deref_mut.ensures.len) in
+    let frozen = whole_put c.self.inside.frozen.len c.freeze.new.bytes c.self.inside.frozen.items
+    (c.freeze.ensures.size ∙ ap length c.deref_mut.ensures.value) (c.freeze.ensures.size ∙ c.deref_mut.ensures.len) in
     let w0 = g.D.Disk.medium c.self.inside.disk in
     let is : holds c.self.inside.halves.geometry w0.now ≡ Some (state_in c.args.tree.now) = ap committed c.self.view_is ∙ c.requires.state k in
-    let right = frozen_right c.self.inside.halves c.self.inside.frozen.items c.self.inside.named_dirty.items c.self.inside.other_dirty.items c.self.inside.due.items c.self.inside.left w0 (state_in c.args.tree.now) alone (c.self.invariant.7 fine k) is c.args.tree.now.geometry c.deref.result.now c.deref_mut.result.now geometry c.deref.ensures.value c.deref_mut.ensures.value in
-    let spelled : c.freeze.new.bytes ≡ image_of 2 c.self.inside.halves.geometry (state_in c.args.tree.now) = c.freeze.ensures.image right ∙ ap (λ (x : Geometry). image_of 2 x (state_in c.args.tree.now)) geometry in
-    is_alone c.self.inside.halves c.self.inside.frozen.items c.freeze.new.bytes c.self.inside.named_dirty.items c.self.inside.other_dirty.items c.self.inside.due.items c.self.inside.left w0 (state_in c.args.tree.now) alone (c.self.invariant.6 fine).1 (c.self.invariant.7 fine k) is is_state spelled (g.met.D.Disk.bytes c.self.inside.disk)
+    let right = frozen_right c.self.inside.halves c.self.inside.frozen.items c.self.inside.named_dirty.items c.self.inside.other_dirty.items
+    c.self.inside.due.items c.self.inside.left w0 (state_in c.args.tree.now) alone (c.self.invariant.7 fine k) is c.args.tree.now.geometry
+    c.deref.result.now c.deref_mut.result.now geometry c.deref.ensures.value c.deref_mut.ensures.value in
+    let spelled : c.freeze.new.bytes ≡ image_of 2 c.self.inside.halves.geometry (state_in c.args.tree.now) = c.freeze.ensures.image right
+    ∙ ap (λ (x : Geometry). image_of 2 x (state_in c.args.tree.now)) geometry in
+    is_alone c.self.inside.halves c.self.inside.frozen.items c.freeze.new.bytes c.self.inside.named_dirty.items c.self.inside.other_dirty.items
+    c.self.inside.due.items c.self.inside.left w0 (state_in c.args.tree.now) alone (c.self.invariant.6 fine).1 (c.self.invariant.7 fine k) is
+    is_state spelled (g.met.D.Disk.bytes c.self.inside.disk)
 
 pub point_on-requires-clause-image : goal.point_on-requires-clause-image
 point_on-requires-clause-image g c = λ k.
@@ -43,12 +49,19 @@ point_on-requires-clause-image g c = λ k.
     let alone : c.self.inside.left ≡ None = ap (λ (h : JournalView). h.left) c.self.view_is ∙ c.requires.alone in
     let geometry : c.args.tree.now.geometry ≡ c.self.inside.halves.geometry = c.requires.geometry ∙ sym (ap (λ (h : JournalView). h.geometry) c.self.view_is) in
     let is_state = subst (λ (x : Geometry). IsState x (state_in c.args.tree.now)) geometry c.requires.whole.state in
-    let frozen = whole_put c.self.inside.frozen.len c.freeze.new.bytes c.self.inside.frozen.items (c.freeze.ensures.size ∙ ap length c.deref_mut.ensures.value) (c.freeze.ensures.size ∙ c.deref_mut.ensures.len) in
+    let frozen = whole_put c.self.inside.frozen.len c.freeze.new.bytes c.self.inside.frozen.items
+    (c.freeze.ensures.size ∙ ap length c.deref_mut.ensures.value) (c.freeze.ensures.size ∙ c.deref_mut.ensures.len) in
     let w0 = g.D.Disk.medium c.self.inside.disk in
     let is : holds c.self.inside.halves.geometry w0.now ≡ Some (state_in c.args.tree.now) = ap committed c.self.view_is ∙ c.requires.state k in
-    let right = frozen_right c.self.inside.halves c.self.inside.frozen.items c.self.inside.named_dirty.items c.self.inside.other_dirty.items c.self.inside.due.items c.self.inside.left w0 (state_in c.args.tree.now) alone (c.self.invariant.7 fine k) is c.args.tree.now.geometry c.deref.result.now c.deref_mut.result.now geometry c.deref.ensures.value c.deref_mut.ensures.value in
-    let spelled : c.freeze.new.bytes ≡ image_of 2 c.self.inside.halves.geometry (state_in c.args.tree.now) = c.freeze.ensures.image right ∙ ap (λ (x : Geometry). image_of 2 x (state_in c.args.tree.now)) geometry in
-    ap (read c.self.inside.halves.geometry) (c.deref-2.ensures.value ∙ frozen) ∙ reads c.self.inside.halves c.self.inside.frozen.items c.freeze.new.bytes c.self.inside.named_dirty.items c.self.inside.other_dirty.items c.self.inside.due.items c.self.inside.left w0 (state_in c.args.tree.now) alone (c.self.invariant.6 fine).1 (c.self.invariant.7 fine k) is is_state spelled (g.met.D.Disk.bytes c.self.inside.disk)
+    let right = frozen_right c.self.inside.halves c.self.inside.frozen.items c.self.inside.named_dirty.items c.self.inside.other_dirty.items
+    c.self.inside.due.items c.self.inside.left w0 (state_in c.args.tree.now) alone (c.self.invariant.7 fine k) is c.args.tree.now.geometry
+    c.deref.result.now c.deref_mut.result.now geometry c.deref.ensures.value c.deref_mut.ensures.value in
+    let spelled : c.freeze.new.bytes ≡ image_of 2 c.self.inside.halves.geometry (state_in c.args.tree.now) = c.freeze.ensures.image right
+    ∙ ap (λ (x : Geometry). image_of 2 x (state_in c.args.tree.now)) geometry in
+    ap (read c.self.inside.halves.geometry) (c.deref-2.ensures.value ∙ frozen)
+    ∙ reads c.self.inside.halves c.self.inside.frozen.items c.freeze.new.bytes c.self.inside.named_dirty.items c.self.inside.other_dirty.items
+    c.self.inside.due.items c.self.inside.left w0 (state_in c.args.tree.now) alone (c.self.invariant.6 fine).1 (c.self.invariant.7 fine k) is
+    is_state spelled (g.met.D.Disk.bytes c.self.inside.disk)
 
 pub point_on-requires-clause-unmarked : goal.point_on-requires-clause-unmarked
 point_on-requires-clause-unmarked g c = λ k.
@@ -56,13 +69,22 @@ point_on-requires-clause-unmarked g c = λ k.
     let alone : c.self.inside.left ≡ None = ap (λ (h : JournalView). h.left) c.self.view_is ∙ c.requires.alone in
     let geometry : c.args.tree.now.geometry ≡ c.self.inside.halves.geometry = c.requires.geometry ∙ sym (ap (λ (h : JournalView). h.geometry) c.self.view_is) in
     let is_state = subst (λ (x : Geometry). IsState x (state_in c.args.tree.now)) geometry c.requires.whole.state in
-    let frozen = whole_put c.self.inside.frozen.len c.freeze.new.bytes c.self.inside.frozen.items (c.freeze.ensures.size ∙ ap length c.deref_mut.ensures.value) (c.freeze.ensures.size ∙ c.deref_mut.ensures.len) in
+    let frozen = whole_put c.self.inside.frozen.len c.freeze.new.bytes c.self.inside.frozen.items
+    (c.freeze.ensures.size ∙ ap length c.deref_mut.ensures.value) (c.freeze.ensures.size ∙ c.deref_mut.ensures.len) in
     let w0 = g.D.Disk.medium c.self.inside.disk in
     let is : holds c.self.inside.halves.geometry w0.now ≡ Some (state_in c.args.tree.now) = ap committed c.self.view_is ∙ c.requires.state k in
-    let right = frozen_right c.self.inside.halves c.self.inside.frozen.items c.self.inside.named_dirty.items c.self.inside.other_dirty.items c.self.inside.due.items c.self.inside.left w0 (state_in c.args.tree.now) alone (c.self.invariant.7 fine k) is c.args.tree.now.geometry c.deref.result.now c.deref_mut.result.now geometry c.deref.ensures.value c.deref_mut.ensures.value in
-    let spelled : c.freeze.new.bytes ≡ image_of 2 c.self.inside.halves.geometry (state_in c.args.tree.now) = c.freeze.ensures.image right ∙ ap (λ (x : Geometry). image_of 2 x (state_in c.args.tree.now)) geometry in
-    subst (λ (l : List ℕ). AgreeOnClean c.self.inside.halves.geometry c.deref-3.result.now (image_in c.self.inside.halves.geometry (other c.self.inside.halves.named) w0) l) (sym (c.deref-2.ensures.value ∙ frozen))
-    (subst (λ (l : List Bool). AgreeOnClean c.self.inside.halves.geometry l (image_in c.self.inside.halves.geometry (other c.self.inside.halves.named) w0) c.freeze.new.bytes) (sym c.deref-3.ensures.value) (agrees c.self.inside.halves c.self.inside.frozen.items c.freeze.new.bytes c.self.inside.named_dirty.items c.self.inside.other_dirty.items c.self.inside.due.items c.self.inside.left w0 (state_in c.args.tree.now) alone (c.self.invariant.6 fine).1 (c.self.invariant.7 fine k) is is_state spelled (g.met.D.Disk.bytes c.self.inside.disk)))
+    let right = frozen_right c.self.inside.halves c.self.inside.frozen.items c.self.inside.named_dirty.items c.self.inside.other_dirty.items
+    c.self.inside.due.items c.self.inside.left w0 (state_in c.args.tree.now) alone (c.self.invariant.7 fine k) is c.args.tree.now.geometry
+    c.deref.result.now c.deref_mut.result.now geometry c.deref.ensures.value c.deref_mut.ensures.value in
+    let spelled : c.freeze.new.bytes ≡ image_of 2 c.self.inside.halves.geometry (state_in c.args.tree.now) = c.freeze.ensures.image right
+    ∙ ap (λ (x : Geometry). image_of 2 x (state_in c.args.tree.now)) geometry in
+    subst (λ (l : List ℕ). AgreeOnClean c.self.inside.halves.geometry c.deref-3.result.now
+    (image_in c.self.inside.halves.geometry (other c.self.inside.halves.named) w0) l) (sym (c.deref-2.ensures.value ∙ frozen))
+    (subst (λ (l : List Bool). AgreeOnClean c.self.inside.halves.geometry l
+    (image_in c.self.inside.halves.geometry (other c.self.inside.halves.named) w0) c.freeze.new.bytes) (sym c.deref-3.ensures.value)
+    (agrees c.self.inside.halves c.self.inside.frozen.items c.freeze.new.bytes c.self.inside.named_dirty.items c.self.inside.other_dirty.items
+    c.self.inside.due.items c.self.inside.left w0 (state_in c.args.tree.now) alone (c.self.invariant.6 fine).1 (c.self.invariant.7 fine k) is
+    is_state spelled (g.met.D.Disk.bytes c.self.inside.disk)))
 
 pub returns-in-Err-clause-any_moment : goal.returns-in-Err-clause-any_moment
 returns-in-Err-clause-any_moment g c = λ k.
@@ -78,14 +100,21 @@ returns-clause-committed g c = λ k.
     let alone : c.self.inside.left ≡ None = ap (λ (h : JournalView). h.left) c.self.view_is ∙ c.requires.alone in
     let geometry : c.args.tree.now.geometry ≡ c.self.inside.halves.geometry = c.requires.geometry ∙ sym (ap (λ (h : JournalView). h.geometry) c.self.view_is) in
     let is_state = subst (λ (x : Geometry). IsState x (state_in c.args.tree.now)) geometry c.requires.whole.state in
-    let frozen = whole_put c.self.inside.frozen.len c.freeze.new.bytes c.self.inside.frozen.items (c.freeze.ensures.size ∙ ap length c.deref_mut.ensures.value) (c.freeze.ensures.size ∙ c.deref_mut.ensures.len) in
+    let frozen = whole_put c.self.inside.frozen.len c.freeze.new.bytes c.self.inside.frozen.items
+    (c.freeze.ensures.size ∙ ap length c.deref_mut.ensures.value) (c.freeze.ensures.size ∙ c.deref_mut.ensures.len) in
     let w0 = g.D.Disk.medium c.self.inside.disk in
     let is : holds c.self.inside.halves.geometry w0.now ≡ Some (state_in c.args.tree.now) = ap committed c.self.view_is ∙ c.requires.state k in
-    let right = frozen_right c.self.inside.halves c.self.inside.frozen.items c.self.inside.named_dirty.items c.self.inside.other_dirty.items c.self.inside.due.items c.self.inside.left w0 (state_in c.args.tree.now) alone (c.self.invariant.7 fine k) is c.args.tree.now.geometry c.deref.result.now c.deref_mut.result.now geometry c.deref.ensures.value c.deref_mut.ensures.value in
-    let spelled : c.freeze.new.bytes ≡ image_of 2 c.self.inside.halves.geometry (state_in c.args.tree.now) = c.freeze.ensures.image right ∙ ap (λ (x : Geometry). image_of 2 x (state_in c.args.tree.now)) geometry in
+    let right = frozen_right c.self.inside.halves c.self.inside.frozen.items c.self.inside.named_dirty.items c.self.inside.other_dirty.items
+    c.self.inside.due.items c.self.inside.left w0 (state_in c.args.tree.now) alone (c.self.invariant.7 fine k) is c.args.tree.now.geometry
+    c.deref.result.now c.deref_mut.result.now geometry c.deref.ensures.value c.deref_mut.ensures.value in
+    let spelled : c.freeze.new.bytes ≡ image_of 2 c.self.inside.halves.geometry (state_in c.args.tree.now) = c.freeze.ensures.image right
+    ∙ ap (λ (x : Geometry). image_of 2 x (state_in c.args.tree.now)) geometry in
     let w1 = g.D.Disk.medium c.point_on.new.disk in
     let made = subst (λ (l : List ℕ). IsPointed c.self.inside.halves l w0 w1) (c.deref-2.ensures.value ∙ frozen) (c.in_default.ensures.pointed k) in
-    ap (λ (x : Geometry). holds x w1.now) c.point_on.ensures.geometry ∙ point_committed c.self.inside.halves c.self.inside.frozen.items c.freeze.new.bytes c.self.inside.named_dirty.items c.self.inside.other_dirty.items c.self.inside.due.items c.self.inside.left w0 (state_in c.args.tree.now) alone (c.self.invariant.6 fine).1 (c.self.invariant.7 fine k) is is_state spelled (g.met.D.Disk.bytes c.self.inside.disk) w1 (g.met.D.Disk.bytes c.point_on.new.disk) made ∙ ap committed c.self.view_is
+    ap (λ (x : Geometry). holds x w1.now) c.point_on.ensures.geometry ∙ point_committed c.self.inside.halves c.self.inside.frozen.items
+    c.freeze.new.bytes c.self.inside.named_dirty.items c.self.inside.other_dirty.items c.self.inside.due.items c.self.inside.left w0
+    (state_in c.args.tree.now) alone (c.self.invariant.6 fine).1 (c.self.invariant.7 fine k) is is_state spelled
+    (g.met.D.Disk.bytes c.self.inside.disk) w1 (g.met.D.Disk.bytes c.point_on.new.disk) made ∙ ap committed c.self.view_is
 
 pub returns-clause-emptied : goal.returns-clause-emptied
 returns-clause-emptied g c = λ k.
@@ -93,11 +122,15 @@ returns-clause-emptied g c = λ k.
     let alone : c.self.inside.left ≡ None = ap (λ (h : JournalView). h.left) c.self.view_is ∙ c.requires.alone in
     let geometry : c.args.tree.now.geometry ≡ c.self.inside.halves.geometry = c.requires.geometry ∙ sym (ap (λ (h : JournalView). h.geometry) c.self.view_is) in
     let is_state = subst (λ (x : Geometry). IsState x (state_in c.args.tree.now)) geometry c.requires.whole.state in
-    let frozen = whole_put c.self.inside.frozen.len c.freeze.new.bytes c.self.inside.frozen.items (c.freeze.ensures.size ∙ ap length c.deref_mut.ensures.value) (c.freeze.ensures.size ∙ c.deref_mut.ensures.len) in
+    let frozen = whole_put c.self.inside.frozen.len c.freeze.new.bytes c.self.inside.frozen.items
+    (c.freeze.ensures.size ∙ ap length c.deref_mut.ensures.value) (c.freeze.ensures.size ∙ c.deref_mut.ensures.len) in
     let w0 = g.D.Disk.medium c.self.inside.disk in
     let is : holds c.self.inside.halves.geometry w0.now ≡ Some (state_in c.args.tree.now) = ap committed c.self.view_is ∙ c.requires.state k in
-    let right = frozen_right c.self.inside.halves c.self.inside.frozen.items c.self.inside.named_dirty.items c.self.inside.other_dirty.items c.self.inside.due.items c.self.inside.left w0 (state_in c.args.tree.now) alone (c.self.invariant.7 fine k) is c.args.tree.now.geometry c.deref.result.now c.deref_mut.result.now geometry c.deref.ensures.value c.deref_mut.ensures.value in
-    let spelled : c.freeze.new.bytes ≡ image_of 2 c.self.inside.halves.geometry (state_in c.args.tree.now) = c.freeze.ensures.image right ∙ ap (λ (x : Geometry). image_of 2 x (state_in c.args.tree.now)) geometry in
+    let right = frozen_right c.self.inside.halves c.self.inside.frozen.items c.self.inside.named_dirty.items c.self.inside.other_dirty.items
+    c.self.inside.due.items c.self.inside.left w0 (state_in c.args.tree.now) alone (c.self.invariant.7 fine k) is c.args.tree.now.geometry
+    c.deref.result.now c.deref_mut.result.now geometry c.deref.ensures.value c.deref_mut.ensures.value in
+    let spelled : c.freeze.new.bytes ≡ image_of 2 c.self.inside.halves.geometry (state_in c.args.tree.now) = c.freeze.ensures.image right
+    ∙ ap (λ (x : Geometry). image_of 2 x (state_in c.args.tree.now)) geometry in
     let w1 = g.D.Disk.medium c.point_on.new.disk in
     let made = subst (λ (l : List ℕ). IsPointed c.self.inside.halves l w0 w1) (c.deref-2.ensures.value ∙ frozen) (c.in_default.ensures.pointed k) in
     ap (λ (x : Geometry). in_force (layout_of x) (named_area (layout_of x) w1.now) w1.now) c.point_on.ensures.geometry ∙ made.emptied
@@ -108,14 +141,20 @@ returns-clause-version g c = λ k.
     let alone : c.self.inside.left ≡ None = ap (λ (h : JournalView). h.left) c.self.view_is ∙ c.requires.alone in
     let geometry : c.args.tree.now.geometry ≡ c.self.inside.halves.geometry = c.requires.geometry ∙ sym (ap (λ (h : JournalView). h.geometry) c.self.view_is) in
     let is_state = subst (λ (x : Geometry). IsState x (state_in c.args.tree.now)) geometry c.requires.whole.state in
-    let frozen = whole_put c.self.inside.frozen.len c.freeze.new.bytes c.self.inside.frozen.items (c.freeze.ensures.size ∙ ap length c.deref_mut.ensures.value) (c.freeze.ensures.size ∙ c.deref_mut.ensures.len) in
+    let frozen = whole_put c.self.inside.frozen.len c.freeze.new.bytes c.self.inside.frozen.items
+    (c.freeze.ensures.size ∙ ap length c.deref_mut.ensures.value) (c.freeze.ensures.size ∙ c.deref_mut.ensures.len) in
     let w0 = g.D.Disk.medium c.self.inside.disk in
     let is : holds c.self.inside.halves.geometry w0.now ≡ Some (state_in c.args.tree.now) = ap committed c.self.view_is ∙ c.requires.state k in
-    let right = frozen_right c.self.inside.halves c.self.inside.frozen.items c.self.inside.named_dirty.items c.self.inside.other_dirty.items c.self.inside.due.items c.self.inside.left w0 (state_in c.args.tree.now) alone (c.self.invariant.7 fine k) is c.args.tree.now.geometry c.deref.result.now c.deref_mut.result.now geometry c.deref.ensures.value c.deref_mut.ensures.value in
-    let spelled : c.freeze.new.bytes ≡ image_of 2 c.self.inside.halves.geometry (state_in c.args.tree.now) = c.freeze.ensures.image right ∙ ap (λ (x : Geometry). image_of 2 x (state_in c.args.tree.now)) geometry in
+    let right = frozen_right c.self.inside.halves c.self.inside.frozen.items c.self.inside.named_dirty.items c.self.inside.other_dirty.items
+    c.self.inside.due.items c.self.inside.left w0 (state_in c.args.tree.now) alone (c.self.invariant.7 fine k) is c.args.tree.now.geometry
+    c.deref.result.now c.deref_mut.result.now geometry c.deref.ensures.value c.deref_mut.ensures.value in
+    let spelled : c.freeze.new.bytes ≡ image_of 2 c.self.inside.halves.geometry (state_in c.args.tree.now) = c.freeze.ensures.image right
+    ∙ ap (λ (x : Geometry). image_of 2 x (state_in c.args.tree.now)) geometry in
     let w1 = g.D.Disk.medium c.point_on.new.disk in
     let made = subst (λ (l : List ℕ). IsPointed c.self.inside.halves l w0 w1) (c.deref-2.ensures.value ∙ frozen) (c.in_default.ensures.pointed k) in
-    ap (λ (x : Geometry). named_version x w1.now) c.point_on.ensures.geometry ∙ pointed_version c.self.inside.halves c.freeze.new.bytes w0 w1 (state_in c.args.tree.now) (g.met.D.Disk.bytes c.point_on.new.disk) spelled made
+    ap (λ (x : Geometry). named_version x w1.now) c.point_on.ensures.geometry
+    ∙ pointed_version c.self.inside.halves c.freeze.new.bytes w0 w1 (state_in c.args.tree.now) (g.met.D.Disk.bytes c.point_on.new.disk) spelled
+    made
 
 pub returns-clause-sound : goal.returns-clause-sound
 returns-clause-sound g c = λ k.
@@ -123,18 +162,27 @@ returns-clause-sound g c = λ k.
     let alone : c.self.inside.left ≡ None = ap (λ (h : JournalView). h.left) c.self.view_is ∙ c.requires.alone in
     let geometry : c.args.tree.now.geometry ≡ c.self.inside.halves.geometry = c.requires.geometry ∙ sym (ap (λ (h : JournalView). h.geometry) c.self.view_is) in
     let is_state = subst (λ (x : Geometry). IsState x (state_in c.args.tree.now)) geometry c.requires.whole.state in
-    let frozen = whole_put c.self.inside.frozen.len c.freeze.new.bytes c.self.inside.frozen.items (c.freeze.ensures.size ∙ ap length c.deref_mut.ensures.value) (c.freeze.ensures.size ∙ c.deref_mut.ensures.len) in
+    let frozen = whole_put c.self.inside.frozen.len c.freeze.new.bytes c.self.inside.frozen.items
+    (c.freeze.ensures.size ∙ ap length c.deref_mut.ensures.value) (c.freeze.ensures.size ∙ c.deref_mut.ensures.len) in
     let w0 = g.D.Disk.medium c.self.inside.disk in
     let is : holds c.self.inside.halves.geometry w0.now ≡ Some (state_in c.args.tree.now) = ap committed c.self.view_is ∙ c.requires.state k in
-    let right = frozen_right c.self.inside.halves c.self.inside.frozen.items c.self.inside.named_dirty.items c.self.inside.other_dirty.items c.self.inside.due.items c.self.inside.left w0 (state_in c.args.tree.now) alone (c.self.invariant.7 fine k) is c.args.tree.now.geometry c.deref.result.now c.deref_mut.result.now geometry c.deref.ensures.value c.deref_mut.ensures.value in
-    let spelled : c.freeze.new.bytes ≡ image_of 2 c.self.inside.halves.geometry (state_in c.args.tree.now) = c.freeze.ensures.image right ∙ ap (λ (x : Geometry). image_of 2 x (state_in c.args.tree.now)) geometry in
+    let right = frozen_right c.self.inside.halves c.self.inside.frozen.items c.self.inside.named_dirty.items c.self.inside.other_dirty.items
+    c.self.inside.due.items c.self.inside.left w0 (state_in c.args.tree.now) alone (c.self.invariant.7 fine k) is c.args.tree.now.geometry
+    c.deref.result.now c.deref_mut.result.now geometry c.deref.ensures.value c.deref_mut.ensures.value in
+    let spelled : c.freeze.new.bytes ≡ image_of 2 c.self.inside.halves.geometry (state_in c.args.tree.now) = c.freeze.ensures.image right
+    ∙ ap (λ (x : Geometry). image_of 2 x (state_in c.args.tree.now)) geometry in
     let w1 = g.D.Disk.medium c.point_on.new.disk in
     let made = subst (λ (l : List ℕ). IsPointed c.self.inside.halves l w0 w1) (c.deref-2.ensures.value ∙ frozen) (c.in_default.ensures.pointed k) in
-    committed_of c.point_on.new.halves (whole_items c.self.inside.frozen.len c.freeze.new.bytes c.self.inside.frozen.items) c.swap_dirty.new.named.items c.swap_dirty.new.other.items c.self.inside.due.items c.self.inside.left c.self.inside.failed w1
-    (subst (λ (o : Option ℕ). IsSoundJournal c.point_on.new.halves (whole_items c.self.inside.frozen.len c.freeze.new.bytes c.self.inside.frozen.items) c.swap_dirty.new.named.items c.swap_dirty.new.other.items c.self.inside.due.items o w1) (sym alone)
+    committed_of c.point_on.new.halves (whole_items c.self.inside.frozen.len c.freeze.new.bytes c.self.inside.frozen.items)
+    c.swap_dirty.new.named.items c.swap_dirty.new.other.items c.self.inside.due.items c.self.inside.left c.self.inside.failed w1
+    (subst (λ (o : Option ℕ). IsSoundJournal c.point_on.new.halves (whole_items c.self.inside.frozen.len c.freeze.new.bytes
+    c.self.inside.frozen.items) c.swap_dirty.new.named.items c.swap_dirty.new.other.items c.self.inside.due.items o w1) (sym alone)
     (subst (λ (l : List ℕ). IsSoundJournal c.point_on.new.halves l c.swap_dirty.new.named.items c.swap_dirty.new.other.items c.self.inside.due.items None w1) (sym frozen)
     (subst (λ (l : Log). IsSoundJournal l c.freeze.new.bytes c.swap_dirty.new.named.items c.swap_dirty.new.other.items c.self.inside.due.items None w1) (sym c.in_default.ensures.log)
-    (point_sound c.self.inside.halves c.self.inside.frozen.items c.freeze.new.bytes c.self.inside.named_dirty.items c.self.inside.other_dirty.items c.self.inside.due.items c.self.inside.left w0 (state_in c.args.tree.now) alone (c.self.invariant.6 fine).1 (c.self.invariant.7 fine k) is is_state spelled (g.met.D.Disk.bytes c.self.inside.disk) w1 (g.met.D.Disk.bytes c.point_on.new.disk) c.swap_dirty.new.named.items c.swap_dirty.new.other.items (ap (λ v. v.items) c.swap_dirty.ensures.kept) made))))
+    (point_sound c.self.inside.halves c.self.inside.frozen.items c.freeze.new.bytes c.self.inside.named_dirty.items c.self.inside.other_dirty.items
+    c.self.inside.due.items c.self.inside.left w0 (state_in c.args.tree.now) alone (c.self.invariant.6 fine).1 (c.self.invariant.7 fine k) is
+    is_state spelled (g.met.D.Disk.bytes c.self.inside.disk) w1 (g.met.D.Disk.bytes c.point_on.new.disk) c.swap_dirty.new.named.items
+    c.swap_dirty.new.other.items (ap (λ v. v.items) c.swap_dirty.ensures.kept) made))))
 
 pub invariant_of-self-2 : goal.invariant_of-self-2
 invariant_of-self-2 g c =
@@ -142,7 +190,8 @@ invariant_of-self-2 g c =
     let alone : c.self.inside.left ≡ None = ap (λ (h : JournalView). h.left) c.self.view_is ∙ c.requires.alone in
     let geometry : c.args.tree.now.geometry ≡ c.self.inside.halves.geometry = c.requires.geometry ∙ sym (ap (λ (h : JournalView). h.geometry) c.self.view_is) in
     let is_state = subst (λ (x : Geometry). IsState x (state_in c.args.tree.now)) geometry c.requires.whole.state in
-    let frozen = whole_put c.self.inside.frozen.len c.freeze.new.bytes c.self.inside.frozen.items (c.freeze.ensures.size ∙ ap length c.deref_mut.ensures.value) (c.freeze.ensures.size ∙ c.deref_mut.ensures.len) in
+    let frozen = whole_put c.self.inside.frozen.len c.freeze.new.bytes c.self.inside.frozen.items
+    (c.freeze.ensures.size ∙ ap length c.deref_mut.ensures.value) (c.freeze.ensures.size ∙ c.deref_mut.ensures.len) in
     let log = c.in_default.ensures.log in
     let same = c.point_on.ensures.geometry in (
       omega (arith, c.self.invariant.0, c.point_on.ensures.call.1, ap (λ (l : Log). device_size (layout l)) log),
@@ -158,14 +207,23 @@ invariant_of-self-2 g c =
       (λ fine k.
           let w0 = g.D.Disk.medium c.self.inside.disk in
           let is : holds c.self.inside.halves.geometry w0.now ≡ Some (state_in c.args.tree.now) = ap committed c.self.view_is ∙ c.requires.state k in
-          let right = frozen_right c.self.inside.halves c.self.inside.frozen.items c.self.inside.named_dirty.items c.self.inside.other_dirty.items c.self.inside.due.items c.self.inside.left w0 (state_in c.args.tree.now) alone (c.self.invariant.7 fine k) is c.args.tree.now.geometry c.deref.result.now c.deref_mut.result.now geometry c.deref.ensures.value c.deref_mut.ensures.value in
-          let spelled : c.freeze.new.bytes ≡ image_of 2 c.self.inside.halves.geometry (state_in c.args.tree.now) = c.freeze.ensures.image right ∙ ap (λ (x : Geometry). image_of 2 x (state_in c.args.tree.now)) geometry in
+          let right = frozen_right c.self.inside.halves c.self.inside.frozen.items c.self.inside.named_dirty.items c.self.inside.other_dirty.items
+          c.self.inside.due.items c.self.inside.left w0 (state_in c.args.tree.now) alone (c.self.invariant.7 fine k) is c.args.tree.now.geometry
+          c.deref.result.now c.deref_mut.result.now geometry c.deref.ensures.value c.deref_mut.ensures.value in
+          let spelled : c.freeze.new.bytes ≡ image_of 2 c.self.inside.halves.geometry (state_in c.args.tree.now) = c.freeze.ensures.image right
+          ∙ ap (λ (x : Geometry). image_of 2 x (state_in c.args.tree.now)) geometry in
           let w1 = g.D.Disk.medium c.point_on.new.disk in
           let made = subst (λ (l : List ℕ). IsPointed c.self.inside.halves l w0 w1) (c.deref-2.ensures.value ∙ frozen) (c.in_default.ensures.pointed k) in
-          subst (λ (o : Option ℕ). IsSoundJournal c.point_on.new.halves (whole_items c.self.inside.frozen.len c.freeze.new.bytes c.self.inside.frozen.items) c.swap_dirty.new.named.items c.swap_dirty.new.other.items c.self.inside.due.items o w1) (sym alone)
+          subst (λ (o : Option ℕ). IsSoundJournal c.point_on.new.halves
+          (whole_items c.self.inside.frozen.len c.freeze.new.bytes c.self.inside.frozen.items) c.swap_dirty.new.named.items
+          c.swap_dirty.new.other.items c.self.inside.due.items o w1) (sym alone)
           (subst (λ (l : List ℕ). IsSoundJournal c.point_on.new.halves l c.swap_dirty.new.named.items c.swap_dirty.new.other.items c.self.inside.due.items None w1) (sym frozen)
           (subst (λ (l : Log). IsSoundJournal l c.freeze.new.bytes c.swap_dirty.new.named.items c.swap_dirty.new.other.items c.self.inside.due.items None w1) (sym c.in_default.ensures.log)
-          (point_sound c.self.inside.halves c.self.inside.frozen.items c.freeze.new.bytes c.self.inside.named_dirty.items c.self.inside.other_dirty.items c.self.inside.due.items c.self.inside.left w0 (state_in c.args.tree.now) alone (c.self.invariant.6 fine).1 (c.self.invariant.7 fine k) is is_state spelled (g.met.D.Disk.bytes c.self.inside.disk) w1 (g.met.D.Disk.bytes c.point_on.new.disk) c.swap_dirty.new.named.items c.swap_dirty.new.other.items (ap (λ v. v.items) c.swap_dirty.ensures.kept) made)))),
+          (point_sound c.self.inside.halves c.self.inside.frozen.items c.freeze.new.bytes c.self.inside.named_dirty.items
+          c.self.inside.other_dirty.items c.self.inside.due.items c.self.inside.left w0 (state_in c.args.tree.now) alone
+          (c.self.invariant.6 fine).1 (c.self.invariant.7 fine k) is is_state spelled (g.met.D.Disk.bytes c.self.inside.disk) w1
+          (g.met.D.Disk.bytes c.point_on.new.disk) c.swap_dirty.new.named.items c.swap_dirty.new.other.items
+          (ap (λ v. v.items) c.swap_dirty.ensures.kept) made)))),
       c.self.invariant.8,
       c.self.invariant.9,
     )

@@ -1,4 +1,4 @@
--- The bytes from the start up to the newline's place are the first line, since no newline stands before it.
+-- The bytes from the start up to the newline's place are the first line, since there is no newline before it.
 use Rattle.std.proofs.Common.{length, sym, ap, ◌∙◌, arith}
 use Rattle.std.proofs.lemmas.List.Edits.{length-between}
 use Rattle.message.proofs.ReaderLemmas.{first_line-slice}

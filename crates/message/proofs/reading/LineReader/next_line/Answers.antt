@@ -7,7 +7,7 @@ use Rattle.message.specs.declared.reading.ReadFault.{ReadFault}
 use Rattle.message.specs.Reader.{unread, line_of, Finds}
 use Rattle.message.proofs.reading.LineReader.next_line.Goals as goal
 
--- nothing is said of bytes that are not known
+-- nothing is claimed of bytes that are not known
 of_unknown : (r : Result Found ReadFault) (line : List ℕ) (left : Option (List ℕ)) → Finds r None line left
 of_unknown (Ok Line) line left = tt
 of_unknown (Ok TooLong) line left = tt
@@ -22,4 +22,5 @@ of_kept (Some xs) (Some ys) r line left kept h = subst (λ (zs : List ℕ). Find
 pub returns-clause-found : goal.returns-clause-found
 returns-clause-found g c =
     let kept = rw c.forget_line.ensures.bytes at c.in_ok-gather.ensures.bytes in
-    of_kept (unread g.R.Read.remaining c.args.self.now) (unread g.R.Read.remaining c.gather.new.self) c.give.result (line_of c.give.new.self) (unread g.R.Read.remaining c.give.new.self) kept c.give.ensures.found
+    of_kept (unread g.R.Read.remaining c.args.self.now) (unread g.R.Read.remaining c.gather.new.self) c.give.result (line_of c.give.new.self)
+    (unread g.R.Read.remaining c.give.new.self) kept c.give.ensures.found

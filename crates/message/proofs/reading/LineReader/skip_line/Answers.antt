@@ -25,7 +25,8 @@ returns-clause-passed g c =
         | else-not-self-via-else-not-self w' ↦ inl w'.if-not-self.false
       ])
     ] in
-    passed a known (held_bytes before.held) (held_bytes c.pass_line.new.self) lost (IsWhole-told before.ended (held_bytes before.held) (g.R.Read.remaining before.reader) whole) c.pass_line.ensures.bytes
+    passed a known (held_bytes before.held) (held_bytes c.pass_line.new.self) lost
+    (IsWhole-told before.ended (held_bytes before.held) (g.R.Read.remaining before.reader) whole) c.pass_line.ensures.bytes
 
 pub returns-clause-closed : goal.returns-clause-closed
 returns-clause-closed g c =

@@ -16,7 +16,8 @@ invariant-loop-done g l = record {
   faults : (g.D.Disk.medium l.disk).faults ≡ (g.D.Disk.medium l.initial.disk).faults;
   whole : l.done < length l.messages → l.done % 64 ≡ 0;
   takes : g.D.Disk.keeps → moment (g.D.Disk.medium l.disk) ≡ moment (g.D.Disk.medium l.initial.disk) + 4 * batches l.done;
-  so_far : g.D.Disk.keeps → SoFar (layout_of l.self.geometry) l.self.number l.used (records_of (take l.done l.messages)) (records_of l.messages) (g.D.Disk.medium l.initial.disk) (g.D.Disk.medium l.disk);
+  so_far : g.D.Disk.keeps → SoFar (layout_of l.self.geometry) l.self.number l.used (records_of (take l.done l.messages)) (records_of l.messages)
+      (g.D.Disk.medium l.initial.disk) (g.D.Disk.medium l.disk);
 }
 
 abbrev pub decreases-loop-done : goal.decreases-loop-done

@@ -10,7 +10,8 @@ use Rattle.parcel.proofs.Levels.{no_path, label_path, path_from, on_ok, map_err,
 use Rattle.parcel.proofs.parts.putting.put_volume.Goals as goal
 
 pub put_volume_itself-requires-clause-parcels : goal.put_volume_itself-requires-clause-parcels
-put_volume_itself-requires-clause-parcels c = λ a v. subst (λ q. IsKindOf (a ∷ v ∷ q) c.args.p → Fits c.args.g.now (a ∷ v ∷ q) c.args.p) (no_path c.args.path.now c.in-empty.len_below) (c.requires.parcels a v)
+put_volume_itself-requires-clause-parcels c = λ a v. subst (λ q. IsKindOf (a ∷ v ∷ q) c.args.p → Fits c.args.g.now (a ∷ v ∷ q) c.args.p)
+    (no_path c.args.path.now c.in-empty.len_below) (c.requires.parcels a v)
 
 pub returns-in-empty-clause-kind : goal.returns-in-empty-clause-kind
 returns-in-empty-clause-kind c =
@@ -18,7 +19,8 @@ returns-in-empty-clause-kind c =
 
 pub returns-in-empty-clause-err : goal.returns-in-empty-clause-err
 returns-in-empty-clause-err c =
-    subst (λ q. IfErr c.put_volume_itself.result (λ back. (a v : ℕ) → HandsBack (IsKindOf (a ∷ v ∷ q) c.args.p) q c.args.p back (in_child in_volume c.args.place.now) (in_child in_volume c.put_volume_itself.new.place)))
+    subst (λ q. IfErr c.put_volume_itself.result (λ back. (a v : ℕ) → HandsBack (IsKindOf (a ∷ v ∷ q) c.args.p) q c.args.p back
+    (in_child in_volume c.args.place.now) (in_child in_volume c.put_volume_itself.new.place)))
     (sym (no_path c.args.path.now c.in-empty.len_below)) c.put_volume_itself.ensures.err
 
 pub put_logical-requires-clause-parcels : goal.put_logical-requires-clause-parcels
@@ -27,7 +29,8 @@ put_logical-requires-clause-parcels c = λ a v.
 
 pub returns-then-child-eq0-clause-kind : goal.returns-then-child-eq0-clause-kind
 returns-then-child-eq0-clause-kind c =
-    on_ok c.put_logical.result (λ h. λ a v. subst (λ q. IsKindOf (a ∷ v ∷ q) c.args.p) (sym (path_from c.args.path.now 0 c.in-len1-up.len_at_least c.if-child-eq0.true)) (h a v)) c.put_logical.ensures.kind
+    on_ok c.put_logical.result (λ h. λ a v. subst (λ q. IsKindOf (a ∷ v ∷ q) c.args.p)
+    (sym (path_from c.args.path.now 0 c.in-len1-up.len_at_least c.if-child-eq0.true)) (h a v)) c.put_logical.ensures.kind
 
 pub returns-then-child-eq0-clause-err : goal.returns-then-child-eq0-clause-err
 returns-then-child-eq0-clause-err c =
@@ -41,7 +44,9 @@ returns-then-child-eq0-clause-err c =
 
 pub returns-else-child-eq0-clause-kind : goal.returns-else-child-eq0-clause-kind
 returns-else-child-eq0-clause-kind c =
-    on_ok c.put_label.result (λ h. λ a v. subst (λ q. IsKindOf (a ∷ v ∷ q) c.args.p) (sym (label_path c.args.g.now c.args.path.now c.in-len1-up.len_at_least c.if-child-eq0.false c.requires.path)) (h a v)) c.put_label.ensures.kind
+    on_ok c.put_label.result (λ h. λ a v. subst (λ q. IsKindOf (a ∷ v ∷ q) c.args.p)
+    (sym (label_path c.args.g.now c.args.path.now c.in-len1-up.len_at_least c.if-child-eq0.false c.requires.path)) (h a v))
+    c.put_label.ensures.kind
 
 pub returns-else-child-eq0-clause-err : goal.returns-else-child-eq0-clause-err
 returns-else-child-eq0-clause-err c =

@@ -6,4 +6,5 @@ use Rattle.stripe.specs.Stripe.{StripePart}
 use Rattle.parcel.proofs.parts.starting.new_logical.Given as goal
 
 abbrev pub invariant-loop : goal.invariant-loop
-invariant-loop l = (length l.stripes.items ≡ l.counter) × AllByRecursion (IsWholeChild (λ (p : StripePart). p ≡ record { quota = l.g.quota; entries = [] })) l.stripes.items × (l.g.stripes ≤ vec_capacity l.stripes)
+invariant-loop l = (length l.stripes.items ≡ l.counter) × AllByRecursion
+    (IsWholeChild (λ (p : StripePart). p ≡ record { quota = l.g.quota; entries = [] })) l.stripes.items × (l.g.stripes ≤ vec_capacity l.stripes)

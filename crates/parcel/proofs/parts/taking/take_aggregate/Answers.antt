@@ -36,7 +36,8 @@ returns-in-Some-clause-none c =
     let fits : FitsAggregate g c.in-Some.aggregate = subst (λ x. IfSome x (FitsAggregate g)) was c.requires.fits in
     let path : (i < g.volumes) × IsVolumePath g (rest_of p) = row_path g.volumes (IsVolumePath g) p c.in-len1-up.len_at_least c.requires.path in
     let at : c.index_mut.result.now ≡ slice_index_or xs i None = child_read xs i g.volumes c.index_mut.result.now path.0 fits.count c.index_mut.ensures.value in
-    map_none c.take_volume.result (through (Refuses (IsVolumePath g)) (Refuses (IsAggregatePath g)) in_volume Inner xs p c.index_mut.result.now _ _ _ c.in-len1-up.len_at_least (ap (in_child in_aggregate) was) at
+    map_none c.take_volume.result (through (Refuses (IsVolumePath g)) (Refuses (IsAggregatePath g)) in_volume Inner xs p c.index_mut.result.now _ _
+    _ c.in-len1-up.len_at_least (ap (in_child in_aggregate) was) at
     (row_refused in_volume Inner xs i c.take_volume.new.place (omega arith) (IsVolumePath g) g.volumes (rest_of p) path.0)) c.take_volume.ensures.none
 
 pub returns-in-Some-clause-fits : goal.returns-in-Some-clause-fits
@@ -53,4 +54,5 @@ returns-in-Some-clause-fits c =
 
 pub returns-in-Some-clause-lent : goal.returns-in-Some-clause-lent
 returns-in-Some-clause-lent c =
-    map_some c.take_volume.result (λ r h. λ a. subst (λ q. Fits c.args.g.now (a ∷ q) r) (sym (split c.args.path.now c.in-len1-up.len_at_least)) (h a (slice_index_or c.args.path.now 0 0))) c.take_volume.ensures.lent
+    map_some c.take_volume.result (λ r h. λ a. subst (λ q. Fits c.args.g.now (a ∷ q) r) (sym (split c.args.path.now c.in-len1-up.len_at_least))
+    (h a (slice_index_or c.args.path.now 0 0))) c.take_volume.ensures.lent

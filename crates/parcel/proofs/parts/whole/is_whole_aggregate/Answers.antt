@@ -8,4 +8,5 @@ use Rattle.parcel.proofs.parts.whole.is_whole_aggregate.Goals as goal
 
 pub returns-in-Some : goal.returns-in-Some
 returns-in-Some c =
-    all_from_yields_List is_whole_volume _ _ _ c.all.ensures.ran (YieldsList-from_slice c.in-Some.aggregate.volumes.items cc) (λ x b q k. search (rules, tests)) ∙ ap is_whole_aggregate (sym c.in-Some.is)
+    all_from_yields_List is_whole_volume _ _ _ c.all.ensures.ran (YieldsList-from_slice c.in-Some.aggregate.volumes.items cc)
+    (λ x b q k. search (rules, tests)) ∙ ap is_whole_aggregate (sym c.in-Some.is)

@@ -1,4 +1,4 @@
--- What a stripe's piece says fits there.
+-- What a stripe's piece decodes to fits there.
 use Rattle.std.proofs.Common.{◌≡◌, refl, sym, ◌∙◌, ap, subst, Some}
 use Rattle.std.specs.Prelude.{IfSome}
 use Rattle.stripe.specs.Stripe.{StripePart, content_at}

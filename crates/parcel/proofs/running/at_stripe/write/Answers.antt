@@ -20,8 +20,13 @@ returns-in-Some-clause-step c =
     let s = group g c.args.f c.args.b in
     let h = by_stripe c.args.standing p in
     λ a v range.
-    let count : group_count g (only a v h) a v s ≡ length p.entries = count_is_length g s (only a v h) a v p c.has_room-room.ensures.kept c.requires.fits (λ i j _. ap (λ h. h.blocks i j) (at_volume a v h)) in
-    refused g (only a v h) (Write a v c.args.f c.args.b c.args.content.now) _ (write_tests g a v c.args.f c.args.b c.args.content.now h _ range count ∙ (λ i. unless_closed c.args.standing.made c.args.standing.sealed (unless (has_file c.args.standing.files c.args.f) File (unless (sym c.has_room-room.ensures.room i) Space None))) ∙ sym c.write_refusal.ensures ∙ c.in-Some.is)
+    let count : group_count g (only a v h) a v s ≡ length p.entries = count_is_length g s (only a v h) a v p c.has_room-room.ensures.kept
+    c.requires.fits (λ i j _. ap (λ h. h.blocks i j) (at_volume a v h)) in
+    refused g (only a v h) (Write a v c.args.f c.args.b c.args.content.now) _
+    (write_tests g a v c.args.f c.args.b c.args.content.now h _ range count
+    ∙ (λ i. unless_closed c.args.standing.made c.args.standing.sealed
+    (unless (has_file c.args.standing.files c.args.f) File (unless (sym c.has_room-room.ensures.room i) Space None)))
+    ∙ sym c.write_refusal.ensures ∙ c.in-Some.is)
 
 pub returns-clause-step : goal.returns-clause-step
 returns-clause-step c =
@@ -30,6 +35,11 @@ returns-clause-step c =
     let s = group g c.args.f c.args.b in
     let h = by_stripe c.args.standing p in
     λ a v range.
-    let count : group_count g (only a v h) a v s ≡ length p.entries = count_is_length g s (only a v h) a v p c.has_room-room.ensures.kept c.requires.fits (λ i j _. ap (λ h. h.blocks i j) (at_volume a v h)) in
-    passed g (only a v h) (Write a v c.args.f c.args.b c.args.content.now) _ _ (write_tests g a v c.args.f c.args.b c.args.content.now h _ range count ∙ (λ i. unless_closed c.args.standing.made c.args.standing.sealed (unless (has_file c.args.standing.files c.args.f) File (unless (sym c.has_room-room.ensures.room i) Space None))) ∙ sym c.write_refusal.ensures ∙ c.in_default.is) refl
+    let count : group_count g (only a v h) a v s ≡ length p.entries = count_is_length g s (only a v h) a v p c.has_room-room.ensures.kept
+    c.requires.fits (λ i j _. ap (λ h. h.blocks i j) (at_volume a v h)) in
+    passed g (only a v h) (Write a v c.args.f c.args.b c.args.content.now) _ _
+    (write_tests g a v c.args.f c.args.b c.args.content.now h _ range count
+    ∙ (λ i. unless_closed c.args.standing.made c.args.standing.sealed
+    (unless (has_file c.args.standing.files c.args.f) File (unless (sym c.has_room-room.ensures.room i) Space None)))
+    ∙ sym c.write_refusal.ensures ∙ c.in_default.is) refl
     (effect_write h a v (content_at c.set.new.self.entries) c.args.f c.args.b c.args.content.now c.set.ensures.holds.content)

@@ -15,4 +15,5 @@ returns c =
     let h = volume_facts g w in
     let e = c.volume_totals-totals.ensures in
     λ a v range. passed g (only a v h) (AskUsage a v) _ _ (usage_tests g a v h range ∙ sym c.volume_refusal.ensures ∙ c.in_default.is)
-    ((λ i. Usage (e i).files (e i).blocks w.sealed) ∙ (λ i. Usage (file_total g (sym (at_volume a v h) i).files) (block_total g (sym (at_volume a v h) i).blocks) (sym (at_volume a v h) i).sealed)) refl
+    ((λ i. Usage (e i).files (e i).blocks w.sealed) ∙ (λ i. Usage (file_total g (sym (at_volume a v h) i).files)
+    (block_total g (sym (at_volume a v h) i).blocks) (sym (at_volume a v h) i).sealed)) refl

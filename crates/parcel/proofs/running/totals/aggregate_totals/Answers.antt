@@ -19,7 +19,9 @@ volume_in-requires c =
 pub plus-totals-requires-clause-volumes : goal.plus-totals-requires-clause-volumes
 plus-totals-requires-clause-volumes c =
     let g = c.args.g.now in
-    let so_far : IsFew (c.loop-v.v * 8) c.loop-v.totals = subst (IsFew (c.loop-v.v * 8)) (sym c.loop-v.invariant) (few_of_sum c.loop-v.v 1 (λ v. totals_of g (by_aggregate g c.args.aggregate.now v)) (omega arith) (λ v. few_of_one g (by_aggregate g c.args.aggregate.now v))) in
+    let so_far : IsFew (c.loop-v.v * 8) c.loop-v.totals = subst (IsFew (c.loop-v.v * 8)) (sym c.loop-v.invariant)
+    (few_of_sum c.loop-v.v 1 (λ v. totals_of g (by_aggregate g c.args.aggregate.now v)) (omega arith)
+    (λ v. few_of_one g (by_aggregate g c.args.aggregate.now v))) in
     let here : IsFew 1 c.volume_in.result = subst (IsFew 1) (sym c.volume_in.ensures) (few_of_one g (by_child (volume_facts g) c.index.result.now)) in
     let range = g.volumes_range.1 in
     let row = c.args.aggregate.now.volumes in
@@ -28,7 +30,9 @@ plus-totals-requires-clause-volumes c =
 pub plus-totals-requires-clause-files : goal.plus-totals-requires-clause-files
 plus-totals-requires-clause-files c =
     let g = c.args.g.now in
-    let so_far : IsFew (c.loop-v.v * 8) c.loop-v.totals = subst (IsFew (c.loop-v.v * 8)) (sym c.loop-v.invariant) (few_of_sum c.loop-v.v 1 (λ v. totals_of g (by_aggregate g c.args.aggregate.now v)) (omega arith) (λ v. few_of_one g (by_aggregate g c.args.aggregate.now v))) in
+    let so_far : IsFew (c.loop-v.v * 8) c.loop-v.totals = subst (IsFew (c.loop-v.v * 8)) (sym c.loop-v.invariant)
+    (few_of_sum c.loop-v.v 1 (λ v. totals_of g (by_aggregate g c.args.aggregate.now v)) (omega arith)
+    (λ v. few_of_one g (by_aggregate g c.args.aggregate.now v))) in
     let here : IsFew 1 c.volume_in.result = subst (IsFew 1) (sym c.volume_in.ensures) (few_of_one g (by_child (volume_facts g) c.index.result.now)) in
     let range = g.volumes_range.1 in
     let row = c.args.aggregate.now.volumes in
@@ -37,7 +41,9 @@ plus-totals-requires-clause-files c =
 pub plus-totals-requires-clause-blocks : goal.plus-totals-requires-clause-blocks
 plus-totals-requires-clause-blocks c =
     let g = c.args.g.now in
-    let so_far : IsFew (c.loop-v.v * 8) c.loop-v.totals = subst (IsFew (c.loop-v.v * 8)) (sym c.loop-v.invariant) (few_of_sum c.loop-v.v 1 (λ v. totals_of g (by_aggregate g c.args.aggregate.now v)) (omega arith) (λ v. few_of_one g (by_aggregate g c.args.aggregate.now v))) in
+    let so_far : IsFew (c.loop-v.v * 8) c.loop-v.totals = subst (IsFew (c.loop-v.v * 8)) (sym c.loop-v.invariant)
+    (few_of_sum c.loop-v.v 1 (λ v. totals_of g (by_aggregate g c.args.aggregate.now v)) (omega arith)
+    (λ v. few_of_one g (by_aggregate g c.args.aggregate.now v))) in
     let here : IsFew 1 c.volume_in.result = subst (IsFew 1) (sym c.volume_in.ensures) (few_of_one g (by_child (volume_facts g) c.index.result.now)) in
     let range = g.volumes_range.1 in
     let row = c.args.aggregate.now.volumes in

@@ -12,7 +12,9 @@ pub plus-totals-requires-clause-volumes : goal.plus-totals-requires-clause-volum
 plus-totals-requires-clause-volumes c =
     let g = c.args.g.now in
     let so_far : IsFew (c.loop-a.a * 64) c.loop-a.totals = subst (IsFew (c.loop-a.a * 64)) (sym c.loop-a.invariant) (few_of_aggregates g c.loop-a.a (by_root g c.args.root.now)) in
-    let here : IsFew (g.volumes * 8) c.aggregate_in.result = subst (IsFew (g.volumes * 8)) (sym c.aggregate_in.ensures) (few_of_sum g.volumes 1 (λ v. totals_of g (by_child (λ r. by_aggregate g r v) c.index.result.now)) (omega arith) (λ v. few_of_one g (by_child (λ r. by_aggregate g r v) c.index.result.now))) in
+    let here : IsFew (g.volumes * 8) c.aggregate_in.result = subst (IsFew (g.volumes * 8)) (sym c.aggregate_in.ensures)
+    (few_of_sum g.volumes 1 (λ v. totals_of g (by_child (λ r. by_aggregate g r v) c.index.result.now)) (omega arith)
+    (λ v. few_of_one g (by_child (λ r. by_aggregate g r v) c.index.result.now))) in
     let few = g.volumes_range.1 in
     let range = g.aggregates_range.1 in
     let row = c.args.root.now.aggregates in
@@ -22,7 +24,9 @@ pub plus-totals-requires-clause-files : goal.plus-totals-requires-clause-files
 plus-totals-requires-clause-files c =
     let g = c.args.g.now in
     let so_far : IsFew (c.loop-a.a * 64) c.loop-a.totals = subst (IsFew (c.loop-a.a * 64)) (sym c.loop-a.invariant) (few_of_aggregates g c.loop-a.a (by_root g c.args.root.now)) in
-    let here : IsFew (g.volumes * 8) c.aggregate_in.result = subst (IsFew (g.volumes * 8)) (sym c.aggregate_in.ensures) (few_of_sum g.volumes 1 (λ v. totals_of g (by_child (λ r. by_aggregate g r v) c.index.result.now)) (omega arith) (λ v. few_of_one g (by_child (λ r. by_aggregate g r v) c.index.result.now))) in
+    let here : IsFew (g.volumes * 8) c.aggregate_in.result = subst (IsFew (g.volumes * 8)) (sym c.aggregate_in.ensures)
+    (few_of_sum g.volumes 1 (λ v. totals_of g (by_child (λ r. by_aggregate g r v) c.index.result.now)) (omega arith)
+    (λ v. few_of_one g (by_child (λ r. by_aggregate g r v) c.index.result.now))) in
     let few = g.volumes_range.1 in
     let range = g.aggregates_range.1 in
     let row = c.args.root.now.aggregates in
@@ -32,7 +36,9 @@ pub plus-totals-requires-clause-blocks : goal.plus-totals-requires-clause-blocks
 plus-totals-requires-clause-blocks c =
     let g = c.args.g.now in
     let so_far : IsFew (c.loop-a.a * 64) c.loop-a.totals = subst (IsFew (c.loop-a.a * 64)) (sym c.loop-a.invariant) (few_of_aggregates g c.loop-a.a (by_root g c.args.root.now)) in
-    let here : IsFew (g.volumes * 8) c.aggregate_in.result = subst (IsFew (g.volumes * 8)) (sym c.aggregate_in.ensures) (few_of_sum g.volumes 1 (λ v. totals_of g (by_child (λ r. by_aggregate g r v) c.index.result.now)) (omega arith) (λ v. few_of_one g (by_child (λ r. by_aggregate g r v) c.index.result.now))) in
+    let here : IsFew (g.volumes * 8) c.aggregate_in.result = subst (IsFew (g.volumes * 8)) (sym c.aggregate_in.ensures)
+    (few_of_sum g.volumes 1 (λ v. totals_of g (by_child (λ r. by_aggregate g r v) c.index.result.now)) (omega arith)
+    (λ v. few_of_one g (by_child (λ r. by_aggregate g r v) c.index.result.now))) in
     let few = g.volumes_range.1 in
     let range = g.aggregates_range.1 in
     let row = c.args.root.now.aggregates in
@@ -45,4 +51,5 @@ loop-a-preserved c =
     let below : c.loop-a.a < length row.items = omega (arith, row.ok.0) in
     let at : slice_index_or row.items c.loop-a.a None ≡ c.index.result.now = sym (get_or_read row.items _ _ below c.index.ensures None) in
     let each : ℕ → Totals = λ a. sum_totals g.volumes (λ v. totals_of g (by_root g c.args.root.now a v)) in
-    sum_totals_step c.loop-a.a each _ _ _ c.loop-a.invariant (c.aggregate_in.ensures ∙ ap (λ o. sum_totals g.volumes (λ v. totals_of g (by_child (λ r. by_aggregate g r v) o))) (sym at)) c.plus-totals.ensures
+    sum_totals_step c.loop-a.a each _ _ _ c.loop-a.invariant (c.aggregate_in.ensures
+    ∙ ap (λ o. sum_totals g.volumes (λ v. totals_of g (by_child (λ r. by_aggregate g r v) o))) (sym at)) c.plus-totals.ensures

@@ -15,7 +15,8 @@ returns-in_err-parcels-clause-none c =
     let g = c.self.inside.geometry in
     let new : Nodes = in_child in_root c.take_at.new.root in
     none_either_way c.from_residual.result (subst (λ (s : TreeView). (p : Path) → IsAffinityOf s.geometry p c.args.a → HasGap s.geometry p (in_tree s) × SameNodes (in_tree s) new) c.self.view_is
-    (λ p h. subst (λ q. HasGap g q (in_child in_root c.self.inside.root) × SameNodes (in_child in_root c.self.inside.root) new) (path_unique g (path c.place-place.result) p c.args.a c.place-place.ensures h)
+    (λ p h. subst (λ q. HasGap g q (in_child in_root c.self.inside.root) × SameNodes (in_child in_root c.self.inside.root) new)
+    (path_unique g (path c.place-place.result) p c.args.a c.place-place.ensures h)
     (gap_from_refused g (path c.place-place.result) _ new c.in_err-parcels.ensures.none)))
 
 pub returns-clause-some : goal.returns-clause-some
@@ -23,5 +24,7 @@ returns-clause-some c =
     let g = c.self.inside.geometry in
     let new : Nodes = in_child in_root c.take_at.new.root in
     subst (λ (s : TreeView). (p : Path) → IsAffinityOf s.geometry p c.args.a → LendsAt s.geometry p c.standing_at-standing.result c.in_ok-parcels.parcels (in_tree s) new) c.self.view_is
-    (λ p h. subst (λ q. LendsAt g q c.standing_at-standing.result c.in_ok-parcels.parcels (in_child in_root c.self.inside.root) new) (path_unique g (path c.place-place.result) p c.args.a c.place-place.ensures h)
-    (lent_from_taken g (path c.place-place.result) c.standing_at-standing.result c.in_ok-parcels.parcels _ new c.in_ok-parcels.ensures.some c.in_ok-parcels.ensures.lent c.standing_at-standing.ensures))
+    (λ p h. subst (λ q. LendsAt g q c.standing_at-standing.result c.in_ok-parcels.parcels (in_child in_root c.self.inside.root) new)
+    (path_unique g (path c.place-place.result) p c.args.a c.place-place.ensures h)
+    (lent_from_taken g (path c.place-place.result) c.standing_at-standing.result c.in_ok-parcels.parcels _ new c.in_ok-parcels.ensures.some
+    c.in_ok-parcels.ensures.lent c.standing_at-standing.ensures))

@@ -13,7 +13,8 @@ use Rattle.parcel.proofs.tree.Tree.restore.Goals as goal
 
 pub put_at-requires-clause-parcels : goal.put_at-requires-clause-parcels
 put_at-requires-clause-parcels c =
-    subst (λ (s : TreeView). (q : Path) → IsAffinityOf s.geometry q c.args.a → IsKindOf q c.args.p → Fits s.geometry q c.args.p) (sym c.self.view_is) c.requires.fits (path c.place-place.result) c.place-place.ensures
+    subst (λ (s : TreeView). (q : Path) → IsAffinityOf s.geometry q c.args.a → IsKindOf q c.args.p → Fits s.geometry q c.args.p)
+    (sym c.self.view_is) c.requires.fits (path c.place-place.result) c.place-place.ensures
 
 pub returns-clause-ok : goal.returns-clause-ok
 returns-clause-ok c =
@@ -32,7 +33,8 @@ returns-clause-err c =
     let g = c.self.inside.geometry in
     map_err c.put_at.result (λ r k.
     subst (λ (s : TreeView). (q : Path) → IsAffinityOf s.geometry q c.args.a → IsOut q (in_tree s) → IsKindOf q c.args.p → ⊥) c.self.view_is
-    (λ q h. subst (λ r. IsOut r (in_child in_root c.self.inside.root) → IsKindOf r c.args.p → ⊥) (path_unique g (path c.place-place.result) q c.args.a c.place-place.ensures h) k.why)) c.put_at.ensures.err
+    (λ q h. subst (λ r. IsOut r (in_child in_root c.self.inside.root) → IsKindOf r c.args.p → ⊥)
+    (path_unique g (path c.place-place.result) q c.args.a c.place-place.ensures h) k.why)) c.put_at.ensures.err
 
 pub returns-clause-same : goal.returns-clause-same
 returns-clause-same c =

@@ -13,6 +13,7 @@ returns-clause-sound c =
     let x = server_state c.args.self.now in
     let passed : refusal g x m ≡ None = search rules in
     record {
-      state = subst (IsState g) (sym (c.in_ok-apply.ensures.state ∙ ap (λ r. (outcome r (accepted_reply g x m) (effect x m) x).1) (sym passed))) (step_kept g x m c.requires.sound.state c.know_message.ensures);
+      state = subst (IsState g) (sym (c.in_ok-apply.ensures.state ∙ ap (λ r. (outcome r (accepted_reply g x m) (effect x m) x).1) (sym passed)))
+          (step_kept g x m c.requires.sound.state c.know_message.ensures);
       counted = c.apply.ensures.counted;
     }

@@ -11,7 +11,8 @@ use Rattle.plain.specs.Server.{server_state}
 use Rattle.plain.proofs.server.Server.block_shown.Goals as goal
 
 -- what a look-up finds is the block of the reply
-looked_up : (r : Option (Bor Block)) (found : Option Block) (x : State) (told : Reply × State) → option_copied r ≡ found → told ≡ (block_reply found, x) → IfSome r (λ content. told ≡ (shows content.now, x))
+looked_up : (r : Option (Bor Block)) (found : Option Block) (x : State) (told : Reply × State) → option_copied r ≡ found → told
+    ≡ (block_reply found, x) → IfSome r (λ content. told ≡ (shows content.now, x))
 looked_up (Some content) found x told h e = e ∙ ap (λ o. (block_reply o, x)) (sym h)
 looked_up None found x told h e = tt
 

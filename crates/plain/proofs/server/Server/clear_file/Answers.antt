@@ -1,4 +1,4 @@
--- Each turn removes one block; where the file has none left, leaving out its blocks changes nothing.
+-- Each iteration removes one block; where the file has none left, leaving out its blocks changes nothing.
 use Rattle.std.proofs.Common.{◌≡◌, arith, ap, sym, ◌∙◌, subst}
 use Rattle.meaning.specs.State.{IsState, one_if, is_block_of_file, is_block}
 use Rattle.plain.specs.Server.{server_state}

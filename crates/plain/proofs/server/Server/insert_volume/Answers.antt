@@ -14,5 +14,6 @@ returns-in-Err-clause-unchanged c =
     let after = set.contains volume_order c.set_label.new.self.made in
     let without = set.contains volume_order c.remove.new.self in
     λ i. record (c.in-Err.ensures.unchanged i) {
-      made = volume_taken_back old after without a v (ap (λ x. x.made) c.in-Err.ensures.unchanged ∙ one_volume old with a v c.in_ok-insert.ensures.updates.0) (no_volume after without a v c.remove.ensures.updates.0) c.requires.absent i;
+      made = volume_taken_back old after without a v (ap (λ x. x.made) c.in-Err.ensures.unchanged
+          ∙ one_volume old with a v c.in_ok-insert.ensures.updates.0) (no_volume after without a v c.remove.ensures.updates.0) c.requires.absent i;
     }

@@ -10,7 +10,9 @@ use Rattle.plain.proofs.ServerCounts.{noted_one_more}
 use Rattle.plain.proofs.server.Server.note_one_more.Goals as goal
 
 -- what is noted in a map is what is noted in its entries
-as_noted : (es fs : List (StripeKey × ℕ)) (wanted : StripeKey → ℕ) → es ≡ fs → ((k : StripeKey) → unwrap_or (lookup (is_at (by_file k)) fs) 0 ≡ wanted k) → (k : StripeKey) → unwrap_or (lookup (is_at (by_file k)) es) 0 ≡ wanted k
+as_noted : (es fs : List (StripeKey × ℕ)) (wanted : StripeKey → ℕ) → es ≡ fs
+    → ((k : StripeKey) → unwrap_or (lookup (is_at (by_file k)) fs) 0 ≡ wanted k) → (k : StripeKey) → unwrap_or (lookup (is_at (by_file k)) es) 0
+    ≡ wanted k
 as_noted es fs wanted e h k = ap (λ es. unwrap_or (lookup (is_at (by_file k)) es) 0) e ∙ h k
 
 pub returns-clause-noted : goal.returns-clause-noted

@@ -8,5 +8,6 @@ use Rattle.plain.proofs.server.Server.overwrite.Goals as goal
 
 pub returns-in-Some-clause-state : goal.returns-in-Some-clause-state
 returns-in-Some-clause-state c = λ _ i. record (server_state c.args.self.now) {
-  blocks = one_block (map.get by_block c.args.self.now.blocks) (map.get by_block (c.get_mut.follows.lender c.args.content.now)) c.args.a c.args.v c.args.f c.args.b c.args.content.now ((c.get_mut.follows.holds c.args.content.now).3 (search rules)).0 i;
+  blocks = one_block (map.get by_block c.args.self.now.blocks) (map.get by_block (c.get_mut.follows.lender c.args.content.now)) c.args.a c.args.v
+      c.args.f c.args.b c.args.content.now ((c.get_mut.follows.holds c.args.content.now).3 (search rules)).0 i;
 }

@@ -28,7 +28,8 @@ returns-in-Ok-clause-counted c =
     let x = server_state c.args.self.now in
     let absent : is_some (x.blocks (c.args.a, c.args.v, c.args.f, c.args.b)) ≡ false = not_swap _ _ c.in_ok-is_new.ensures.new ∙ ap not c.if-not-is_new.false in
     subst (AreCounts c.args.g.now (noted c.note_one_more.new.self)) (sym (c.note_one_more.ensures.state ∙ c.in_ok-is_new.ensures.state))
-    (added_counts x c.args.a c.args.v c.args.f c.args.b c.args.content.now c.args.g.now (noted c.args.self.now) (noted c.note_one_more.new.self) c.requires.counted c.requires.file c.requires.place absent
+    (added_counts x c.args.a c.args.v c.args.f c.args.b c.args.content.now c.args.g.now (noted c.args.self.now) (noted c.note_one_more.new.self)
+    c.requires.counted c.requires.file c.requires.place absent
     (λ k. c.in-Ok.ensures.noted k
     ∙ ap (λ used. unwrap_or (map.get by_file used k) 0 + one_if (is_stripe c.args.a c.args.v c.group_of.result k)) c.set_block.ensures.used
     ∙ ap (λ s. noted c.args.self.now k + one_if (is_stripe c.args.a c.args.v s k)) c.group_of.ensures.value))

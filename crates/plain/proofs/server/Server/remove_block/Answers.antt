@@ -18,7 +18,8 @@ note_one_less-requires c =
     let file = c.requires.sound.state.files (c.args.a, c.args.v, c.args.f) block.1 in
     record {
       some = some_noted c.args.g.now x c.args.a c.args.v c.args.f c.args.b file.0 block.0 there _
-          (subst (λ s. noted c.args.self.now (c.args.a, c.args.v, c.group_of.result) ≡ group_count c.args.g.now x c.args.a c.args.v s) c.group_of.ensures.value (c.requires.sound.counted (c.args.a, c.args.v, c.group_of.result)));
+          (subst (λ s. noted c.args.self.now (c.args.a, c.args.v, c.group_of.result) ≡ group_count c.args.g.now x c.args.a c.args.v s)
+          c.group_of.ensures.value (c.requires.sound.counted (c.args.a, c.args.v, c.group_of.result)));
     }
 
 pub returns-then-is_some-clause-state : goal.returns-then-is_some-clause-state

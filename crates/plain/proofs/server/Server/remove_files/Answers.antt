@@ -1,4 +1,4 @@
--- Each turn removes one file; where the volume has none left, leaving out its files changes nothing.
+-- Each iteration removes one file; where the volume has none left, leaving out its files changes nothing.
 use Rattle.std.proofs.Common.{◌≡◌, arith, ap, sym, ◌∙◌, subst}
 use Rattle.meaning.specs.State.{IsState, one_if}
 use Rattle.plain.specs.Server.{server_state}

@@ -1,4 +1,4 @@
--- The rank of what is marked stands at its number, and the least one of its block is known.
+-- The rank of what is ready is at its number, and the least one of its block is known.
 use Rattle.std.proofs.Common.{◌≡◌, ◌∙◌, ℕ, ◌+◌, ◌*◌, ◌/◌, ◌<◌, List, length, get_or, map, Option, None, ap, sym, subst, arith}
 use Rattle.std.specs.Prelude.{slice_set}
 use Rattle.std.proofs.Math.ListN.{get_or-map}

@@ -1,4 +1,4 @@
--- The slot is a new one, so there is a seat. Where it is first in its queue, it's marked if it is clear.
+-- The slot is a new one, so there is a seat. Where it is first in its queue, its ready flag is set if it is conflict-free.
 use Rattle.std.proofs.Common.{◌≡◌, ◌∙◌, ◌<◌, ◌++◌, ap, arith, sym, subst, refl, true, false, not, find, is_some}
 use Rattle.std.specs.List.{list_any}
 use Rattle.std.proofs.lemmas.Bool.{true≢false}

@@ -1,4 +1,4 @@
--- What is held no longer leaves its seat, and those near it are marked where they are clear now.
+-- What is held no longer leaves its seat, and the ready flags near it are set where there is no conflict now.
 use Rattle.std.proofs.Common.{◌≡◌, ◌∙◌, None, find, arith, sym, subst, refl}
 use Rattle.affinity.specs.Interval.{IsAffinity}
 use Rattle.run_queue.specs.RunQueue.{has_number}

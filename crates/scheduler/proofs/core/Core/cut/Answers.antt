@@ -21,18 +21,31 @@ use Rattle.scheduler.proofs.core.Core.cut.Goals as goal
 pub returns-in-Some-clause-any_moment : goal.returns-in-Some-clause-any_moment
 returns-in-Some-clause-any_moment g c = λ keep.
     subst (λ (o : CoreView). RecoversThroughout [] o o) c.self.view_is
-    (still_standing g.D.Disk.keeps (parts c.self.inside.slots c.self.inside.replies.items c.self.inside.tree c.self.inside.journal c.self.inside.queue c.self.inside.batch.items c.self.inside.next c.self.inside.flight c.self.inside.history.opened c.self.inside.history.since) c.self.invariant.1 keep [] (kept_of (parts c.self.inside.slots c.self.inside.replies.items c.self.inside.tree c.self.inside.journal c.self.inside.queue c.self.inside.batch.items c.self.inside.next c.self.inside.flight c.self.inside.history.opened c.self.inside.history.since)) refl)
+    (still_standing g.D.Disk.keeps (parts c.self.inside.slots c.self.inside.replies.items c.self.inside.tree c.self.inside.journal
+    c.self.inside.queue c.self.inside.batch.items c.self.inside.next c.self.inside.flight c.self.inside.history.opened
+    c.self.inside.history.since) c.self.invariant.1 keep [] (kept_of
+    (parts c.self.inside.slots c.self.inside.replies.items c.self.inside.tree c.self.inside.journal c.self.inside.queue
+    c.self.inside.batch.items c.self.inside.next c.self.inside.flight c.self.inside.history.opened c.self.inside.history.since)) refl)
 
 pub cut-requires-clause-whole : goal.cut-requires-clause-whole
-cut-requires-clause-whole g c = point_whole g.D.Disk.keeps (parts c.self.inside.slots c.self.inside.replies.items c.self.inside.tree c.self.inside.journal c.self.inside.queue c.self.inside.batch.items c.self.inside.next c.self.inside.flight c.self.inside.history.opened c.self.inside.history.since) c.self.invariant.1 (ap (λ (o : CoreView). point_refusal (core_state_of o)) c.self.view_is ∙ sym c.point_refusal.ensures ∙ c.in_default.is)
+cut-requires-clause-whole g c = point_whole g.D.Disk.keeps (parts c.self.inside.slots c.self.inside.replies.items c.self.inside.tree
+    c.self.inside.journal c.self.inside.queue c.self.inside.batch.items c.self.inside.next c.self.inside.flight c.self.inside.history.opened
+    c.self.inside.history.since) c.self.invariant.1 (ap (λ (o : CoreView). point_refusal (core_state_of o)) c.self.view_is
+    ∙ sym c.point_refusal.ensures ∙ c.in_default.is)
 
 pub cut-requires-clause-state : goal.cut-requires-clause-state
-cut-requires-clause-state g c = point_state g.D.Disk.keeps (parts c.self.inside.slots c.self.inside.replies.items c.self.inside.tree c.self.inside.journal c.self.inside.queue c.self.inside.batch.items c.self.inside.next c.self.inside.flight c.self.inside.history.opened c.self.inside.history.since) c.self.invariant.1 (ap (λ (o : CoreView). point_refusal (core_state_of o)) c.self.view_is ∙ sym c.point_refusal.ensures ∙ c.in_default.is)
+cut-requires-clause-state g c = point_state g.D.Disk.keeps (parts c.self.inside.slots c.self.inside.replies.items c.self.inside.tree
+    c.self.inside.journal c.self.inside.queue c.self.inside.batch.items c.self.inside.next c.self.inside.flight c.self.inside.history.opened
+    c.self.inside.history.since) c.self.invariant.1 (ap (λ (o : CoreView). point_refusal (core_state_of o)) c.self.view_is
+    ∙ sym c.point_refusal.ensures ∙ c.in_default.is)
 
 pub invariant_of-self : goal.invariant_of-self
 invariant_of-self g c = (
   c.self.invariant.0,
-  cut_core g.D.Disk.keeps (parts c.self.inside.slots c.self.inside.replies.items c.self.inside.tree c.self.inside.journal c.self.inside.queue c.self.inside.batch.items c.self.inside.next c.self.inside.flight c.self.inside.history.opened c.self.inside.history.since) c.self.invariant.1 c.cut.new.self c.cut.ensures.any_moment c.cut.result (ap (λ (o : CoreView). point_refusal (core_state_of o)) c.self.view_is ∙ sym c.point_refusal.ensures ∙ c.in_default.is) c.cut.ensures.committed c.cut.ensures.begun c.cut.ensures.few c.cut.ensures.broken,
+  cut_core g.D.Disk.keeps (parts c.self.inside.slots c.self.inside.replies.items c.self.inside.tree c.self.inside.journal c.self.inside.queue
+      c.self.inside.batch.items c.self.inside.next c.self.inside.flight c.self.inside.history.opened c.self.inside.history.since) c.self.invariant.1
+      c.cut.new.self c.cut.ensures.any_moment c.cut.result (ap (λ (o : CoreView). point_refusal (core_state_of o)) c.self.view_is
+      ∙ sym c.point_refusal.ensures ∙ c.in_default.is) c.cut.ensures.committed c.cut.ensures.begun c.cut.ensures.few c.cut.ensures.broken,
   c.self.invariant.2,
   c.self.invariant.3,
   c.self.invariant.4,
@@ -41,12 +54,20 @@ invariant_of-self g c = (
 pub returns-then-is_err-clause-any_moment : goal.returns-then-is_err-clause-any_moment
 returns-then-is_err-clause-any_moment g c = λ keep.
     subst (λ (o : CoreView). CrashImagesAre o.medium c.cut.new.self.medium (HoldsSome o.geometry (core_state_of o).committed (if o.failed then o.doubt else []))) c.self.view_is
-    (step_moment g.D.Disk.keeps (parts c.self.inside.slots c.self.inside.replies.items c.self.inside.tree c.self.inside.journal c.self.inside.queue c.self.inside.batch.items c.self.inside.next c.self.inside.flight c.self.inside.history.opened c.self.inside.history.since) c.self.invariant.1 (point_works g.D.Disk.keeps (parts c.self.inside.slots c.self.inside.replies.items c.self.inside.tree c.self.inside.journal c.self.inside.queue c.self.inside.batch.items c.self.inside.next c.self.inside.flight c.self.inside.history.opened c.self.inside.history.since) c.self.invariant.1 (ap (λ (o : CoreView). point_refusal (core_state_of o)) c.self.view_is ∙ sym c.point_refusal.ensures ∙ c.in_default.is)) c.cut.new.self c.cut.ensures.any_moment keep)
+    (step_moment g.D.Disk.keeps (parts c.self.inside.slots c.self.inside.replies.items c.self.inside.tree c.self.inside.journal c.self.inside.queue
+    c.self.inside.batch.items c.self.inside.next c.self.inside.flight c.self.inside.history.opened c.self.inside.history.since)
+    c.self.invariant.1 (point_works g.D.Disk.keeps (parts c.self.inside.slots c.self.inside.replies.items c.self.inside.tree
+    c.self.inside.journal c.self.inside.queue c.self.inside.batch.items c.self.inside.next c.self.inside.flight c.self.inside.history.opened
+    c.self.inside.history.since) c.self.invariant.1 (ap (λ (o : CoreView). point_refusal (core_state_of o)) c.self.view_is
+    ∙ sym c.point_refusal.ensures ∙ c.in_default.is)) c.cut.new.self c.cut.ensures.any_moment keep)
 
 pub invariant_of-self-2 : goal.invariant_of-self-2
 invariant_of-self-2 g c = (
   c.self.invariant.0,
-  cut_core g.D.Disk.keeps (parts c.self.inside.slots c.self.inside.replies.items c.self.inside.tree c.self.inside.journal c.self.inside.queue c.self.inside.batch.items c.self.inside.next c.self.inside.flight c.self.inside.history.opened c.self.inside.history.since) c.self.invariant.1 c.cut.new.self c.cut.ensures.any_moment c.cut.result (ap (λ (o : CoreView). point_refusal (core_state_of o)) c.self.view_is ∙ sym c.point_refusal.ensures ∙ c.in_default.is) c.cut.ensures.committed c.cut.ensures.begun c.cut.ensures.few c.cut.ensures.broken,
+  cut_core g.D.Disk.keeps (parts c.self.inside.slots c.self.inside.replies.items c.self.inside.tree c.self.inside.journal c.self.inside.queue
+      c.self.inside.batch.items c.self.inside.next c.self.inside.flight c.self.inside.history.opened c.self.inside.history.since) c.self.invariant.1
+      c.cut.new.self c.cut.ensures.any_moment c.cut.result (ap (λ (o : CoreView). point_refusal (core_state_of o)) c.self.view_is
+      ∙ sym c.point_refusal.ensures ∙ c.in_default.is) c.cut.ensures.committed c.cut.ensures.begun c.cut.ensures.few c.cut.ensures.broken,
   c.self.invariant.2,
   c.self.invariant.3,
   c.self.invariant.4,
@@ -55,15 +76,23 @@ invariant_of-self-2 g c = (
 pub returns-clause-any_moment : goal.returns-clause-any_moment
 returns-clause-any_moment g c = λ keep.
     subst (λ (o : CoreView). CrashImagesAre o.medium c.cut.new.self.medium (HoldsSome o.geometry (core_state_of o).committed (if o.failed then o.doubt else []))) c.self.view_is
-    (step_moment g.D.Disk.keeps (parts c.self.inside.slots c.self.inside.replies.items c.self.inside.tree c.self.inside.journal c.self.inside.queue c.self.inside.batch.items c.self.inside.next c.self.inside.flight c.self.inside.history.opened c.self.inside.history.since) c.self.invariant.1 (point_works g.D.Disk.keeps (parts c.self.inside.slots c.self.inside.replies.items c.self.inside.tree c.self.inside.journal c.self.inside.queue c.self.inside.batch.items c.self.inside.next c.self.inside.flight c.self.inside.history.opened c.self.inside.history.since) c.self.invariant.1 (ap (λ (o : CoreView). point_refusal (core_state_of o)) c.self.view_is ∙ sym c.point_refusal.ensures ∙ c.in_default.is)) c.cut.new.self c.cut.ensures.any_moment keep)
+    (step_moment g.D.Disk.keeps (parts c.self.inside.slots c.self.inside.replies.items c.self.inside.tree c.self.inside.journal c.self.inside.queue
+    c.self.inside.batch.items c.self.inside.next c.self.inside.flight c.self.inside.history.opened c.self.inside.history.since)
+    c.self.invariant.1 (point_works g.D.Disk.keeps (parts c.self.inside.slots c.self.inside.replies.items c.self.inside.tree
+    c.self.inside.journal c.self.inside.queue c.self.inside.batch.items c.self.inside.next c.self.inside.flight c.self.inside.history.opened
+    c.self.inside.history.since) c.self.invariant.1 (ap (λ (o : CoreView). point_refusal (core_state_of o)) c.self.view_is
+    ∙ sym c.point_refusal.ensures ∙ c.in_default.is)) c.cut.new.self c.cut.ensures.any_moment keep)
 
 pub returns-clause-state_after : goal.returns-clause-state_after
 returns-clause-state_after g c =
     let made : is_err c.cut.result ≡ false = search rules in
     let begun = on_ok c.cut.result _ made c.cut.ensures.begun in
     let few = on_ok c.cut.result _ made c.cut.ensures.few in
-    let new : JournalView → CoreState = λ j. core_state_in (parts c.self.inside.slots c.self.inside.replies.items c.self.inside.tree j c.self.inside.queue c.self.inside.batch.items c.self.inside.next c.self.inside.flight c.self.inside.history.opened c.self.inside.history.since) in
-    subst (λ (o : CoreView). (point_refusal (core_state_of o) ≡ None) × ((n : ℕ) × (n ≤ piece_count o.geometry) × (new c.cut.new.self ≡ record (core_state_of o) { room = o.geometry.half; left = Some n }))) c.self.view_is
+    let new : JournalView → CoreState = λ j. core_state_in (parts c.self.inside.slots c.self.inside.replies.items c.self.inside.tree j
+    c.self.inside.queue c.self.inside.batch.items c.self.inside.next c.self.inside.flight c.self.inside.history.opened
+    c.self.inside.history.since) in
+    subst (λ (o : CoreView). (point_refusal (core_state_of o) ≡ None) × ((n : ℕ) × (n ≤ piece_count o.geometry)
+    × (new c.cut.new.self ≡ record (core_state_of o) { room = o.geometry.half; left = Some n }))) c.self.view_is
     (ap (λ (o : CoreView). point_refusal (core_state_of o)) c.self.view_is ∙ sym c.point_refusal.ensures ∙ c.in_default.is, (count_dirty c.self.inside.journal.dirty.others, few, ap new begun))
 
 pub returns-in-Some-clause-beyond : goal.returns-in-Some-clause-beyond

@@ -1,4 +1,4 @@
--- The slot that holds the affinity is the message's; its parcels are out, so they go back in, and it has run.
+-- The slot that holds the affinity is the message's; its parcels are lent, so they go back in, and it has run.
 use Rattle.std.proofs.Common.{◌≡◌, ℕ, ◌+◌, ◌<◌, ◌≤◌, List, length, slice_set, Some, sym, ap, subst, ◌∙◌}
 use Rattle.std.specs.Prelude.{vec_capacity}
 use Rattle.std.proofs.lemmas.Bool.{true≢false}
@@ -21,36 +21,130 @@ use Rattle.scheduler.specs.declared.slot.Slot.{Slot}
 use Rattle.scheduler.proofs.core.Core.give_back.Goals as goal
 
 pub unreachable-requires-in_default-holder : goal.unreachable-requires-in_default-holder
-unreachable-requires-in_default-holder g c = true≢false (sym (back_is_held g.D.Disk.keeps c.self.inside.slots c.self.inside.replies.items c.self.inside.tree c.self.inside.journal c.self.inside.queue c.self.inside.batch.items c.self.inside.next c.self.inside.flight c.self.inside.history.opened c.self.inside.history.since c.self.invariant.0 c.self.invariant.1 c.args.d (subst (λ (o : CoreView). IsResultOf o.geometry (core_state_of o) c.args.d) (sym c.self.view_is) c.requires) c.in-Some.affinity (placed_of c.geometry-g.result c.self.inside.journal.geometry c.args.d.message c.kind.result c.numbers.result c.in-Some.affinity c.geometry-g.ensures (c.kind.ensures ∙ ap kind c.msg.ensures) (c.numbers.ensures ∙ ap four_numbers c.msg-2.ensures) c.in-Some.ensures.placed)) ∙ c.in_default-holder.ensures.none)
+unreachable-requires-in_default-holder g c = true≢false (sym (back_is_held g.D.Disk.keeps c.self.inside.slots c.self.inside.replies.items
+    c.self.inside.tree c.self.inside.journal c.self.inside.queue c.self.inside.batch.items c.self.inside.next c.self.inside.flight
+    c.self.inside.history.opened c.self.inside.history.since c.self.invariant.0 c.self.invariant.1 c.args.d
+    (subst (λ (o : CoreView). IsResultOf o.geometry (core_state_of o) c.args.d) (sym c.self.view_is) c.requires) c.in-Some.affinity
+    (placed_of c.geometry-g.result c.self.inside.journal.geometry c.args.d.message c.kind.result c.numbers.result c.in-Some.affinity
+    c.geometry-g.ensures (c.kind.ensures ∙ ap kind c.msg.ensures) (c.numbers.ensures ∙ ap four_numbers c.msg-2.ensures) c.in-Some.ensures.placed))
+    ∙ c.in_default-holder.ensures.none)
 
 pub index_mut-requires : goal.index_mut-requires
-index_mut-requires g c = subst (λ (n : ℕ). c.in-Some-holder.slot < n) (sym c.self.invariant.3 ∙ sym c.self.inside.replies.ok.0) (back_low g.D.Disk.keeps c.self.inside.slots c.self.inside.replies.items c.self.inside.tree c.self.inside.journal c.self.inside.queue c.self.inside.batch.items c.self.inside.next c.self.inside.flight c.self.inside.history.opened c.self.inside.history.since c.self.invariant.0 c.self.invariant.1 c.args.d (subst (λ (o : CoreView). IsResultOf o.geometry (core_state_of o) c.args.d) (sym c.self.view_is) c.requires) c.in-Some.affinity (placed_of c.geometry-g.result c.self.inside.journal.geometry c.args.d.message c.kind.result c.numbers.result c.in-Some.affinity c.geometry-g.ensures (c.kind.ensures ∙ ap kind c.msg.ensures) (c.numbers.ensures ∙ ap four_numbers c.msg-2.ensures) c.in-Some.ensures.placed) c.in-Some-holder.slot c.in-Some-holder.ensures.some)
+index_mut-requires g c = subst (λ (n : ℕ). c.in-Some-holder.slot < n) (sym c.self.invariant.3 ∙ sym c.self.inside.replies.ok.0)
+    (back_low g.D.Disk.keeps c.self.inside.slots c.self.inside.replies.items c.self.inside.tree c.self.inside.journal c.self.inside.queue
+    c.self.inside.batch.items c.self.inside.next c.self.inside.flight c.self.inside.history.opened c.self.inside.history.since c.self.invariant.0
+    c.self.invariant.1 c.args.d (subst (λ (o : CoreView). IsResultOf o.geometry (core_state_of o) c.args.d) (sym c.self.view_is) c.requires)
+    c.in-Some.affinity (placed_of c.geometry-g.result c.self.inside.journal.geometry c.args.d.message c.kind.result c.numbers.result
+    c.in-Some.affinity c.geometry-g.ensures (c.kind.ensures ∙ ap kind c.msg.ensures) (c.numbers.ensures ∙ ap four_numbers c.msg-2.ensures)
+    c.in-Some.ensures.placed) c.in-Some-holder.slot c.in-Some-holder.ensures.some)
 
 pub restore-requires-clause-fits : goal.restore-requires-clause-fits
-restore-requires-clause-fits g c = subst (λ (l : Parcels). (q : Path) → IsAffinityOf c.self.inside.tree.geometry q c.in-Some.affinity → IsKindOf q l → Fits c.self.inside.tree.geometry q l) (sym c.into_parcels.ensures)
-    (back_fits g.D.Disk.keeps c.self.inside.slots c.self.inside.replies.items c.self.inside.tree c.self.inside.journal c.self.inside.queue c.self.inside.batch.items c.self.inside.next c.self.inside.flight c.self.inside.history.opened c.self.inside.history.since c.self.invariant.0 c.self.invariant.1 c.args.d (subst (λ (o : CoreView). IsResultOf o.geometry (core_state_of o) c.args.d) (sym c.self.view_is) c.requires) c.in-Some.affinity (placed_of c.geometry-g.result c.self.inside.journal.geometry c.args.d.message c.kind.result c.numbers.result c.in-Some.affinity c.geometry-g.ensures (c.kind.ensures ∙ ap kind c.msg.ensures) (c.numbers.ensures ∙ ap four_numbers c.msg-2.ensures) c.in-Some.ensures.placed))
+restore-requires-clause-fits g c = subst (λ (l : Parcels). (q : Path) → IsAffinityOf c.self.inside.tree.geometry q c.in-Some.affinity → IsKindOf q l
+    → Fits c.self.inside.tree.geometry q l) (sym c.into_parcels.ensures)
+    (back_fits g.D.Disk.keeps c.self.inside.slots c.self.inside.replies.items c.self.inside.tree c.self.inside.journal c.self.inside.queue
+    c.self.inside.batch.items c.self.inside.next c.self.inside.flight c.self.inside.history.opened c.self.inside.history.since
+    c.self.invariant.0 c.self.invariant.1 c.args.d (subst (λ (o : CoreView). IsResultOf o.geometry (core_state_of o) c.args.d)
+    (sym c.self.view_is) c.requires) c.in-Some.affinity (placed_of c.geometry-g.result c.self.inside.journal.geometry c.args.d.message
+    c.kind.result c.numbers.result c.in-Some.affinity c.geometry-g.ensures (c.kind.ensures ∙ ap kind c.msg.ensures)
+    (c.numbers.ensures ∙ ap four_numbers c.msg-2.ensures) c.in-Some.ensures.placed))
 
 pub unreachable-requires-in_default-restore : goal.unreachable-requires-in_default-restore
-unreachable-requires-in_default-restore g c = back_goes_in g.D.Disk.keeps c.self.inside.slots c.self.inside.replies.items c.self.inside.tree c.self.inside.journal c.self.inside.queue c.self.inside.batch.items c.self.inside.next c.self.inside.flight c.self.inside.history.opened c.self.inside.history.since c.self.invariant.0 c.self.invariant.1 c.args.d (subst (λ (o : CoreView). IsResultOf o.geometry (core_state_of o) c.args.d) (sym c.self.view_is) c.requires) c.in-Some.affinity (placed_of c.geometry-g.result c.self.inside.journal.geometry c.args.d.message c.kind.result c.numbers.result c.in-Some.affinity c.geometry-g.ensures (c.kind.ensures ∙ ap kind c.msg.ensures) (c.numbers.ensures ∙ ap four_numbers c.msg-2.ensures) c.in-Some.ensures.placed)
-    (subst (λ (l : Parcels). (q : Path) → IsAffinityOf c.self.inside.tree.geometry q c.in-Some.affinity → IsOut q (in_tree c.self.inside.tree) → IsKindOf q l → ⊥) c.into_parcels.ensures c.in_default-restore.ensures.err)
+unreachable-requires-in_default-restore g c = back_goes_in g.D.Disk.keeps c.self.inside.slots c.self.inside.replies.items c.self.inside.tree
+    c.self.inside.journal c.self.inside.queue c.self.inside.batch.items c.self.inside.next c.self.inside.flight c.self.inside.history.opened
+    c.self.inside.history.since c.self.invariant.0 c.self.invariant.1 c.args.d
+    (subst (λ (o : CoreView). IsResultOf o.geometry (core_state_of o) c.args.d) (sym c.self.view_is) c.requires) c.in-Some.affinity
+    (placed_of c.geometry-g.result c.self.inside.journal.geometry c.args.d.message c.kind.result c.numbers.result c.in-Some.affinity
+    c.geometry-g.ensures (c.kind.ensures ∙ ap kind c.msg.ensures) (c.numbers.ensures ∙ ap four_numbers c.msg-2.ensures) c.in-Some.ensures.placed)
+    (subst (λ (l : Parcels). (q : Path) → IsAffinityOf c.self.inside.tree.geometry q c.in-Some.affinity → IsOut q (in_tree c.self.inside.tree)
+    → IsKindOf q l → ⊥) c.into_parcels.ensures c.in_default-restore.ensures.err)
 
 pub invariant_of-self : goal.invariant_of-self
 invariant_of-self g c =
     let rows = c.move_to.ensures.row in
-    subst (λ (row : Row Slot). HasChains row × IsCore g.D.Disk.keeps (parts row (slice_set c.self.inside.replies.items c.in-Some-holder.slot c.reply.result.now) c.restore.new.self c.self.inside.journal c.self.inside.queue c.self.inside.batch.items c.self.inside.next c.self.inside.flight c.self.inside.history.opened c.self.inside.history.since)
-    × (capacity_of row ≤ vec_capacity c.self.inside.batch) × (length (slice_set c.self.inside.replies.items c.in-Some-holder.slot c.reply.result.now) ≡ capacity_of row) × (c.self.inside.ran + 1 ≡ length (line row (slice_set c.self.inside.replies.items c.in-Some-holder.slot c.reply.result.now) 2)))
+    subst (λ (row : Row Slot). HasChains row × IsCore g.D.Disk.keeps (parts row
+    (slice_set c.self.inside.replies.items c.in-Some-holder.slot c.reply.result.now) c.restore.new.self c.self.inside.journal
+    c.self.inside.queue c.self.inside.batch.items c.self.inside.next c.self.inside.flight c.self.inside.history.opened
+    c.self.inside.history.since)
+    × (capacity_of row ≤ vec_capacity c.self.inside.batch) × (length (slice_set c.self.inside.replies.items c.in-Some-holder.slot
+    c.reply.result.now) ≡ capacity_of row) × (c.self.inside.ran + 1
+    ≡ length (line row (slice_set c.self.inside.replies.items c.in-Some-holder.slot c.reply.result.now) 2)))
     (sym rows) (
-      back_chains g.D.Disk.keeps c.self.inside.slots c.self.inside.replies.items c.self.inside.tree c.self.inside.journal c.self.inside.queue c.self.inside.batch.items c.self.inside.next c.self.inside.flight c.self.inside.history.opened c.self.inside.history.since c.self.invariant.0 c.self.invariant.1 c.args.d (subst (λ (o : CoreView). IsResultOf o.geometry (core_state_of o) c.args.d) (sym c.self.view_is) c.requires) c.in-Some.affinity (placed_of c.geometry-g.result c.self.inside.journal.geometry c.args.d.message c.kind.result c.numbers.result c.in-Some.affinity c.geometry-g.ensures (c.kind.ensures ∙ ap kind c.msg.ensures) (c.numbers.ensures ∙ ap four_numbers c.msg-2.ensures) c.in-Some.ensures.placed) c.in-Some-holder.slot c.in-Some-holder.ensures.some c.self.invariant.3 c.reply.result.now c.reply.ensures c.restore.new.self c.restore.ensures.geometry (subst (λ (l : Parcels). (q : Path) → IsAffinityOf c.self.inside.tree.geometry q c.in-Some.affinity → RestoresAt c.self.inside.tree.geometry q l (in_tree c.self.inside.tree) (in_tree c.restore.new.self)) c.into_parcels.ensures c.in-Ok.ensures.ok) (subst IsParted rows c.move_to.ensures.parted),
-      back_core g.D.Disk.keeps c.self.inside.slots c.self.inside.replies.items c.self.inside.tree c.self.inside.journal c.self.inside.queue c.self.inside.batch.items c.self.inside.next c.self.inside.flight c.self.inside.history.opened c.self.inside.history.since c.self.invariant.0 c.self.invariant.1 c.args.d (subst (λ (o : CoreView). IsResultOf o.geometry (core_state_of o) c.args.d) (sym c.self.view_is) c.requires) c.in-Some.affinity (placed_of c.geometry-g.result c.self.inside.journal.geometry c.args.d.message c.kind.result c.numbers.result c.in-Some.affinity c.geometry-g.ensures (c.kind.ensures ∙ ap kind c.msg.ensures) (c.numbers.ensures ∙ ap four_numbers c.msg-2.ensures) c.in-Some.ensures.placed) c.in-Some-holder.slot c.in-Some-holder.ensures.some c.self.invariant.3 c.reply.result.now c.reply.ensures c.restore.new.self c.restore.ensures.geometry (subst (λ (l : Parcels). (q : Path) → IsAffinityOf c.self.inside.tree.geometry q c.in-Some.affinity → RestoresAt c.self.inside.tree.geometry q l (in_tree c.self.inside.tree) (in_tree c.restore.new.self)) c.into_parcels.ensures c.in-Ok.ensures.ok),
-      subst (λ (n : ℕ). n ≤ vec_capacity c.self.inside.batch) (sym (back_size g.D.Disk.keeps c.self.inside.slots c.self.inside.replies.items c.self.inside.tree c.self.inside.journal c.self.inside.queue c.self.inside.batch.items c.self.inside.next c.self.inside.flight c.self.inside.history.opened c.self.inside.history.since c.self.invariant.0 c.self.invariant.1 c.args.d (subst (λ (o : CoreView). IsResultOf o.geometry (core_state_of o) c.args.d) (sym c.self.view_is) c.requires) c.in-Some.affinity (placed_of c.geometry-g.result c.self.inside.journal.geometry c.args.d.message c.kind.result c.numbers.result c.in-Some.affinity c.geometry-g.ensures (c.kind.ensures ∙ ap kind c.msg.ensures) (c.numbers.ensures ∙ ap four_numbers c.msg-2.ensures) c.in-Some.ensures.placed) c.in-Some-holder.slot c.in-Some-holder.ensures.some c.self.invariant.3 c.reply.result.now c.reply.ensures c.restore.new.self c.restore.ensures.geometry (subst (λ (l : Parcels). (q : Path) → IsAffinityOf c.self.inside.tree.geometry q c.in-Some.affinity → RestoresAt c.self.inside.tree.geometry q l (in_tree c.self.inside.tree) (in_tree c.restore.new.self)) c.into_parcels.ensures c.in-Ok.ensures.ok))) c.self.invariant.2,
-      back_long g.D.Disk.keeps c.self.inside.slots c.self.inside.replies.items c.self.inside.tree c.self.inside.journal c.self.inside.queue c.self.inside.batch.items c.self.inside.next c.self.inside.flight c.self.inside.history.opened c.self.inside.history.since c.self.invariant.0 c.self.invariant.1 c.args.d (subst (λ (o : CoreView). IsResultOf o.geometry (core_state_of o) c.args.d) (sym c.self.view_is) c.requires) c.in-Some.affinity (placed_of c.geometry-g.result c.self.inside.journal.geometry c.args.d.message c.kind.result c.numbers.result c.in-Some.affinity c.geometry-g.ensures (c.kind.ensures ∙ ap kind c.msg.ensures) (c.numbers.ensures ∙ ap four_numbers c.msg-2.ensures) c.in-Some.ensures.placed) c.in-Some-holder.slot c.in-Some-holder.ensures.some c.self.invariant.3 c.reply.result.now c.reply.ensures c.restore.new.self c.restore.ensures.geometry (subst (λ (l : Parcels). (q : Path) → IsAffinityOf c.self.inside.tree.geometry q c.in-Some.affinity → RestoresAt c.self.inside.tree.geometry q l (in_tree c.self.inside.tree) (in_tree c.restore.new.self)) c.into_parcels.ensures c.in-Ok.ensures.ok),
-      back_ran g.D.Disk.keeps c.self.inside.slots c.self.inside.replies.items c.self.inside.tree c.self.inside.journal c.self.inside.queue c.self.inside.batch.items c.self.inside.next c.self.inside.flight c.self.inside.history.opened c.self.inside.history.since c.self.invariant.0 c.self.invariant.1 c.args.d (subst (λ (o : CoreView). IsResultOf o.geometry (core_state_of o) c.args.d) (sym c.self.view_is) c.requires) c.in-Some.affinity (placed_of c.geometry-g.result c.self.inside.journal.geometry c.args.d.message c.kind.result c.numbers.result c.in-Some.affinity c.geometry-g.ensures (c.kind.ensures ∙ ap kind c.msg.ensures) (c.numbers.ensures ∙ ap four_numbers c.msg-2.ensures) c.in-Some.ensures.placed) c.in-Some-holder.slot c.in-Some-holder.ensures.some c.self.invariant.3 c.reply.result.now c.reply.ensures c.restore.new.self c.restore.ensures.geometry (subst (λ (l : Parcels). (q : Path) → IsAffinityOf c.self.inside.tree.geometry q c.in-Some.affinity → RestoresAt c.self.inside.tree.geometry q l (in_tree c.self.inside.tree) (in_tree c.restore.new.self)) c.into_parcels.ensures c.in-Ok.ensures.ok) c.self.inside.ran c.self.invariant.4,
+      back_chains g.D.Disk.keeps c.self.inside.slots c.self.inside.replies.items c.self.inside.tree c.self.inside.journal c.self.inside.queue
+          c.self.inside.batch.items c.self.inside.next c.self.inside.flight c.self.inside.history.opened c.self.inside.history.since
+          c.self.invariant.0 c.self.invariant.1 c.args.d (subst (λ (o : CoreView). IsResultOf o.geometry (core_state_of o) c.args.d)
+          (sym c.self.view_is) c.requires) c.in-Some.affinity (placed_of c.geometry-g.result c.self.inside.journal.geometry c.args.d.message
+          c.kind.result c.numbers.result c.in-Some.affinity c.geometry-g.ensures (c.kind.ensures ∙ ap kind c.msg.ensures)
+          (c.numbers.ensures ∙ ap four_numbers c.msg-2.ensures) c.in-Some.ensures.placed) c.in-Some-holder.slot c.in-Some-holder.ensures.some
+          c.self.invariant.3 c.reply.result.now c.reply.ensures c.restore.new.self c.restore.ensures.geometry
+          (subst (λ (l : Parcels). (q : Path) → IsAffinityOf c.self.inside.tree.geometry q c.in-Some.affinity
+          → RestoresAt c.self.inside.tree.geometry q l (in_tree c.self.inside.tree) (in_tree c.restore.new.self)) c.into_parcels.ensures
+          c.in-Ok.ensures.ok) (subst IsParted rows c.move_to.ensures.parted),
+      back_core g.D.Disk.keeps c.self.inside.slots c.self.inside.replies.items c.self.inside.tree c.self.inside.journal c.self.inside.queue
+          c.self.inside.batch.items c.self.inside.next c.self.inside.flight c.self.inside.history.opened c.self.inside.history.since
+          c.self.invariant.0 c.self.invariant.1 c.args.d (subst (λ (o : CoreView). IsResultOf o.geometry (core_state_of o) c.args.d)
+          (sym c.self.view_is) c.requires) c.in-Some.affinity (placed_of c.geometry-g.result c.self.inside.journal.geometry c.args.d.message
+          c.kind.result c.numbers.result c.in-Some.affinity c.geometry-g.ensures (c.kind.ensures ∙ ap kind c.msg.ensures)
+          (c.numbers.ensures ∙ ap four_numbers c.msg-2.ensures) c.in-Some.ensures.placed) c.in-Some-holder.slot c.in-Some-holder.ensures.some
+          c.self.invariant.3 c.reply.result.now c.reply.ensures c.restore.new.self c.restore.ensures.geometry
+          (subst (λ (l : Parcels). (q : Path) → IsAffinityOf c.self.inside.tree.geometry q c.in-Some.affinity
+          → RestoresAt c.self.inside.tree.geometry q l (in_tree c.self.inside.tree) (in_tree c.restore.new.self)) c.into_parcels.ensures
+          c.in-Ok.ensures.ok),
+      subst (λ (n : ℕ). n ≤ vec_capacity c.self.inside.batch) (sym (back_size g.D.Disk.keeps c.self.inside.slots c.self.inside.replies.items
+          c.self.inside.tree c.self.inside.journal c.self.inside.queue c.self.inside.batch.items c.self.inside.next c.self.inside.flight
+          c.self.inside.history.opened c.self.inside.history.since c.self.invariant.0 c.self.invariant.1 c.args.d
+          (subst (λ (o : CoreView). IsResultOf o.geometry (core_state_of o) c.args.d) (sym c.self.view_is) c.requires) c.in-Some.affinity
+          (placed_of c.geometry-g.result c.self.inside.journal.geometry c.args.d.message c.kind.result c.numbers.result c.in-Some.affinity
+          c.geometry-g.ensures (c.kind.ensures ∙ ap kind c.msg.ensures) (c.numbers.ensures ∙ ap four_numbers c.msg-2.ensures)
+          c.in-Some.ensures.placed) c.in-Some-holder.slot c.in-Some-holder.ensures.some c.self.invariant.3 c.reply.result.now c.reply.ensures
+          c.restore.new.self c.restore.ensures.geometry (subst (λ (l : Parcels). (q : Path)
+          → IsAffinityOf c.self.inside.tree.geometry q c.in-Some.affinity
+          → RestoresAt c.self.inside.tree.geometry q l (in_tree c.self.inside.tree) (in_tree c.restore.new.self)) c.into_parcels.ensures
+          c.in-Ok.ensures.ok))) c.self.invariant.2,
+      back_long g.D.Disk.keeps c.self.inside.slots c.self.inside.replies.items c.self.inside.tree c.self.inside.journal c.self.inside.queue
+          c.self.inside.batch.items c.self.inside.next c.self.inside.flight c.self.inside.history.opened c.self.inside.history.since
+          c.self.invariant.0 c.self.invariant.1 c.args.d (subst (λ (o : CoreView). IsResultOf o.geometry (core_state_of o) c.args.d)
+          (sym c.self.view_is) c.requires) c.in-Some.affinity (placed_of c.geometry-g.result c.self.inside.journal.geometry c.args.d.message
+          c.kind.result c.numbers.result c.in-Some.affinity c.geometry-g.ensures (c.kind.ensures ∙ ap kind c.msg.ensures)
+          (c.numbers.ensures ∙ ap four_numbers c.msg-2.ensures) c.in-Some.ensures.placed) c.in-Some-holder.slot c.in-Some-holder.ensures.some
+          c.self.invariant.3 c.reply.result.now c.reply.ensures c.restore.new.self c.restore.ensures.geometry
+          (subst (λ (l : Parcels). (q : Path) → IsAffinityOf c.self.inside.tree.geometry q c.in-Some.affinity
+          → RestoresAt c.self.inside.tree.geometry q l (in_tree c.self.inside.tree) (in_tree c.restore.new.self)) c.into_parcels.ensures
+          c.in-Ok.ensures.ok),
+      back_ran g.D.Disk.keeps c.self.inside.slots c.self.inside.replies.items c.self.inside.tree c.self.inside.journal c.self.inside.queue
+          c.self.inside.batch.items c.self.inside.next c.self.inside.flight c.self.inside.history.opened c.self.inside.history.since
+          c.self.invariant.0 c.self.invariant.1 c.args.d (subst (λ (o : CoreView). IsResultOf o.geometry (core_state_of o) c.args.d)
+          (sym c.self.view_is) c.requires) c.in-Some.affinity (placed_of c.geometry-g.result c.self.inside.journal.geometry c.args.d.message
+          c.kind.result c.numbers.result c.in-Some.affinity c.geometry-g.ensures (c.kind.ensures ∙ ap kind c.msg.ensures)
+          (c.numbers.ensures ∙ ap four_numbers c.msg-2.ensures) c.in-Some.ensures.placed) c.in-Some-holder.slot c.in-Some-holder.ensures.some
+          c.self.invariant.3 c.reply.result.now c.reply.ensures c.restore.new.self c.restore.ensures.geometry
+          (subst (λ (l : Parcels). (q : Path) → IsAffinityOf c.self.inside.tree.geometry q c.in-Some.affinity
+          → RestoresAt c.self.inside.tree.geometry q l (in_tree c.self.inside.tree) (in_tree c.restore.new.self)) c.into_parcels.ensures
+          c.in-Ok.ensures.ok) c.self.inside.ran c.self.invariant.4,
     )
 
 pub returns-clause-state_after : goal.returns-clause-state_after
 returns-clause-state_after g c =
     subst (λ (o : CoreView). (found : Entry × List Entry) × (out_with (core_state_of o) c.args.d.ticket ≡ Some found) × (found.0 ≡ (c.args.d.ticket, c.args.d.message))
-    × (core_state_in (parts c.move_to.new.self (slice_set c.self.inside.replies.items c.in-Some-holder.slot c.reply.result.now) c.restore.new.self c.self.inside.journal c.self.inside.queue c.self.inside.batch.items c.self.inside.next c.self.inside.flight c.self.inside.history.opened c.self.inside.history.since) ≡ give_back o.geometry (core_state_of o) found)) c.self.view_is
-    (subst (λ (row : Row Slot). (found : Entry × List Entry) × (out_with (core_state_in (parts c.self.inside.slots c.self.inside.replies.items c.self.inside.tree c.self.inside.journal c.self.inside.queue c.self.inside.batch.items c.self.inside.next c.self.inside.flight c.self.inside.history.opened c.self.inside.history.since)) c.args.d.ticket ≡ Some found) × (found.0 ≡ (c.args.d.ticket, c.args.d.message))
-    × (core_state_in (parts row (slice_set c.self.inside.replies.items c.in-Some-holder.slot c.reply.result.now) c.restore.new.self c.self.inside.journal c.self.inside.queue c.self.inside.batch.items c.self.inside.next c.self.inside.flight c.self.inside.history.opened c.self.inside.history.since) ≡ give_back c.self.inside.journal.geometry (core_state_in (parts c.self.inside.slots c.self.inside.replies.items c.self.inside.tree c.self.inside.journal c.self.inside.queue c.self.inside.batch.items c.self.inside.next c.self.inside.flight c.self.inside.history.opened c.self.inside.history.since)) found))
-    (sym c.move_to.ensures.row) (back_state g.D.Disk.keeps c.self.inside.slots c.self.inside.replies.items c.self.inside.tree c.self.inside.journal c.self.inside.queue c.self.inside.batch.items c.self.inside.next c.self.inside.flight c.self.inside.history.opened c.self.inside.history.since c.self.invariant.0 c.self.invariant.1 c.args.d (subst (λ (o : CoreView). IsResultOf o.geometry (core_state_of o) c.args.d) (sym c.self.view_is) c.requires) c.in-Some.affinity (placed_of c.geometry-g.result c.self.inside.journal.geometry c.args.d.message c.kind.result c.numbers.result c.in-Some.affinity c.geometry-g.ensures (c.kind.ensures ∙ ap kind c.msg.ensures) (c.numbers.ensures ∙ ap four_numbers c.msg-2.ensures) c.in-Some.ensures.placed) c.in-Some-holder.slot c.in-Some-holder.ensures.some c.self.invariant.3 c.reply.result.now c.reply.ensures c.restore.new.self c.restore.ensures.geometry (subst (λ (l : Parcels). (q : Path) → IsAffinityOf c.self.inside.tree.geometry q c.in-Some.affinity → RestoresAt c.self.inside.tree.geometry q l (in_tree c.self.inside.tree) (in_tree c.restore.new.self)) c.into_parcels.ensures c.in-Ok.ensures.ok)))
+    × (core_state_in (parts c.move_to.new.self (slice_set c.self.inside.replies.items c.in-Some-holder.slot c.reply.result.now) c.restore.new.self
+    c.self.inside.journal c.self.inside.queue c.self.inside.batch.items c.self.inside.next c.self.inside.flight c.self.inside.history.opened
+    c.self.inside.history.since) ≡ give_back o.geometry (core_state_of o) found)) c.self.view_is
+    (subst (λ (row : Row Slot). (found : Entry × List Entry) × (out_with
+    (core_state_in (parts c.self.inside.slots c.self.inside.replies.items c.self.inside.tree c.self.inside.journal c.self.inside.queue
+    c.self.inside.batch.items c.self.inside.next c.self.inside.flight c.self.inside.history.opened c.self.inside.history.since)) c.args.d.ticket
+    ≡ Some found) × (found.0 ≡ (c.args.d.ticket, c.args.d.message))
+    × (core_state_in (parts row (slice_set c.self.inside.replies.items c.in-Some-holder.slot c.reply.result.now) c.restore.new.self
+    c.self.inside.journal c.self.inside.queue c.self.inside.batch.items c.self.inside.next c.self.inside.flight c.self.inside.history.opened
+    c.self.inside.history.since) ≡ give_back c.self.inside.journal.geometry
+    (core_state_in (parts c.self.inside.slots c.self.inside.replies.items c.self.inside.tree c.self.inside.journal c.self.inside.queue
+    c.self.inside.batch.items c.self.inside.next c.self.inside.flight c.self.inside.history.opened c.self.inside.history.since)) found))
+    (sym c.move_to.ensures.row) (back_state g.D.Disk.keeps c.self.inside.slots c.self.inside.replies.items c.self.inside.tree c.self.inside.journal
+    c.self.inside.queue c.self.inside.batch.items c.self.inside.next c.self.inside.flight c.self.inside.history.opened
+    c.self.inside.history.since c.self.invariant.0 c.self.invariant.1 c.args.d
+    (subst (λ (o : CoreView). IsResultOf o.geometry (core_state_of o) c.args.d) (sym c.self.view_is) c.requires) c.in-Some.affinity
+    (placed_of c.geometry-g.result c.self.inside.journal.geometry c.args.d.message c.kind.result c.numbers.result c.in-Some.affinity
+    c.geometry-g.ensures (c.kind.ensures ∙ ap kind c.msg.ensures) (c.numbers.ensures ∙ ap four_numbers c.msg-2.ensures)
+    c.in-Some.ensures.placed) c.in-Some-holder.slot c.in-Some-holder.ensures.some c.self.invariant.3 c.reply.result.now c.reply.ensures
+    c.restore.new.self c.restore.ensures.geometry (subst (λ (l : Parcels). (q : Path)
+    → IsAffinityOf c.self.inside.tree.geometry q c.in-Some.affinity
+    → RestoresAt c.self.inside.tree.geometry q l (in_tree c.self.inside.tree) (in_tree c.restore.new.self)) c.into_parcels.ensures
+    c.in-Ok.ensures.ok)))

@@ -37,7 +37,8 @@ invariant_of-result g c =
     let queue = c.begin.ensures ∙ ap (λ (q : RunQueueView). queue_at_start c.geometry.result q.slots) c.in-Ok.ensures.queue ∙ ap (λ (h : Geometry). queue_at_start h c.args.slots) c.geometry.ensures in
     let size = opened_size keeps c.args.slots replies tree journal same whole holds memory.slots row in (
       opened_chains keeps c.args.slots replies tree journal same whole holds memory.slots row c.in-Ok.ensures.parted,
-      opened_parts keeps c.args.slots replies tree journal same whole holds memory.slots row c.begin.new.self memory.batch.items c.begun.result.opened c.begun.result.since queue c.in-Ok.ensures.batch c.begun.ensures.0 c.begun.ensures.1,
+      opened_parts keeps c.args.slots replies tree journal same whole holds memory.slots row c.begin.new.self memory.batch.items
+          c.begun.result.opened c.begun.result.since queue c.in-Ok.ensures.batch c.begun.ensures.0 c.begun.ensures.1,
       subst (λ (n : ℕ). n ≤ vec_capacity memory.batch) (sym size) c.in-Ok.ensures.room,
       c.in-Ok.ensures.replies ∙ sym size,
       opened_ran keeps c.args.slots replies tree journal same whole holds memory.slots row,

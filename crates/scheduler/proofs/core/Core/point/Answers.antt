@@ -18,18 +18,31 @@ use Rattle.scheduler.proofs.core.Core.point.Goals as goal
 pub returns-in-Some-clause-any_moment : goal.returns-in-Some-clause-any_moment
 returns-in-Some-clause-any_moment g c = λ keep.
     subst (λ (o : CoreView). RecoversThroughout [] o o) c.self.view_is
-    (still_standing g.D.Disk.keeps (parts c.self.inside.slots c.self.inside.replies.items c.self.inside.tree c.self.inside.journal c.self.inside.queue c.self.inside.batch.items c.self.inside.next c.self.inside.flight c.self.inside.history.opened c.self.inside.history.since) c.self.invariant.1 keep [] (kept_of (parts c.self.inside.slots c.self.inside.replies.items c.self.inside.tree c.self.inside.journal c.self.inside.queue c.self.inside.batch.items c.self.inside.next c.self.inside.flight c.self.inside.history.opened c.self.inside.history.since)) refl)
+    (still_standing g.D.Disk.keeps (parts c.self.inside.slots c.self.inside.replies.items c.self.inside.tree c.self.inside.journal
+    c.self.inside.queue c.self.inside.batch.items c.self.inside.next c.self.inside.flight c.self.inside.history.opened
+    c.self.inside.history.since) c.self.invariant.1 keep [] (kept_of
+    (parts c.self.inside.slots c.self.inside.replies.items c.self.inside.tree c.self.inside.journal c.self.inside.queue
+    c.self.inside.batch.items c.self.inside.next c.self.inside.flight c.self.inside.history.opened c.self.inside.history.since)) refl)
 
 pub point-requires-clause-whole : goal.point-requires-clause-whole
-point-requires-clause-whole g c = point_whole g.D.Disk.keeps (parts c.self.inside.slots c.self.inside.replies.items c.self.inside.tree c.self.inside.journal c.self.inside.queue c.self.inside.batch.items c.self.inside.next c.self.inside.flight c.self.inside.history.opened c.self.inside.history.since) c.self.invariant.1 (ap (λ (o : CoreView). point_refusal (core_state_of o)) c.self.view_is ∙ sym c.point_refusal.ensures ∙ c.in_default.is)
+point-requires-clause-whole g c = point_whole g.D.Disk.keeps (parts c.self.inside.slots c.self.inside.replies.items c.self.inside.tree
+    c.self.inside.journal c.self.inside.queue c.self.inside.batch.items c.self.inside.next c.self.inside.flight c.self.inside.history.opened
+    c.self.inside.history.since) c.self.invariant.1 (ap (λ (o : CoreView). point_refusal (core_state_of o)) c.self.view_is
+    ∙ sym c.point_refusal.ensures ∙ c.in_default.is)
 
 pub point-requires-clause-state : goal.point-requires-clause-state
-point-requires-clause-state g c = point_state g.D.Disk.keeps (parts c.self.inside.slots c.self.inside.replies.items c.self.inside.tree c.self.inside.journal c.self.inside.queue c.self.inside.batch.items c.self.inside.next c.self.inside.flight c.self.inside.history.opened c.self.inside.history.since) c.self.invariant.1 (ap (λ (o : CoreView). point_refusal (core_state_of o)) c.self.view_is ∙ sym c.point_refusal.ensures ∙ c.in_default.is)
+point-requires-clause-state g c = point_state g.D.Disk.keeps (parts c.self.inside.slots c.self.inside.replies.items c.self.inside.tree
+    c.self.inside.journal c.self.inside.queue c.self.inside.batch.items c.self.inside.next c.self.inside.flight c.self.inside.history.opened
+    c.self.inside.history.since) c.self.invariant.1 (ap (λ (o : CoreView). point_refusal (core_state_of o)) c.self.view_is
+    ∙ sym c.point_refusal.ensures ∙ c.in_default.is)
 
 pub invariant_of-self : goal.invariant_of-self
 invariant_of-self g c = (
   c.self.invariant.0,
-  point_core g.D.Disk.keeps (parts c.self.inside.slots c.self.inside.replies.items c.self.inside.tree c.self.inside.journal c.self.inside.queue c.self.inside.batch.items c.self.inside.next c.self.inside.flight c.self.inside.history.opened c.self.inside.history.since) c.self.invariant.1 c.point.new.self c.point.ensures.any_moment c.point.result (ap (λ (o : CoreView). point_refusal (core_state_of o)) c.self.view_is ∙ sym c.point_refusal.ensures ∙ c.in_default.is) c.point.ensures.committed c.point.ensures.after,
+  point_core g.D.Disk.keeps (parts c.self.inside.slots c.self.inside.replies.items c.self.inside.tree c.self.inside.journal c.self.inside.queue
+      c.self.inside.batch.items c.self.inside.next c.self.inside.flight c.self.inside.history.opened c.self.inside.history.since) c.self.invariant.1
+      c.point.new.self c.point.ensures.any_moment c.point.result (ap (λ (o : CoreView). point_refusal (core_state_of o)) c.self.view_is
+      ∙ sym c.point_refusal.ensures ∙ c.in_default.is) c.point.ensures.committed c.point.ensures.after,
   c.self.invariant.2,
   c.self.invariant.3,
   c.self.invariant.4,
@@ -38,12 +51,20 @@ invariant_of-self g c = (
 pub returns-then-is_err-clause-any_moment : goal.returns-then-is_err-clause-any_moment
 returns-then-is_err-clause-any_moment g c = λ keep.
     subst (λ (o : CoreView). CrashImagesAre o.medium c.point.new.self.medium (HoldsSome o.geometry (core_state_of o).committed (if o.failed then o.doubt else []))) c.self.view_is
-    (step_moment g.D.Disk.keeps (parts c.self.inside.slots c.self.inside.replies.items c.self.inside.tree c.self.inside.journal c.self.inside.queue c.self.inside.batch.items c.self.inside.next c.self.inside.flight c.self.inside.history.opened c.self.inside.history.since) c.self.invariant.1 (point_works g.D.Disk.keeps (parts c.self.inside.slots c.self.inside.replies.items c.self.inside.tree c.self.inside.journal c.self.inside.queue c.self.inside.batch.items c.self.inside.next c.self.inside.flight c.self.inside.history.opened c.self.inside.history.since) c.self.invariant.1 (ap (λ (o : CoreView). point_refusal (core_state_of o)) c.self.view_is ∙ sym c.point_refusal.ensures ∙ c.in_default.is)) c.point.new.self c.point.ensures.any_moment keep)
+    (step_moment g.D.Disk.keeps (parts c.self.inside.slots c.self.inside.replies.items c.self.inside.tree c.self.inside.journal c.self.inside.queue
+    c.self.inside.batch.items c.self.inside.next c.self.inside.flight c.self.inside.history.opened c.self.inside.history.since)
+    c.self.invariant.1 (point_works g.D.Disk.keeps (parts c.self.inside.slots c.self.inside.replies.items c.self.inside.tree
+    c.self.inside.journal c.self.inside.queue c.self.inside.batch.items c.self.inside.next c.self.inside.flight c.self.inside.history.opened
+    c.self.inside.history.since) c.self.invariant.1 (ap (λ (o : CoreView). point_refusal (core_state_of o)) c.self.view_is
+    ∙ sym c.point_refusal.ensures ∙ c.in_default.is)) c.point.new.self c.point.ensures.any_moment keep)
 
 pub invariant_of-self-2 : goal.invariant_of-self-2
 invariant_of-self-2 g c = (
   c.self.invariant.0,
-  point_core g.D.Disk.keeps (parts c.self.inside.slots c.self.inside.replies.items c.self.inside.tree c.self.inside.journal c.self.inside.queue c.self.inside.batch.items c.self.inside.next c.self.inside.flight c.self.inside.history.opened c.self.inside.history.since) c.self.invariant.1 c.point.new.self c.point.ensures.any_moment c.point.result (ap (λ (o : CoreView). point_refusal (core_state_of o)) c.self.view_is ∙ sym c.point_refusal.ensures ∙ c.in_default.is) c.point.ensures.committed c.point.ensures.after,
+  point_core g.D.Disk.keeps (parts c.self.inside.slots c.self.inside.replies.items c.self.inside.tree c.self.inside.journal c.self.inside.queue
+      c.self.inside.batch.items c.self.inside.next c.self.inside.flight c.self.inside.history.opened c.self.inside.history.since) c.self.invariant.1
+      c.point.new.self c.point.ensures.any_moment c.point.result (ap (λ (o : CoreView). point_refusal (core_state_of o)) c.self.view_is
+      ∙ sym c.point_refusal.ensures ∙ c.in_default.is) c.point.ensures.committed c.point.ensures.after,
   c.self.invariant.2,
   c.self.invariant.3,
   c.self.invariant.4,
@@ -52,7 +73,12 @@ invariant_of-self-2 g c = (
 pub returns-clause-any_moment : goal.returns-clause-any_moment
 returns-clause-any_moment g c = λ keep.
     subst (λ (o : CoreView). CrashImagesAre o.medium c.point.new.self.medium (HoldsSome o.geometry (core_state_of o).committed (if o.failed then o.doubt else []))) c.self.view_is
-    (step_moment g.D.Disk.keeps (parts c.self.inside.slots c.self.inside.replies.items c.self.inside.tree c.self.inside.journal c.self.inside.queue c.self.inside.batch.items c.self.inside.next c.self.inside.flight c.self.inside.history.opened c.self.inside.history.since) c.self.invariant.1 (point_works g.D.Disk.keeps (parts c.self.inside.slots c.self.inside.replies.items c.self.inside.tree c.self.inside.journal c.self.inside.queue c.self.inside.batch.items c.self.inside.next c.self.inside.flight c.self.inside.history.opened c.self.inside.history.since) c.self.invariant.1 (ap (λ (o : CoreView). point_refusal (core_state_of o)) c.self.view_is ∙ sym c.point_refusal.ensures ∙ c.in_default.is)) c.point.new.self c.point.ensures.any_moment keep)
+    (step_moment g.D.Disk.keeps (parts c.self.inside.slots c.self.inside.replies.items c.self.inside.tree c.self.inside.journal c.self.inside.queue
+    c.self.inside.batch.items c.self.inside.next c.self.inside.flight c.self.inside.history.opened c.self.inside.history.since)
+    c.self.invariant.1 (point_works g.D.Disk.keeps (parts c.self.inside.slots c.self.inside.replies.items c.self.inside.tree
+    c.self.inside.journal c.self.inside.queue c.self.inside.batch.items c.self.inside.next c.self.inside.flight c.self.inside.history.opened
+    c.self.inside.history.since) c.self.invariant.1 (ap (λ (o : CoreView). point_refusal (core_state_of o)) c.self.view_is
+    ∙ sym c.point_refusal.ensures ∙ c.in_default.is)) c.point.new.self c.point.ensures.any_moment keep)
 
 pub returns-in-Some-clause-beyond : goal.returns-in-Some-clause-beyond
 returns-in-Some-clause-beyond g c = λ keep. beyond_none (layout_of c.args.self.now.geometry) c.args.self.now.medium

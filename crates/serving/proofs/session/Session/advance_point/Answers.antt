@@ -1,4 +1,4 @@
--- It stays under way.
+-- It keeps its invariant.
 use Rattle.std.proofs.Common.{refl}
 use Rattle.scheduler.proofs.Called.{flip_called, piece_called}
 use Rattle.scheduler.specs.CoreView.{core_state_of}

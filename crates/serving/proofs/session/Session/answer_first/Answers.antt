@@ -1,4 +1,4 @@
--- The message is answered, and so is its line; and the session stays under way.
+-- The message is answered, and its line completed; and the session keeps its invariant.
 use Rattle.std.proofs.Common.{◌≡◌, ◌+◌, ℕ, Option, ap, length, refl, subst}
 use Rattle.legal_runs.specs.Events.{answer}
 use Rattle.runs.proofs.Events.{answer_step}

@@ -1,4 +1,4 @@
--- It stays under way, and halts only where the device does.
+-- It keeps its invariant, and halts only where the device does.
 use Rattle.std.proofs.Common.{◌≡◌, ℕ, Some, ap, false, refl, ◌∙◌}
 use Rattle.legal_runs.specs.CoreState.{CoreState}
 use Rattle.scheduler.proofs.Called.{cut_called}

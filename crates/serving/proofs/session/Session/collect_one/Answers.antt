@@ -1,4 +1,4 @@
--- What came back is given to the core, and the session stays under way.
+-- What was collected is given to the core, and the session keeps its invariant.
 use Rattle.std.proofs.Common.{◌<◌, List, Option, None, ap, length, sym, subst, ◌∙◌}
 use Rattle.parcel.specs.Run.{JobView}
 use Rattle.serving.specs.Runs.{IsInternal, with_lent}

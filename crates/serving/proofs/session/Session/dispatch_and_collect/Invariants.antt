@@ -1,4 +1,4 @@
--- How many more messages may come back, and how often it looks for each.
+-- How many more messages may be collected, and how often it looks for each.
 use Rattle.std.proofs.Common.{◌≤◌, ◌+◌, ◌-◌, ◌*◌}
 use Rattle.serving.specs.Session.{KeepsStreams}
 use Rattle.serving.proofs.session.Session.dispatch_and_collect.Given as goal

@@ -1,4 +1,4 @@
--- The lemmas on what goes out; and the session stays under way.
+-- The lemmas on what is dispatched; and the session keeps its invariant.
 use Rattle.std.proofs.Common.{◌<◌, ℕ, None, ap, subst, ◌∙◌}
 use Rattle.std.specs.Prelude.{is_none, position}
 use Rattle.std.proofs.lemmas.List.Quantifiers.{position-Some}

@@ -1,4 +1,4 @@
--- It stays under way, and the reorder buffer is empty still where the last point is made, which fails only where the device does.
+-- It keeps its invariant, and the reorder buffer is empty still where the last point is made, which fails only where the device does.
 use Rattle.std.proofs.Common.{◌≡◌, ap, refl, ◌∙◌}
 use Rattle.reorder_buffer.specs.ReorderBuffer.{ReorderBufferView}
 use Rattle.scheduler.proofs.Called.{point_called}

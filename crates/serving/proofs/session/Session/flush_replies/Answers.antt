@@ -1,4 +1,4 @@
--- What waits may be told; and the session stays under way.
+-- What waits may be sent; and the session keeps its invariant.
 use Rattle.std.proofs.Common.{ℕ, List, subst, sym}
 use Rattle.std.specs.Io.KnownBytes.{Appends}
 use Rattle.serving.specs.Output.{MaySend}

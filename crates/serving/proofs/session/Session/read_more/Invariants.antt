@@ -1,4 +1,4 @@
--- How many more lines may be open.
+-- How many more lines may be outstanding.
 use Rattle.std.proofs.Common.{◌≡◌, ◌-◌}
 use Rattle.serving.proofs.session.Session.read_more.Given as goal
 

@@ -1,4 +1,4 @@
--- The line is read, or no more is; and the session stays under way.
+-- The line is read, or no more is; and the session keeps its invariant.
 use Rattle.std.proofs.Common.{◌≡◌, ◌<◌, ◌+◌, ◌∷◌, [], arith, ℕ, List, Ok, Option, Some, ap, length, map, refl, subst, sym, ◌∙◌}
 use Rattle.std.specs.Prelude.{IfSome}
 use Rattle.std.proofs.lemmas.List.{length-append}
@@ -94,7 +94,8 @@ invariant_of-self-in-Err-take g c =
       ended = has_ended n;
       behind = rest (source n);
     }) × (f.dispatch_seat.bench ≡ f.bench.now)) (sym took.4) (
-      on_stop g.D.Disk.keeps _ c.take.new.core c.take.new.row f.open_lines (unread rest n) (is_drained n) (has_ended n) (rest (source n)) none c.in-Err-take.ensures.slots (omega (arith, ap length took.5)) (omega (arith, may)) knows
+      on_stop g.D.Disk.keeps _ c.take.new.core c.take.new.row f.open_lines (unread rest n) (is_drained n) (has_ended n) (rest (source n)) none
+          c.in-Err-take.ensures.slots (omega (arith, ap length took.5)) (omega (arith, may)) knows
           _ (read_end_of took.1) u took.3.quiet took.5
           (stops_at_refusal g.D.Disk.keeps _ _ left (unread rest n) (rest (source n)) (is_drained f.lines) c.line.result.now took.0 took.1 took.2 found took.3
           (has_slot g.D.Disk.keeps _ _ took.0 none u room)),

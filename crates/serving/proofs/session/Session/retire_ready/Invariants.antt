@@ -1,4 +1,4 @@
--- The lines so far wait to be told; and how many are in the reorder buffer still.
+-- The lines so far wait to be sent; and how many are in the reorder buffer still.
 use Rattle.std.proofs.Common.{◌≡◌, length}
 use Rattle.serving.specs.Session.{KeepsStreams}
 use Rattle.serving.proofs.session.Session.retire_ready.Given as goal

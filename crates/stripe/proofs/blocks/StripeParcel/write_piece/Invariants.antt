@@ -1,4 +1,4 @@
--- The entries so far stand at the front.
+-- The entries so far are at the front.
 use Rattle.std.proofs.Common.{◌≡◌, ◌*◌, length, take}
 use Rattle.std.specs.List.{flat_map}
 use Rattle.stripe.specs.Entries.{entry_bytes}

@@ -1,4 +1,4 @@
--- The result that is taken back is the one that was won, of the job that was lent at that place.
+-- The result that is collected is the one that was won, of the job that was lent at that place.
 use Rattle.std.proofs.Common.{rules, ◌≡◌, length, ap, sym, ◌∙◌, subst, set, None, Some}
 use Rattle.atomic_table.specs.Seated.{TableId}
 use Rattle.parcel.specs.Run.{JobView, IsJobRun}
@@ -17,6 +17,8 @@ take_delivered-requires-clause-won c = let won = c.try_collect.ensures.won c.if-
 
 pub returns-clause-some : goal.returns-clause-some
 returns-clause-some c = let won = c.try_collect.ensures.won c.if-not-try_collect.false in let done = c.take_delivered.result in
-    let same = one_result done won.done (same_head c.try_collect.new.seat.me.1 _ _ c.args.k (Some (Delivered done)) (Some (Delivered won.done)) c.take_delivered.ensures.result (ap (λ (n : Sat). n.1) won.seat)) in
-    subst (λ (row : LentRow). (job : JobView) × (lent_at row c.args.k ≡ Some job) × IsJobRun job done × (lent_of c.take_delivered.new.seat.me.0 ≡ set row c.args.k None)) (ap (λ (d : DispatchSeatView). d.lent) c.seat.view_is)
+    let same = one_result done won.done (same_head c.try_collect.new.seat.me.1 _ _ c.args.k (Some (Delivered done)) (Some (Delivered won.done))
+    c.take_delivered.ensures.result (ap (λ (n : Sat). n.1) won.seat)) in
+    subst (λ (row : LentRow). (job : JobView) × (lent_at row c.args.k ≡ Some job) × IsJobRun job done
+    × (lent_of c.take_delivered.new.seat.me.0 ≡ set row c.args.k None)) (ap (λ (d : DispatchSeatView). d.lent) c.seat.view_is)
     (won.job, won.asked, subst (λ d. IsJobRun won.job d) (sym same) won.run, c.take_delivered.ensures.lent ∙ ap (λ (n : Sat). lent_of n.0) won.seat)

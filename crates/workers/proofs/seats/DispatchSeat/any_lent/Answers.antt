@@ -1,4 +1,4 @@
--- The flags say where something is lent, so none is up exactly where nothing is lent.
+-- The flags show where something is lent, so none is up exactly where nothing is lent.
 use Rattle.std.proofs.Common.{◌≡◌, ap, ◌∙◌, sym, subst, length, replicate, None, IsFalse, ◌↔◌}
 use Rattle.std.specs.List.{list_any}
 use Rattle.workers.specs.Rule.{LentRow}

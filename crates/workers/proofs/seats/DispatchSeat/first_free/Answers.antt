@@ -1,4 +1,4 @@
--- The flags say where something is lent, so the first that is down is the first free place.
+-- The flags show where something is lent, so the first that is down is the first free place.
 use Rattle.std.proofs.Common.{ap, ◌∙◌, position, not, is_none}
 use Rattle.workers.specs.Seats.{DispatchSeatView}
 use Rattle.workers.proofs.Places.{first_free_is_down}

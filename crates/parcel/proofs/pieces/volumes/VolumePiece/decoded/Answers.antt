@@ -8,4 +8,10 @@ pub returns : goal.returns
 returns c =
     let files : bit_and c.read_u64.result c.all_files.result ≡ (decoded_piece c.args.version c.args.g.now c.args.bytes.now).files =
     (λ i. bit_and (c.read_u64.ensures i) (c.all_files.ensures i)) ∙ and_mask _ c.args.g.now.files in
-    λ i. record { made = (decoded_piece c.args.version c.args.g.now c.args.bytes.now).made; sealed = (decoded_piece c.args.version c.args.g.now c.args.bytes.now).sealed; files = files i; label = c.label_decoded.ensures i }
+    λ i. record {
+      made = (decoded_piece c.args.version c.args.g.now c.args.bytes.now).made;
+      sealed =
+          (decoded_piece c.args.version c.args.g.now c.args.bytes.now).sealed;
+      files = files i;
+      label = c.label_decoded.ensures i;
+    }

@@ -1,6 +1,6 @@
 -- The lemmas on failures.
 use Rattle.legal_runs.proofs.Failures.{failure_told, failure_fails, failure_lasts}
-use Rattle.legal_runs.proofs.laws.failures_are_told_and_last.Goals as goal
+use Rattle.legal_runs.proofs.laws.failures_are_reported_and_last.Goals as goal
 
 pub returns-clause-told : goal.returns-clause-told
 returns-clause-told c = failure_told

@@ -1,7 +1,7 @@
 -- The lemmas on core states in which nothing is, and on events.
 use Rattle.legal_runs.proofs.Idle.{idle_sound}
 use Rattle.legal_runs.proofs.Sound.{event_sound}
-use Rattle.legal_runs.proofs.laws.events_keep_worlds_sound.Goals as goal
+use Rattle.legal_runs.proofs.laws.events_keep_core_states_sound.Goals as goal
 
 pub returns-clause-idle : goal.returns-clause-idle
 returns-clause-idle c g w idle = idle_sound w idle g

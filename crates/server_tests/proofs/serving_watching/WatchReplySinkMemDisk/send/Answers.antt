@@ -1,8 +1,8 @@
--- It may be told, so it is held.
+-- It may be sent, so it is held.
 use Rattle.std.proofs.Common.{ℕ, List, subst, sym}
 use Rattle.disk.specs.Device.{IsCrashImage, Medium}
 use Rattle.server_tests.proofs.Sights.{told_at}
-use Rattle.server_tests.proofs.serving_watching.WatchTellerMemDisk.send.Goals as goal
+use Rattle.server_tests.proofs.serving_watching.WatchReplySinkMemDisk.send.Goals as goal
 
 pub look-requires : goal.look-requires
 look-requires g c = record {
