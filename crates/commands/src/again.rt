@@ -10,8 +10,8 @@ ghost use Rattle.meaning.specs.State.{empty};
 
 use crate::faults::Fault;
 use crate::serve::serve_on;
-use crate::serve_stopped::serve_stopped;
 use crate::service::Service;
+use crate::stopped::serve_stopped;
 use affinity::Geometry;
 use checkpoint::{device_len, format};
 use disk::{MemDisk, Torn};

@@ -10,8 +10,8 @@ ghost use Rattle.commands.specs.declared.service.Service.{Service};
 
 use crate::faults::Fault;
 use crate::format::format_device;
-use crate::plain::answer_input;
 use crate::reports::{WRONG_WORDS, report};
+use crate::serial::answer_input;
 use crate::serve::serve_device;
 use crate::service::Service;
 use crate::show::show_device;

@@ -77,7 +77,7 @@ pub fn serve_on<T: Threads + Wait + Sync, R: Read, W: Write, D: Disk + Drop>(
         Err(error) => return (error.disk, Err(Fault::from(error.fault))),
     };
     let (core, end) = serve_core(rt, alloc, core, service, r, w);
-    core.recovers();
+    core.know_recovery();
     (core.into_disk(), as_fault(end))
 }
 

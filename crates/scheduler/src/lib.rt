@@ -5,7 +5,7 @@
 #![tactic(auto)]
 
 mod arrive_line;
-mod core;
+mod core_calls;
 mod granted;
 mod history;
 pub mod laws;
@@ -13,5 +13,5 @@ mod log_batch;
 mod memory;
 mod slot;
 
-pub use core::Core;
+pub use core_calls::Core;
 pub use granted::Granted;

@@ -6,7 +6,7 @@ ghost use Rattle.meaning.specs.Serial.{is_loggable};
 ghost use Rattle.scheduler.specs.Moving.{HasLogged, changing_in, gathered};
 ghost use Rattle.scheduler.specs.Slots.{HasChains};
 
-use crate::core::one_if;
+use crate::core_calls::one_if;
 use crate::slot::{LOGGED, RAN, Slot};
 use affinity::changing;
 use arena::Arena;

@@ -124,7 +124,7 @@ is_answered_so keeps old new None k hands h = core_is_quiet keeps old new steps.
 is_answered_so keeps old new (Some a) k hands h =
     let was : MachineView = record { core = old; hands = hands } in
     let now : MachineView = record { core = new; hands = hands } in
-    let outcome = outcomes.Completed a.0 a.1 in (
+    let outcome = outcomes.Answered a.0 a.1 in (
       core_holds keeps old new hands steps.Answer outcome h k refl,
       step_passes keeps was now steps.Answer outcome (core_step keeps old new hands steps.Answer outcome h k),
     )
@@ -135,7 +135,7 @@ is_answered_so keeps old new (Some a) k hands h =
 pub one_answered : (w new : CoreState) (logged : List Replied) (reply_pairs : ℕ × Reply) → (answer_outcome (Some reply_pairs), new) ≡ answer w logged
     → (new ≡ record w { logged = new.logged }) × (length logged ≡ suc (length new.logged))
 one_answered w new [] reply_pairs e =
-    let idle : outcomes.Completed reply_pairs.0 reply_pairs.1 ≡ outcomes.Idle = ap (λ (x : Outcome × CoreState). x.0) e in cc
+    let idle : outcomes.Answered reply_pairs.0 reply_pairs.1 ≡ outcomes.Idle = ap (λ (x : Outcome × CoreState). x.0) e in cc
 one_answered w new (a ∷ as') reply_pairs e =
     let is : new ≡ record w { logged = as' } = ap (λ (x : Outcome × CoreState). x.1) e in
     let rest : new.logged ≡ as' = ap (λ (x : CoreState). x.logged) is in (
@@ -161,13 +161,13 @@ answered_state w new (a ∷ as') o e =
 -- One less is logged.
 pub fewer_logged : (w new : CoreState) (logged : List Replied) (p : ℕ × Reply) → (answer_outcome (Some p), new) ≡ answer w logged
     → length new.logged + 1 ≡ length logged
-fewer_logged w new [] p e = let o : outcomes.Completed p.0 p.1 ≡ outcomes.Idle = ap (λ (x : Outcome × CoreState). x.0) e in cc
+fewer_logged w new [] p e = let o : outcomes.Answered p.0 p.1 ≡ outcomes.Idle = ap (λ (x : Outcome × CoreState). x.0) e in cc
 fewer_logged w new (a ∷ as') p e = let left = ap (λ (x : Outcome × CoreState). length x.1.logged) e in omega (arith, left)
 
 -- None was.
 pub none_logged : (w new : CoreState) (logged : List Replied) → (answer_outcome None, new) ≡ answer w logged → w.logged ≡ logged → new.logged ≡ []
 none_logged w new [] e is = ap (λ (x : Outcome × CoreState). x.1.logged) e ∙ is
-none_logged w new (a ∷ as') e is = let o : outcomes.Idle ≡ outcomes.Completed a.0 a.2 = ap (λ (x : Outcome × CoreState). x.0) e in cc
+none_logged w new (a ∷ as') e is = let o : outcomes.Idle ≡ outcomes.Answered a.0 a.2 = ap (λ (x : Outcome × CoreState). x.0) e in cc
 
 -- What changed nothing else so far, and then changed nothing else, has changed nothing else.
 pub answered_on : (w once now : CoreState) → once ≡ record w { logged = once.logged } → now ≡ record once { logged = now.logged }

@@ -14,7 +14,7 @@ use Rattle.legal_runs.proofs.Lists.{picked}
 use Rattle.legal_runs.proofs.Moves.{Passed, Move, Stays, Arrives, Grants, Backs, Logs, Answers, moves}
 
 abbrev Counts : CoreState → CoreState → Passed → Type 0
-Counts old new p = inside new + length p.reply_pairs ≡ inside old + length p.come
+Counts old new p = inside new + length p.told ≡ inside old + length p.come
 
 move_counts : (g : Geometry) (old new : CoreState) (p : Passed) → Move g old new p → Counts old new p
 move_counts g old new p (Stays s e) =

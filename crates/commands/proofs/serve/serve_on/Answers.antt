@@ -37,7 +37,7 @@ returns g c =
     let written = g.W.Write.contents c.serve_core-core.new.w in
     let fresh = subst (λ (n : ℕ). IsJustOpened n start) c.from.ensures c.in-Ok.ensures.opened in
     let by = has_served_by keeps service old start now end input left before written fresh c.in-Ok.ensures.header c.in-Ok.ensures.recovered_before
-    c.in-Ok.ensures.any_moment c.serve_core-core.ensures c.recovers.ensures.now in
+    c.in-Ok.ensures.any_moment c.serve_core-core.ensures c.know_recovery.ensures.now in
     let bytes = subst (λ (m : Medium). AreBytes m.now) c.into_disk.ensures (g.met.D.Disk.bytes c.into_disk.result) in
     let given_back : (P : Medium → Result (Unit {0}) Fault → Type 0) → P now.medium (as_fault end)
     → P (g.D.Disk.medium c.into_disk.result) c.as_fault.result =
@@ -45,7 +45,7 @@ returns g c =
     (subst (λ (r : Result (Unit {0}) Fault). P now.medium r) (sym c.as_fault.ensures) h) in
     record {
       ends = given_back (λ m r. EndsOnDevice keeps service old m r input left before written)
-          (ends_on_device keeps service old now.medium end input left before written by c.recovers.ensures.no_doubt bytes);
+          (ends_on_device keeps service old now.medium end input left before written by c.know_recovery.ensures.no_doubt bytes);
       crash_safe = given_back (λ m r. CrashesSafely keeps service old m r input left before written)
           (has_lived keeps service old now.medium end input left before written by);
       kept = given_back (λ m r. KeepsAcknowledged keeps old m r input before written)

@@ -15,7 +15,7 @@ use Rattle.scheduler.specs.CoreView.{CoreView, core_state_of}
 use Rattle.scheduler.specs.Parts.{IsCore, parts, core_state_in}
 use Rattle.scheduler.specs.Slots.{HasChains, line}
 use Rattle.scheduler.specs.declared.slot.Slot.{Slot}
-use Rattle.scheduler.proofs.core.Core.grant.Goals as goal
+use Rattle.scheduler.proofs.core_calls.Core.grant.Goals as goal
 
 pub unreachable-requires : goal.unreachable-requires
 unreachable-requires g c = grant_has_slot g.D.Disk.keeps c.self.inside.slots c.self.inside.replies.items c.self.inside.tree c.self.inside.journal

@@ -11,7 +11,7 @@ use Rattle.scheduler.specs.Parts.{IsCore, parts, core_state_in}
 use Rattle.scheduler.specs.Slots.{HasChains, line}
 use Rattle.scheduler.specs.declared.slot.Slot.{Slot}
 use Rattle.run_queue.specs.RunQueue.{RunQueueView}
-use Rattle.scheduler.proofs.core.Core.answer.Goals as goal
+use Rattle.scheduler.proofs.core_calls.Core.answer.Goals as goal
 
 pub index-reply-requires : goal.index-reply-requires
 index-reply-requires g c =

@@ -18,7 +18,7 @@ use Rattle.scheduler.specs.CoreView.{CoreView, core_state_of}
 use Rattle.scheduler.specs.Parts.{IsCore, parts, core_state_in}
 use Rattle.scheduler.specs.Slots.{HasChains, line}
 use Rattle.scheduler.specs.declared.slot.Slot.{Slot}
-use Rattle.scheduler.proofs.core.Core.give_back.Goals as goal
+use Rattle.scheduler.proofs.core_calls.Core.give_back.Goals as goal
 
 pub unreachable-requires-in_default-holder : goal.unreachable-requires-in_default-holder
 unreachable-requires-in_default-holder g c = true≢false (sym (back_is_held g.D.Disk.keeps c.self.inside.slots c.self.inside.replies.items

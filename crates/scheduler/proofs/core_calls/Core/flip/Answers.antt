@@ -11,7 +11,7 @@ use Rattle.scheduler.proofs.LogCall.{broken_takes, made_takes, none_taken}
 use Rattle.scheduler.proofs.Pointing.{flip_core, step_moment}
 use Rattle.scheduler.specs.CoreView.{CoreView, RecoversThroughout, core_state_of}
 use Rattle.scheduler.specs.Parts.{kept_of, parts}
-use Rattle.scheduler.proofs.core.Core.flip.Goals as goal
+use Rattle.scheduler.proofs.core_calls.Core.flip.Goals as goal
 
 pub returns-then-failed-clause-any_moment : goal.returns-then-failed-clause-any_moment
 returns-then-failed-clause-any_moment g c = λ keep.

@@ -117,7 +117,8 @@ impl<D: Disk> Core<D> {
     pub fn open(alloc: Global, d: D, slots: usize) -> Result<Core<D>, OpenError<D>>
         ensures opened { IfOk result (IsJustOpened slots) }
         ensures header { IfOk result (λ core. D.keeps → HasHeader core.geometry (D.medium d).now) }
-        ensures stood { IfOk result (λ core. D.keeps → holds core.geometry (D.medium d).now ≡ Some (core_state_of core).committed) }
+        ensures recovered_before { IfOk result (λ core. D.keeps →
+            holds core.geometry (D.medium d).now ≡ Some (core_state_of core).committed) }
         ensures emptied { IfOk result (λ core. D.keeps → in_force (layout_of core.geometry)
             (named_area (layout_of core.geometry) core.medium.now) core.medium.now ≡ []) }
 

@@ -10,7 +10,7 @@ use Rattle.scheduler.proofs.Journaling.{still_standing}
 use Rattle.scheduler.proofs.Pointing.{piece_core, step_moment}
 use Rattle.scheduler.specs.CoreView.{CoreView, RecoversThroughout, core_state_of}
 use Rattle.scheduler.specs.Parts.{kept_of, parts}
-use Rattle.scheduler.proofs.core.Core.piece.Goals as goal
+use Rattle.scheduler.proofs.core_calls.Core.piece.Goals as goal
 
 pub returns-then-failed-clause-any_moment : goal.returns-then-failed-clause-any_moment
 returns-then-failed-clause-any_moment g c = λ keep.

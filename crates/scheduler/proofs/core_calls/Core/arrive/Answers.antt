@@ -13,7 +13,7 @@ use Rattle.scheduler.specs.Parts.{IsCore, parts, core_state_in}
 use Rattle.scheduler.specs.Slots.{HasChains, line}
 use Rattle.scheduler.specs.declared.slot.Slot.{Slot}
 use Rattle.run_queue.specs.RunQueue.{RunQueueView}
-use Rattle.scheduler.proofs.core.Core.arrive.Goals as goal
+use Rattle.scheduler.proofs.core_calls.Core.arrive.Goals as goal
 
 pub invariant_of-self : goal.invariant_of-self
 invariant_of-self g c =

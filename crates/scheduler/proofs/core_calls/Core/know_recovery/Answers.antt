@@ -1,7 +1,7 @@
 -- The invariant of a core: what a crash leaves now, and nothing in `doubt` unless a call has failed.
 use Rattle.std.proofs.Common.{◌≡◌, [], false, subst}
 use Rattle.scheduler.specs.CoreView.{CoreView, RecoversNow}
-use Rattle.scheduler.proofs.core.Core.know_recovery.Goals as goal
+use Rattle.scheduler.proofs.core_calls.Core.know_recovery.Goals as goal
 
 pub returns-clause-no_doubt : goal.returns-clause-no_doubt
 returns-clause-no_doubt g c = subst (λ (o : CoreView). o.failed ≡ false → o.doubt ≡ []) c.self.view_is c.self.invariant.1.no_doubt

@@ -5,7 +5,7 @@ use Rattle.disk.specs.Memory.{Memory, medium_of, memory_of}
 use Rattle.commands.specs.Acknowledged.{HoldsAcknowledged, UnlessUnsent}
 use Rattle.commands.specs.Promise.{HoldsRecovered, UnlessUnopened, unless_unsent}
 use Rattle.commands.specs.Serving.{HasServedUntilCrash}
-use Rattle.commands.proofs.serve_stopped.serve_stopped.Goals as goal
+use Rattle.commands.proofs.stopped.serve_stopped.Goals as goal
 
 pub returns : goal.returns
 returns g c =

@@ -12,7 +12,7 @@ use Rattle.parcel.specs.Tree.{state_in}
 use Rattle.scheduler.proofs.Opened.{opened_chains, opened_parts, opened_ran, opened_size}
 use Rattle.scheduler.proofs.Refusals.{one_fault, opened_or_refused, recovers_or_refused}
 use Rattle.run_queue.specs.RunQueue.{RunQueueView, queue_at_start}
-use Rattle.scheduler.proofs.core.Core.open.Goals as goal
+use Rattle.scheduler.proofs.core_calls.Core.open.Goals as goal
 
 pub returns-in_default-clause-any_moment : goal.returns-in_default-clause-any_moment
 returns-in_default-clause-any_moment g c = λ k.

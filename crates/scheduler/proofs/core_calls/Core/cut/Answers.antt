@@ -16,7 +16,7 @@ use Rattle.scheduler.proofs.LogCall.{broken_takes, made_takes, none_taken}
 use Rattle.scheduler.proofs.Pointing.{cut_core, point_state, point_whole, point_works, step_moment}
 use Rattle.scheduler.specs.CoreView.{CoreView, RecoversThroughout, core_state_of}
 use Rattle.scheduler.specs.Parts.{kept_of, parts, core_state_in}
-use Rattle.scheduler.proofs.core.Core.cut.Goals as goal
+use Rattle.scheduler.proofs.core_calls.Core.cut.Goals as goal
 
 pub returns-in-Some-clause-any_moment : goal.returns-in-Some-clause-any_moment
 returns-in-Some-clause-any_moment g c = λ keep.

@@ -2,7 +2,7 @@
 use Rattle.disk.specs.Memory.{medium_of, memory_of}
 use Rattle.commands.proofs.Kept.{told_so}
 use Rattle.commands.proofs.Promise.{opened_then}
-use Rattle.commands.proofs.serve_stopped.serve_and_crash.Goals as goal
+use Rattle.commands.proofs.stopped.serve_and_crash.Goals as goal
 
 pub returns : goal.returns
 returns g c =

@@ -17,7 +17,7 @@ use Rattle.scheduler.proofs.LogCall.{broken_from, broken_takes, doubt_call_core,
 use Rattle.scheduler.specs.CoreView.{CoreView, RecoversThroughout, core_state_of}
 use Rattle.scheduler.specs.Moving.{gathered}
 use Rattle.scheduler.specs.Parts.{kept_of, parts, core_state_in}
-use Rattle.scheduler.proofs.core.Core.log.Goals as goal
+use Rattle.scheduler.proofs.core_calls.Core.log.Goals as goal
 
 pub returns-then-failed-clause-any_moment : goal.returns-then-failed-clause-any_moment
 returns-then-failed-clause-any_moment g c = λ keep.
