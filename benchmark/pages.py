@@ -143,7 +143,7 @@ def of_speed(figures):
     batch, twice = (span([round(figures.ratio(row, other, MAIN, "lines/s"), 1) for row in rows]) for other in ("batch", "twice"))
     sync = figures.median({"part": "disk"}, "disk", "us")
     quick = QUICK * figures.told["is_quick"]
-    return [f"{quick}With 64 or 256 lines open, {span([round(speed, -3) for speed in speeds])} writes of full blocks a second, and "
+    return [f"{quick}With 64 or 256 lines outstanding, {span([round(speed, -3) for speed in speeds])} writes of full blocks a second, and "
             f"{span(syncs)} syncs for 1,000 of them; a sync takes {number(sync)} microseconds. An ordinary unproved Rust server is {batch} "
             f"times as fast; {twice} times, if it locks and syncs as `waffd` does."]
 
