@@ -1,4 +1,4 @@
-//! Does what the words of a call ask for: serves, makes a device or shows one; and what is printed of a fault, with its exit status.
+//! Does what the words of a call ask for: serves, makes a device or shows one. Prints faults, and gives their exit statuses.
 //!
 //! Only `program` knows the words of a call: a command takes what it works on as values.
 #![tactic(auto)]

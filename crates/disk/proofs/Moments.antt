@@ -54,7 +54,7 @@ weaker old new P Q so_far enough = record {
   before = λ t c early left. ⊎_elim (λ (was : left_since old t c). inl was) (λ p. inr (enough c p)) (so_far.before t c early left);
 }
 
--- one segment of calls after another
+-- one sequence of calls after another
 pub then : (old mid new : Medium) (P : List ℕ → Type 0) → CrashImagesAre old mid P → CrashImagesAre mid new P → CrashImagesAre old new P
 then old mid new P first second = record {
   later = omega (arith, first.later, second.later);

@@ -22,7 +22,7 @@ abbrev pub AreBytes : List ℕ → Type 0
 AreBytes numbers = All (λ b. b < 256) numbers
 
 -- A list of the same length that has the same items at all offsets that are not unsynced. An offset past the end of the
--- marks counts as unsynced.
+-- flags counts as unsynced.
 abbrev pub SameButUnsynced : List ℕ → List Bool → List ℕ → Type 0
 SameButUnsynced [] unsynced [] = Unit {0}
 SameButUnsynced [] unsynced (x ∷ c) = ⊥
@@ -51,7 +51,7 @@ overlaid (x ∷ xs) zero [] = x ∷ xs
 overlaid (x ∷ xs) zero (y ∷ items) = y ∷ overlaid xs zero items
 overlaid (x ∷ xs) (suc at) items = x ∷ overlaid xs at items
 
--- the marks after a write of n bytes
+-- the flags after a write of n bytes
 abbrev pub marked : List Bool → ℕ → ℕ → List Bool
 marked unsynced at n = overlaid unsynced at (replicate n true)
 

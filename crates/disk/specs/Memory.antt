@@ -37,7 +37,7 @@ medium_of d = d.ghost_device.medium
 abbrev pub made : List ℕ → Memory
 made bytes = record { medium = begun bytes; kept = bytes; asked = bytes; injected_fault = Off; calls = 0 }
 
--- one call more that the injected faults count
+-- one call more
 abbrev pub counted : Memory → Memory
 counted m = record m { injected_fault = burned m.injected_fault; calls = min (m.calls + 1) (2 ^ 64 - 1) }
 

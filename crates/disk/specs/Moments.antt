@@ -1,4 +1,4 @@
--- Statement for operators: What a crash leaves at some moment, or at every moment, of a segment of calls.
+-- Statement for operators: What a crash leaves at some moment, or at every moment, of a sequence of calls.
 use Rattle.std.specs.Prelude.{◌⊎◌, ◌≤◌, ℕ, List, [], ◌∷◌, length}
 use Rattle.disk.specs.Device.{Moment, Medium, IsTornFrom, moments}
 

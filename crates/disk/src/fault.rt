@@ -1,5 +1,5 @@
-//! Faults: what a device or a file answers where a call of it isn't carried out.
-/// What a call of a device answers where it isn't carried out.
+//! Faults: what a device or a file answers where a call fails.
+/// What a call of a device answers where it fails. A write that answers `Device` may have changed its range.
 #[derive(Clone, Copy, Debug, PartialEq, Eq)]
 pub enum DiskFault {
     /// The range leaves the device, which was not touched.

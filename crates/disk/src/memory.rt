@@ -90,7 +90,7 @@ impl MemDisk {
         self.meter.injected_fault = InjectedFault::StopAt(n);
     }
 
-    /// The device after a crash, with its injected faults off and no calls. It takes no memory.
+    /// The device after a crash, with no injected fault and no calls. It takes no memory.
     pub fn crash(self, torn: Torn) -> MemDisk
         requires { HasBytes torn }
         ensures after { memory_of result ≡ after_crash torn (memory_of self) }
@@ -121,7 +121,7 @@ impl MemDisk {
         }
     }
 
-    /// A device as a crash would leave this one now, with its injected faults off and no calls. This one goes on. `AllocError` where
+    /// A device as a crash would leave this one now, with no injected fault and no calls. This one goes on. `AllocError` where
     /// there is no memory.
     pub fn crashed(&self, alloc: Global, torn: &Torn) -> Result<MemDisk, AllocError>
         requires { HasBytes torn.now }

@@ -58,7 +58,7 @@ module _ (version : ℕ) (g : Geometry) (ps qs : ℕ → List ℕ) where
       (λ i. entry_if (has_volume g (a, v) && has_file_in (first i) f) f b
       (if has_volume g (a, v) then block_in g (there i) f b else None))))
 
-  -- a piece depends on what itself and its volume's piece decode to
+  -- a piece depends on what it and its volume's piece decode to
   pub piece_same : (n : ℕ) → ps (volume_piece_number g (aggregate_of g n) (volume_of g n))
       ≡ qs (volume_piece_number g (aggregate_of g n) (volume_of g n)) → ps n ≡ qs n
       → piece_of version g (decoded_by version g ps) n ≡ piece_of version g (decoded_by version g qs) n

@@ -31,7 +31,7 @@ pub still_read : (g : Geometry) (w0 w1 : Medium) → IsSynced w0 → moments w1 
 still_read g w0 w1 calm only =
     same w0 w0 w1 _ (started w0 _ (λ c left. ap (holds g) (calm_left w0 c calm left))) only
 
--- one segment of calls after another, on the bytes that recover to the same
+-- one sequence of calls after another, on the bytes that recover to the same
 pub still_then : (g : Geometry) (w0 w1 w2 : Medium) → AreBytes w1.now → RecoversStill g w0 w1 → RecoversStill g w1 w2 → RecoversStill g w0 w2
 still_then g w0 w1 w2 are first second =
     then w0 w1 w2 _ first

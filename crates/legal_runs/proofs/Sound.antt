@@ -24,7 +24,7 @@ abbrev IsGiven : ℕ → Entry → Type 0
 IsGiven n e = e.0 < n
 
 module _ (g : Geometry) where
-  -- what is logged next has its replies in a row
+  -- what is logged next gets its replies one after the other
   pub row_of : (w : CoreState) (n : ℕ) → IsSoundCoreState g w → InARow g w.committed (take n w.ran) (drop n w.ran)
   row_of w n h =
       let whole : take n w.ran ++ drop n w.ran ≡ w.ran = take-append-drop n w.ran in

@@ -17,7 +17,7 @@ Replied = ℕ × Msg × Reply
 pub record CoreState : Type 0 where
   -- those that wait, by ticket
   pub waiting : List Entry
-  -- those that are dispatched, in the order of their grants
+  -- those that are in flight: dispatched, and not given back; in the order of their grants
   pub out : List Entry
   -- those that ran, with their replies, in the order in which they were given back
   pub ran : List Replied

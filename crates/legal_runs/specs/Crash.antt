@@ -19,13 +19,13 @@ abbrev pub next_batch : CoreState → List Event → List Msg
 next_batch w [] = []
 next_batch w (event ∷ events) = to_append w event.step
 
--- The messages in flight at the failure, in a core state from which these events come: in a failed core state those
+-- The messages of which a crash may leave some, in a core state from which these events come: in a failed core state those
 -- that were to be appended when the device failed, and else those that the next event is to append.
 abbrev pub in_doubt : CoreState → List Event → List Msg
 in_doubt w events = if w.failed then w.doubt else next_batch w events
 
 -- These messages are in the log, if the crash comes after k events of a run and before the next has ended:
--- all that were appended, and the first so many of those in flight at the failure.
+-- all that were appended, and the first so many of those to be appended then (`in_doubt`).
 pub record IsLogAfter (old : Hands) (events : List Event) (k : ℕ) (ms : List Msg) : Type 0 where
   pub some : ℕ
   pub at_most : some ≤ length (in_doubt (last old (take k events)).core (drop k events))

@@ -152,7 +152,7 @@ pub fn what_is_in_doubt_ran()
 
 /// What a crash may leave, if it comes when k events or more have ended, is the state to which all that these
 /// appended leads, with more after it. If it comes before the next one has ended, it is the state that was
-/// committed then, with the first m of the messages in flight at the failure (`in_doubt`).
+/// committed then, with the first m of the messages to be appended then (`in_doubt`).
 pub fn a_crash_leaves_what_was_appended()
     ensures begins { (g : Geometry) (old : Hands) (events : List Event) (k : ℕ) (x : State) → IsLeftSince g old events k x
         → (rest : List Msg) × (x ≡ fold g old.core.committed (journal old (take k events) ++ rest)) }

@@ -3,7 +3,7 @@
 //!
 //! What a device recovers to comes from the layer above, as a `Meaning`: `read` gives the state that
 //! an image holds, `apply` what a record makes of a state, and `is_header` recognizes a header. Each
-//! law takes what a device recovers to before a segment of calls, with the area that it names and its
+//! law takes what a device recovers to before a sequence of calls, with the area that it names and its
 //! current half, and gives the same of whatever a crash leaves.
 
 ghost use Rattle.std.specs.Prelude.{◌≡◌, ◌<◌, ℕ, [], List, get_or, length};

@@ -9,10 +9,10 @@ use std::marker::Model;
 /// How many numbers there are in a block.
 pub(crate) const BLOCK: usize = 16;
 
-/// The last rank that a waiting message may have. The greatest `u64` means that none is ready.
+/// The last rank that a ready message may have. The greatest `u64` means that none is ready.
 const LAST_RANK: u64 = u64::MAX - 1;
 
-/// A ready flag for each number of an affinity, which is set if a waiting message is conflict-free.
+/// For each number of an affinity the first message that waits there, if it is conflict-free: its ready flag is set then.
 ///
 /// `next` is called often and looks for the earliest ready message. So each has a rank, which is its ticket, and the
 /// least rank of each block of numbers is kept: most blocks are passed by it alone.
@@ -89,7 +89,7 @@ impl ReadyTable {
         self.rank(number).min(LAST_RANK)
     }
 
-    /// The least rank in a block: no message there has a lower one.
+    /// The least rank in a block: no ready message there has a lower one.
     pub(crate) fn least(&self, block: usize) -> u64
         ensures { (i : ℕ) → i < 16 → result ≤ rank_of (ready_in self.now (16 * block + i)) }
     {

@@ -62,7 +62,7 @@ impl RunQueue {
     /// `AllocError` where there is no memory.
     pub fn new(alloc: Global, geometry: &Geometry, slots: usize) -> Result<RunQueue, AllocError>
         requires { slots < usize.MAX }
-        ensures { IfOk result (λ messages. messages ≡ queue_at_start geometry.now slots) }
+        ensures { IfOk result (λ queue. queue ≡ queue_at_start geometry.now slots) }
     {
         let waiting = Queues::new(alloc, MOST_AFFINITIES, slots)?;
         let held = Holders::new(alloc, MOST_AFFINITIES)?;

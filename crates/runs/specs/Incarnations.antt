@@ -17,8 +17,8 @@ use Rattle.messages.specs.declared.Msg.{Msg}
 use Rattle.meaning.specs.Serial.{fold}
 use Rattle.meaning.specs.State.{empty}
 
--- An incarnation: the device when it was opened, and as the last call left it; since which moment the crash may have come; the
--- numbers of the server that was opened; and the incarnation that its messages had.
+-- An incarnation of a device: the device when it was opened, and as the last call left it; since which moment the crash may have come;
+-- the numbers of the server that was opened; and the same by its messages alone (`Incarnation`).
 pub record DeviceIncarnation : Type 0 where
   pub began : Medium
   pub ended : Medium

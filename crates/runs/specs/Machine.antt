@@ -89,6 +89,6 @@ pub record IsEndOfRun (start : MachineView) (events : List Event) (new : CoreVie
   pub hands : List Holding
   pub ends : last (machine_of start) events ≡ machine_of (record { core = new; hands = hands })
   pub geometry : new.geometry ≡ start.core.geometry
-  -- what `Core::recovers` promises of it
+  -- what `Core::know_recovery` promises of it
   pub no_doubt : new.failed ≡ false → new.doubt ≡ []
   pub recovers : RecoversNow new

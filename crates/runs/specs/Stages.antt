@@ -22,9 +22,8 @@ abbrev pub device_after : Medium → List Stage → Medium
 device_after m [] = m
 device_after m (stage ∷ stages) = device_after stage.medium stages
 
--- A crash at any moment of an event leaves the state that was committed before it, with the first so many of the messages in
--- flight at the failure: of those that the event is to append, or, in a failed core state, of those that were to be appended when it
--- failed.
+-- A crash at any moment of an event leaves the state that was committed before it, with the first so many of the messages that the
+-- event is to append, or, in a failed core state, of those that were to be appended when the device failed.
 abbrev pub AreSafe : Geometry → Hands → Medium → List Stage → Type 0
 AreSafe g w m [] = Unit {0}
 AreSafe g w m (stage ∷ stages) =

@@ -41,8 +41,8 @@ pub fn incarnations_leave_what_was_answered()
 {}
 
 /// A run has ended. Whatever a crash leaves of its device now recovers to where the log of the run leads, with the first m of
-/// the messages in flight at the failure. Where no message was in the core at its start, that log begins with every change that
-/// was answered.
+/// the messages that were to be appended when the device failed. Where no message was in the core at its start, that log begins
+/// with every change that was answered.
 pub fn a_crash_behind_a_run_leaves_what_was_answered()
     ensures run { (start : MachineView) (events : List Event) (new : CoreView) (c : List ℕ)
         → IsSoundCoreState start.core.geometry (core_state_of start.core)

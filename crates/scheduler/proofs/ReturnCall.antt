@@ -148,7 +148,7 @@ module _ (keeps : Type 0) (p : Parts) (k : IsCore keeps p) (before : List SlotVi
   others_behind = other_numbers g x x_placed behind (all_back (IsPlaced g) before (x ∷ behind) all_out).1
       (all_back (λ d. are_related_entries g (entry_of x) d ≡ false) us (map entry_of behind) alone)
 
-  -- who holds its number is the one that is dispatched
+  -- who holds its number is the one in flight
   pub holder_is : (slot : ℕ) → list_any (holds_at n slot) p.queue.held ≡ true → slot ≡ x.0
   holder_is slot has =
       let t : SlotView → Bool = λ (y : SlotView). holds_at n slot (queued_of y) in

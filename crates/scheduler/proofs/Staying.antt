@@ -1,4 +1,4 @@
--- What is dispatched sees the committed state at its place as it was, whatever else comes.
+-- What is in flight sees the committed state at its place as it was, whatever else comes.
 use Rattle.std.proofs.Common.{◌≡◌, ap, sym, subst, ◌∙◌}
 use Rattle.std.specs.List.{Contains}
 use Rattle.affinity.specs.Path.{are_related}
@@ -20,7 +20,7 @@ use Rattle.meaning.specs.Serial.{next_state, reply_to}
 use Rattle.meaning.specs.Shares.{AgreeOn}
 use Rattle.scheduler.specs.Jobs.{IsJobOf, IsResultOf}
 
--- what a dispatched message can read of the committed state stays
+-- what a message in flight can read of the committed state stays
 event_leaves : (g : Geometry) (e : Entry) (old : Hands) (event : Event) → IsAllowed g old event → IsSoundCoreState g old.core
     → Contains old.core.out e → AgreeOn g (are_related (place g e.1)) event.state_after.core.committed old.core.committed
 event_leaves g e old event allowed sound there = event_sees g old event e allowed sound (in_contained old.core.out e there)

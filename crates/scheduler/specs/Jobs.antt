@@ -11,13 +11,13 @@ use Rattle.parcel.specs.declared.job.Done.{Done}
 use Rattle.parcel.specs.declared.parts.Standing.{Standing}
 use Rattle.meaning.specs.Serial.{next_state, reply_to}
 
--- The job is of a dispatched message, and it shows what the committed state has at the message's place.
+-- The job is of a message in flight, and it shows what the committed state has at the message's place.
 pub record IsJobOf (g : Geometry) (w : CoreState) (job : JobView) : Type 0 where
   pub geometry : job.geometry ≡ g
   pub is_out : Contains w.out (job.ticket, job.message)
   pub lent : IsLentOf job w.committed
 
--- The message is dispatched, and this is what comes of it where it runs in the committed state.
+-- The message is in flight, and this is what comes of it where it runs in the committed state.
 pub record IsResultOf (g : Geometry) (w : CoreState) (done : Done) : Type 0 where
   pub is_out : Contains w.out (done.ticket, done.message)
   pub suits : Suits g done.message done.parcels

@@ -48,7 +48,7 @@ pub record Parts : Type 0 where
   -- what is handed to the journal: after a fault of the device what was to be appended
   pub batch : List Msg
   pub next : ℕ
-  -- how many changing messages are dispatched or ran
+  -- how many changing messages are in flight or ran
   pub flight : ℕ
   pub opened : TreeView
   pub since : List Msg
@@ -121,7 +121,7 @@ pub record IsCore (keeps : Type 0) (p : Parts) : Type 0 where
   pub holds : (test : QueuedMessage → Bool) → list_any test p.queue.held ≡ held_any test p.lines
   pub flies : p.flight ≡ in_flight (core_state_in p)
   pub sound : IsSoundCoreState p.journal.geometry (core_state_in p)
-  -- the tree holds what was reached, but for the places of dispatched messages
+  -- the tree holds what was reached, but for the places of messages in flight
   pub geometry : p.tree.geometry ≡ p.journal.geometry
   pub tree : TreeHolds p.journal.geometry (is_below p.journal.geometry (map entry_of p.lines.out)) (in_tree p.tree)
       (reached p.journal.geometry (core_state_in p))

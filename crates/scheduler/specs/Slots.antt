@@ -27,7 +27,7 @@ pub record Lines : Type 0 where
   pub ran : List SlotView
   pub logged : List SlotView
 
--- Chain 0 has those that wait, chain 1 those that are dispatched, chain 2 those that ran, and chain 3 those that are logged.
+-- Chain 0 has those that wait, chain 1 those in flight, chain 2 those that ran, and chain 3 those that are logged.
 abbrev pub stages_of : Row Slot → List Reply → Lines
 stages_of row replies =
     record { waiting = line row replies 0; out = line row replies 1; ran = line row replies 2; logged = line row replies 3 }

@@ -59,13 +59,13 @@ pub struct Core<D: Disk> {
     tree: Tree,
     journal: Journal<D>,
 
-    /// What is handed to the journal. After a fault of the device it stays: it was in flight at the failure.
+    /// What is handed to the journal. After a fault of the device it stays, as `doubt`: what was to be appended.
     batch: Vec<Msg>,
 
     /// The ticket of the next message.
     next: u64,
 
-    /// How many changing messages are dispatched or ran.
+    /// How many changing messages are in flight or ran.
     flight: usize,
 
     /// How many messages ran.
@@ -100,7 +100,7 @@ pub(crate) fn one_if(is_so: bool) -> usize
     if is_so { 1 } else { 0 }
 }
 
-// Whether a message is held: dispatched, ran or logged.
+// Whether a message is held: in flight, ran or logged.
 fn holds_any(slots: &Arena<Slot>) -> bool
     requires { HasChains slots.now }
     ensures { result ≡ nat_lt 0 (length (chain_at slots.now 3) + (length (chain_at slots.now 2) + length (chain_at slots.now 1))) }

@@ -9,7 +9,7 @@ pub(crate) const CHAINS: usize = 4;
 /// The chain of waiting messages.
 pub(crate) const WAITING: usize = 0;
 
-/// The chain of dispatched messages, whose jobs are in flight.
+/// The chain of messages in flight.
 pub(crate) const OUT: usize = 1;
 
 /// The chain of messages that ran.

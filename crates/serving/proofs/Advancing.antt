@@ -1,4 +1,4 @@
--- The answers to lines in the output, and that a session goes on with fewer lines in its reorder buffer.
+-- The answers to lines in the output, and that a session goes on with fewer lines in its row.
 use Rattle.std.proofs.Common.{◌≡◌, ℕ, Bool, true, false, List, [], ◌∷◌, ◌++◌, Option, None, refl, ap, sym, ◌∙◌, subst, map, append_assoc}
 use Rattle.std.specs.Prelude.{Result, Ok, Err, OnErr, OnOk}
 use Rattle.std.proofs.lemmas.Bool.{true≢false}
@@ -17,9 +17,9 @@ pub texts_both : (retired more : List Line) → joined (map text (retired ++ mor
 texts_both [] more = refl
 texts_both (x ∷ retired) more = ap (λ z. text x ++ z) (texts_both retired more) ∙ sym (append_assoc (text x) (joined (map text retired)) (joined (map text more)))
 
--- ---- fewer lines in the reorder buffer
+-- ---- fewer lines in the row
 
--- The first lines of the old reorder buffer, each completed, were written behind what was written before, and the new one is left.
+-- The first lines of the old row, each completed, were written behind what was written before, and the new one is left.
 pub record Retires (old new : List Line) (before written : Option (List ℕ)) : Type 0 where
   pub retired : List Line
   pub were : old ≡ retired ++ new
@@ -32,7 +32,7 @@ forgets keeps start now row input left ended before written h =
     record { taken = h.taken; retired = h.retired; takes = h.takes; serving = h.serving; output = tt }
 
 module _ (keeps : Type 0) where
-  -- Lines at the front of the reorder buffer were written.
+  -- Lines at the front of the row were written.
   pub retires_on : (start m : MachineView) (row rest : List Line) (old now : Option (List ℕ)) → Retires row rest old now
       → (input left : Option (List ℕ)) (ended : Bool) (before : Option (List ℕ)) → ServingProgress keeps start m row input left ended before old
       → ServingProgress keeps start m rest input left ended before now

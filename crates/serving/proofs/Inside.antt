@@ -1,4 +1,4 @@
--- There are no more messages in the core than lines in the reorder buffer, since each line that is retired was answered.
+-- There are no more messages in the core than lines in the row, since each line that was written was answered.
 use Rattle.std.proofs.Common.{◌≡◌, ℕ, ◌+◌, ◌<◌, ◌≤◌, Bool, true, false, List, [], ◌∷◌, ◌++◌, Option, Some, None, refl, ap, sym, ◌∙◌, subst, length, ⊎_elim, arith}
 use Rattle.std.specs.Prelude.{if◌then◌else◌, nat_le}
 use Rattle.std.specs.List.{AllByRecursion}
@@ -107,7 +107,7 @@ module _ (g : Geometry) (replies : List (ℕ × Reply)) where
       let l = later_one n reply replies is in
       subst (λ (l : List Msg). length l + later (next_ticket n l) replies ≤ later n replies) (sym single) (omega (arith, l))
 
-  -- The lines that take tickets are the retired ones, each of which was answered, and at most those of the reorder buffer.
+  -- The lines that take tickets are those that were written, each of which was answered, and at most those of the row.
   lines_take : (n : ℕ) (ls : List (List ℕ)) (retired row : List Line) → AreKnown g replies n ls (retired ++ row)
       → AllByRecursion (λ line. is_completed line ≡ true) retired → length (admitted g ls) ≤ later n replies + length row
   lines_take n ls [] row k done = let l = row_takes n ls row k in omega (arith, l)
@@ -151,12 +151,12 @@ module _ (keeps : Type 0) (start now : MachineView) (idle : IsIdle (core_state_o
       let most = later_most n s.reply_pairs in
       omega (arith, counts, ends, come, reply_pairs, none, takes, most)
 
-  -- No more messages wait or are held than there are lines that were read and aren't retired.
+  -- No more messages wait or are held than there are lines that were read and aren't written.
   pub few_inside : (row : List Line) (input left : Option (List ℕ)) (ended : Bool) (before written : Option (List ℕ))
       → ServingProgress keeps start now row input left ended before written → inside (core_state_of now.core) ≤ length row
   few_inside row input left ended before written h = serving_inside h.taken h.retired row h.serving
 
-  -- Where all is retired, nothing waits and nothing is held.
+  -- Where all is written, nothing waits and nothing is held.
   pub idle_again : (input left : Option (List ℕ)) (ended : Bool) (before written : Option (List ℕ))
       → ServingProgress keeps start now [] input left ended before written → IsIdle (core_state_of now.core)
   idle_again input left ended before written h = none_inside (core_state_of now.core) (few_inside [] input left ended before written h)

@@ -46,12 +46,12 @@ why_on g old new left drained behind ends_of_reading.ReadFailed next failed h = 
 why_on g old new left drained behind ends_of_reading.TicketsExhausted next failed h = (next ∙ h.0, h.1)
 why_on g old new left drained behind ends_of_reading.DeviceFailed next failed h = failed h
 
--- what was retired of a reorder buffer, where the output may have failed
+-- what was written of a row, where the output may have failed
 retires_unless : (b : Bool) (row rest : List Line) (old now : Option (List ℕ)) → Retires row rest old now → Retires row rest (known_unless b old) (known_unless b now)
 retires_unless true row rest old now retires = record { retired = retires.retired; were = retires.were; are_completed = retires.are_completed; output = tt }
 retires_unless false row rest old now retires = retires
 
--- What waits is retired behind what was sent.
+-- What waits is to be sent behind what was sent.
 retires_waiting : (waiting row : List Line) (out : List ℕ) (sent : Option (List ℕ)) → AreCompleted waiting → out ≡ joined (map text waiting)
     → Retires (waiting ++ row) row sent (so_far sent out)
 retires_waiting waiting row out None answered is = record { retired = waiting; were = refl; are_completed = answered; output = tt }

@@ -17,7 +17,7 @@ use Rattle.serving.specs.Lines.{Completed, AreCompleted, Line, Pending, admitted
 use Rattle.serving.specs.Runs.{with_lent}
 use Rattle.serving.specs.Logged.{AreInLog, HoldsLog}
 
--- where the call of a server begins: its core, how many jobs it may offer, its input, and what was sent before
+-- where the call of a server begins: its core, how many jobs may be lent at once, its input, and what was sent before
 pub record Start : Type 0 where
   pub core : CoreView
   pub places : ℕ

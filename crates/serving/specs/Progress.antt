@@ -11,7 +11,7 @@ use Rattle.serving.specs.Lines.{AreKnown, Line, admitted, is_completed, text, ti
 use Rattle.serving.specs.Runs.{RunsBetween}
 
 -- From its start the server has come to this machine. It has consumed these lines, of which the first ones are answered in the
--- output, and the others are the reorder buffer.
+-- output, and the others are the row.
 pub record IsServing (keeps : Type 0) (start now : MachineView) (taken : List (List ℕ)) (retired row : List Line) : Type 0 where
   -- each ticket that was answered, with its reply
   pub reply_pairs : List (ℕ × Reply)
@@ -21,8 +21,8 @@ pub record IsServing (keeps : Type 0) (start now : MachineView) (taken : List (L
   pub known : AreKnown start.core.geometry reply_pairs start.core.next taken (retired ++ row)
   pub answered : AllByRecursion (λ line. is_completed line ≡ true) retired
 
--- From its start the server has come to this machine and this reorder buffer. It has consumed lines of the input, of which this is
--- left, and it has written the answers to those that are not in the reorder buffer.
+-- From its start the server has come to this machine and this row of lines. It has consumed lines of the input, of which this is
+-- left, and it has written the answers to those that are not in the row (a session's row: its outstanding lines).
 pub record ServingProgress (keeps : Type 0) (start now : MachineView) (row : List Line)
     (input left : Option (List ℕ)) (ended : Bool) (before written : Option (List ℕ)) : Type 0 where
   pub taken : List (List ℕ)

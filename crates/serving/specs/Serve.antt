@@ -24,8 +24,8 @@ pub record HasServedAll (keeps : Type 0) (start : MachineView) (new : CoreView) 
   pub served : HasServed keeps start new [] input before written
   pub all : AreAll input served.taken
 
--- There is a run behind what was written. Each line that was consumed is answered in the output, but for the reorder buffer where the
--- device failed, whose first line is not completed. Where the output failed it is unknown what was written.
+-- There is a run behind what was written. Each line that was consumed is answered in the output, but for a row of lines where the
+-- device failed, the first of which is not completed. Where the output failed it is unknown what was written.
 abbrev pub HasRunSo : Type 0 → MachineView → CoreView → Option (List ℕ) → Option (List ℕ) → Option (List ℕ)
     → Result (Unit {0}) ServeFault → Type 0
 HasRunSo keeps start new input before written (Ok _) = HasServedAll keeps start new input before written

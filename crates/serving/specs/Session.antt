@@ -166,7 +166,7 @@ end_of ends_of_reading.ReadFailed = Err faults.Read
 end_of ends_of_reading.TicketsExhausted = Err faults.Exhausted
 end_of ends_of_reading.DeviceFailed = Err faults.Device
 
--- What ended it, by the answer of the call. Where something has failed, all jobs are collected, and what was logged is answered.
+-- What ended it, by the answer of the call. Where something has failed, no job is in flight, and what was logged is answered.
 abbrev pub EndsBy : SessionView → Result (Unit {0}) ServeFault → Type 0
 EndsBy p (Ok _) = IsServed p × (p.stop ≡ Some ends_of_reading.EndOfInput)
 EndsBy p (Err faults.Read) = IsServed p × (p.stop ≡ Some ends_of_reading.ReadFailed)

@@ -1,5 +1,5 @@
 //! The loop of a session: lines are read and worked off, until no more is read and each is answered. Where the device or the output
-//! has failed, jobs in flight are collected, and what can still be done is done.
+//! has failed, jobs in flight are waited for and their results collected, and what can still be done is done.
 
 ghost use Rattle.std.specs.Prelude.{◌≡◌, Err, IfSome, MatchResult, None, OnOk, Some, [], false};
 ghost use Rattle.serving.specs.Serve.{HasEmptyLog};
@@ -29,8 +29,9 @@ fn reported_for(stop: Option<ReadEnd>) -> Result<(), ServeFault>
 }
 
 impl<'c, R: Read, D: Disk, L: ReplySink<D>> Session<'c, R, D, L> {
-    /// Ends where something has failed: jobs in flight are collected. What ran is logged, unless the device has failed; all that is
-    /// logged is answered; and the lines next in order are still written, unless the output has failed. Why the server ends then.
+    /// Ends where something has failed: jobs in flight are waited for and their results collected. What ran is logged, unless the
+    /// device has failed; all that is logged is answered; and the lines next in order are still written, unless the output has
+    /// failed. Why the server ends then.
     fn end_early<W: GatedRuntime>(&mut self, rt: &W) -> ServeFault
         requires halted { HasHalted self.old }
         ensures { EndsBy self.new (Err result) }
@@ -44,7 +45,7 @@ impl<'c, R: Read, D: Disk, L: ReplySink<D>> Session<'c, R, D, L> {
         }
     }
 
-    /// Why no more is read, where that is so, each line that was read is answered in the output, and no consistency point is in progress.
+    /// Why no more is read, where that is so, each line that was read is retired, and no consistency point is in progress.
     fn ended(&self) -> Option<ReadEnd>
         ensures { IfSome result (λ stop. (self.now.stop ≡ Some stop) × (self.now.row.lines ≡ []) × (self.now.core.left ≡ None)) }
     {

@@ -1,4 +1,4 @@
--- The chosen message has its slot and nothing related is dispatched, so the tree lends its place, for a job that suits it.
+-- The chosen message has its slot and nothing related is in flight, so the tree lends its place, for a job that suits it.
 use Rattle.std.proofs.Common.{◌≡◌, ℕ, ◌+◌, ◌≤◌, length, sym, ap, subst, ◌∙◌}
 use Rattle.std.specs.Prelude.{nat_lt, option_copied, vec_capacity}
 use Rattle.affinity.specs.Interval.{IsAffinityOf}

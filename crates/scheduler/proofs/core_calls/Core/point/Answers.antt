@@ -1,4 +1,4 @@
--- No message is held, so the tree is whole and has the committed state, and the checkpoint keeps that state.
+-- No message is held, so the tree is whole and has the committed state, and the point keeps that state.
 use Rattle.std.proofs.Common.{◌≤◌, ◌+◌, [], arith, refl, sym, ap, subst, ◌∙◌}
 use Rattle.std.specs.Prelude.{if◌then◌else◌}
 use Rattle.disk.specs.Moments.{CrashImagesAre, moment}
