@@ -42,10 +42,10 @@ module _ (keeps : Type 0) (s : Service) (old new : Medium) (end : Result (Unit {
         recovered_before = record { header = λ _. h.header keep; recovered_before = λ _. h.recovered_before keep };
         taken = served.taken;
         first = served.run.first;
-        sent = map text served.retired;
+        sent = map text served.sent_lines;
         output = served.output;
         log = log;
-        kept = subst (λ (t : ℕ). AreInLog g log t served.taken (map text served.retired)) h.fresh.next
+        kept = subst (λ (t : ℕ). AreInLog g log t served.taken (map text served.sent_lines)) h.fresh.next
             (written_are_kept keeps (machine_at_start s h.start) h.now row input before written idle served);
         holds = on_device;
         header = head g c state leaves.bytes on_device.recovers;

@@ -4,13 +4,13 @@ use Rattle.disk.specs.declared.injected_fault.InjectedFault.{InjectedFault}
 use Rattle.disk.specs.declared.injected_fault.InjectedFault.TheVariants.{Off, FailAt, StopAt}
 
 -- whether the next call fails
-abbrev pub is_blown : InjectedFault → Bool
-is_blown Off = false
-is_blown (FailAt n) = nat_le n 1
-is_blown (StopAt n) = nat_le n 1
+abbrev pub fails_next : InjectedFault → Bool
+fails_next Off = false
+fails_next (FailAt n) = nat_le n 1
+fails_next (StopAt n) = nat_le n 1
 
 -- the injected fault after a call
-abbrev pub burned : InjectedFault → InjectedFault
-burned Off = Off
-burned (FailAt n) = if nat_le n 1 then Off else FailAt (n - 1)
-burned (StopAt n) = if nat_le n 1 then StopAt n else StopAt (n - 1)
+abbrev pub counted_down : InjectedFault → InjectedFault
+counted_down Off = Off
+counted_down (FailAt n) = if nat_le n 1 then Off else FailAt (n - 1)
+counted_down (StopAt n) = if nat_le n 1 then StopAt n else StopAt (n - 1)

@@ -8,7 +8,7 @@ use Rattle.disk.specs.declared.torn.Torn.{Torn}
 use Rattle.disk.specs.declared.memory.MemDisk.{MemDisk}
 use Rattle.disk.specs.Device.{Medium, begun, overlaid, written, synced, failed}
 use Rattle.disk.specs.GhostDevice.{lost}
-use Rattle.disk.specs.InjectedFault.{is_blown, burned}
+use Rattle.disk.specs.InjectedFault.{fails_next, counted_down}
 use Rattle.disk.specs.Torn.{torn_byte, torn_from}
 
 pub record Memory : Type 0 where
@@ -39,13 +39,13 @@ made bytes = record { medium = begun bytes; kept = bytes; asked = bytes; injecte
 
 -- one call more
 abbrev pub counted : Memory → Memory
-counted m = record m { injected_fault = burned m.injected_fault; calls = min (m.calls + 1) (2 ^ 64 - 1) }
+counted m = record m { injected_fault = counted_down m.injected_fault; calls = min (m.calls + 1) (2 ^ 64 - 1) }
 
 -- the answer to a call for n bytes from this offset on
 abbrev pub call_result : ℕ → ℕ → Memory → Result (Unit {0}) DiskFault
 call_result at n m =
     if nat_lt (length m.medium.now) (at + n) then Err OutOfRange
-    else if is_blown m.injected_fault then Err Device
+    else if fails_next m.injected_fault then Err Device
     else Ok tt
 
 abbrev pub after_read : Result (Unit {0}) DiskFault → Memory → Memory

@@ -18,7 +18,7 @@ pub(crate) struct Meter {
 }
 
 impl Meter {
-    ghost use Rattle.disk.specs.InjectedFault.{is_blown, burned};
+    ghost use Rattle.disk.specs.InjectedFault.{fails_next, counted_down};
 
     pub(crate) fn new() -> Meter
         ensures { result ≡ record { injected_fault = Off; calls = 0 } }
@@ -31,9 +31,9 @@ impl Meter {
 
     /// Counts a call, and returns whether it is to fail.
     pub(crate) fn spend(&mut self) -> bool
-        ensures blown { result ≡ is_blown self.old.injected_fault }
+        ensures fails { result ≡ fails_next self.old.injected_fault }
         ensures after { self.new
-            ≡ record { injected_fault = burned self.old.injected_fault; calls = min (self.old.calls + 1) (2 ^ 64 - 1) } }
+            ≡ record { injected_fault = counted_down self.old.injected_fault; calls = min (self.old.calls + 1) (2 ^ 64 - 1) } }
     {
         self.calls = self.calls.saturating_add(1);
         match self.injected_fault {

@@ -10,7 +10,7 @@ use Rattle.disk.proofs.Calls.{after_sync}
 use Rattle.disk.proofs.Leaves.{calm_left, itself}
 use Rattle.disk.proofs.Moments.{started, then, weaker}
 use Rattle.image.specs.Image.{read}
-use Rattle.journal.specs.Steps.{IsStanding, run_on}
+use Rattle.journal.specs.Steps.{RecoversByArea, run_on}
 use Rattle.journal.specs.Extents.{image_in}
 use Rattle.journal.specs.Journal.{records_in}
 use Rattle.journal.proofs.Forced.{forced_alone, forced_both}
@@ -28,12 +28,12 @@ use Rattle.oplog.proofs.Slices.{same_but_none}
 use Rattle.meaning.specs.State.{State}
 
 -- the area that a device names is 0 or 1
-pub named_below : (g : Geometry) (n h : ℕ) (x : Option State) (m : Medium) → AreBytes m.now → IsStanding g n h x m → n < 2
+pub named_below : (g : Geometry) (n h : ℕ) (x : Option State) (m : Medium) → AreBytes m.now → RecoversByArea g n h x m → n < 2
 named_below g n h x m are recovers = subst (λ (k : ℕ). k < 2) (recovers m.now (itself m.now m.unsynced are)).named (named_area-below (layout_of g) m.now)
 
 -- ---- the beginning
 
-module _ (g : Geometry) (n : ℕ) (x : Option State) (is_area : n < 2) (w0 w1 w2 : Medium) (recovers : IsStanding g n n x w0)
+module _ (g : Geometry) (n : ℕ) (x : Option State) (is_area : n < 2) (w0 w1 w2 : Medium) (recovers : RecoversByArea g n n x w0)
     (clears : ChangesOnly w0 w1 (IsSameButGates (layout_of g) (other n))) (cleared : Cleared (layout_of g) (other n) w0 w1)
     (chains : ChangesOnly w1 w2 (IsSameButChain (layout_of g) n)) where
   empty : (c : List ℕ) → IsCrashImage w1 c → (front (layout_of g) (other n) c ≡ []) × (chain (layout_of g) (other n) c ≢ 1)
@@ -50,7 +50,7 @@ module _ (g : Geometry) (n : ℕ) (x : Option State) (is_area : n < 2) (w0 w1 w2
       (λ c recovered_before. holds_by g _ _ x c recovered_before))
 
   module _ (are : AreBytes w1.now) (fits : device_size (layout_of g) ≤ length w0.now) (chained : Chained (layout_of g) n w1 w2) where
-    pub begun_recovers : IsStanding g n (other n) x w2
+    pub begun_recovers : RecoversByArea g n (other n) x w2
     begun_recovers =
         let left = itself w1.now w1.unsynced are in
         chained_by_area (means g) (layout_of g) n x w1 w2 is_area (clear_recovers g n x is_area w0 w1 recovers clears w1.now left) (empty w1.now left) chained
@@ -86,7 +86,7 @@ module _ (g : Geometry) (n : ℕ) (x : Option State) (is_area : n < 2) (w0 w1 w2
 
 -- ---- the end
 
-module _ (g : Geometry) (n used : ℕ) (x : Option State) (bytes : List ℕ) (w0 : Medium) (recovers : IsStanding g n (other n) x w0) where
+module _ (g : Geometry) (n used : ℕ) (x : Option State) (bytes : List ℕ) (w0 : Medium) (recovers : RecoversByArea g n (other n) x w0) where
   begun : CrashImagesAre w0 w0 (RecoversBy (means g) (layout_of g) n (other n) x)
   begun = started w0 _ recovers
 
@@ -123,7 +123,7 @@ module _ (g : Geometry) (n used : ℕ) (x : Option State) (bytes : List ℕ) (w0
           (weaker (synced w0) w2 _ _ (torn_root_recovers (means g) (layout_of g) x (synced w0) w2 either_way flips) (λ c recovered_before. holds_by g _ _ x c recovered_before))
 
       module _ (flipped : Flipped (layout_of g) (other n) (synced w0) w2) where
-        pub named_recovers : IsStanding g (other n) (other n) x w2
+        pub named_recovers : RecoversByArea g (other n) (other n) x w2
         named_recovers =
             let own = own_recovers w0.now refl now_own in
             flip_by_area (means g) (layout_of g) (other n) (other n) x (synced w0) w2 flipped (shut_current (layout_of g) (other n) w0.now own.1) own.0

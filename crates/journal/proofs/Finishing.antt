@@ -7,7 +7,7 @@ use Rattle.disk.specs.Moments.{CrashImagesAre}
 use Rattle.disk.proofs.Leaves.{calm_left, itself}
 use Rattle.disk.proofs.Moments.{leaves_now, then, weaker}
 use Rattle.image.specs.Image.{read}
-use Rattle.journal.specs.Steps.{IsFinished, IsStanding, IsUnfinished, run_on}
+use Rattle.journal.specs.Steps.{IsFinished, RecoversByArea, IsUnfinished, run_on}
 use Rattle.journal.specs.Extents.{Imaged, image_in}
 use Rattle.journal.proofs.Standing.{as_other, both_of, chain_other, half_same, holds_by, holds_moments, shut_current, shut_force}
 use Rattle.oplog.specs.Changes.{ChangesOnly, Flipped, IsSameBut, IsSameButRoot}
@@ -42,7 +42,7 @@ module _ (log : Log) (bytes : List ℕ) (w0 : Medium) (is_area : log.named < 2) 
     finish_image_moments = holds_moments log.geometry n (other n) x w0 w1 by_image
 
     module _ (are : AreBytes w1.now) (imaged : Imaged log.geometry (other n) bytes w0 w1) where
-      image_recovers : IsStanding log.geometry n (other n) x w1
+      image_recovers : RecoversByArea log.geometry n (other n) x w1
       image_recovers = leaves_now w0 w1 _ by_image
 
       half_kept : (front (layout_of log.geometry) (other n) w1.now ≡ front (layout_of log.geometry) (other n) w0.now)

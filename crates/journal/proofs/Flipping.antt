@@ -7,7 +7,7 @@ use Rattle.disk.proofs.Leaves.{itself}
 use Rattle.image.specs.Image.{version_in}
 use Rattle.image.specs.Pieces.{piece_count}
 use Rattle.journal.specs.Keeping.{IsFresh, IsCutState, IsSoundJournal}
-use Rattle.journal.specs.Steps.{IsFlipped, IsStanding, IsWritten, named_now}
+use Rattle.journal.specs.Steps.{IsFlipped, RecoversByArea, IsWritten, named_now}
 use Rattle.journal.specs.Extents.{image_in}
 use Rattle.journal.proofs.Cutting.{named_below}
 use Rattle.journal.proofs.Forced.{forced_calm, front_count}
@@ -29,7 +29,7 @@ module _ (log : Log) (frozen : List ℕ) (named others due : List Bool) (left : 
       record {
         by = record {
           some = sound'.some;
-          recovers = subst (λ (h : ℕ). IsStanding log.geometry log.named h (holds log.geometry w0.now) w0) placed.0 sound'.recovers;
+          recovers = subst (λ (h : ℕ). RecoversByArea log.geometry log.named h (holds log.geometry w0.now) w0) placed.0 sound'.recovers;
         };
         ready = subst (λ (h : ℕ). IsReady (layout_of log.geometry) h log.used w0) placed.0 sound'.ready;
         is = all_agree log.geometry (image_in log.geometry (other log.named) w0) frozen (λ n few. sound'.by_cut.written n few (no_dirty due n placed.1 (omega (arith, few, size'))))
@@ -48,8 +48,8 @@ module _ (log : Log) (frozen : List ℕ) (named others due : List Bool) (left : 
       record {
         some = ap is_some same ∙ sound.some;
         recovers =
-            subst (λ (h : ℕ). IsStanding log.geometry (other log.named) h (holds log.geometry w1.now) w1) (sym placed.0)
-            (subst (λ (o : Option State). IsStanding log.geometry (other log.named) (other log.named) o w1) (sym same) flipped.at.recovers);
+            subst (λ (h : ℕ). RecoversByArea log.geometry (other log.named) h (holds log.geometry w1.now) w1) (sym placed.0)
+            (subst (λ (o : Option State). RecoversByArea log.geometry (other log.named) (other log.named) o w1) (sym same) flipped.at.recovers);
         ready = subst (λ (h : ℕ). IsReady (layout_of log.geometry) h log.used w1) (sym placed.0) flipped.at.ready;
         forced = forced_calm log.geometry w1 flipped.at.calm;
         count = λ none. ap length flipped.alone ∙ front_count (layout_of log.geometry) (other log.named) log.used w1 flipped.at.ready;

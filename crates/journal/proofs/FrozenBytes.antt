@@ -75,10 +75,10 @@ one_there g x n at k bytes old place size so_far rest is =
 
 -- An image with its head has the extents that it had.
 pub headed : (g : Geometry) (x : State) (dirty : List Bool) (old new : List ℕ) → take 64 new ≡ image_head 2 → drop 64 new ≡ drop 64 old → AreSpelled g x dirty old → AreSpelled g x dirty new
-headed g x dirty old new head rest right zero few unmarked =
-    take-add 64 (piece_size g 0) new ∙ (λ i. head i ++ take (piece_size g 0) (rest i)) ∙ ap (λ (l : List ℕ). image_head 2 ++ l) (piece_there g x 0 old (right 0 few unmarked))
-headed g x dirty old new head rest right (suc n) few unmarked =
-    ap (take (piece_size g (suc n))) (rest_more 64 (sum_below (suc n) (piece_size g)) new old rest) ∙ right (suc n) few unmarked
+headed g x dirty old new head rest right zero few clean =
+    take-add 64 (piece_size g 0) new ∙ (λ i. head i ++ take (piece_size g 0) (rest i)) ∙ ap (λ (l : List ℕ). image_head 2 ++ l) (piece_there g x 0 old (right 0 few clean))
+headed g x dirty old new head rest right (suc n) few clean =
+    ap (take (piece_size g (suc n))) (rest_more 64 (sum_below (suc n) (piece_size g)) new old rest) ∙ right (suc n) few clean
 
 -- ---- one piece after the other
 
@@ -107,9 +107,9 @@ module _ (g : Geometry) (x : State) (dirty : List Bool) (first : List ℕ) (n at
 
   -- a clean one is there already
   pub pass_one : get_or dirty n true ≡ false → IsFrozenTo g x dirty first (n + 1) (at + k) bytes
-  pass_one unmarked = record {
+  pass_one clean = record {
     place = (λ i. so_far.place i + size i) ∙ sym (piece_after g n);
     size = so_far.size;
     rest = rest_more at k bytes first so_far.rest;
-    so_far = λ right. one_there g x n at k bytes first so_far.place size (so_far.so_far right) so_far.rest (right n few unmarked);
+    so_far = λ right. one_there g x n at k bytes first so_far.place size (so_far.so_far right) so_far.rest (right n few clean);
   }

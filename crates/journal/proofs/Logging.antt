@@ -17,7 +17,7 @@ use Rattle.std.specs.List.{AllByRecursion}
 use Rattle.journal.specs.Journal.{AreCarriedOut, HoldsSome, IsCommitted, records_in}
 use Rattle.journal.specs.Keeping.{IsCutOr, IsFresh, IsCutState, IsSoundJournal, coming, held_of}
 use Rattle.journal.specs.DirtyPieces.{DirtiesTouched}
-use Rattle.journal.specs.Steps.{IsStanding, run_on}
+use Rattle.journal.specs.Steps.{RecoversByArea, run_on}
 use Rattle.journal.specs.Extents.{AgreeOnClean, image_in, extent_of}
 use Rattle.journal.proofs.Cutting.{named_below}
 use Rattle.journal.proofs.Forced.{forced_more, used_most}
@@ -68,7 +68,7 @@ current_below : (n : ℕ) (t : Bool) → n < 2 → cond t (other n) n < 2
 current_below n true is_area = omega arith
 current_below n false is_area = is_area
 
-pub half_below : (g : Geometry) (n h : ℕ) (x : Option State) (m : Medium) → AreBytes m.now → IsStanding g n h x m → h < 2
+pub half_below : (g : Geometry) (n h : ℕ) (x : Option State) (m : Medium) → AreBytes m.now → RecoversByArea g n h x m → h < 2
 half_below g n h x m are recovers =
     let is_area = named_below g n h x m are recovers in
     subst (λ (k : ℕ). k < 2) (recovers m.now (itself m.now m.unsynced are)).current (current_below n (eqb (chain (layout_of g) n m.now) 1) is_area)
@@ -88,8 +88,8 @@ carried_state g x (m ∷ ms) is out = carried_state g (next_state g x m) ms (ste
 
 pub fresh_more : (g : Geometry) (x : State) (ms : List Msg) (old new : List Bool) (bytes : List ℕ) → IsState g x → AreCarriedOut g x ms
     → DirtiesTouched g ms old new → IsFresh g (Some x) old bytes → IsFresh g (Some (fold g x ms)) new bytes
-fresh_more g x ms old new bytes is_state out touched fresh y is n few unmarked =
-    let kept = (touched n few).0 unmarked in
+fresh_more g x ms old new bytes is_state out touched fresh y is n few clean =
+    let kept = (touched n few).0 clean in
     fresh x refl n few kept.0 ∙ sym (all_stay g x ms n is_state out kept.1) ∙ ap (λ (o : Option State). extent_of g (unwrap_or o x) n) is
 
 -- the journal's facts, in the words of contracts
@@ -155,9 +155,9 @@ module _ (log : Log) (frozen : List ℕ) (named others due : List Bool) (left : 
     leads : run_on log.geometry (holds log.geometry w0.now) (records_of ms) ≡ Some (fold log.geometry x ms)
     leads = ap (λ (o : Option State). run_on log.geometry o (records_of ms)) is ∙ run_records log.geometry x ms out
 
-    recovers : IsStanding log.geometry log.named log.current (Some (fold log.geometry x ms)) w1
+    recovers : RecoversByArea log.geometry log.named log.current (Some (fold log.geometry x ms)) w1
     recovers =
-        subst (λ (o : Option State). IsStanding log.geometry log.named log.current o w1) leads
+        subst (λ (o : Option State). RecoversByArea log.geometry log.named log.current o w1) leads
         (all_by_area (means log.geometry) (layout_of log.geometry) log.named log.current log.used (holds log.geometry w0.now) (records_of ms) w0 w1 is_area is_half sound.recovers has)
 
     pub log_committed : holds log.geometry w1.now ≡ Some (fold log.geometry x ms)
@@ -189,7 +189,7 @@ module _ (log : Log) (frozen : List ℕ) (named others due : List Bool) (left : 
         let used : log.used + length (records_of ms) ≡ log.used + length ms = ap (λ (n : ℕ). log.used + n) (length-map ms record_of) in
         record {
           some = ap is_some log_committed;
-          recovers = subst (λ (o : Option State). IsStanding log.geometry log.named log.current o w1) (sym log_committed) recovers;
+          recovers = subst (λ (o : Option State). RecoversByArea log.geometry log.named log.current o w1) (sym log_committed) recovers;
           ready = subst (λ (n : ℕ). IsReady (layout_of log.geometry) log.current n w1) used has.ready;
           forced = log_forced has;
           count = log_count has;

@@ -105,12 +105,12 @@ pub patch_passed : (g : Geometry) (area n at end : ℕ) (bytes : List ℕ) (dirt
     → AgreeOnClean g dirty (image_in g area w0) bytes → n < piece_count g → get_or dirty n true ≡ false → at ≡ extent_at g n → end
     ≡ at + extent_size g n
     → IsPatched g area at bytes w0 w → IsPatched g area end bytes w0 w
-patch_passed g area n at end bytes dirty w0 w agree few unmarked is ends so_far =
+patch_passed g area n at end bytes dirty w0 w agree few clean is ends so_far =
     record {
       moments = so_far.moments;
       same = so_far.same;
       up_to = there_already at (extent_size g n) end bytes (image_in g area w0) (image_in g area w) ends so_far.up_to
-          (subst (λ (a : ℕ). slice (image_in g area w0) a (extent_size g n) ≡ slice bytes a (extent_size g n)) (sym is) (agree n few unmarked));
+          (subst (λ (a : ℕ). slice (image_in g area w0) a (extent_size g n) ≡ slice bytes a (extent_size g n)) (sym is) (agree n few clean));
     }
 
 -- all of it, and a sync

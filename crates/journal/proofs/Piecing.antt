@@ -12,7 +12,7 @@ use Rattle.image.specs.Image.{read}
 use Rattle.journal.specs.Images.{PatchesAt, PatchesOne}
 use Rattle.journal.specs.Keeping.{IsFresh, IsCutState, IsSoundJournal}
 use Rattle.journal.specs.DirtyPieces.{count_dirty}
-use Rattle.journal.specs.Steps.{IsStanding, run_on}
+use Rattle.journal.specs.Steps.{RecoversByArea, run_on}
 use Rattle.journal.specs.Extents.{IsPatchedAt, image_in, extent_in}
 use Rattle.journal.specs.Journal.{records_in}
 use Rattle.journal.proofs.Cutting.{named_below}
@@ -80,7 +80,7 @@ module _ (log : Log) (frozen : List ℕ) (named others due : List Bool) (left : 
   piece_moments moments = holds_moments log.geometry log.named log.current (holds log.geometry w0.now) w0 w1 (by_piece moments)
 
   module _ (are' : AreBytes w1.now) where
-    recovers : ChangesOnly w0 w1 (IsSameBut (layout_of log.geometry) (image (other log.named))) → IsStanding log.geometry log.named log.current (holds log.geometry w0.now) w1
+    recovers : ChangesOnly w0 w1 (IsSameBut (layout_of log.geometry) (image (other log.named))) → RecoversByArea log.geometry log.named log.current (holds log.geometry w0.now) w1
     recovers moments = leaves_now w0 w1 _ (by_piece moments)
 
     pub piece_same : ChangesOnly w0 w1 (IsSameBut (layout_of log.geometry) (image (other log.named))) → holds log.geometry w1.now ≡ holds log.geometry w0.now
@@ -102,7 +102,7 @@ module _ (log : Log) (frozen : List ℕ) (named others due : List Bool) (left : 
         let other_half = half_same (layout_of log.geometry) (other log.named) w0.now w1.now (pieced.same.others (half (other log.named)) (λ is. omega (arith, is))) in
         record {
           some = ap is_some same ∙ sound.some;
-          recovers = subst (λ (o : Option State). IsStanding log.geometry log.named log.current o w1) (sym same) (recovers pieced.moments);
+          recovers = subst (λ (o : Option State). RecoversByArea log.geometry log.named log.current o w1) (sym same) (recovers pieced.moments);
           ready = pieced.ready log.current log.used (half_below log.geometry log.named log.current (holds log.geometry w0.now) w0 are sound.recovers) sound.ready;
           forced = λ c left. each_forced pieced.moments c left ∙ sym (piece_records pieced.moments);
           count = λ none. absurd (true≢false (ap is_some none));
@@ -114,11 +114,11 @@ module _ (log : Log) (frozen : List ℕ) (named others due : List Bool) (left : 
           others_fresh = subst (λ (o : Option State). IsFresh log.geometry o others frozen) (sym same) sound'.others_fresh;
           by_cut = record {
             behind = ap (λ (rs : List (List ℕ)). run_on log.geometry (read log.geometry frozen) rs) other_half.0 ∙ sound'.by_cut.behind ∙ sym same;
-            written = λ i few' unmarked.
+            written = λ i few' clean.
                 ⊎_elim
                 (λ (here : i ≡ n). ap (λ (j : ℕ). extent_in log.geometry (image_in log.geometry (other log.named) w1) j) here ∙ pieced.is.is
                 ∙ sym (ap (λ (j : ℕ). extent_in log.geometry frozen j) here))
-                (λ (elsewhere : i ≢ n). pieced.is.others i few' elsewhere ∙ sound'.by_cut.written i few' (sym (get_or-set_other due n i false true elsewhere) ∙ unmarked))
+                (λ (elsewhere : i ≢ n). pieced.is.others i few' elsewhere ∙ sound'.by_cut.written i few' (sym (get_or-set_other due n i false true elsewhere) ∙ clean))
                 (cases_eq i n);
             version = sound'.by_cut.version;
           };

@@ -7,7 +7,7 @@ use Rattle.disk.specs.Moments.{CrashImagesAre}
 use Rattle.disk.proofs.Leaves.{calm_left, itself}
 use Rattle.disk.proofs.Moments.{leaves_now, then, weaker}
 use Rattle.image.specs.Image.{read}
-use Rattle.journal.specs.Steps.{IsStanding}
+use Rattle.journal.specs.Steps.{RecoversByArea}
 use Rattle.journal.specs.Extents.{AgreeOnClean, Imaged, image_in}
 use Rattle.journal.proofs.Standing.{as_other, both_of, half_same, holds_by, holds_moments, laid_by, not_one, ready_none, run_none, shut_current, shut_force}
 use Rattle.oplog.specs.Changes.{ChangesOnly, Cleared, Flipped, IsReady, IsSameBut, IsSameButGates, IsSameButRoot}
@@ -19,14 +19,14 @@ use Rattle.oplog.proofs.AfterCrash.{clear_by_area, flip_by_area, image_by_area, 
 use Rattle.oplog.proofs.Ready.{ready_kept}
 use Rattle.meaning.specs.State.{State}
 
-module _ (g : Geometry) (n : ℕ) (x : Option State) (is_area : n < 2) (w0 w1 : Medium) (recovers : IsStanding g n n x w0) (clears : ChangesOnly w0 w1 (IsSameButGates (layout_of g) (other n))) where
+module _ (g : Geometry) (n : ℕ) (x : Option State) (is_area : n < 2) (w0 w1 : Medium) (recovers : RecoversByArea g n n x w0) (clears : ChangesOnly w0 w1 (IsSameButGates (layout_of g) (other n))) where
   by_clear : CrashImagesAre w0 w1 (RecoversBy (means g) (layout_of g) n n x)
   by_clear = clear_by_area (means g) (layout_of g) n x w0 w1 is_area recovers clears
 
   pub clear_moments : CrashImagesAre w0 w1 (λ c. holds g c ≡ x)
   clear_moments = holds_moments g n n x w0 w1 by_clear
 
-  pub clear_recovers : IsStanding g n n x w1
+  pub clear_recovers : RecoversByArea g n n x w1
   clear_recovers = leaves_now w0 w1 _ by_clear
 
   module _ (w2 : Medium) (writes : ChangesOnly w1 w2 (IsSameBut (layout_of g) (image (other n)))) where
@@ -37,7 +37,7 @@ module _ (g : Geometry) (n : ℕ) (x : Option State) (is_area : n < 2) (w0 w1 : 
     image_moments = holds_moments g n n x w0 w2 by_image
 
     module _ (some : is_some x ≡ true) (bytes : List ℕ) (reads : read g bytes ≡ x) (cleared : Cleared (layout_of g) (other n) w0 w1) (imaged : Imaged g (other n) bytes w1 w2) where
-      image_recovers : IsStanding g n n x w2
+      image_recovers : RecoversByArea g n n x w2
       image_recovers = leaves_now w0 w2 _ by_image
 
       half_kept : (front (layout_of g) (other n) w2.now ≡ front (layout_of g) (other n) w1.now) × (chain (layout_of g) (other n) w2.now ≡ chain (layout_of g) (other n) w1.now)
@@ -69,7 +69,7 @@ module _ (g : Geometry) (n : ℕ) (x : Option State) (is_area : n < 2) (w0 w1 : 
           (weaker w2 w3 _ _ (torn_root_recovers (means g) (layout_of g) x w2 w3 either_way flips) (λ c recovered_before. holds_by g _ _ x c recovered_before))
 
       module _ (w3 : Medium) (are : AreBytes w2.now) (fits : device_size (layout_of g) ≤ length w0.now) (flipped : Flipped (layout_of g) (other n) w2 w3) where
-        pub now_recovers : IsStanding g (other n) (other n) x w3
+        pub now_recovers : RecoversByArea g (other n) (other n) x w3
         now_recovers =
             flip_by_area (means g) (layout_of g) (other n) (other n) x w2 w3 flipped (shut_current (layout_of g) (other n) w2.now no_chain)
             (other_recovers w2.now refl (image_recovers w2.now (itself w2.now w2.unsynced are)).is)
@@ -106,8 +106,8 @@ module _ (g : Geometry) (n : ℕ) (x : Option State) (is_area : n < 2) (w0 w1 : 
             flipped.same.same.others (image n) (λ is. omega (arith, is)) ∙ imaged.same.others (image n) (λ is. omega (arith, is, is_area))
             ∙ cleared.same.same.others (image n) (λ is. omega (arith, is))
 
--- what is unmarked before the other half is cleared is so afterwards
-pub still_unmarked : (g : Geometry) (n h : ℕ) (dirty : List Bool) (bytes : List ℕ) (w0 w1 : Medium) → h < 2 → Cleared (layout_of g) h w0 w1
+-- what is clean before the other half is cleared is so afterwards
+pub still_clean : (g : Geometry) (n h : ℕ) (dirty : List Bool) (bytes : List ℕ) (w0 w1 : Medium) → h < 2 → Cleared (layout_of g) h w0 w1
     → AgreeOnClean g dirty (image_in g n w0) bytes → AgreeOnClean g dirty (image_in g n w1) bytes
-still_unmarked g n h dirty bytes w0 w1 is_half cleared agree =
+still_clean g n h dirty bytes w0 w1 is_half cleared agree =
     subst (λ (l : List ℕ). AgreeOnClean g dirty l bytes) (sym (cleared.same.same.others (image n) (λ is. omega (arith, is, is_half)))) agree

@@ -141,13 +141,13 @@ one_touched g m k old new few on so_far = record {
   dirty_at = λ i below.
       ⊎_elim
       (λ (here : i ≡ k). (
-        (λ unmarked. absurd (true≢false (sym (get_or-set_same new k true true few) ∙ sym (ap (λ (j : ℕ). get_or (set new k true) j true) here) ∙ unmarked))),
+        (λ clean. absurd (true≢false (sym (get_or-set_same new k true true few) ∙ sym (ap (λ (j : ℕ). get_or (set new k true) j true) here) ∙ clean))),
         (λ both. absurd (true≢false (sym on ∙ sym (ap (λ (j : ℕ). may_change g m j) here) ∙ both.1))),
       ))
       (λ (elsewhere : i ≢ k).
       let kept = get_or-set_other new k i true true elsewhere in
       let before = so_far.dirty_at i (apart i k elsewhere below) in
-      ((λ unmarked. before.0 (sym kept ∙ unmarked)), (λ both. kept ∙ before.1 both)))
+      ((λ clean. before.0 (sym kept ∙ clean)), (λ both. kept ∙ before.1 both)))
       (cases_eq i k);
   rest = λ i far. get_or-set_other new k i true true (λ here. omega (arith, here, far)) ∙ so_far.rest i (omega (arith, far));
 }
@@ -159,7 +159,7 @@ one_passed g m k old new off so_far = record {
       ⊎_elim
       (λ (here : i ≡ k).
       let kept : get_or new i true ≡ get_or old i true = so_far.rest i (omega (arith, here)) in (
-        (λ unmarked. (sym kept ∙ unmarked, ap (λ (j : ℕ). may_change g m j) here ∙ off)),
+        (λ clean. (sym kept ∙ clean, ap (λ (j : ℕ). may_change g m j) here ∙ off)),
         (λ both. kept ∙ both.0),
       ))
       (λ (elsewhere : i ≢ k). so_far.dirty_at i (apart i k elsewhere below))
@@ -172,13 +172,13 @@ pub all_looked : (g : Geometry) (m : Msg) (k : ℕ) (old new : List Bool) → ((
 all_looked g m k old new all so_far n few =
     ⊎_elim
     (λ (less : n < k).
-    let looked = so_far.dirty_at n less in ((λ unmarked. let both = looked.0 unmarked in (both.0, (both.1, tt))), (λ both. looked.1 (both.0, both.1.0))))
+    let looked = so_far.dirty_at n less in ((λ clean. let both = looked.0 clean in (both.0, (both.1, tt))), (λ both. looked.1 (both.0, both.1.0))))
     (λ (more : k ≤ n).
-    let kept = so_far.rest n more in ((λ unmarked. (sym kept ∙ unmarked, (untouched_after g m n (all n few more), tt))), (λ both. kept ∙ both.0)))
+    let kept = so_far.rest n more in ((λ clean. (sym kept ∙ clean, (untouched_after g m n (all n few more), tt))), (λ both. kept ∙ both.0)))
     (cases_lt n k)
 
 pub no_message : (g : Geometry) (old : List Bool) → DirtiesTouched g [] old old
-no_message g old n few = ((λ unmarked. (unmarked, tt)), (λ both. both.0))
+no_message g old n few = ((λ clean. (clean, tt)), (λ both. both.0))
 
 pub message_more : (g : Geometry) (ms : List Msg) (i : ℕ) (d : Msg) (old mid new : List Bool) → i < length ms → DirtiesTouched g (take i ms) old mid
     → DirtiesTouched g (get_or ms i d ∷ []) mid new → DirtiesTouched g (take (i + 1) ms) old new
@@ -186,8 +186,8 @@ message_more g ms i d old mid new few so_far more n below =
     let first = so_far n below in
     let last = more n below in
     let spelled = take_more ms i d few in (
-      (λ unmarked.
-          let after = last.0 unmarked in
+      (λ clean.
+          let after = last.0 clean in
           let before = first.0 after.0 in (
             before.0,
             subst (λ (l : List Msg). AllByRecursion (λ m. may_change g m n ≡ false) l) (sym spelled)

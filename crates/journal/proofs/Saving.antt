@@ -13,7 +13,7 @@ use Rattle.image.proofs.Cuts.{piece_again}
 use Rattle.image.proofs.Measures.{state_is_measured}
 use Rattle.image.proofs.Reading.{read_again}
 use Rattle.journal.specs.Keeping.{IsFresh, IsCutState, IsSoundJournal}
-use Rattle.journal.specs.Steps.{IsAlone, IsBegun, IsPointed, IsStanding, cut_now, pointed, run_on}
+use Rattle.journal.specs.Steps.{IsAlone, IsBegun, IsPointed, RecoversByArea, cut_now, pointed, run_on}
 use Rattle.journal.specs.Extents.{AgreeOnClean, AreAllDirty, AreSpelled, image_in, extent_in, extent_of}
 use Rattle.journal.proofs.Cutting.{named_below}
 use Rattle.journal.proofs.Forced.{forced_calm}
@@ -35,17 +35,17 @@ module _ (g : Geometry) (x : Option State) (y : State) (frozen : List ℕ) (is :
   frozen_reads = ap (read g) spelled ∙ read_again g y is_state ∙ sym is
 
   pub frozen_fresh : (dirty : List Bool) → IsFresh g x dirty frozen
-  frozen_fresh dirty z is' n few unmarked =
+  frozen_fresh dirty z is' n few clean =
       let same : y ≡ z = ap (λ (o : Option State). unwrap_or o y) (sym is ∙ is') in
       ap (λ (l : List ℕ). extent_in g l n) spelled ∙ frozen_is g y is_state n few ∙ ap (λ (s : State). extent_of g s n) same
 
   pub frozen_agrees : (dirty : List Bool) (bytes : List ℕ) → IsFresh g x dirty bytes → AgreeOnClean g dirty bytes frozen
-  frozen_agrees dirty bytes fresh n few unmarked = fresh y is n few unmarked ∙ sym (frozen_is g y is_state n few) ∙ sym (ap (λ (l : List ℕ). extent_in g l n) spelled)
+  frozen_agrees dirty bytes fresh n few clean = fresh y is n few clean ∙ sym (frozen_is g y is_state n few) ∙ sym (ap (λ (l : List ℕ). extent_in g l n) spelled)
 
 -- where all is dirty there is nothing that has to be right
 pub all_right : (g h : Geometry) (y : State) (dirty : List Bool) (bytes : List ℕ) → g ≡ h → AreAllDirty h dirty → AreSpelled g y dirty bytes
 all_right g h y dirty bytes same all =
-    subst (λ (z : Geometry). AreSpelled z y dirty bytes) (sym same) (λ n few unmarked. absurd (true≢false (sym (all n few) ∙ unmarked)))
+    subst (λ (z : Geometry). AreSpelled z y dirty bytes) (sym same) (λ n few clean. absurd (true≢false (sym (all n few) ∙ clean)))
 
 -- ---- of a journal with no cut in progress
 
@@ -72,7 +72,7 @@ module _ (log : Log) (frozen frozen' : List ℕ) (named others due : List Bool) 
   pub is_alone : IsAlone log w0
   is_alone = record {
     some = sound.some;
-    recovers = subst (λ (h : ℕ). IsStanding log.geometry log.named h (holds log.geometry w0.now) w0) together sound.recovers;
+    recovers = subst (λ (h : ℕ). RecoversByArea log.geometry log.named h (holds log.geometry w0.now) w0) together sound.recovers;
   }
 
   pub reads : read log.geometry frozen' ≡ holds log.geometry w0.now
@@ -91,7 +91,7 @@ module _ (log : Log) (frozen frozen' : List ℕ) (named others due : List Bool) 
         let back : other (other log.named) ≡ log.named = omega (arith, is_area) in
         record {
           some = ap is_some same ∙ sound.some;
-          recovers = subst (λ (o : Option State). IsStanding log.geometry (other log.named) (other log.named) o w1) (sym same) made.at.recovers;
+          recovers = subst (λ (o : Option State). RecoversByArea log.geometry (other log.named) (other log.named) o w1) (sym same) made.at.recovers;
           ready = made.at.ready;
           forced = forced_calm log.geometry w1 made.at.calm;
           count = λ none. ap length made.emptied;
@@ -118,7 +118,7 @@ module _ (log : Log) (frozen frozen' : List ℕ) (named others due : List Bool) 
         let same = cut_committed begun in
         record {
           some = ap is_some same ∙ sound.some;
-          recovers = subst (λ (o : Option State). IsStanding log.geometry log.named (other log.named) o w1) (sym same) begun.at.recovers;
+          recovers = subst (λ (o : Option State). RecoversByArea log.geometry log.named (other log.named) o w1) (sym same) begun.at.recovers;
           ready = begun.at.ready;
           forced = forced_calm log.geometry w1 begun.at.calm;
           count = λ none. absurd (true≢false (ap is_some none));
@@ -154,7 +154,7 @@ opened_sound log frozen named others due w0 w1 y alone is is_state spelled all a
     let same = holds_now log.geometry (other log.named) (other log.named) (holds log.geometry w0.now) w1 are made.at.recovers in
     record {
       some = ap is_some same ∙ alone.some;
-      recovers = subst (λ (o : Option State). IsStanding log.geometry (other log.named) (other log.named) o w1) (sym same) made.at.recovers;
+      recovers = subst (λ (o : Option State). RecoversByArea log.geometry (other log.named) (other log.named) o w1) (sym same) made.at.recovers;
       ready = made.at.ready;
       forced = forced_calm log.geometry w1 made.at.calm;
       count = λ none. ap length made.emptied;
@@ -164,6 +164,6 @@ opened_sound log frozen named others due w0 w1 y alone is is_state spelled all a
           (subst (λ (l : List ℕ). IsFresh log.geometry (holds log.geometry w0.now) named l) (sym made.is) (frozen_fresh log.geometry (holds log.geometry w0.now) y frozen is is_state spelled named));
       frozen_fresh = λ none.
           subst (λ (o : Option State). IsFresh log.geometry o named frozen) (sym same) (frozen_fresh log.geometry (holds log.geometry w0.now) y frozen is is_state spelled named);
-      others_fresh = λ z is' n few unmarked. absurd (true≢false (sym (all n few) ∙ unmarked));
+      others_fresh = λ z is' n few clean. absurd (true≢false (sym (all n few) ∙ clean));
       by_cut = tt;
     }

@@ -17,7 +17,7 @@ use Rattle.disk.proofs.Moments.{leaves_now, same, started, then, weaker}
 use Rattle.image.specs.Image.{read}
 use Rattle.journal.specs.Opening.{area_state, IsRefusedBehind, IsRefusedUnwritten, IsUnwritten, OpeningCrashImages, RecoversAs}
 use Rattle.journal.specs.Parts.{IsBad, IsRefusedAlike}
-use Rattle.journal.specs.Steps.{IsAlone, IsFinished, IsStanding, RecoversStill, finished_now}
+use Rattle.journal.specs.Steps.{IsAlone, IsFinished, RecoversByArea, RecoversStill, finished_now}
 use Rattle.journal.specs.Extents.{image_in}
 use Rattle.device_map.specs.Layout.{device_size, layout_of, other}
 use Rattle.oplog.specs.Log.{Log}
@@ -235,7 +235,7 @@ alone_finished log w0 w1 w2 y are still held finished only =
     let now = still_now log.geometry w0 w2 are still in
     record {
       some = ap is_some (now ∙ held);
-      recovers = subst (λ (o : Option State). IsStanding log.geometry (other log.named) (other log.named) o w2) (sym now) (λ c left. finished.recovers c (leaves_read w1 w2 only c left));
+      recovers = subst (λ (o : Option State). RecoversByArea log.geometry (other log.named) (other log.named) o w2) (sym now) (λ c left. finished.recovers c (leaves_read w1 w2 only c left));
     }
 
 -- ---- the answer of a call that is handed on

@@ -8,7 +8,7 @@ use Rattle.disk.specs.Moments.{CrashImagesAre}
 use Rattle.disk.proofs.Leaves.{itself}
 use Rattle.disk.proofs.Moments.{weaker}
 use Rattle.image.specs.Image.{read}
-use Rattle.journal.specs.Steps.{IsStanding, run_on}
+use Rattle.journal.specs.Steps.{RecoversByArea, run_on}
 use Rattle.oplog.specs.Changes.{IsReady}
 use Rattle.oplog.specs.Crash.{RecoversBy}
 use Rattle.oplog.specs.Front.{chain, front, front_in, rows}
@@ -24,7 +24,7 @@ holds_by g n h x c recovered_before = ap (λ (k : ℕ). recovers_as (means g) (l
 pub holds_moments : (g : Geometry) (n h : ℕ) (x : Option State) (w0 w1 : Medium) → CrashImagesAre w0 w1 (RecoversBy (means g) (layout_of g) n h x) → CrashImagesAre w0 w1 (λ c. holds g c ≡ x)
 holds_moments g n h x w0 w1 moments = weaker w0 w1 _ _ moments (holds_by g n h x)
 
-pub holds_now : (g : Geometry) (n h : ℕ) (x : Option State) (m : Medium) → AreBytes m.now → IsStanding g n h x m → holds g m.now ≡ x
+pub holds_now : (g : Geometry) (n h : ℕ) (x : Option State) (m : Medium) → AreBytes m.now → RecoversByArea g n h x m → holds g m.now ≡ x
 holds_now g n h x m are recovers = holds_by g n h x m.now (recovers m.now (itself m.now m.unsynced are))
 
 -- ---- by the other one

@@ -30,18 +30,18 @@ pub record AreBothTouched (g : Geometry) (ms : List Msg) (old new : DirtyPieces)
   pub others : DirtiesTouched g ms old.others new.others
 
 -- as many flags, none of them set
-abbrev pub unmarked : List Bool → List Bool
-unmarked dirty = replicate (length dirty) false
+abbrev pub all_clean : List Bool → List Bool
+all_clean dirty = replicate (length dirty) false
 
 -- ---- the flags after a step
 
 -- The other image was written and named: none of its pieces is dirty. The image that was named keeps its flags.
 abbrev pub pointed_dirty : DirtyPieces → DirtyPieces
-pointed_dirty dirty = record { named = unmarked dirty.others; others = dirty.named }
+pointed_dirty dirty = record { named = all_clean dirty.others; others = dirty.named }
 
 -- A cut has begun: the pieces of the other image that were dirty are due, and no piece of it is dirty now.
 abbrev pub cut_dirty : DirtyPieces → DirtyPieces
-cut_dirty dirty = record { named = dirty.named; others = unmarked dirty.others }
+cut_dirty dirty = record { named = dirty.named; others = all_clean dirty.others }
 
 -- The other image is named from now on: each keeps its flags.
 abbrev pub flipped_dirty : DirtyPieces → DirtyPieces

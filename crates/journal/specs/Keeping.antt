@@ -6,7 +6,7 @@ use Rattle.disk.specs.Device.{IsCrashImage, Medium}
 use Rattle.image.specs.Image.{read, version_in}
 use Rattle.journal.specs.Journal.{JournalView, records_in}
 use Rattle.journal.specs.DirtyPieces.{count_dirty}
-use Rattle.journal.specs.Steps.{IsStanding, run_on}
+use Rattle.journal.specs.Steps.{RecoversByArea, run_on}
 use Rattle.journal.specs.Extents.{AgreeOnClean, AreSpelled, image_in}
 use Rattle.oplog.specs.Calls.{IsReadyFor}
 use Rattle.oplog.specs.Front.{front}
@@ -54,7 +54,7 @@ coming log frozen (Some left) m = frozen
 -- of the other one, and the flags of what is due.
 pub record IsSoundJournal (log : Log) (frozen : List ℕ) (named others due : List Bool) (left : Option ℕ) (m : Medium) : Type 0 where
   pub some : is_some (holds log.geometry m.now) ≡ true
-  pub recovers : IsStanding log.geometry log.named log.current (holds log.geometry m.now) m
+  pub recovers : RecoversByArea log.geometry log.named log.current (holds log.geometry m.now) m
   pub ready : IsReadyFor log m
   pub forced : (c : List ℕ) → IsCrashImage m c → records_in log.geometry c ≡ records_in log.geometry m.now
   pub count : left ≡ None → length (records_in log.geometry m.now) ≡ log.used

@@ -20,8 +20,8 @@ abbrev pub RecoversStill : Geometry → Medium → Medium → Type 0
 RecoversStill g old new = CrashImagesAre old new (λ c. holds g c ≡ holds g old.now)
 
 -- Whatever a crash leaves now names area n, has half h as its current one, and recovers to x.
-abbrev pub IsStanding : Geometry → ℕ → ℕ → Option State → Medium → Type 0
-IsStanding g n h x m = RecoversByNow (means g) (layout_of g) n h x m
+abbrev pub RecoversByArea : Geometry → ℕ → ℕ → Option State → Medium → Type 0
+RecoversByArea g n h x m = RecoversByNow (means g) (layout_of g) n h x m
 
 -- these records run on a state
 abbrev pub run_on : Geometry → Option State → List (List ℕ) → Option State
@@ -30,7 +30,7 @@ run_on g x records = run (means g) x records
 -- It recovers to some state by the named area, with this half as the current one, whatever room that has.
 pub record RecoversWith (log : Log) (half : ℕ) (m : Medium) : Type 0 where
   pub some : is_some (holds log.geometry m.now) ≡ true
-  pub recovers : IsStanding log.geometry log.named half (holds log.geometry m.now) m
+  pub recovers : RecoversByArea log.geometry log.named half (holds log.geometry m.now) m
 
 -- It recovers to a state by the named area and its half alone.
 abbrev pub IsAlone : Log → Medium → Type 0
@@ -39,7 +39,7 @@ IsAlone log m = RecoversWith log log.named m
 -- A step is over and durable: nothing is unsynced, and it recovers to x by this area, with this half as the current one, which
 -- has this many records and is ready for more.
 pub record LastsAt (g : Geometry) (area half used : ℕ) (x : Option State) (m : Medium) : Type 0 where
-  pub recovers : IsStanding g area half x m
+  pub recovers : RecoversByArea g area half x m
   pub ready : IsReady (layout_of g) half used m
   pub calm : IsSynced m
 
@@ -86,7 +86,7 @@ pub record IsUnfinished (log : Log) (bytes : List ℕ) (m : Medium) : Type 0 whe
 -- The other area is named and recovers to the same by itself, and nothing is unsynced. Its half has the records that it had,
 -- and its image is that of what the area named before held by itself.
 pub record IsFinished (log : Log) (old new : Medium) : Type 0 where
-  pub recovers : IsStanding log.geometry (other log.named) (other log.named) (holds log.geometry old.now) new
+  pub recovers : RecoversByArea log.geometry (other log.named) (other log.named) (holds log.geometry old.now) new
   pub reads : read log.geometry (image_in log.geometry (other log.named) new)
       ≡ run_on log.geometry (read log.geometry (image_in log.geometry log.named old)) (front (layout_of log.geometry) log.named old.now)
   pub front : front (layout_of log.geometry) (other log.named) new.now ≡ front (layout_of log.geometry) (other log.named) old.now

@@ -60,7 +60,7 @@ fn write_run<D: Disk>(
 }
 
 /// Syncs what was written of an image, before it is named: at `Ok` a crash leaves it.
-pub(crate) fn make_last<D: Disk>(disk: &mut D) -> Result<(), DiskFault>
+pub(crate) fn sync_image<D: Disk>(disk: &mut D) -> Result<(), DiskFault>
     ensures syncs { D.keeps → Syncs result (D.medium disk.old) (D.medium disk.new) }
     ensures takes { D.keeps → Takes result 1 (D.medium disk.old) (D.medium disk.new) }
     ensures inside { IsErrOf result DiskFault.OutOfRange → ⊥ }
@@ -82,7 +82,7 @@ pub(crate) fn write_image<D: Disk>(
     requires size { length bytes.now ≡ image_size g.now }
     requires dirty { length dirty.now ≡ piece_count g.now }
     requires whole { device_size (layout_of g.now) ≤ length (D.medium disk.old).now }
-    requires unmarked { D.keeps →
+    requires clean { D.keeps →
         AgreeOnClean g.now dirty.now (image_in g.now area (D.medium disk.old)) bytes.now }
     ensures any_moment { D.keeps → ChangesOnly (D.medium disk.old) (D.medium disk.new)
         (IsSameBut (layout_of g.now) (image area)) }
@@ -103,7 +103,7 @@ pub(crate) fn write_image<D: Disk>(
         at = end;
     }
     write_run(disk, g, area, bytes, from, at)?;
-    make_last(disk)?;
+    sync_image(disk)?;
     Ok(())
 }
 

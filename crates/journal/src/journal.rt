@@ -136,7 +136,7 @@ impl<D: Disk> Journal<D> {
             committed self.new ≡ option_map (λ x. fold self.old.geometry x messages.now) (committed self.old)) }
         ensures records { OnOk result (D.keeps → records self.new ≡ records self.old ++ records_of messages.now) }
         ensures sound { OnOk result (D.keeps → IsCommitted self.new) }
-        ensures dirty_at { OnOk result (AreBothTouched self.old.geometry messages.now self.old.dirty self.new.dirty) }
+        ensures dirties { OnOk result (AreBothTouched self.old.geometry messages.now self.old.dirty self.new.dirty) }
         ensures none { length messages.now ≡ 0 → self.new ≡ self.old }
         ensures takes { D.keeps → Takes result (4 * batches (length messages.now)) self.old.medium self.new.medium }
         ensures after { self.new ≡ after_call result

@@ -76,7 +76,7 @@ fn take_memory(alloc: Global, g: &Geometry) -> Result<(Parts, Vec<u8>), OpenFaul
 }
 
 /// Syncs what was written before the opening, so that a crash leaves it.
-fn settle<D: Disk>(disk: &mut D) -> Result<(), OpenFault>
+fn first_sync<D: Disk>(disk: &mut D) -> Result<(), OpenFault>
     ensures any_moment { D.keeps →
         CrashImagesAre (D.medium disk.old) (D.medium disk.new) (IsCrashImage (D.medium disk.old)) }
     ensures now { D.keeps → (D.medium disk.new).now ≡ (D.medium disk.old).now }
@@ -261,7 +261,7 @@ fn open_on<D: Disk>(alloc: Global, disk: &mut D) -> Result<Parts, OpenFault>
     ensures memory { IfErr result (λ e. e ≡ OutOfMemory → D.keeps → IsDevice (D.medium disk.old).now) }
     ensures call { IsOpeningCall result (D.medium disk.old) (D.medium disk.new) }
 {
-    settle(disk)?;
+    first_sync(disk)?;
     open_committed(alloc, disk)
 }
 

@@ -16,7 +16,7 @@ ghost use Rattle.device_map.specs.Layout.{image_size, layout_of, other};
 ghost use Rattle.oplog.specs.Log.{IsLogCall, IsNotBad};
 ghost use Rattle.meaning.specs.State.{State};
 
-use crate::extents::{make_last, write_image};
+use crate::extents::{sync_image, write_image};
 use disk::Disk;
 use oplog::{Halves, LogFault};
 
@@ -36,7 +36,7 @@ pub(crate) fn point_on<D: Disk>(
     requires alone { D.keeps → IsAlone halves.old (D.medium disk.old) }
     requires image { D.keeps →
         read halves.old.geometry bytes.now ≡ holds halves.old.geometry (D.medium disk.old).now }
-    requires unmarked { D.keeps → AgreeOnClean halves.old.geometry dirty.now
+    requires clean { D.keeps → AgreeOnClean halves.old.geometry dirty.now
         (image_in halves.old.geometry (other halves.old.named) (D.medium disk.old)) bytes.now }
     ensures any_moment { D.keeps →
         RecoversStill halves.old.geometry (D.medium disk.old) (D.medium disk.new) }
@@ -105,7 +105,7 @@ pub(crate) fn flip_on<D: Disk>(
     ensures not_bad { IsNotBad result }
     ensures call { IsLogCall result (D.medium disk.old) (D.medium disk.new) }
 {
-    if make_last(disk).is_err() {
+    if sync_image(disk).is_err() {
         return Err(LogFault::Device);
     }
     halves.flip_root(disk)?;

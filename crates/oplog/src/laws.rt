@@ -15,7 +15,7 @@ ghost use Rattle.oplog.specs.Recovery.{Meaning};
 
 /// While records are appended to the current half, a crash leaves a device that recovers to the first m
 /// of them, run on what it recovered to; once `append` is done, for all of them.
-pub fn appended_records_stand<S>()
+pub fn appended_records_recover<S>()
     ensures some { (means : Meaning S) → AppendRecovers means }
     ensures all { (means : Meaning S) → AllByArea means }
 {}

@@ -116,9 +116,9 @@ module _ (g : Geometry) where
       → HasIncarnations formatted (moment formatted) ls → HaveGeometry g ls
   incarnations_agree formatted ls recovered_before calm h = all_geometry [] formatted (moment formatted) (begun formatted recovered_before calm) ls h
 
-  pub incarnations_stand : (formatted : Medium) (ls : List DeviceIncarnation) (c : List ℕ) → holds g formatted.now ≡ Some empty → IsSynced formatted
+  pub incarnations_recover : (formatted : Medium) (ls : List DeviceIncarnation) (c : List ℕ) → holds g formatted.now ≡ Some empty → IsSynced formatted
       → HasIncarnations formatted (moment formatted) ls → LeftByLast formatted (moment formatted) ls c → RecoversForIncarnations g (incarnations_of ls) c
-  incarnations_stand formatted ls c recovered_before calm h left =
+  incarnations_recover formatted ls c recovered_before calm h left =
       let k = all_incarnations [] formatted (moment formatted) (begun formatted recovered_before calm) ls h c left in
       record {
         logs = k.left.logs;

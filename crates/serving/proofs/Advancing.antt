@@ -13,45 +13,45 @@ use Rattle.legal_runs.proofs.Lists.{all_join}
 
 -- ---- the answers to lines
 
-pub texts_both : (retired more : List Line) → joined (map text (retired ++ more)) ≡ joined (map text retired) ++ joined (map text more)
+pub texts_both : (sent_lines more : List Line) → joined (map text (sent_lines ++ more)) ≡ joined (map text sent_lines) ++ joined (map text more)
 texts_both [] more = refl
-texts_both (x ∷ retired) more = ap (λ z. text x ++ z) (texts_both retired more) ∙ sym (append_assoc (text x) (joined (map text retired)) (joined (map text more)))
+texts_both (x ∷ sent_lines) more = ap (λ z. text x ++ z) (texts_both sent_lines more) ∙ sym (append_assoc (text x) (joined (map text sent_lines)) (joined (map text more)))
 
 -- ---- fewer lines in the row
 
 -- The first lines of the old row, each completed, were written behind what was written before, and the new one is left.
-pub record Retires (old new : List Line) (before written : Option (List ℕ)) : Type 0 where
-  pub retired : List Line
-  pub were : old ≡ retired ++ new
-  pub are_completed : AllByRecursion (λ line. is_completed line ≡ true) retired
-  pub output : Appends before written (joined (map text retired))
+pub record Sends (old new : List Line) (before written : Option (List ℕ)) : Type 0 where
+  pub sent_lines : List Line
+  pub were : old ≡ sent_lines ++ new
+  pub are_completed : AllByRecursion (λ line. is_completed line ≡ true) sent_lines
+  pub output : Appends before written (joined (map text sent_lines))
 
 pub forgets : (keeps : Type 0) (start now : MachineView) (row : List Line) (input left : Option (List ℕ)) (ended : Bool) (before written : Option (List ℕ))
     → ServingProgress keeps start now row input left ended before written → ServingProgress keeps start now row input left ended None None
 forgets keeps start now row input left ended before written h =
-    record { taken = h.taken; retired = h.retired; takes = h.takes; serving = h.serving; output = tt }
+    record { taken = h.taken; sent_lines = h.sent_lines; takes = h.takes; serving = h.serving; output = tt }
 
 module _ (keeps : Type 0) where
   -- Lines at the front of the row were written.
-  pub retires_on : (start m : MachineView) (row rest : List Line) (old now : Option (List ℕ)) → Retires row rest old now
+  pub sends_on : (start m : MachineView) (row rest : List Line) (old now : Option (List ℕ)) → Sends row rest old now
       → (input left : Option (List ℕ)) (ended : Bool) (before : Option (List ℕ)) → ServingProgress keeps start m row input left ended before old
       → ServingProgress keeps start m rest input left ended before now
-  retires_on start m row rest old now retires input left ended before h =
+  sends_on start m row rest old now sends input left ended before h =
       let g = start.core.geometry in
       let s = h.serving in
       record {
         taken = h.taken;
-        retired = h.retired ++ retires.retired;
+        sent_lines = h.sent_lines ++ sends.sent_lines;
         takes = h.takes;
         serving = record {
           reply_pairs = s.reply_pairs;
           passes = s.passes;
-          known = subst (λ (l : List Line). AreKnown g s.reply_pairs start.core.next h.taken l) (sym (append_assoc h.retired retires.retired rest))
-              (subst (λ (l : List Line). AreKnown g s.reply_pairs start.core.next h.taken (h.retired ++ l)) retires.were s.known);
-          answered = all_join (λ line. is_completed line ≡ true) h.retired retires.retired s.answered retires.are_completed;
+          known = subst (λ (l : List Line). AreKnown g s.reply_pairs start.core.next h.taken l) (sym (append_assoc h.sent_lines sends.sent_lines rest))
+              (subst (λ (l : List Line). AreKnown g s.reply_pairs start.core.next h.taken (h.sent_lines ++ l)) sends.were s.known);
+          answered = all_join (λ line. is_completed line ≡ true) h.sent_lines sends.sent_lines s.answered sends.are_completed;
         };
-        output = subst (λ (z : List ℕ). Appends before now z) (sym (texts_both h.retired retires.retired))
-            (Appends-trans before old now (joined (map text h.retired)) (joined (map text retires.retired)) h.output retires.output);
+        output = subst (λ (z : List ℕ). Appends before now z) (sym (texts_both h.sent_lines sends.sent_lines))
+            (Appends-trans before old now (joined (map text h.sent_lines)) (joined (map text sends.sent_lines)) h.output sends.output);
       }
 
 -- Where the device works, all is logged.

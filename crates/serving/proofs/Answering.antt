@@ -79,13 +79,13 @@ module _ (g : Geometry) (reply_pairs : List (ℕ × Reply)) (ticket : ℕ) (repl
   row_answered n (l ∷ ls) (known ∷ row) k =
       (known_answered n (message_of l) known k.0, row_answered (next_ticket n (admitted_in g (message_of l))) ls row k.1)
 
-  lines_answered : (n : ℕ) (ls : List (List ℕ)) (retired row : List Line) → AllByRecursion (λ line. is_completed line ≡ true) retired
-      → AreKnown g reply_pairs n ls (retired ++ row) → AreKnown g more n ls (retired ++ map (complete_one ticket reply) row)
+  lines_answered : (n : ℕ) (ls : List (List ℕ)) (sent_lines row : List Line) → AllByRecursion (λ line. is_completed line ≡ true) sent_lines
+      → AreKnown g reply_pairs n ls (sent_lines ++ row) → AreKnown g more n ls (sent_lines ++ map (complete_one ticket reply) row)
   lines_answered n ls [] row done k = row_answered n ls row k
-  lines_answered n [] (known ∷ retired) row done k = absurd k
-  lines_answered n (l ∷ ls) (known ∷ retired) row done k = (
+  lines_answered n [] (known ∷ sent_lines) row done k = absurd k
+  lines_answered n (l ∷ ls) (known ∷ sent_lines) row done k = (
     known_still n (message_of l) known done.0 k.0,
-    lines_answered (next_ticket n (admitted_in g (message_of l))) ls retired row done.1 k.1,
+    lines_answered (next_ticket n (admitted_in g (message_of l))) ls sent_lines row done.1 k.1,
   )
 
 -- A message was answered, and its line in the reorder buffer is completed.
@@ -100,13 +100,13 @@ answered_goes_on keeps old new ticket reply p row start input left ended before 
     let reply_pairs = s.reply_pairs ++ (ticket, reply) ∷ [] in
     record {
       taken = h.taken;
-      retired = h.retired;
+      sent_lines = h.sent_lines;
       takes = h.takes;
       serving = record {
         reply_pairs = reply_pairs;
         passes = subst (λ (es : List Entry). RunsBetween keeps start new es reply_pairs) (append-nil come)
             (passes_on keeps start old new come [] s.reply_pairs ((ticket, reply) ∷ []) s.passes p);
-        known = lines_answered g s.reply_pairs ticket reply start.core.next h.taken h.retired row s.answered s.known;
+        known = lines_answered g s.reply_pairs ticket reply start.core.next h.taken h.sent_lines row s.answered s.known;
         answered = s.answered;
       };
       output = h.output;

@@ -48,7 +48,7 @@ known_push g reply_pairs n (y ∷ ls) l (x ∷ row) known k one =
           (subst (λ (t : ℕ). IsKnown g reply_pairs t (message_of l) known) (next-append n (admitted_in g (message_of y)) (admitted g ls)) one),
     )
 
-module _ (keeps : Type 0) (start old : MachineView) (taken : List (List ℕ)) (retired row : List Line) (s : IsServing keeps start old taken retired row) where
+module _ (keeps : Type 0) (start old : MachineView) (taken : List (List ℕ)) (sent_lines row : List Line) (s : IsServing keeps start old taken sent_lines row) where
   abbrev g : Geometry
   g = start.core.geometry
 
@@ -60,7 +60,7 @@ module _ (keeps : Type 0) (start old : MachineView) (taken : List (List ℕ)) (r
 
   -- A line was read, and its message has arrived, if it takes a ticket.
   takes_in : (new : MachineView) (line : List ℕ) (known : Line) → RunsBetween keeps old new (ticketed old.core.next (admitted_in g (message_of line))) []
-      → IsKnown g s.reply_pairs old.core.next (message_of line) known → IsServing keeps start new (taken ++ line ∷ []) retired (row ++ known ∷ [])
+      → IsKnown g s.reply_pairs old.core.next (message_of line) known → IsServing keeps start new (taken ++ line ∷ []) sent_lines (row ++ known ∷ [])
   takes_in new line known p k =
       let come = ticketed start.core.next (admitted g taken) in
       let one = admitted_in g (message_of line) in
@@ -73,8 +73,8 @@ module _ (keeps : Type 0) (start old : MachineView) (taken : List (List ℕ)) (r
         passes = subst (λ (es : List Entry). RunsBetween keeps start new es s.reply_pairs) all
             (subst (λ (l : List (ℕ × Reply)). RunsBetween keeps start new (come ++ ticketed old.core.next one) l) (append-nil s.reply_pairs)
             (passes_on keeps start old new come (ticketed old.core.next one) s.reply_pairs [] s.passes p));
-        known = subst (λ (l : List Line). AreKnown g s.reply_pairs start.core.next (taken ++ line ∷ []) l) (append_assoc retired row (known ∷ []))
-            (known_push g s.reply_pairs start.core.next taken line (retired ++ row) known s.known
+        known = subst (λ (l : List Line). AreKnown g s.reply_pairs start.core.next (taken ++ line ∷ []) l) (append_assoc sent_lines row (known ∷ []))
+            (known_push g s.reply_pairs start.core.next taken line (sent_lines ++ row) known s.known
             (subst (λ (n : ℕ). IsKnown g s.reply_pairs n (message_of line) known) next_is k));
         answered = s.answered;
       }
@@ -92,16 +92,16 @@ known_anyway g reply_pairs n (Some m) (Pending t) fresh k = (k.0, k.1, subst (No
 known_anyway g reply_pairs n (Some m) (Completed t r) fresh k = let none = k.2.1 in absurd (omega (arith, none))
 
 -- A line is consumed.
-pub serves_taken : (keeps : Type 0) (start old new : MachineView) (taken : List (List ℕ)) (retired row : List Line) (line : List ℕ) (known : Line)
-    → IsIdle (core_state_of start.core) → IsTaken keeps old new (message_of line) known → IsServing keeps start old taken retired row
-    → IsServing keeps start new (taken ++ line ∷ []) retired (row ++ known ∷ [])
-serves_taken keeps start old new taken retired row line known idle t s =
+pub serves_taken : (keeps : Type 0) (start old new : MachineView) (taken : List (List ℕ)) (sent_lines row : List Line) (line : List ℕ) (known : Line)
+    → IsIdle (core_state_of start.core) → IsTaken keeps old new (message_of line) known → IsServing keeps start old taken sent_lines row
+    → IsServing keeps start new (taken ++ line ∷ []) sent_lines (row ++ known ∷ [])
+serves_taken keeps start old new taken sent_lines row line known idle t s =
     let o = message_of line in
-    let is = next_is keeps start old taken retired row s in
+    let is = next_is keeps start old taken sent_lines row s in
     let fresh : NoneIsTo s.reply_pairs old.core.next = λ reply there.
-    let before = told_before keeps start old idle taken retired row s (old.core.next, reply) (in_contained s.reply_pairs (old.core.next, reply) there) in
+    let before = told_before keeps start old idle taken sent_lines row s (old.core.next, reply) (in_contained s.reply_pairs (old.core.next, reply) there) in
     absurd (omega (arith, before, is)) in
-    takes_in keeps start old taken retired row s new line known
+    takes_in keeps start old taken sent_lines row s new line known
     (subst (λ (y : Geometry). RunsBetween keeps old new (ticketed old.core.next (admitted_in y o)) []) s.passes.geometry t.passes)
     (known_anyway start.core.geometry s.reply_pairs old.core.next o known fresh
     (subst (λ (y : Geometry). IsKnown y [] old.core.next o known) s.passes.geometry t.is_known))

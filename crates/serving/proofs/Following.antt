@@ -45,18 +45,18 @@ module _ (g : Geometry) (reply_pairs : List (ℕ × Reply)) where
       (subst (λ (last : ℕ). Follow (next_ticket n (admitted_in g o)) last row) (behind_one n o ls)
       (row_follows (next_ticket n (admitted_in g o)) ls row k.1))
 
-  rest_follows : (n : ℕ) (ls : List (List ℕ)) (retired row : List Line) → AreKnown g reply_pairs n ls (retired ++ row)
+  rest_follows : (n : ℕ) (ls : List (List ℕ)) (sent_lines row : List Line) → AreKnown g reply_pairs n ls (sent_lines ++ row)
       → AreConsecutive (with_tickets row ++ Pending (next_ticket n (admitted g ls)) ∷ [])
   rest_follows n ls [] row k = (n, row_follows n ls row k)
-  rest_follows n [] (known ∷ retired) row k = absurd k
-  rest_follows n (l ∷ ls) (known ∷ retired) row k =
+  rest_follows n [] (known ∷ sent_lines) row k = absurd k
+  rest_follows n (l ∷ ls) (known ∷ sent_lines) row k =
       let o = message_of l in
       subst (λ (last : ℕ). AreConsecutive (with_tickets row ++ Pending last ∷ [])) (behind_one n o ls)
-      (rest_follows (next_ticket n (admitted_in g o)) ls retired row k.1)
+      (rest_follows (next_ticket n (admitted_in g o)) ls sent_lines row k.1)
 
 -- The next ticket is behind those of the reorder buffer.
-pub next_follows : (keeps : Type 0) (start now : MachineView) (taken : List (List ℕ)) (retired row : List Line) → IsServing keeps start now taken retired row
+pub next_follows : (keeps : Type 0) (start now : MachineView) (taken : List (List ℕ)) (sent_lines row : List Line) → IsServing keeps start now taken sent_lines row
     → AreConsecutive (with_tickets row ++ Pending now.core.next ∷ [])
-next_follows keeps start now taken retired row s =
-    subst (λ (last : ℕ). AreConsecutive (with_tickets row ++ Pending last ∷ [])) (sym (next_is keeps start now taken retired row s))
-    (rest_follows start.core.geometry s.reply_pairs start.core.next taken retired row s.known)
+next_follows keeps start now taken sent_lines row s =
+    subst (λ (last : ℕ). AreConsecutive (with_tickets row ++ Pending last ∷ [])) (sym (next_is keeps start now taken sent_lines row s))
+    (rest_follows start.core.geometry s.reply_pairs start.core.next taken sent_lines row s.known)

@@ -28,12 +28,12 @@ module _ (keeps : Type 0) (s : Start) (sent later : Option (List ℕ)) (now : Co
         taken = h.taken;
         stages = h.stages;
         run = h.run;
-        retired = h.retired ++ m.next;
+        sent_lines = h.sent_lines ++ m.next;
         known = subst (λ (l : List Line). AreKnown s.core.geometry (answered (events_of h.stages)) s.core.next h.taken l)
-            (sym (append_assoc h.retired m.next m.row)) h.known;
-        are_completed = all_join (λ line. is_completed line ≡ true) h.retired m.next h.are_completed m.are_completed;
-        output = subst (λ (z : List ℕ). Appends s.before later z) (sym (texts_both h.retired m.next))
-            (Appends-trans s.before sent later (joined (map text h.retired)) (joined (map text m.next)) h.output
+            (sym (append_assoc h.sent_lines m.next m.row)) h.known;
+        are_completed = all_join (λ line. is_completed line ≡ true) h.sent_lines m.next h.are_completed m.are_completed;
+        output = subst (λ (z : List ℕ). Appends s.before later z) (sym (texts_both h.sent_lines m.next))
+            (Appends-trans s.before sent later (joined (map text h.sent_lines)) (joined (map text m.next)) h.output
             (subst (λ (z : List ℕ). Appends sent later z) m.bytes_are appends));
       }
 
@@ -47,7 +47,7 @@ module _ (keeps : Type 0) (s : Start) (sent later : Option (List ℕ)) (now : Co
       record {
         taken = h.taken;
         first = h.run.first;
-        lines = map text h.retired;
+        lines = map text h.sent_lines;
         output = h.output;
         log = log;
         kept = written_are_kept keeps (start_machine s) now m.row s.input s.before later m.idle h;

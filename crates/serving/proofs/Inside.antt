@@ -108,14 +108,14 @@ module _ (g : Geometry) (replies : List (ℕ × Reply)) where
       subst (λ (l : List Msg). length l + later (next_ticket n l) replies ≤ later n replies) (sym single) (omega (arith, l))
 
   -- The lines that take tickets are those that were written, each of which was answered, and at most those of the row.
-  lines_take : (n : ℕ) (ls : List (List ℕ)) (retired row : List Line) → AreKnown g replies n ls (retired ++ row)
-      → AllByRecursion (λ line. is_completed line ≡ true) retired → length (admitted g ls) ≤ later n replies + length row
+  lines_take : (n : ℕ) (ls : List (List ℕ)) (sent_lines row : List Line) → AreKnown g replies n ls (sent_lines ++ row)
+      → AllByRecursion (λ line. is_completed line ≡ true) sent_lines → length (admitted g ls) ≤ later n replies + length row
   lines_take n ls [] row k done = let l = row_takes n ls row k in omega (arith, l)
-  lines_take n [] (known ∷ retired) row k done = absurd k
-  lines_take n (l ∷ ls) (known ∷ retired) row k done =
+  lines_take n [] (known ∷ sent_lines) row k done = absurd k
+  lines_take n (l ∷ ls) (known ∷ sent_lines) row k done =
       let o = message_of l in
       let here = answered_takes n o known k.0 done.0 in
-      let rest = lines_take (next_ticket n (admitted_in g o)) ls retired row k.1 done.1 in
+      let rest = lines_take (next_ticket n (admitted_in g o)) ls sent_lines row k.1 done.1 in
       let all = length-append (admitted_in g o) (admitted g ls) in
       omega (arith, here, rest, all)
 
@@ -136,9 +136,9 @@ none_inside : (w : CoreState) → inside w ≤ 0 → IsIdle w
 none_inside w h = record { none_waits = none_long w.waiting (omega (arith, h)); none_held = none_long (held w) (omega (arith, h)) }
 
 module _ (keeps : Type 0) (start now : MachineView) (idle : IsIdle (core_state_of start.core)) where
-  serving_inside : (taken : List (List ℕ)) (retired row : List Line) → IsServing keeps start now taken retired row
+  serving_inside : (taken : List (List ℕ)) (sent_lines row : List Line) → IsServing keeps start now taken sent_lines row
       → inside (core_state_of now.core) ≤ length row
-  serving_inside taken retired row s =
+  serving_inside taken sent_lines row s =
       let p = s.passes in
       let g = start.core.geometry in
       let n = start.core.next in
@@ -147,14 +147,14 @@ module _ (keeps : Type 0) (start now : MachineView) (idle : IsIdle (core_state_o
       let come : length (arrived (events_of p.stages)) ≡ length (admitted g taken) = ap length p.come_are ∙ length-ticketed n (admitted g taken) in
       let reply_pairs : length (answered (events_of p.stages)) ≡ length s.reply_pairs = ap length p.reply_pairs_are in
       let none = idle_inside (core_state_of start.core) idle in
-      let takes = lines_take g s.reply_pairs n taken retired row s.known s.answered in
+      let takes = lines_take g s.reply_pairs n taken sent_lines row s.known s.answered in
       let most = later_most n s.reply_pairs in
       omega (arith, counts, ends, come, reply_pairs, none, takes, most)
 
   -- No more messages wait or are held than there are lines that were read and aren't written.
   pub few_inside : (row : List Line) (input left : Option (List ℕ)) (ended : Bool) (before written : Option (List ℕ))
       → ServingProgress keeps start now row input left ended before written → inside (core_state_of now.core) ≤ length row
-  few_inside row input left ended before written h = serving_inside h.taken h.retired row h.serving
+  few_inside row input left ended before written h = serving_inside h.taken h.sent_lines row h.serving
 
   -- Where all is written, nothing waits and nothing is held.
   pub idle_again : (input left : Option (List ℕ)) (ended : Bool) (before written : Option (List ℕ))

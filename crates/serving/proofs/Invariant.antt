@@ -27,7 +27,7 @@ use Rattle.serving.specs.Output.{MaySend, Start, start_machine}
 use Rattle.serving.specs.declared.session.ReadEnd.{ReadEnd}
 use Rattle.serving.specs.declared.session.ReadEnd.TheVariants as ends_of_reading
 use Rattle.workers.specs.Seats.{DispatchSeatView}
-use Rattle.serving.proofs.Advancing.{Retires, forgets, retires_on, texts_both}
+use Rattle.serving.proofs.Advancing.{Sends, forgets, sends_on, texts_both}
 use Rattle.serving.proofs.Answering.{answered_goes_on}
 use Rattle.serving.proofs.Following.{next_follows}
 use Rattle.serving.proofs.Inside.{idle_again}
@@ -47,16 +47,16 @@ why_on g old new left drained behind ends_of_reading.TicketsExhausted next faile
 why_on g old new left drained behind ends_of_reading.DeviceFailed next failed h = failed h
 
 -- what was written of a row, where the output may have failed
-retires_unless : (b : Bool) (row rest : List Line) (old now : Option (List ℕ)) → Retires row rest old now → Retires row rest (known_unless b old) (known_unless b now)
-retires_unless true row rest old now retires = record { retired = retires.retired; were = retires.were; are_completed = retires.are_completed; output = tt }
-retires_unless false row rest old now retires = retires
+sends_unless : (b : Bool) (row rest : List Line) (old now : Option (List ℕ)) → Sends row rest old now → Sends row rest (known_unless b old) (known_unless b now)
+sends_unless true row rest old now sends = record { sent_lines = sends.sent_lines; were = sends.were; are_completed = sends.are_completed; output = tt }
+sends_unless false row rest old now sends = sends
 
 -- What waits is to be sent behind what was sent.
-retires_waiting : (waiting row : List Line) (out : List ℕ) (sent : Option (List ℕ)) → AreCompleted waiting → out ≡ joined (map text waiting)
-    → Retires (waiting ++ row) row sent (so_far sent out)
-retires_waiting waiting row out None answered is = record { retired = waiting; were = refl; are_completed = answered; output = tt }
-retires_waiting waiting row out (Some bytes) answered is =
-    record { retired = waiting; were = refl; are_completed = answered; output = ap (λ (l : List ℕ). bytes ++ l) is }
+sends_waiting : (waiting row : List Line) (out : List ℕ) (sent : Option (List ℕ)) → AreCompleted waiting → out ≡ joined (map text waiting)
+    → Sends (waiting ++ row) row sent (so_far sent out)
+sends_waiting waiting row out None answered is = record { sent_lines = waiting; were = refl; are_completed = answered; output = tt }
+sends_waiting waiting row out (Some bytes) answered is =
+    record { sent_lines = waiting; were = refl; are_completed = answered; output = ap (λ (l : List ℕ). bytes ++ l) is }
 
 -- A line that is completed is left by a further answer.
 is_left : (ticket : ℕ) (reply : Reply) (line : Line) → is_completed line ≡ true → complete_one ticket reply line ≡ line
@@ -109,9 +109,9 @@ module _ (keeps : Type 0) where
     pub to_row : (left : Option (List ℕ)) (drained : Bool) → SessionProgress keeps s p left drained
         → ServingProgress keeps (start_machine s) (machine p) p.row.lines s.input left drained (known_unless p.output_failed s.before) (known_unless p.output_failed (so_far p.sent p.out))
     to_row left drained h =
-        retires_on keeps (start_machine s) (machine p) (h.waiting ++ p.row.lines) p.row.lines (known_unless p.output_failed p.sent) (known_unless p.output_failed (so_far p.sent p.out))
-        (retires_unless p.output_failed (h.waiting ++ p.row.lines) p.row.lines p.sent (so_far p.sent p.out)
-        (retires_waiting h.waiting p.row.lines p.out p.sent h.are_completed h.out_is)) s.input left drained (known_unless p.output_failed s.before) h.goes
+        sends_on keeps (start_machine s) (machine p) (h.waiting ++ p.row.lines) p.row.lines (known_unless p.output_failed p.sent) (known_unless p.output_failed (so_far p.sent p.out))
+        (sends_unless p.output_failed (h.waiting ++ p.row.lines) p.row.lines p.sent (so_far p.sent p.out)
+        (sends_waiting h.waiting p.row.lines p.out p.sent h.are_completed h.out_is)) s.input left drained (known_unless p.output_failed s.before) h.goes
 
   -- ---- what follows from the invariant
 
@@ -256,10 +256,10 @@ module _ (keeps : Type 0) where
           bounded = let counted = h.counted in
               let bounded = h.bounded in
               omega (arith, are, counted, bounded);
-          goes = retires_on keeps (start_machine s) (machine p) (h.waiting ++ p.row.lines) p.row.lines (known_unless p.output_failed p.sent)
+          goes = sends_on keeps (start_machine s) (machine p) (h.waiting ++ p.row.lines) p.row.lines (known_unless p.output_failed p.sent)
               (known_unless p.output_failed sent)
-              (retires_unless p.output_failed (h.waiting ++ p.row.lines) p.row.lines p.sent sent (record {
-                retired = h.waiting;
+              (sends_unless p.output_failed (h.waiting ++ p.row.lines) p.row.lines p.sent sent (record {
+                sent_lines = h.waiting;
                 were = refl;
                 are_completed = h.are_completed;
                 output = subst (λ (l : List ℕ). Appends p.sent sent l) h.out_is appends;
@@ -418,7 +418,7 @@ module _ (keeps : Type 0) where
   follows None p none u = absurd u
   follows (Some s) p none u =
       let h = to_row s p p.left p.drained (reading s p none u) in
-      next_follows keeps (start_machine s) (machine p) h.taken h.retired p.row.lines h.serving
+      next_follows keeps (start_machine s) (machine p) h.taken h.sent_lines p.row.lines h.serving
 
   -- Where fewer lines are outstanding than there are slots, the reorder buffer has room for a further one.
   pub has_place : (o : Option Start) (p : SessionView) → SessionInvariantFrom keeps o p → p.open_lines < p.row.slots → length p.row.lines < p.row.slots

@@ -113,14 +113,14 @@ module _ (g : Geometry) (replies : List (ℕ × Reply)) (log : List Replied) (wh
       let its = among (n, m) (subst (λ (ms : List Msg). IsIn (n, m) (ticketed n ms)) (sym asks) (inl refl)) in
       inr (k.0, (reply, refl, logged n m reply its (subst (λ (t' : ℕ). Contains replies (t', reply)) k.1 k.2)))
 
-  are_kept : (n : ℕ) (ls : List (List ℕ)) (retired row : List Line) → ((e : Entry) → IsIn e (ticketed n (admitted g ls)) → IsIn e whole)
-      → AreKnown g replies n ls (retired ++ row) → AllByRecursion (λ line. is_completed line ≡ true) retired → AreInLog g log n ls (map text retired)
+  are_kept : (n : ℕ) (ls : List (List ℕ)) (sent_lines row : List Line) → ((e : Entry) → IsIn e (ticketed n (admitted g ls)) → IsIn e whole)
+      → AreKnown g replies n ls (sent_lines ++ row) → AllByRecursion (λ line. is_completed line ≡ true) sent_lines → AreInLog g log n ls (map text sent_lines)
   are_kept n ls [] row among k all = tt
-  are_kept n [] (line ∷ retired) row among k all = absurd k
-  are_kept n (l ∷ ls) (line ∷ retired) row among k all =
+  are_kept n [] (line ∷ sent_lines) row among k all = absurd k
+  are_kept n (l ∷ ls) (line ∷ sent_lines) row among k all =
       let ms = admitted_in g (message_of l) in (
         one_kept n (message_of l) ls line among k.0 all.0,
-        are_kept (next_ticket n ms) ls retired row
+        are_kept (next_ticket n ms) ls sent_lines row
             (λ e is. among e (subst (IsIn e) (sym (ticketed-append n ms (admitted g ls))) (in_right e (ticketed n ms) (ticketed (next_ticket n ms) (admitted g ls)) is)))
             k.1 all.1,
       )
@@ -159,6 +159,6 @@ module _ (keeps : Type 0) (start : MachineView) (new : CoreView) (row : List Lin
       (subst (λ (m' : Msg). IsIn (ticket, m', reply) (answered_messages w events)) same one.1)))
 
   -- Each line that was written is kept in the log of the run.
-  pub written_are_kept : AreInLog start.core.geometry run_log start.core.next h.taken (map text h.retired)
+  pub written_are_kept : AreInLog start.core.geometry run_log start.core.next h.taken (map text h.sent_lines)
   written_are_kept = are_kept start.core.geometry (answered (events_of h.stages)) run_log
-      (ticketed start.core.next (admitted start.core.geometry h.taken)) was_logged start.core.next h.taken h.retired row (λ e is. is) h.known h.are_completed
+      (ticketed start.core.next (admitted start.core.geometry h.taken)) was_logged start.core.next h.taken h.sent_lines row (λ e is. is) h.known h.are_completed

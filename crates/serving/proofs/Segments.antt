@@ -57,7 +57,7 @@ quiet_goes_on keeps old new p row start input left ended before written h =
     let s = h.serving in
     record {
       taken = h.taken;
-      retired = h.retired;
+      sent_lines = h.sent_lines;
       takes = h.takes;
       serving = record {
         reply_pairs = s.reply_pairs;

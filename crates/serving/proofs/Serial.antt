@@ -134,15 +134,15 @@ module _ (g : Geometry) (replies : List (ℕ × Reply)) where
       }
 
   -- The lines that are completed are the first lines of the serial server.
-  pub retired_is_serial : (x : State) (n : ℕ) (ls more : List (List ℕ)) (retired row : List Line) → HaveSerialReplies x n (admitted g ls)
-      → AreKnown g replies n ls (retired ++ row) → AllByRecursion (λ line. is_completed line ≡ true) retired
-      → map text retired ≡ take (length retired) (output_lines g x (ls ++ more))
-  retired_is_serial x n ls more [] row h k done = refl
-  retired_is_serial x n [] more (known ∷ retired) row h k done = absurd k
-  retired_is_serial x n (l ∷ ls) more (known ∷ retired) row h k done =
+  pub sent_lines_are_serial : (x : State) (n : ℕ) (ls more : List (List ℕ)) (sent_lines row : List Line) → HaveSerialReplies x n (admitted g ls)
+      → AreKnown g replies n ls (sent_lines ++ row) → AllByRecursion (λ line. is_completed line ≡ true) sent_lines
+      → map text sent_lines ≡ take (length sent_lines) (output_lines g x (ls ++ more))
+  sent_lines_are_serial x n ls more [] row h k done = refl
+  sent_lines_are_serial x n [] more (known ∷ sent_lines) row h k done = absurd k
+  sent_lines_are_serial x n (l ∷ ls) more (known ∷ sent_lines) row h k done =
       let o = message_of l in
       let one = served_line x n (admitted g ls) o known h k.0 done.0 in
-      let rest = retired_is_serial (state_after_line g x o) (next_ticket n (admitted_in g o)) ls more retired row one.tells k.1 done.1 in
+      let rest = sent_lines_are_serial (state_after_line g x o) (next_ticket n (admitted_in g o)) ls more sent_lines row one.tells k.1 done.1 in
       λ i. one.retires i ∷ rest i
 
   pub as_many : (n : ℕ) (ls : List (List ℕ)) (row : List Line) → AreKnown g replies n ls row → length row ≡ length ls
@@ -152,16 +152,16 @@ module _ (g : Geometry) (replies : List (ℕ × Reply)) where
   as_many n (l ∷ ls) (known ∷ row) k = ap suc (as_many (next_ticket n (admitted_in g (message_of l))) ls row k.1)
 
   -- Where none is left, they are all.
-  pub all_said : (x : State) (n : ℕ) (ls : List (List ℕ)) (retired : List Line) → HaveSerialReplies x n (admitted g ls)
-      → AreKnown g replies n ls (retired ++ []) → AllByRecursion (λ line. is_completed line ≡ true) retired
-      → map text retired ≡ output_lines g x ls
-  all_said x n ls retired h k done =
-      retired_is_serial x n ls [] retired [] h k done
+  pub all_said : (x : State) (n : ℕ) (ls : List (List ℕ)) (sent_lines : List Line) → HaveSerialReplies x n (admitted g ls)
+      → AreKnown g replies n ls (sent_lines ++ []) → AllByRecursion (λ line. is_completed line ≡ true) sent_lines
+      → map text sent_lines ≡ output_lines g x ls
+  all_said x n ls sent_lines h k done =
+      sent_lines_are_serial x n ls [] sent_lines [] h k done
       ∙ (λ i. take (many i) (output_lines g x (ls ++ [])))
       ∙ take-output_lines g x ls []
     where
-      many : length retired ≡ length ls
-      many = ap length (sym (append-nil retired)) ∙ as_many n ls (retired ++ []) k
+      many : length sent_lines ≡ length ls
+      many = ap length (sym (append-nil sent_lines)) ∙ as_many n ls (sent_lines ++ []) k
 
 -- ---- the state
 

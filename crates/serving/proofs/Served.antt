@@ -34,7 +34,7 @@ use Rattle.runs.specs.Machine.{MachineView, machine_of}
 use Rattle.runs.specs.Stages.{events_of}
 use Rattle.serving.specs.declared.server.ServeFault.TheVariants as faults
 use Rattle.serving.proofs.Inside.{idle_again}
-use Rattle.serving.proofs.Serial.{HaveSerialReplies, all_said, asked_leads_there, messages-ticketed, next_from, retired_is_serial, told_earlier}
+use Rattle.serving.proofs.Serial.{HaveSerialReplies, all_said, asked_leads_there, messages-ticketed, next_from, sent_lines_are_serial, told_earlier}
 
 module _ (keeps : Type 0) (start now : MachineView) (idle : IsIdle (core_state_of start.core)) where
   abbrev g : Geometry
@@ -48,7 +48,7 @@ module _ (keeps : Type 0) (start now : MachineView) (idle : IsIdle (core_state_o
 
   -- ---- of a run
 
-  module _ (taken : List (List ℕ)) (retired row : List Line) (s : IsServing keeps start now taken retired row) where
+  module _ (taken : List (List ℕ)) (sent_lines row : List Line) (s : IsServing keeps start now taken sent_lines row) where
     by_line : by_ticket (arrived (events_of s.passes.stages)) ≡ ticketed start.core.next (admitted g taken)
     by_line = arrived_by_ticket g (machine_of start) (events_of s.passes.stages) s.passes.legal ∙ s.passes.come_are
 
@@ -73,15 +73,15 @@ module _ (keeps : Type 0) (start now : MachineView) (idle : IsIdle (core_state_o
         ∙ ap (fold g x) (messages-ticketed start.core.next (admitted g taken))
         ∙ asked_leads_there g x taken
 
-    begins : (more : List (List ℕ)) → map text retired ≡ take (length retired) (output_lines g x (taken ++ more))
-    begins more = retired_is_serial g s.reply_pairs x start.core.next taken more retired row all_told s.known s.answered
+    begins : (more : List (List ℕ)) → map text sent_lines ≡ take (length sent_lines) (output_lines g x (taken ++ more))
+    begins more = sent_lines_are_serial g s.reply_pairs x start.core.next taken more sent_lines row all_told s.known s.answered
 
   -- all that was consumed is answered
-  served : (taken : List (List ℕ)) (retired : List Line) → IsServing keeps start now taken retired [] → IsIdle (core_state_of now.core)
-      → AreServed g x (committed_in now.core) taken (joined (map text retired))
-  served taken retired s ends = record {
-    output = ap joined (all_said g s.reply_pairs x start.core.next taken retired (all_told taken retired [] s) s.known s.answered);
-    state = leads taken retired [] s ends;
+  served : (taken : List (List ℕ)) (sent_lines : List Line) → IsServing keeps start now taken sent_lines [] → IsIdle (core_state_of now.core)
+      → AreServed g x (committed_in now.core) taken (joined (map text sent_lines))
+  served taken sent_lines s ends = record {
+    output = ap joined (all_said g s.reply_pairs x start.core.next taken sent_lines (all_told taken sent_lines [] s) s.known s.answered);
+    state = leads taken sent_lines [] s ends;
   }
 
   -- ---- the ends
@@ -99,10 +99,10 @@ module _ (keeps : Type 0) (start now : MachineView) (idle : IsIdle (core_state_o
         works,
         at_end,
         (
-          joined (map text h.retired),
+          joined (map text h.sent_lines),
           h.output,
-          subst (λ (ls : List (List ℕ)). AreServed g x (committed_in now.core) ls (joined (map text h.retired))) (sym all)
-              (served h.taken h.retired h.serving ends),
+          subst (λ (ls : List (List ℕ)). AreServed g x (committed_in now.core) ls (joined (map text h.sent_lines))) (sym all)
+              (served h.taken h.sent_lines h.serving ends),
         ),
       )
 
@@ -117,8 +117,8 @@ module _ (keeps : Type 0) (start now : MachineView) (idle : IsIdle (core_state_o
       ⊎_elim (λ e. absurd (true≢false (sym e)))
       (λ whole. whole ∙ ap (λ z. with_newlines h.taken ++ z) (sym (same_Some bs h.takes.0 h.takes.1) ∙ lost.parts)
       ∙ sym (append_assoc (with_newlines h.taken) lost.got lost.rest)) t.whole in
-      let k = served h.taken h.retired h.serving ends in
-      let output : AnswersWholeLines g x behind input (joined (map text h.retired)) = record {
+      let k = served h.taken h.sent_lines h.serving ends in
+      let output : AnswersWholeLines g x behind input (joined (map text h.sent_lines)) = record {
         whole = h.taken;
         begun = lost.got;
         rest = lost.rest;
@@ -128,7 +128,7 @@ module _ (keeps : Type 0) (start now : MachineView) (idle : IsIdle (core_state_o
         no_line = recursion_from_All (λ b. b ≢ 10) lost.got lost.within_line;
         answered = k.output;
       } in
-      (ends, works, (joined (map text h.retired), h.output, record { output = output; state = k.state }))
+      (ends, works, (joined (map text h.sent_lines), h.output, record { output = output; state = k.state }))
 
   pub ends_exhausted : (input left behind : Option (List ℕ)) (ended : Bool) (before written : Option (List ℕ)) (line : List ℕ) (m : Msg)
       → ServingProgress keeps start now [] input left ended before written → now.core.failed ≡ false → now.core.next ≡ 2 ^ 64 - 1
@@ -147,7 +147,7 @@ module _ (keeps : Type 0) (start now : MachineView) (idle : IsIdle (core_state_o
         works,
         next,
         (
-          joined (map text h.retired),
+          joined (map text h.sent_lines),
           h.output,
           record {
             before = h.taken;
@@ -157,7 +157,7 @@ module _ (keeps : Type 0) (start now : MachineView) (idle : IsIdle (core_state_o
             message = m;
             is_message = is;
             in_range = in_range;
-            served = served h.taken h.retired h.serving ends;
+            served = served h.taken h.sent_lines h.serving ends;
           },
         ),
       )
@@ -167,9 +167,9 @@ module _ (keeps : Type 0) (start now : MachineView) (idle : IsIdle (core_state_o
       → EndsSo start.core now.core input left before written (Err faults.Device)
   ends_at_device row None left ended before written h failed wound_up = (failed, wound_up, tt)
   ends_at_device row (Some input) left ended before written h failed wound_up =
-      let all = begins h.taken h.retired row h.serving (lines h.takes.0)
-      ∙ ap (λ ls. take (length h.retired) (output_lines g x ls)) (sym h.takes.2.to_come) in
-      (failed, wound_up, (joined (map text h.retired), h.output, (length h.retired, ap joined all)))
+      let all = begins h.taken h.sent_lines row h.serving (lines h.takes.0)
+      ∙ ap (λ ls. take (length h.sent_lines) (output_lines g x ls)) (sym h.takes.2.to_come) in
+      (failed, wound_up, (joined (map text h.sent_lines), h.output, (length h.sent_lines, ap joined all)))
 
   pub first_taken : (input left : Option (List ℕ)) (ended : Bool) (taken : List (List ℕ)) → TakesLines input left ended taken → AreFirst input taken
   first_taken None left ended taken t = tt
@@ -196,8 +196,8 @@ module _ (keeps : Type 0) (start now : MachineView) (idle : IsIdle (core_state_o
           crash = λ kept. left_since_event g (machine_of start) start.core.medium p.stages now p.legal sound (p.any_moment kept) p.ends
               p.geometry p.device none (recovers kept);
         };
-        retired = h.retired;
-        known = subst (λ (l : List (ℕ × Reply)). AreKnown g l start.core.next h.taken (h.retired ++ row)) (sym p.reply_pairs_are) h.serving.known;
+        sent_lines = h.sent_lines;
+        known = subst (λ (l : List (ℕ × Reply)). AreKnown g l start.core.next h.taken (h.sent_lines ++ row)) (sym p.reply_pairs_are) h.serving.known;
         are_completed = h.serving.answered;
         output = h.output;
       }

@@ -44,7 +44,7 @@ module _ (keeps : Type 0) (start : MachineView) where
   pub starts : (input before : Option (List ℕ)) → ServingProgress keeps start start [] input input false before before
   starts input before = record {
     taken = [];
-    retired = [];
+    sent_lines = [];
     takes = takes_none input;
     serving = record { reply_pairs = []; passes = stays; known = tt; answered = tt };
     output = adds_none before;

@@ -80,9 +80,9 @@ module _ (keeps : Type 0) (start old new : MachineView) (row : List Line) (known
       → ServingProgress keeps start new (row ++ known ∷ []) input now_left now_ended before written
   line_goes_on line t found h = record {
     taken = h.taken ++ line ∷ [];
-    retired = h.retired;
+    sent_lines = h.sent_lines;
     takes = takes_line input left now_left ended now_ended h.taken line h.takes going found closes;
-    serving = serves_taken keeps start old new h.taken h.retired row line known idle t h.serving;
+    serving = serves_taken keeps start old new h.taken h.sent_lines row line known idle t h.serving;
     output = h.output;
   }
 
@@ -94,9 +94,9 @@ module _ (keeps : Type 0) (start old new : MachineView) (row : List Line) (known
       let l = takes_long_line input left now_left ended now_ended h.taken h.takes going found closes in
       record {
         taken = h.taken ++ l.line ∷ [];
-        retired = h.retired;
+        sent_lines = h.sent_lines;
         takes = l.takes;
-        serving = serves_taken keeps start old new h.taken h.retired row l.line known idle
+        serving = serves_taken keeps start old new h.taken h.sent_lines row l.line known idle
             (subst (λ (o : Option Msg). IsTaken keeps old new o known) (sym l.no_message) t) h.serving;
         output = h.output;
       }

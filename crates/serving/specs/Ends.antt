@@ -77,10 +77,10 @@ pub record HasServed (keeps : Type 0) (start : MachineView) (new : CoreView) (ro
   pub taken : List (List ℕ)
   pub stages : List Stage
   pub run : HasRunLines keeps start new input taken stages
-  pub retired : List Line
-  pub known : AreKnown start.core.geometry (answered (events_of stages)) start.core.next taken (retired ++ row)
-  pub are_completed : AllByRecursion (λ line. is_completed line ≡ true) retired
-  pub output : Appends before written (joined (map text retired))
+  pub sent_lines : List Line
+  pub known : AreKnown start.core.geometry (answered (events_of stages)) start.core.next taken (sent_lines ++ row)
+  pub are_completed : AllByRecursion (λ line. is_completed line ≡ true) sent_lines
+  pub output : Appends before written (joined (map text sent_lines))
 
 -- ---- what each answer promises of the core before and after, of the input and what is left of it, and of what was written
 

@@ -41,10 +41,10 @@ use disk::Disk;
 /// Lines whose messages got the serial server's replies by ticket are answered as the serial server answers them,
 /// as far as they are completed; and their messages lead where the lines lead there.
 pub fn known_lines_are_serial()
-    ensures output { (g : Geometry) (x : State) (n : ℕ) (ls : List (List ℕ)) (replies : List (ℕ × Reply)) (retired row : List Line)
+    ensures output { (g : Geometry) (x : State) (n : ℕ) (ls : List (List ℕ)) (replies : List (ℕ × Reply)) (sent_lines row : List Line)
         → ((reply : ℕ × Reply) → Contains replies reply → Contains (serial_replies g x (ticketed n (admitted g ls))) reply)
-        → AreKnown g replies n ls (retired ++ row) → AllByRecursion (λ line. is_completed line ≡ true) retired
-        → map text retired ≡ take (length retired) (output_lines g x ls) }
+        → AreKnown g replies n ls (sent_lines ++ row) → AllByRecursion (λ line. is_completed line ≡ true) sent_lines
+        → map text sent_lines ≡ take (length sent_lines) (output_lines g x ls) }
     ensures state { (g : Geometry) (x : State) (ls : List (List ℕ)) → fold g x (admitted g ls) ≡ state_after_lines g x ls }
 {}
 
@@ -123,7 +123,7 @@ pub fn what_was_sent_is_on_the_device<D: Disk>()
         (went (machine_of start) (events_of stages)) c }
     ensures sent { (start : MachineView) (new : CoreView) (row : List Line) (input before written : Option (List ℕ))
         → IsIdle (core_state_of start.core) → (h : HasServed D.keeps start new row input before written)
-        → AreInLog start.core.geometry (went (machine_of start) (events_of h.stages)) start.core.next h.taken (map text h.retired) }
+        → AreInLog start.core.geometry (went (machine_of start) (events_of h.stages)) start.core.next h.taken (map text h.sent_lines) }
 {}
 
 /// What may be sent is on the device: once it is sent, whatever a crash leaves of the device, as it was then, holds all that was sent.

@@ -13,7 +13,7 @@ loop-is_dirty-preserved c =
           let more = count_after true c.args.dirty.now c.loop-is_dirty.is_dirty-index (omega arith) dirty_at in
           (omega (arith, more, w.count-is, c.loop-is_dirty.invariant.0), omega (arith, w.count-is, c.loop-is_dirty.invariant.1))
       | else-is_dirty w ↦
-          let unmarked : get_or c.args.dirty.now c.loop-is_dirty.is_dirty-index false ≡ false = grind (arith, common_steps) in
-          let more = count_after false c.args.dirty.now c.loop-is_dirty.is_dirty-index (omega arith) unmarked in
+          let clean : get_or c.args.dirty.now c.loop-is_dirty.is_dirty-index false ≡ false = grind (arith, common_steps) in
+          let more = count_after false c.args.dirty.now c.loop-is_dirty.is_dirty-index (omega arith) clean in
           (omega (arith, more, w.count-is, c.loop-is_dirty.invariant.0), omega (arith, w.count-is, c.loop-is_dirty.invariant.1))
     ]

@@ -49,7 +49,7 @@ loop-n-preserved g c =
     let place : c.loop-n.at + c.extent_size.result ≡ extent_at c.args.g.now (c.loop-n.n + 1) = (λ i. c.loop-n.invariant.place i + c.extent_size.ensures.size i) ∙ sym next in
     elim c.if-not-is_dirty.branch [
       | then-not-is_dirty+in_ok-write_run w ↦
-          let unmarked : get_or c.args.dirty.now c.loop-n.n true ≡ false = grind (arith, common_steps) in
+          let clean : get_or c.args.dirty.now c.loop-n.n true ≡ false = grind (arith, common_steps) in
           record {
             place = w.at-is ∙ place;
             order = omega (arith, w.at-is, w.from-is);
@@ -57,7 +57,7 @@ loop-n-preserved g c =
             faults = ap (λ d. (g.D.Disk.medium d).faults) w.disk-is ∙ w.in_ok-write_run.ensures.call.0 ∙ c.loop-n.invariant.faults;
             runs = λ k.
                 run_closed c.args.dirty.now c.loop-n.n c.loop-n.from c.loop-n.at _ _ (moment (g.D.Disk.medium c.args.disk.now))
-                (moment (g.D.Disk.medium c.loop-n.disk)) _ (omega (arith, few, c.requires.dirty)) unmarked (omega (arith, w.at-is, w.from-is))
+                (moment (g.D.Disk.medium c.loop-n.disk)) _ (omega (arith, few, c.requires.dirty)) clean (omega (arith, w.at-is, w.from-is))
                 (λ some. ap (λ d. moment (g.D.Disk.medium d)) w.disk-is ∙ w.in_ok-write_run.ensures.takes some k)
                 (λ none. ap (λ d. moment (g.D.Disk.medium d)) (w.disk-is ∙ w.write_run.ensures.none none))
                 (c.loop-n.invariant.runs k);
@@ -66,7 +66,7 @@ loop-n-preserved g c =
                 (g.D.Disk.medium c.args.disk.now) (g.D.Disk.medium w.write_run.new.disk) (g.D.Disk.medium c.if-not-is_dirty.disk) w.from-is
                 (ap (λ d. g.D.Disk.medium d) w.disk-is)
                 (patch_passed c.args.g.now c.args.area c.loop-n.n c.loop-n.at (c.loop-n.at + c.extent_size.result) c.args.bytes.now c.args.dirty.now
-                (g.D.Disk.medium c.args.disk.now) (g.D.Disk.medium w.write_run.new.disk) (c.requires.unmarked k) few unmarked
+                (g.D.Disk.medium c.args.disk.now) (g.D.Disk.medium w.write_run.new.disk) (c.requires.clean k) few clean
                 c.loop-n.invariant.place (omega (arith, c.extent_size.ensures.size))
                 (patched c.args.g.now c.args.area c.loop-n.from c.loop-n.at c.args.bytes.now (g.D.Disk.medium c.args.disk.now)
                 (g.D.Disk.medium c.loop-n.disk) (g.D.Disk.medium w.write_run.new.disk) c.requires.area c.requires.size c.requires.whole
@@ -106,13 +106,13 @@ returns-in_err-write_run-2-clause-any_moment g c = λ k.
     (g.D.Disk.medium c.loop-n.disk) (g.D.Disk.medium c.write_run-2.new.disk) c.requires.area c.requires.size c.requires.whole
     (c.loop-n.invariant.so_far k) (c.write_run-2.ensures.any_moment k)
 
-pub returns-in_err-make_last-clause-any_moment : goal.returns-in_err-make_last-clause-any_moment
-returns-in_err-make_last-clause-any_moment g c = λ k.
+pub returns-in_err-sync_image-clause-any_moment : goal.returns-in_err-sync_image-clause-any_moment
+returns-in_err-sync_image-clause-any_moment g c = λ k.
     after_sync _ _ _ _
     (patch_moments c.args.g.now c.args.area c.loop-n.from c.loop-n.at c.args.bytes.now (g.D.Disk.medium c.args.disk.now)
     (g.D.Disk.medium c.loop-n.disk) (g.D.Disk.medium c.write_run-2.new.disk) c.requires.area c.requires.size c.requires.whole
     (c.loop-n.invariant.so_far k) (c.write_run-2.ensures.any_moment k))
-    c.make_last.result (c.make_last.ensures.syncs k)
+    c.sync_image.result (c.sync_image.ensures.syncs k)
 
 pub returns-clause-any_moment : goal.returns-clause-any_moment
 returns-clause-any_moment g c = λ k.
@@ -120,21 +120,21 @@ returns-clause-any_moment g c = λ k.
     (patch_moments c.args.g.now c.args.area c.loop-n.from c.loop-n.at c.args.bytes.now (g.D.Disk.medium c.args.disk.now)
     (g.D.Disk.medium c.loop-n.disk) (g.D.Disk.medium c.write_run-2.new.disk) c.requires.area c.requires.size c.requires.whole
     (c.loop-n.invariant.so_far k) (c.write_run-2.ensures.any_moment k))
-    c.make_last.result (c.make_last.ensures.syncs k)
+    c.sync_image.result (c.sync_image.ensures.syncs k)
 
 pub returns-clause-written : goal.returns-clause-written
 returns-clause-written g c = λ k.
     let all : c.loop-n.n ≡ piece_count c.args.g.now = grind (arith, common_steps) in
     let end : c.loop-n.at ≡ image_size c.args.g.now = c.loop-n.invariant.place ∙ ap (extent_at c.args.g.now) all ∙ extent_end c.args.g.now in
     patch_synced c.args.g.now c.args.area c.args.bytes.now (g.D.Disk.medium c.args.disk.now) (g.D.Disk.medium c.write_run-2.new.disk)
-    (g.D.Disk.medium c.make_last.new.disk) c.requires.area c.requires.size c.requires.whole
+    (g.D.Disk.medium c.sync_image.new.disk) c.requires.area c.requires.size c.requires.whole
     (along_patch c.args.g.now c.args.area c.loop-n.at (image_size c.args.g.now) c.args.bytes.now (g.D.Disk.medium c.args.disk.now)
     (g.D.Disk.medium c.write_run-2.new.disk) (g.D.Disk.medium c.write_run-2.new.disk) (sym end) refl
     (patched c.args.g.now c.args.area c.loop-n.from c.loop-n.at c.args.bytes.now (g.D.Disk.medium c.args.disk.now) (g.D.Disk.medium c.loop-n.disk)
     (g.D.Disk.medium c.write_run-2.new.disk) c.requires.area c.requires.size c.requires.whole (c.loop-n.invariant.so_far k)
     (c.write_run-2.ensures.any_moment k)
     c.loop-n.invariant.order (omega (arith, end)) (c.write_run-2.ensures.same k) (c.in_ok-write_run-2.ensures.written k)))
-    ((c.in_ok-make_last.ensures.syncs k).ok)
+    ((c.in_ok-sync_image.ensures.syncs k).ok)
 
 pub returns-in_err-write_run-clause-takes : goal.returns-in_err-write_run-clause-takes
 returns-in_err-write_run-clause-takes g c =
@@ -154,9 +154,9 @@ returns-in_err-write_run-2-clause-takes g c =
     (λ some. c.in_err-write_run-2.ensures.takes some k)
     (λ none. ap (λ d. moment (g.D.Disk.medium d)) (c.write_run-2.ensures.none none)))
 
-pub returns-in_err-make_last-clause-takes : goal.returns-in_err-make_last-clause-takes
-returns-in_err-make_last-clause-takes g c =
-    let p = err_from_is_err_and c.from_residual-in_err-make_last.result c.from_residual-in_err-make_last.ensures.1 in
+pub returns-in_err-sync_image-clause-takes : goal.returns-in_err-sync_image-clause-takes
+returns-in_err-sync_image-clause-takes g c =
+    let p = err_from_is_err_and c.from_residual-in_err-sync_image.result c.from_residual-in_err-sync_image.ensures.1 in
     rw p.1
     (λ k.
     let all : c.loop-n.n ≡ piece_count c.args.g.now = grind (arith, common_steps) in
@@ -166,7 +166,7 @@ returns-in_err-make_last-clause-takes g c =
     (c.loop-n.invariant.runs k)
     (λ some. c.in_ok-write_run-2.ensures.takes some k)
     (λ none. ap (λ d. moment (g.D.Disk.medium d)) (c.write_run-2.ensures.none none)) in
-    omega (arith, ended, c.in_err-make_last.ensures.takes k))
+    omega (arith, ended, c.in_err-sync_image.ensures.takes k))
 
 pub returns-clause-takes : goal.returns-clause-takes
 returns-clause-takes g c = λ k.
@@ -177,4 +177,4 @@ returns-clause-takes g c = λ k.
     (c.loop-n.invariant.runs k)
     (λ some. c.in_ok-write_run-2.ensures.takes some k)
     (λ none. ap (λ d. moment (g.D.Disk.medium d)) (c.write_run-2.ensures.none none)) in
-    omega (arith, ended, c.in_ok-make_last.ensures.takes k)
+    omega (arith, ended, c.in_ok-sync_image.ensures.takes k)

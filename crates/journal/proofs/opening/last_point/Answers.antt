@@ -25,10 +25,10 @@ point_on-requires-clause-image g c = λ k.
     ap (read geometry) spelled ∙ read_again geometry x (subst (λ (h : Geometry). IsState h x) c.requires.loaded.geometry c.requires.loaded.tree.state)
     ∙ sym (c.requires.holds k)
 
-pub point_on-requires-clause-unmarked : goal.point_on-requires-clause-unmarked
-point_on-requires-clause-unmarked g c = λ k n few unmarked.
+pub point_on-requires-clause-clean : goal.point_on-requires-clause-clean
+point_on-requires-clause-clean g c = λ k n few clean.
     let all = subst (λ (l : List Bool). AreAllDirty c.args.parts.now.halves.geometry l) (sym c.deref-3.ensures.value) c.requires.loaded.all in
-    absurd (true≢false (sym (all n few) ∙ unmarked))
+    absurd (true≢false (sym (all n few) ∙ clean))
 
 pub returns-in_err-point_on-clause-takes : goal.returns-in_err-point_on-clause-takes
 returns-in_err-point_on-clause-takes g c =

@@ -10,50 +10,50 @@ use Rattle.device_map.specs.Layout.{layout_of}
 use Rattle.oplog.proofs.Beyond.{beyond_then}
 use Rattle.journal.proofs.opening.open_on.Goals as goal
 
-pub returns-in_err-settle-clause-any_moment : goal.returns-in_err-settle-clause-any_moment
-returns-in_err-settle-clause-any_moment g c = λ k. never_synced _ _ (c.settle.ensures.any_moment k)
+pub returns-in_err-first_sync-clause-any_moment : goal.returns-in_err-first_sync-clause-any_moment
+returns-in_err-first_sync-clause-any_moment g c = λ k. never_synced _ _ (c.first_sync.ensures.any_moment k)
 
 pub returns-clause-any_moment : goal.returns-clause-any_moment
 returns-clause-any_moment g c = λ k.
-    synced_then (g.D.Disk.medium c.args.disk.now) (g.D.Disk.medium c.settle.new.disk) (g.D.Disk.medium c.open_committed.new.disk)
-    (c.in_ok-settle.ensures.calm k) (c.settle.ensures.now k) (c.settle.ensures.any_moment k) (c.open_committed.ensures.any_moment k)
+    synced_then (g.D.Disk.medium c.args.disk.now) (g.D.Disk.medium c.first_sync.new.disk) (g.D.Disk.medium c.open_committed.new.disk)
+    (c.in_ok-first_sync.ensures.calm k) (c.first_sync.ensures.now k) (c.first_sync.ensures.any_moment k) (c.open_committed.ensures.any_moment k)
 
 pub returns-clause-made_of : goal.returns-clause-made_of
 returns-clause-made_of g c =
-    if_ok c.open_committed.result _ _ (λ p made k. subst (λ (l : List ℕ). IsMadeOf l p (g.D.Disk.medium c.open_committed.new.disk)) (c.settle.ensures.now k) (made k)) c.open_committed.ensures.made_of
+    if_ok c.open_committed.result _ _ (λ p made k. subst (λ (l : List ℕ). IsMadeOf l p (g.D.Disk.medium c.open_committed.new.disk)) (c.first_sync.ensures.now k) (made k)) c.open_committed.ensures.made_of
 
 pub returns-clause-unwritten : goal.returns-clause-unwritten
 returns-clause-unwritten g c =
     let w0 = g.D.Disk.medium c.args.disk.now in
-    let w1 = g.D.Disk.medium c.settle.new.disk in
+    let w1 = g.D.Disk.medium c.first_sync.new.disk in
     let w2 = g.D.Disk.medium c.open_committed.new.disk in
     if_err c.open_committed.result _ _
     (λ e is k.
-    unwritten_from e w0 w1 w2 (c.settle.ensures.now k) (unwritten_then w0 w1 w2 (g.met.D.Disk.bytes c.args.disk.now) (c.in_ok-settle.ensures.calm k)
-    (c.settle.ensures.now k) (c.settle.ensures.any_moment k)) (is k))
+    unwritten_from e w0 w1 w2 (c.first_sync.ensures.now k) (unwritten_then w0 w1 w2 (g.met.D.Disk.bytes c.args.disk.now) (c.in_ok-first_sync.ensures.calm k)
+    (c.first_sync.ensures.now k) (c.first_sync.ensures.any_moment k)) (is k))
     c.open_committed.ensures.unwritten
 
 pub returns-clause-memory : goal.returns-clause-memory
 returns-clause-memory g c =
-    if_err c.open_committed.result _ _ (λ e told is k. subst (λ (l : List ℕ). IsDevice l) (c.settle.ensures.now k) (told is k)) c.open_committed.ensures.memory
+    if_err c.open_committed.result _ _ (λ e told is k. subst (λ (l : List ℕ). IsDevice l) (c.first_sync.ensures.now k) (told is k)) c.open_committed.ensures.memory
 
-pub returns-in_err-settle-clause-beyond : goal.returns-in_err-settle-clause-beyond
-returns-in_err-settle-clause-beyond g c = λ k h head.
-    c.settle.ensures.beyond k (layout_of h)
+pub returns-in_err-first_sync-clause-beyond : goal.returns-in_err-first_sync-clause-beyond
+returns-in_err-first_sync-clause-beyond g c = λ k h head.
+    c.first_sync.ensures.beyond k (layout_of h)
 
 pub returns-clause-beyond : goal.returns-clause-beyond
 returns-clause-beyond g c = λ k h head.
     let w0 = g.D.Disk.medium c.args.disk.now in
-    let w1 = g.D.Disk.medium c.settle.new.disk in
+    let w1 = g.D.Disk.medium c.first_sync.new.disk in
     let w2 = g.D.Disk.medium c.open_committed.new.disk in
-    beyond_then (layout_of h) w0 w1 w2 (c.settle.ensures.beyond k (layout_of h)) (c.open_committed.ensures.beyond k h (subst (λ (l : List ℕ). HasHeader h l) (sym (c.settle.ensures.now k)) head))
+    beyond_then (layout_of h) w0 w1 w2 (c.first_sync.ensures.beyond k (layout_of h)) (c.open_committed.ensures.beyond k h (subst (λ (l : List ℕ). HasHeader h l) (sym (c.first_sync.ensures.now k)) head))
 
-pub returns-in_err-settle-clause-takes : goal.returns-in_err-settle-clause-takes
-returns-in_err-settle-clause-takes g c =
+pub returns-in_err-first_sync-clause-takes : goal.returns-in_err-first_sync-clause-takes
+returns-in_err-first_sync-clause-takes g c =
     let p = err_from_is_err_and c.from_residual.result c.from_residual.ensures.1 in
-    rw p.1 (λ k. omega (arith, c.in_err-settle.ensures.takes k))
+    rw p.1 (λ k. omega (arith, c.in_err-first_sync.ensures.takes k))
 
 pub returns-clause-takes : goal.returns-clause-takes
 returns-clause-takes g c = λ k.
-    opening_after c.open_committed.result (g.D.Disk.medium c.args.disk.now) (g.D.Disk.medium c.settle.new.disk)
-    (g.D.Disk.medium c.open_committed.new.disk) (c.settle.ensures.now k) (c.in_ok-settle.ensures.takes k) (c.open_committed.ensures.takes k)
+    opening_after c.open_committed.result (g.D.Disk.medium c.args.disk.now) (g.D.Disk.medium c.first_sync.new.disk)
+    (g.D.Disk.medium c.open_committed.new.disk) (c.first_sync.ensures.now k) (c.in_ok-first_sync.ensures.takes k) (c.open_committed.ensures.takes k)

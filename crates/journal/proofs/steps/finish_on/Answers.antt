@@ -16,9 +16,9 @@ use Rattle.journal.proofs.steps.finish_on.Goals as goal
 along : {A B : Type 0} (P : A → B → Type 0) {a a' : A} {b b' : B} → a ≡ a' → b ≡ b' → P a b → P a' b'
 along P {a} {a'} {b} {b'} first second held = subst (λ y. P a' y) second (subst (λ x. P x b) first held)
 
-pub write_image-requires-clause-unmarked : goal.write_image-requires-clause-unmarked
-write_image-requires-clause-unmarked g c = λ k n few unmarked.
-    absurd (true≢false (sym (c.requires.all n (subst (λ (x : Geometry). n < piece_count x) c.geometry-g.ensures few)) ∙ unmarked))
+pub write_image-requires-clause-clean : goal.write_image-requires-clause-clean
+write_image-requires-clause-clean g c = λ k n few clean.
+    absurd (true≢false (sym (c.requires.all n (subst (λ (x : Geometry). n < piece_count x) c.geometry-g.ensures few)) ∙ clean))
 
 pub returns-then-is_err-clause-any_moment : goal.returns-then-is_err-clause-any_moment
 returns-then-is_err-clause-any_moment g c = λ k.

@@ -13,7 +13,7 @@ use Rattle.journal.proofs.steps.flip_on.Goals as goal
 
 pub returns-then-is_err-clause-any_moment : goal.returns-then-is_err-clause-any_moment
 returns-then-is_err-clause-any_moment g c = λ k.
-    sync_moments c.args.halves.now.geometry c.args.halves.now.named c.args.halves.now.used _ c.args.bytes.now _ (c.requires.written k).by.recovers _ c.make_last.result (c.make_last.ensures.syncs k)
+    sync_moments c.args.halves.now.geometry c.args.halves.now.named c.args.halves.now.used _ c.args.bytes.now _ (c.requires.written k).by.recovers _ c.sync_image.result (c.sync_image.ensures.syncs k)
 
 pub returns-in_err-flip_root-clause-any_moment : goal.returns-in_err-flip_root-clause-any_moment
 returns-in_err-flip_root-clause-any_moment g c = λ k.
@@ -22,12 +22,12 @@ returns-in_err-flip_root-clause-any_moment g c = λ k.
     let w0 = g.D.Disk.medium c.args.disk.now in
     let w2 = g.D.Disk.medium c.flip_root.new.disk in
     let written = c.requires.written k in
-    let syncs = on_ok c.make_last.result _ (sym c.is_err.ensures.value ∙ c.if-is_err.false) (c.make_last.ensures.syncs k).ok in
+    let syncs = on_ok c.sync_image.result _ (sym c.is_err.ensures.value ∙ c.if-is_err.false) (c.sync_image.ensures.syncs k).ok in
     let is_area = named_below geometry named _ _ w0 (g.met.D.Disk.bytes c.args.disk.now) written.by.recovers in
     let flips = subst (λ (m : Medium). Flips c.args.halves.now m w2) syncs (c.flip_root.ensures.any_moment k) in
     let so_far = subst (λ (m : Medium). CrashImagesAre w0 m (λ c'. holds geometry c' ≡ holds geometry w0.now)) syncs
-    (sync_moments geometry named c.args.halves.now.used _ c.args.bytes.now w0 written.by.recovers (g.D.Disk.medium c.make_last.new.disk)
-    c.make_last.result (c.make_last.ensures.syncs k)) in
+    (sync_moments geometry named c.args.halves.now.used _ c.args.bytes.now w0 written.by.recovers (g.D.Disk.medium c.sync_image.new.disk)
+    c.sync_image.result (c.sync_image.ensures.syncs k)) in
     name_moments geometry named c.args.halves.now.used _ c.args.bytes.now w0 written.by.recovers is_area written.by.some written.is written.behind w2 (g.met.D.Disk.bytes c.args.disk.now) so_far flips
 
 pub returns-clause-any_moment : goal.returns-clause-any_moment
@@ -37,12 +37,12 @@ returns-clause-any_moment g c = λ k.
     let w0 = g.D.Disk.medium c.args.disk.now in
     let w2 = g.D.Disk.medium c.flip_root.new.disk in
     let written = c.requires.written k in
-    let syncs = on_ok c.make_last.result _ (sym c.is_err.ensures.value ∙ c.if-is_err.false) (c.make_last.ensures.syncs k).ok in
+    let syncs = on_ok c.sync_image.result _ (sym c.is_err.ensures.value ∙ c.if-is_err.false) (c.sync_image.ensures.syncs k).ok in
     let is_area = named_below geometry named _ _ w0 (g.met.D.Disk.bytes c.args.disk.now) written.by.recovers in
     let flips = subst (λ (m : Medium). Flips c.args.halves.now m w2) syncs (c.flip_root.ensures.any_moment k) in
     let so_far = subst (λ (m : Medium). CrashImagesAre w0 m (λ c'. holds geometry c' ≡ holds geometry w0.now)) syncs
-    (sync_moments geometry named c.args.halves.now.used _ c.args.bytes.now w0 written.by.recovers (g.D.Disk.medium c.make_last.new.disk)
-    c.make_last.result (c.make_last.ensures.syncs k)) in
+    (sync_moments geometry named c.args.halves.now.used _ c.args.bytes.now w0 written.by.recovers (g.D.Disk.medium c.sync_image.new.disk)
+    c.sync_image.result (c.sync_image.ensures.syncs k)) in
     name_moments geometry named c.args.halves.now.used _ c.args.bytes.now w0 written.by.recovers is_area written.by.some written.is written.behind w2 (g.met.D.Disk.bytes c.args.disk.now) so_far flips
 
 pub returns-clause-flipped : goal.returns-clause-flipped
@@ -52,7 +52,7 @@ returns-clause-flipped g c = λ k.
     let w0 = g.D.Disk.medium c.args.disk.now in
     let w2 = g.D.Disk.medium c.flip_root.new.disk in
     let written = c.requires.written k in
-    let syncs = on_ok c.make_last.result _ (sym c.is_err.ensures.value ∙ c.if-is_err.false) (c.make_last.ensures.syncs k).ok in
+    let syncs = on_ok c.sync_image.result _ (sym c.is_err.ensures.value ∙ c.if-is_err.false) (c.sync_image.ensures.syncs k).ok in
     let is_area = named_below geometry named _ _ w0 (g.met.D.Disk.bytes c.args.disk.now) written.by.recovers in
     let are = g.met.D.Disk.bytes c.args.disk.now in
     let flipped = subst (λ (m : Medium). HasFlipped c.args.halves.now m w2) syncs (c.in_ok-flip_root.ensures.flipped k) in
@@ -72,16 +72,16 @@ pub returns-then-is_err-clause-beyond : goal.returns-then-is_err-clause-beyond
 returns-then-is_err-clause-beyond g c = λ k.
     let l = layout_of c.args.halves.now.geometry in
     let w0 = g.D.Disk.medium c.args.disk.now in
-    let w1 = g.D.Disk.medium c.make_last.new.disk in
-    let synced = beyond_sync l w0 w1 c.make_last.result (c.make_last.ensures.syncs k) in
+    let w1 = g.D.Disk.medium c.sync_image.new.disk in
+    let synced = beyond_sync l w0 w1 c.sync_image.result (c.sync_image.ensures.syncs k) in
     synced
 
 pub returns-in_err-flip_root-clause-beyond : goal.returns-in_err-flip_root-clause-beyond
 returns-in_err-flip_root-clause-beyond g c = λ k.
     let l = layout_of c.args.halves.now.geometry in
     let w0 = g.D.Disk.medium c.args.disk.now in
-    let w1 = g.D.Disk.medium c.make_last.new.disk in
-    let synced = beyond_sync l w0 w1 c.make_last.result (c.make_last.ensures.syncs k) in
+    let w1 = g.D.Disk.medium c.sync_image.new.disk in
+    let synced = beyond_sync l w0 w1 c.sync_image.result (c.sync_image.ensures.syncs k) in
     let w2 = g.D.Disk.medium c.flip_root.new.disk in
     beyond_then l w0 w1 w2 synced (beyond l w1 w2 (IsSameButRoot l) (λ o d h. h.same.rest) (c.flip_root.ensures.any_moment k))
 
@@ -89,7 +89,7 @@ pub returns-clause-beyond : goal.returns-clause-beyond
 returns-clause-beyond g c = λ k.
     let l = layout_of c.args.halves.now.geometry in
     let w0 = g.D.Disk.medium c.args.disk.now in
-    let w1 = g.D.Disk.medium c.make_last.new.disk in
-    let synced = beyond_sync l w0 w1 c.make_last.result (c.make_last.ensures.syncs k) in
+    let w1 = g.D.Disk.medium c.sync_image.new.disk in
+    let synced = beyond_sync l w0 w1 c.sync_image.result (c.sync_image.ensures.syncs k) in
     let w2 = g.D.Disk.medium c.flip_root.new.disk in
     beyond_then l w0 w1 w2 synced (beyond l w1 w2 (IsSameButRoot l) (λ o d h. h.same.rest) (c.flip_root.ensures.any_moment k))

@@ -4,7 +4,7 @@ use Rattle.std.proofs.lemmas.Result.{err_from_is_err_and}
 use Rattle.affinity.specs.declared.geometry.Geometry.{Geometry}
 use Rattle.journal.specs.Extents.{AgreeOnClean, Imaged, image_in}
 use Rattle.journal.proofs.Costs.{takes_all, takes_most}
-use Rattle.journal.proofs.Pointing.{clear_moments, flip_moments, image_moments, now_emptied, now_is, now_kept, now_ready, now_recovers, still_unmarked}
+use Rattle.journal.proofs.Pointing.{clear_moments, flip_moments, image_moments, now_emptied, now_is, now_kept, now_ready, now_recovers, still_clean}
 use Rattle.oplog.proofs.Answered.{on_ok}
 use Rattle.oplog.proofs.Beyond.{beyond, beyond_then}
 use Rattle.oplog.specs.Calls.{Flips, HasFlipped}
@@ -21,13 +21,13 @@ returns-in_err-clear_other-clause-any_moment g c = λ k.
     clear_moments c.args.halves.now.geometry c.args.halves.now.named _ (omega (arith, c.named-area.ensures.named, c.named-area.ensures.half)) _ _
     (c.requires.alone k).recovers (c.clear_other.ensures.any_moment k)
 
-pub write_image-requires-clause-unmarked : goal.write_image-requires-clause-unmarked
-write_image-requires-clause-unmarked g c = λ k.
+pub write_image-requires-clause-clean : goal.write_image-requires-clause-clean
+write_image-requires-clause-clean g c = λ k.
     along (λ (x : Geometry) (n : ℕ). AgreeOnClean x c.args.dirty.now (image_in x (other n) (g.D.Disk.medium c.clear_other.new.disk))
     c.args.bytes.now) (sym c.geometry-g.ensures) (sym c.named-area.ensures.named)
-    (still_unmarked c.args.halves.now.geometry (other c.args.halves.now.named) (other c.args.halves.now.named) c.args.dirty.now c.args.bytes.now
+    (still_clean c.args.halves.now.geometry (other c.args.halves.now.named) (other c.args.halves.now.named) c.args.dirty.now c.args.bytes.now
     (g.D.Disk.medium c.args.disk.now) (g.D.Disk.medium c.clear_other.new.disk) (omega arith) (c.in_ok-clear_other.ensures.cleared k)
-    (c.requires.unmarked k))
+    (c.requires.clean k))
 
 pub returns-then-is_err-clause-any_moment : goal.returns-then-is_err-clause-any_moment
 returns-then-is_err-clause-any_moment g c = λ k.

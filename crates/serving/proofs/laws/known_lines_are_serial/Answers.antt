@@ -2,13 +2,13 @@
 use Rattle.std.proofs.Common.{[], ap, inr, ◌∙◌, append-nil, take, length}
 use Rattle.legal_runs.proofs.Elements.{contains_in, in_contained}
 use Rattle.meaning.specs.Output.{output_lines}
-use Rattle.serving.proofs.Serial.{asked_leads_there, retired_is_serial}
+use Rattle.serving.proofs.Serial.{asked_leads_there, sent_lines_are_serial}
 use Rattle.serving.proofs.laws.known_lines_are_serial.Goals as goal
 
 pub returns-clause-output : goal.returns-clause-output
-returns-clause-output c g x n ls replies retired row reply_pairs known answered =
-    retired_is_serial g replies x n ls [] retired row (λ p is. inr (in_contained _ p (reply_pairs p (contains_in replies p is)))) known answered
-    ∙ ap (λ l. take (length retired) (output_lines g x l)) (append-nil ls)
+returns-clause-output c g x n ls replies sent_lines row reply_pairs known answered =
+    sent_lines_are_serial g replies x n ls [] sent_lines row (λ p is. inr (in_contained _ p (reply_pairs p (contains_in replies p is)))) known answered
+    ∙ ap (λ l. take (length sent_lines) (output_lines g x l)) (append-nil ls)
 
 pub returns-clause-state : goal.returns-clause-state
 returns-clause-state c = asked_leads_there

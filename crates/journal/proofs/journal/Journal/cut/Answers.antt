@@ -9,7 +9,7 @@ use Rattle.image.specs.Pieces.{piece_count}
 use Rattle.journal.specs.Journal.{JournalView, records, records_in, committed}
 use Rattle.journal.specs.Images.{KeepsImages}
 use Rattle.journal.specs.Keeping.{IsCutState, IsSoundJournal, held_of}
-use Rattle.journal.specs.DirtyPieces.{count_dirty, cut_dirty, unmarked}
+use Rattle.journal.specs.DirtyPieces.{count_dirty, cut_dirty, all_clean}
 use Rattle.journal.specs.Steps.{cut_now}
 use Rattle.journal.proofs.Logging.{committed_of}
 use Rattle.journal.proofs.Rows.{count_most, whole_items, whole_put}
@@ -96,8 +96,8 @@ returns-clause-begun g c =
     let others = put ∙ c.clear_dirty.ensures ∙ ap (λ (n : ℕ). replicate n false) long in
     ap (λ (l : Log). held_of l named (whole_items c.swap.new.y.len c.clear_dirty.new.dirty c.swap.new.y.items) (Some c.count_dirty.result) c.self.inside.failed w1) c.in_default.ensures.log
     ∙ ap (λ (l : List Bool). held_of (cut_now c.self.inside.halves) named l (Some c.count_dirty.result) c.self.inside.failed w1) others
-    ∙ ap (λ (n : ℕ). held_of (cut_now c.self.inside.halves) named (unmarked c.self.inside.other_dirty.items) (Some n) c.self.inside.failed w1) count
-    ∙ ap (λ (n : ℕ). record (held_of (cut_now c.self.inside.halves) named (unmarked c.self.inside.other_dirty.items)
+    ∙ ap (λ (n : ℕ). held_of (cut_now c.self.inside.halves) named (all_clean c.self.inside.other_dirty.items) (Some n) c.self.inside.failed w1) count
+    ∙ ap (λ (n : ℕ). record (held_of (cut_now c.self.inside.halves) named (all_clean c.self.inside.other_dirty.items)
     (Some (count_dirty c.self.inside.other_dirty.items)) c.self.inside.failed w1) { room = n }) all
     ∙ ap (λ (h : JournalView). record h { room = h.geometry.half; left = Some (count_dirty h.dirty.others); dirty = cut_dirty h.dirty; medium = w1 }) c.self.view_is
 

@@ -69,8 +69,8 @@ returns-clause-records g c = λ k.
     ∙ log_records c.self.inside.halves c.self.inside.frozen.items c.self.inside.named_dirty.items c.self.inside.other_dirty.items c.self.inside.due.items c.self.inside.left c.args.messages.now
     (g.D.Disk.medium c.self.inside.disk) (g.D.Disk.medium c.append.new.disk) (g.met.D.Disk.bytes c.self.inside.disk) (c.self.invariant.7 fine k) (c.in_default.ensures.added k))
 
-pub returns-clause-dirty_at : goal.returns-clause-dirty_at
-returns-clause-dirty_at g c =
+pub returns-clause-dirties : goal.returns-clause-dirties
+returns-clause-dirties g c =
     let same : c.geometry-g.result ≡ c.self.inside.halves.geometry = c.geometry-g.ensures ∙ ap (λ (l : Log). l.geometry) c.in_default.ensures.log in
     let first = whole_put c.self.inside.named_dirty.len c.dirty_touched.new.dirty c.self.inside.named_dirty.items
     (c.dirty_touched.ensures.size ∙ ap length c.deref_mut.ensures.value) (c.dirty_touched.ensures.size ∙ c.deref_mut.ensures.len) in

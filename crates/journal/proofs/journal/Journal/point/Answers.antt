@@ -63,8 +63,8 @@ point_on-requires-clause-image g c = λ k.
     c.self.inside.due.items c.self.inside.left w0 (state_in c.args.tree.now) alone (c.self.invariant.6 fine).1 (c.self.invariant.7 fine k) is
     is_state spelled (g.met.D.Disk.bytes c.self.inside.disk)
 
-pub point_on-requires-clause-unmarked : goal.point_on-requires-clause-unmarked
-point_on-requires-clause-unmarked g c = λ k.
+pub point_on-requires-clause-clean : goal.point_on-requires-clause-clean
+point_on-requires-clause-clean g c = λ k.
     let fine : c.self.inside.failed ≡ false = ap (λ (h : JournalView). h.failed) c.self.view_is ∙ c.requires.sound in
     let alone : c.self.inside.left ≡ None = ap (λ (h : JournalView). h.left) c.self.view_is ∙ c.requires.alone in
     let geometry : c.args.tree.now.geometry ≡ c.self.inside.halves.geometry = c.requires.geometry ∙ sym (ap (λ (h : JournalView). h.geometry) c.self.view_is) in

@@ -3,7 +3,7 @@ use Rattle.disk.specs.Device.{IsCrashImage}
 use Rattle.disk.proofs.Calls.{after_sync}
 use Rattle.disk.proofs.Moments.{started}
 use Rattle.oplog.proofs.Beyond.{beyond_sync}
-use Rattle.journal.proofs.opening.settle.Goals as goal
+use Rattle.journal.proofs.opening.first_sync.Goals as goal
 
 pub returns-then-is_err-clause-any_moment : goal.returns-then-is_err-clause-any_moment
 returns-then-is_err-clause-any_moment g c = λ k.
