@@ -322,7 +322,7 @@ module _ (keeps : Type 0) (s : Start) (dispatch_seat : DispatchSeatView) (row : 
         row = row;
         out = out;
         sent = s.before;
-        open_lines = 0;
+        outstanding = 0;
         output_failed = false;
         stop = None;
         left = left;
@@ -363,7 +363,7 @@ pub first_at : (keeps : Type 0) (o : Option Start) (core : CoreView) (dispatch_s
       row = row;
       out = out;
       sent = sent;
-      open_lines = 0;
+      outstanding = 0;
       output_failed = false;
       stop = None;
       left = left;

@@ -238,7 +238,7 @@ module _ (keeps : Type 0) where
   -- All that waits is sent.
   pub on_send : (o : Option Start) (p : SessionView) (out : List ℕ) (sent : Option (List ℕ)) (n : ℕ) → SessionInvariantFrom keeps o p
       → out ≡ [] → Appends p.sent sent p.out → n ≡ length p.row.lines
-      → SessionInvariantFrom keeps o (record p { out = out; sent = sent; open_lines = n })
+      → SessionInvariantFrom keeps o (record p { out = out; sent = sent; outstanding = n })
   on_send None p out sent n u none appends are = absurd u
   on_send (Some s) p out sent n u none appends are = record {
     idle = u.idle;
@@ -247,7 +247,7 @@ module _ (keeps : Type 0) where
     holds = u.holds;
     places = u.places;
     knows = u.knows;
-    reads = reads_on s p (record p { out = out; sent = sent; open_lines = n }) refl (λ x. x) refl refl refl
+    reads = reads_on s p (record p { out = out; sent = sent; outstanding = n }) refl (λ x. x) refl refl refl
         (λ left drained h. record {
           waiting = [];
           are_completed = tt;
@@ -317,11 +317,11 @@ module _ (keeps : Type 0) where
 
   module _ (p : SessionView) (core : CoreView) (row : ReorderBufferView) (n : ℕ) (left : Option (List ℕ)) (drained ended : Bool)
       (behind : Option (List ℕ)) (none : p.stop ≡ None) (slots : row.slots ≡ p.row.slots)
-      (more : n + length p.row.lines ≡ p.open_lines + length row.lines) (few : n ≤ p.row.slots) (knows : IsTrue ended → IsAtEnd behind) where
+      (more : n + length p.row.lines ≡ p.outstanding + length row.lines) (few : n ≤ p.row.slots) (knows : IsTrue ended → IsAtEnd behind) where
     abbrev next : SessionView
-    next = record p { core = core; row = row; open_lines = n; left = left; drained = drained; ended = ended; behind = behind }
+    next = record p { core = core; row = row; outstanding = n; left = left; drained = drained; ended = ended; behind = behind }
 
-    counted_next : (waiting : List Line) → p.open_lines ≡ length waiting + length p.row.lines → n ≡ length waiting + length row.lines
+    counted_next : (waiting : List Line) → p.outstanding ≡ length waiting + length p.row.lines → n ≡ length waiting + length row.lines
     counted_next waiting counted = omega (arith, counted, more)
 
     bounded_next : n ≤ row.slots
@@ -421,7 +421,7 @@ module _ (keeps : Type 0) where
       next_follows keeps (start_machine s) (machine p) h.taken h.sent_lines p.row.lines h.serving
 
   -- Where fewer lines are outstanding than there are slots, the reorder buffer has room for a further one.
-  pub has_place : (o : Option Start) (p : SessionView) → SessionInvariantFrom keeps o p → p.open_lines < p.row.slots → length p.row.lines < p.row.slots
+  pub has_place : (o : Option Start) (p : SessionView) → SessionInvariantFrom keeps o p → p.outstanding < p.row.slots → length p.row.lines < p.row.slots
   has_place None p u room = absurd u
   has_place (Some s) p u room =
       let k = gone s p p.stop u.reads in

@@ -37,7 +37,7 @@ pub record SessionView : Type 0 where
   pub out : List ℕ
   pub sent : Option (List ℕ)
   -- how many lines were read and are not answered in the output
-  pub open_lines : ℕ
+  pub outstanding : ℕ
   -- whether sending has failed, and why no more is read, if it is so
   pub output_failed : Bool
   pub stop : Option ReadEnd
@@ -76,8 +76,8 @@ pub record SessionProgress (keeps : Type 0) (s : Start) (p : SessionView) (left 
   pub are_completed : AreCompleted waiting
   pub out_is : p.out ≡ joined (map text waiting)
   -- Outstanding are the lines whose answers wait and those of the reorder buffer. There are never more of them than slots.
-  pub counted : p.open_lines ≡ length waiting + length p.row.lines
-  pub bounded : p.open_lines ≤ p.row.slots
+  pub counted : p.outstanding ≡ length waiting + length p.row.lines
+  pub bounded : p.outstanding ≤ p.row.slots
   pub goes : ServingProgress keeps (start_machine s) (machine p) (waiting ++ p.row.lines) s.input left drained
       (known_unless p.output_failed s.before) (known_unless p.output_failed p.sent)
 
@@ -121,9 +121,9 @@ pub record CanBegin (start : Option Start) (core : CoreView) (places : ℕ) (inp
 
 -- ---- how a call moves it
 
--- No line was read, and the output has not failed.
-abbrev pub KeepsStreams : SessionView → SessionView → Type 0
-KeepsStreams old new = (new.stop ≡ old.stop) × (new.output_failed ≡ old.output_failed)
+-- Why no more is read, and whether the output has failed, are as before.
+abbrev pub KeepsEnds : SessionView → SessionView → Type 0
+KeepsEnds old new = (new.stop ≡ old.stop) × (new.output_failed ≡ old.output_failed)
 
 -- The output has failed, or else the device.
 abbrev pub HasHalted : SessionView → Type 0

@@ -4,7 +4,7 @@
 ghost use Rattle.std.specs.Prelude.{◌≡◌, ◌<◌, ◌≤◌, ◌-◌, ◌↔◌, IsTrue, OnErr, OnOk, Some, [], None, false, is_none, length, position, true};
 ghost use Rattle.scheduler.specs.CoreView.{core_state_of};
 ghost use Rattle.serving.specs.Lending.{DispatchesTo, IsEndOfDispatch, NoneInFlight, Lends};
-ghost use Rattle.serving.specs.Session.{KeepsStreams, IsSessionStep};
+ghost use Rattle.serving.specs.Session.{KeepsEnds, IsSessionStep};
 
 use crate::gated_runtime::GatedRuntime;
 use crate::output::ReplySink;
@@ -128,7 +128,7 @@ impl<'c, R: Read, D: Disk, L: ReplySink<D>> Session<'c, R, D, L> {
     /// Dispatches the eligible message with the least ticket to place k, the first where nothing is lent.
     fn dispatch_to(&mut self, k: usize) -> Dispatched
         requires first { position is_none self.old.dispatch_seat.lent ≡ Some k }
-        ensures as_before { KeepsStreams self.old self.new }
+        ensures as_before { KeepsEnds self.old self.new }
         ensures geometry { self.new.core.geometry ≡ self.old.core.geometry }
         ensures goes { DispatchesTo self.old.core.geometry k (core_state_of self.old.core) self.old.dispatch_seat.lent
             (core_state_of self.new.core) self.new.dispatch_seat.lent result }
@@ -141,7 +141,7 @@ impl<'c, R: Read, D: Disk, L: ReplySink<D>> Session<'c, R, D, L> {
     /// Dispatches eligible messages, the one with the least ticket first, until something is lent at each place or no further one can be
     /// dispatched: why. `Dispatched::Job` means that no place is left.
     fn dispatch_all(&mut self) -> Dispatched
-        ensures as_before { KeepsStreams self.old self.new }
+        ensures as_before { KeepsEnds self.old self.new }
         ensures ended { IsEndOfDispatch self.new.core.geometry (core_state_of self.new.core) self.new.dispatch_seat.lent result }
     {
         while let Some(k) = self.dispatch_seat.first_free() {
@@ -156,7 +156,7 @@ impl<'c, R: Read, D: Disk, L: ReplySink<D>> Session<'c, R, D, L> {
     /// Dispatches messages, unless a consistency point is due by the number of records: whether one lacks room in the log
     /// alone. None is dispatched where the device has failed, as the next log reports.
     fn dispatch_ready(&mut self) -> bool
-        ensures as_before { KeepsStreams self.old self.new }
+        ensures as_before { KeepsEnds self.old self.new }
     {
         !self.trigger.is_due(self.core.left()) && matches!(self.dispatch_all(), Dispatched::NoRoom)
     }
@@ -164,7 +164,7 @@ impl<'c, R: Read, D: Disk, L: ReplySink<D>> Session<'c, R, D, L> {
     /// Collects the result of the job at place k, if it was delivered: whether it changed something.
     fn collect_one(&mut self, k: usize) -> Option<bool>
         requires place { k < length self.old.dispatch_seat.lent }
-        ensures as_before { KeepsStreams self.old self.new }
+        ensures as_before { KeepsEnds self.old self.new }
         ensures places { length self.new.dispatch_seat.lent ≡ length self.old.dispatch_seat.lent }
         ensures failed { self.new.core.failed ≡ self.old.core.failed }
     {
@@ -179,7 +179,7 @@ impl<'c, R: Read, D: Disk, L: ReplySink<D>> Session<'c, R, D, L> {
 
     /// Looks once at each place, and collects the results that were delivered, until the batch is full: whether there was one.
     fn collect_delivered(&mut self, batch: &mut Batch) -> bool
-        ensures as_before { KeepsStreams self.old self.new }
+        ensures as_before { KeepsEnds self.old self.new }
         ensures failed { self.new.core.failed ≡ self.old.core.failed }
         ensures left { batch.new.left ≤ batch.old.left }
         ensures less { IsTrue result → batch.new.left < batch.old.left }
@@ -198,7 +198,7 @@ impl<'c, R: Read, D: Disk, L: ReplySink<D>> Session<'c, R, D, L> {
 
     /// Waits for the jobs in flight, and collects their results. Nothing is lent then.
     pub(crate) fn drain_workers<W: GatedRuntime>(&mut self, rt: &W)
-        ensures as_before { KeepsStreams self.old self.new }
+        ensures as_before { KeepsEnds self.old self.new }
         ensures failed { self.new.core.failed ≡ self.old.core.failed }
         ensures home { NoneInFlight self.new.dispatch_seat.lent }
     {
@@ -216,7 +216,7 @@ impl<'c, R: Read, D: Disk, L: ReplySink<D>> Session<'c, R, D, L> {
     /// Dispatches messages and collects results, until the batch is worth a write of the log, nothing is lent any more, or nothing was
     /// collected in a while. Where something was, further messages are dispatched, so that jobs run meanwhile. It waits for nobody.
     fn dispatch_and_collect(&mut self) -> Batch
-        ensures as_before { KeepsStreams self.old self.new }
+        ensures as_before { KeepsEnds self.old self.new }
     {
         let lacks_room = self.dispatch_ready();
         let mut batch = Batch::new(lacks_room);
@@ -266,7 +266,7 @@ impl<'c, R: Read, D: Disk, L: ReplySink<D>> Session<'c, R, D, L> {
     /// place while the rest are worked off.
     fn half_waits(&self) -> bool {
         let slots = self.row.slots();
-        self.open_lines.saturating_sub(self.row.len()) >= slots - slots / 2
+        self.outstanding.saturating_sub(self.row.len()) >= slots - slots / 2
     }
 
     /// Where no message is dispatched or collected: sends what waits. If then a line is held that may be read, this is all; else it waits

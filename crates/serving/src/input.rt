@@ -51,10 +51,10 @@ fn take<D: Disk>(core: &mut Core<D>, row: &mut ReorderBuffer, line: &[u8]) -> Re
 }
 
 /// Whether a further line may be read: reading has not ended, and fewer lines are outstanding than there are slots.
-fn may_read(stop: Option<ReadEnd>, open_lines: usize, slots: usize) -> bool
-    ensures { IsTrue result ↔ ((stop ≡ None) × (open_lines < slots)) }
+fn may_read(stop: Option<ReadEnd>, outstanding: usize, slots: usize) -> bool
+    ensures { IsTrue result ↔ ((stop ≡ None) × (outstanding < slots)) }
 {
-    stop.is_none() && open_lines < slots
+    stop.is_none() && outstanding < slots
 }
 
 impl<'c, R: Read, D: Disk, L: ReplySink<D>> Session<'c, R, D, L> {
@@ -62,14 +62,14 @@ impl<'c, R: Read, D: Disk, L: ReplySink<D>> Session<'c, R, D, L> {
     /// has ended.
     fn read_next(&mut self) -> bool
         requires reads { self.old.stop ≡ None }
-        requires room { self.old.open_lines < self.old.row.slots }
+        requires room { self.old.outstanding < self.old.row.slots }
         ensures reads { result ≡ is_none self.new.stop }
         ensures whole { self.new.output_failed ≡ self.old.output_failed }
         ensures slots { self.new.row.slots ≡ self.old.row.slots }
         ensures longer { IsTrue result → length self.new.row.lines ≡ length self.old.row.lines + 1 }
-        ensures counted { IsTrue result → self.new.open_lines ≡ self.old.open_lines + 1 }
+        ensures counted { IsTrue result → self.new.outstanding ≡ self.old.outstanding + 1 }
     {
-        prove!(self.open_lines < self.row.slots());
+        prove!(self.outstanding < self.row.slots());
         if self.lines.is_drained() {
             self.stop = Some(ReadEnd::EndOfInput);
             return false;
@@ -77,7 +77,7 @@ impl<'c, R: Read, D: Disk, L: ReplySink<D>> Session<'c, R, D, L> {
         match self.lines.next_line() {
             Ok(Found::Line) => match take(&mut self.core, &mut self.row, self.lines.line()) {
                 Ok(()) => {
-                    self.open_lines += 1;
+                    self.outstanding += 1;
                     true
                 }
                 Err(stop) => {
@@ -87,7 +87,7 @@ impl<'c, R: Read, D: Disk, L: ReplySink<D>> Session<'c, R, D, L> {
             },
             Ok(Found::TooLong) => {
                 self.row.push(Line::NoMessage);
-                self.open_lines += 1;
+                self.outstanding += 1;
                 true
             }
             Ok(Found::End) => {
@@ -103,7 +103,7 @@ impl<'c, R: Read, D: Disk, L: ReplySink<D>> Session<'c, R, D, L> {
 
     /// Whether a line is held that may be read.
     pub(crate) fn can_read(&self) -> bool {
-        may_read(self.stop, self.open_lines, self.row.slots()) && self.lines.holds_line()
+        may_read(self.stop, self.outstanding, self.row.slots()) && self.lines.holds_line()
     }
 
     /// Reads lines that are held, while fewer lines are outstanding than there are slots. Where all else was idle, the next line is read
@@ -113,7 +113,7 @@ impl<'c, R: Read, D: Disk, L: ReplySink<D>> Session<'c, R, D, L> {
         ensures whole { self.new.output_failed ≡ self.old.output_failed }
     {
         let mut read = Activity::Idle;
-        while may_read(self.stop, self.open_lines, self.row.slots())
+        while may_read(self.stop, self.outstanding, self.row.slots())
             && (matches!((last, read), (Activity::Idle, Activity::Idle)) || self.lines.holds_line())
             && self.read_next()
         {

@@ -4,7 +4,7 @@ ghost use Rattle.std.specs.Prelude.{◌≡◌, ◌+◌, [], false, length, true,
 ghost use Rattle.message.specs.Waiting.{FitsReply};
 ghost use Rattle.scheduler.specs.CoreView.{core_state_of};
 ghost use Rattle.reorder_buffer.specs.ReorderBuffer.{can_retire};
-ghost use Rattle.serving.specs.Session.{KeepsStreams, IsSessionStep};
+ghost use Rattle.serving.specs.Session.{KeepsEnds, IsSessionStep};
 
 use crate::gated_runtime::GatedRuntime;
 use crate::session::{Halted, Session};
@@ -40,7 +40,7 @@ impl<'c, R: Read, D: Disk, L: ReplySink<D>> Session<'c, R, D, L> {
     /// Answers the message that was logged first, if there is one: its line in the reorder buffer is completed then. Counts it for the
     /// points if it changed something, saturating. Whether there was one.
     pub(crate) fn answer_first<W: GatedRuntime>(&mut self, rt: &W) -> bool
-        ensures as_before { KeepsStreams self.old self.new }
+        ensures as_before { KeepsEnds self.old self.new }
         ensures dispatch_seat { self.new.dispatch_seat ≡ self.old.dispatch_seat }
         ensures state_after { core_state_of self.new.core ≡ record (core_state_of self.old.core) { logged = self.new.core.logged } }
         ensures fewer { IsTrue result → length self.new.core.logged + 1 ≡ length self.old.core.logged }
@@ -74,7 +74,7 @@ impl<'c, R: Read, D: Disk, L: ReplySink<D>> Session<'c, R, D, L> {
         match self.sink.send(self.out.waiting(), &self.core) {
             Ok(()) => {
                 self.out.clear();
-                self.open_lines = self.row.len();
+                self.outstanding = self.row.len();
                 Ok(())
             }
             Err(_) => {

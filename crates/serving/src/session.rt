@@ -66,7 +66,7 @@ pub(crate) struct Session<'c, R: Read, D: Disk, L: ReplySink<D>> {
     /// Why no more of it is read, once that is so.
     pub(crate) stop: Option<ReadEnd>,
     /// How many lines are outstanding: read, and not answered in the output. They are in the reorder buffer, or their answers wait.
-    pub(crate) open_lines: usize,
+    pub(crate) outstanding: usize,
     /// Where it sends the lines.
     pub(crate) sink: L,
     /// Whether that has failed. Nothing more is sent then.
@@ -88,7 +88,7 @@ impl<'c, R: Read, D: Disk, L: ReplySink<D>> Model for Session<'c, R, D, L> {
       row = s.row;
       out = s.out;
       sent = L.sent s.sink;
-      open_lines = s.open_lines;
+      outstanding = s.outstanding;
       output_failed = s.output_failed;
       stop = s.stop;
       left = unread R.remaining s.lines;
@@ -103,7 +103,7 @@ impl<'c, R: Read, D: Disk, L: ReplySink<D>> Model for Session<'c, R, D, L> {
       row = s.row;
       out = s.out;
       sent = L.sent s.sink;
-      open_lines = s.open_lines;
+      outstanding = s.outstanding;
       output_failed = s.output_failed;
       stop = s.stop;
       left = unread R.remaining s.lines;

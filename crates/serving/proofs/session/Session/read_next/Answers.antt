@@ -18,11 +18,11 @@ use Rattle.serving.proofs.session.Session.read_next.Goals as goal
 
 pub take-requires-clause-room : goal.take-requires-clause-room
 take-requires-clause-room g c =
-    has_place g.D.Disk.keeps _ _ c.self.invariant.0 (subst (λ (p : SessionView). p.open_lines < p.row.slots) (sym c.self.view_is) c.requires.room)
+    has_place g.D.Disk.keeps _ _ c.self.invariant.0 (subst (λ (p : SessionView). p.outstanding < p.row.slots) (sym c.self.view_is) c.requires.room)
 
 pub push-requires-clause-room : goal.push-requires-clause-room
 push-requires-clause-room g c =
-    has_place g.D.Disk.keeps _ _ c.self.invariant.0 (subst (λ (p : SessionView). p.open_lines < p.row.slots) (sym c.self.view_is) c.requires.room)
+    has_place g.D.Disk.keeps _ _ c.self.invariant.0 (subst (λ (p : SessionView). p.outstanding < p.row.slots) (sym c.self.view_is) c.requires.room)
 
 pub take-requires-clause-order : goal.take-requires-clause-order
 take-requires-clause-order g c =
@@ -31,13 +31,13 @@ take-requires-clause-order g c =
 pub invariant_of-self : goal.invariant_of-self
 invariant_of-self g c =
     let f = c.self.inside in
-    let may = subst (λ (p : SessionView). p.open_lines < p.row.slots) (sym c.self.view_is) c.requires.room in
+    let may = subst (λ (p : SessionView). p.outstanding < p.row.slots) (sym c.self.view_is) c.requires.room in
     let rest = g.R.Read.remaining in
     let u = c.self.invariant.0 in
     let none = ap (λ (p : SessionView). p.stop) c.self.view_is ∙ c.requires.reads in
     let drained = sym c.if-is_drained.ensures.value in
     let knows = knows_of g.D.Disk.keeps _ _ u in (
-      on_stop g.D.Disk.keeps _ f.core f.row f.open_lines (unread rest f.lines) (is_drained f.lines) (has_ended f.lines) (rest (source f.lines)) none refl refl (omega (arith, may)) knows
+      on_stop g.D.Disk.keeps _ f.core f.row f.outstanding (unread rest f.lines) (is_drained f.lines) (has_ended f.lines) (rest (source f.lines)) none refl refl (omega (arith, may)) knows
           _ ends_of_reading.EndOfInput u (still g.D.Disk.keeps _ (holds_of g.D.Disk.keeps _ _ u)) refl
           (none_left (unread rest f.lines) (c.if-is_drained.ensures.nothing refl), knows (has_sent_end _ _ drained)),
       c.self.invariant.1,
@@ -53,9 +53,9 @@ invariant_of-self-in-Ok g c =
     let going = sym c.if-is_drained.ensures.value in
     let knows = c.next_line.ensures.at_end (knows_of g.D.Disk.keeps _ _ u) in
     let left = unread rest f.lines in
-    let may = subst (λ (p : SessionView). p.open_lines < p.row.slots) (sym c.self.view_is) c.requires.room in
+    let may = subst (λ (p : SessionView). p.outstanding < p.row.slots) (sym c.self.view_is) c.requires.room in
     let took = c.in-Ok.ensures.takes (map lent_hand f.dispatch_seat.lent) (holds_of g.D.Disk.keeps _ _ u) in (
-      on_line g.D.Disk.keeps _ c.take.new.core c.take.new.row (f.open_lines + 1) (unread rest n) (is_drained n) (has_ended n) (rest (source n)) none
+      on_line g.D.Disk.keeps _ c.take.new.core c.take.new.row (f.outstanding + 1) (unread rest n) (is_drained n) (has_ended n) (rest (source n)) none
           c.in-Ok.ensures.slots (omega (arith, ap length took.2, length-append f.row.lines (took.0 ∷ []))) (omega (arith, may)) knows
           took.0 took.2 going
           (subst (λ (x : Found). Closes (Ok x) left (is_drained n)) c.in-Ok-Line.field-0-is c.in-Ok-Line.ensures.closes)
@@ -68,7 +68,7 @@ invariant_of-self-in-Ok g c =
 pub invariant_of-self-in-Err-take : goal.invariant_of-self-in-Err-take
 invariant_of-self-in-Err-take g c =
     let f = c.self.inside in
-    let may = subst (λ (p : SessionView). p.open_lines < p.row.slots) (sym c.self.view_is) c.requires.room in
+    let may = subst (λ (p : SessionView). p.outstanding < p.row.slots) (sym c.self.view_is) c.requires.room in
     let n = c.next_line.new.self in
     let rest = g.R.Read.remaining in
     let u = c.self.invariant.0 in
@@ -86,7 +86,7 @@ invariant_of-self-in-Err-take g c =
       row = c.take.new.row;
       out = f.out;
       sent = g.L.ReplySink.sent f.sink;
-      open_lines = f.open_lines;
+      outstanding = f.outstanding;
       output_failed = f.output_failed;
       stop = Some stop;
       left = unread rest n;
@@ -94,7 +94,7 @@ invariant_of-self-in-Err-take g c =
       ended = has_ended n;
       behind = rest (source n);
     }) × (f.dispatch_seat.bench ≡ f.bench.now)) (sym took.4) (
-      on_stop g.D.Disk.keeps _ c.take.new.core c.take.new.row f.open_lines (unread rest n) (is_drained n) (has_ended n) (rest (source n)) none
+      on_stop g.D.Disk.keeps _ c.take.new.core c.take.new.row f.outstanding (unread rest n) (is_drained n) (has_ended n) (rest (source n)) none
           c.in-Err-take.ensures.slots (omega (arith, ap length took.5)) (omega (arith, may)) knows
           _ (read_end_of took.1) u took.3.quiet took.5
           (stops_at_refusal g.D.Disk.keeps _ _ left (unread rest n) (rest (source n)) (is_drained f.lines) c.line.result.now took.0 took.1 took.2 found took.3
@@ -111,9 +111,9 @@ invariant_of-self-in-Ok-TooLong g c =
     let none = ap (λ (p : SessionView). p.stop) c.self.view_is ∙ c.requires.reads in
     let going = sym c.if-is_drained.ensures.value in
     let knows = c.next_line.ensures.at_end (knows_of g.D.Disk.keeps _ _ u) in
-    let may = subst (λ (p : SessionView). p.open_lines < p.row.slots) (sym c.self.view_is) c.requires.room in
+    let may = subst (λ (p : SessionView). p.outstanding < p.row.slots) (sym c.self.view_is) c.requires.room in
     let left = unread rest f.lines in (
-      on_long_line g.D.Disk.keeps _ f.core c.push.new.self (f.open_lines + 1) (unread rest n) (is_drained n) (has_ended n) (rest (source n)) none
+      on_long_line g.D.Disk.keeps _ f.core c.push.new.self (f.outstanding + 1) (unread rest n) (is_drained n) (has_ended n) (rest (source n)) none
           c.push.ensures.slots (omega (arith, ap length c.push.ensures.lines, length-append f.row.lines (NoMessage ∷ []))) (omega (arith, may)) knows
           NoMessage c.push.ensures.lines going
           (subst (λ (x : Found). Closes (Ok x) left (is_drained n)) c.in-Ok-TooLong.field-0-is c.in-Ok-TooLong.ensures.closes)
@@ -125,7 +125,7 @@ invariant_of-self-in-Ok-TooLong g c =
 pub invariant_of-self-in-Ok-End : goal.invariant_of-self-in-Ok-End
 invariant_of-self-in-Ok-End g c =
     let f = c.self.inside in
-    let may = subst (λ (p : SessionView). p.open_lines < p.row.slots) (sym c.self.view_is) c.requires.room in
+    let may = subst (λ (p : SessionView). p.outstanding < p.row.slots) (sym c.self.view_is) c.requires.room in
     let n = c.next_line.new.self in
     let rest = g.R.Read.remaining in
     let u = c.self.invariant.0 in
@@ -134,7 +134,7 @@ invariant_of-self-in-Ok-End g c =
     let knows = c.next_line.ensures.at_end (knows_of g.D.Disk.keeps _ _ u) in
     let left = unread rest f.lines in
     let found = subst (λ (x : Found). Finds (Ok x) left (line_of n) (unread rest n)) c.in-Ok-End.field-0-is c.in-Ok-End.ensures.found in (
-      on_stop g.D.Disk.keeps _ f.core f.row f.open_lines (unread rest n) (is_drained n) (has_ended n) (rest (source n)) none refl refl (omega (arith, may)) knows
+      on_stop g.D.Disk.keeps _ f.core f.row f.outstanding (unread rest n) (is_drained n) (has_ended n) (rest (source n)) none refl refl (omega (arith, may)) knows
           _ ends_of_reading.EndOfInput u (still g.D.Disk.keeps _ (holds_of g.D.Disk.keeps _ _ u)) refl
           (at_end left (unread rest n) found, knows (c.next_line.ensures.end (c.in-Ok-End.is ∙ ap Ok c.in-Ok-End.field-0-is))),
       c.self.invariant.1,
@@ -143,7 +143,7 @@ invariant_of-self-in-Ok-End g c =
 pub invariant_of-self-in-Err : goal.invariant_of-self-in-Err
 invariant_of-self-in-Err g c =
     let f = c.self.inside in
-    let may = subst (λ (p : SessionView). p.open_lines < p.row.slots) (sym c.self.view_is) c.requires.room in
+    let may = subst (λ (p : SessionView). p.outstanding < p.row.slots) (sym c.self.view_is) c.requires.room in
     let n = c.next_line.new.self in
     let rest = g.R.Read.remaining in
     let u = c.self.invariant.0 in
@@ -151,7 +151,7 @@ invariant_of-self-in-Err g c =
     let going = sym c.if-is_drained.ensures.value in
     let knows = c.next_line.ensures.at_end (knows_of g.D.Disk.keeps _ _ u) in
     let left = unread rest f.lines in (
-      on_stop g.D.Disk.keeps _ f.core f.row f.open_lines (unread rest n) (is_drained n) (has_ended n) (rest (source n)) none refl refl (omega (arith, may)) knows
+      on_stop g.D.Disk.keeps _ f.core f.row f.outstanding (unread rest n) (is_drained n) (has_ended n) (rest (source n)) none refl refl (omega (arith, may)) knows
           _ ends_of_reading.ReadFailed u (still g.D.Disk.keeps _ (holds_of g.D.Disk.keeps _ _ u)) refl
           (going, subst (λ (l : Option (List ℕ)). IfSome left (λ bs. LosesFront bs l)) c.in-Err.ensures.lost c.in-Err.ensures.found),
       c.self.invariant.1,
