@@ -15,7 +15,7 @@ use Rattle.journal.specs.Extents.{image_in}
 use Rattle.journal.specs.Journal.{records_in}
 use Rattle.journal.proofs.Forced.{forced_alone, forced_both}
 use Rattle.journal.proofs.Pointing.{clear_moments, clear_recovers}
-use Rattle.journal.proofs.Standing.{as_other, both_of, chain_other, half_same, holds_by, laid_by, ready_none, shut_current, shut_force}
+use Rattle.journal.proofs.Recovering.{as_other, both_of, chain_other, half_same, holds_by, laid_by, ready_none, shut_current, shut_force}
 use Rattle.oplog.specs.Changes.{ChangesOnly, Chained, Cleared, Flipped, IsReady, IsSameButChain, IsSameButGates, IsSameButRoot}
 use Rattle.oplog.specs.Crash.{RecoversBy, RecoversEitherWay}
 use Rattle.oplog.specs.Front.{chain, front}

@@ -7,9 +7,9 @@ use Rattle.disk.specs.Moments.{CrashImagesAre}
 use Rattle.disk.proofs.Leaves.{calm_left, itself}
 use Rattle.disk.proofs.Moments.{leaves_now, then, weaker}
 use Rattle.image.specs.Image.{read}
-use Rattle.journal.specs.Steps.{IsFinished, RecoversByArea, IsUnfinished, run_on}
+use Rattle.journal.specs.Steps.{IsFinished, IsUnfinished, RecoversByArea, run_on}
 use Rattle.journal.specs.Extents.{Imaged, image_in}
-use Rattle.journal.proofs.Standing.{as_other, both_of, chain_other, half_same, holds_by, holds_moments, shut_current, shut_force}
+use Rattle.journal.proofs.Recovering.{as_other, both_of, chain_other, half_same, holds_by, holds_moments, shut_current, shut_force}
 use Rattle.oplog.specs.Changes.{ChangesOnly, Flipped, IsSameBut, IsSameButRoot}
 use Rattle.oplog.specs.Crash.{RecoversBy, RecoversEitherWay}
 use Rattle.oplog.specs.Front.{chain, front}

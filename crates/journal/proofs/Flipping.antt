@@ -7,13 +7,13 @@ use Rattle.disk.proofs.Leaves.{itself}
 use Rattle.image.specs.Image.{version_in}
 use Rattle.image.specs.Pieces.{piece_count}
 use Rattle.journal.specs.Keeping.{IsFresh, IsCutState, IsSoundJournal}
-use Rattle.journal.specs.Steps.{IsFlipped, RecoversByArea, IsWritten, named_now}
+use Rattle.journal.specs.Steps.{IsFlipped, IsWritten, RecoversByArea, named_now}
 use Rattle.journal.specs.Extents.{image_in}
 use Rattle.journal.proofs.Cutting.{named_below}
 use Rattle.journal.proofs.Forced.{forced_calm, front_count}
 use Rattle.journal.proofs.Patches.{image_long}
 use Rattle.journal.proofs.Rows.{all_agree, no_dirty}
-use Rattle.journal.proofs.Standing.{holds_now}
+use Rattle.journal.proofs.Recovering.{holds_now}
 use Rattle.oplog.specs.Calls.{HasParts}
 use Rattle.oplog.specs.Changes.{IsReady}
 use Rattle.device_map.specs.Layout.{layout_of, image_size, other}

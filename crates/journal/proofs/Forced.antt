@@ -6,7 +6,7 @@ use Rattle.checkpoint.specs.Recovery.{means}
 use Rattle.disk.specs.Device.{IsSynced, IsCrashImage, Medium}
 use Rattle.disk.proofs.Leaves.{calm_left}
 use Rattle.journal.specs.Journal.{records_in}
-use Rattle.journal.proofs.Standing.{open_by, shut_by, shut_force}
+use Rattle.journal.proofs.Recovering.{open_by, shut_by, shut_force}
 use Rattle.oplog.specs.Changes.{HasMore, IsReady, IsSameBut}
 use Rattle.oplog.specs.Crash.{RecoversBy}
 use Rattle.oplog.specs.Front.{chain, front, gates, open_gates}

@@ -3,7 +3,7 @@ mod Places
 mod Costs
 mod Runs
 mod Patches
-mod Standing
+mod Recovering
 mod Forced
 mod Pointing
 mod Cutting
@@ -15,5 +15,5 @@ mod FrozenBytes
 mod Saving
 mod Finishing
 mod Loaded
-mod Settling
+mod Opened
 mod StillRefused

@@ -27,7 +27,7 @@ use Rattle.journal.specs.Steps.{IsAlone, IsPointed, IsUnfinished, pointed, run_o
 use Rattle.journal.specs.Extents.{AreAllDirty}
 use Rattle.journal.proofs.Logging.{committed_of}
 use Rattle.journal.proofs.Saving.{opened_sound, pointed_version}
-use Rattle.journal.proofs.Standing.{holds_now, shut_current}
+use Rattle.journal.proofs.Recovering.{holds_now, shut_current}
 use Rattle.oplog.specs.Front.{chain, front}
 use Rattle.device_map.specs.Layout.{layout_of, device_size, header, image_size, other, part_bytes}
 use Rattle.oplog.specs.Log.{Log, new_log, renamed}

@@ -19,7 +19,7 @@ use Rattle.journal.proofs.Cutting.{named_below}
 use Rattle.journal.proofs.Forced.{forced_kept}
 use Rattle.journal.proofs.Logging.{half_below}
 use Rattle.journal.proofs.Rows.{count_cleared}
-use Rattle.journal.proofs.Standing.{half_same, holds_moments, holds_now}
+use Rattle.journal.proofs.Recovering.{half_same, holds_moments, holds_now}
 use Rattle.oplog.specs.Changes.{ChangesOnly, IsReady, IsSameBut}
 use Rattle.oplog.specs.Crash.{RecoversBy}
 use Rattle.oplog.specs.Recovery.{named_area}

@@ -17,7 +17,7 @@ use Rattle.journal.specs.Steps.{IsAlone, IsBegun, IsPointed, RecoversByArea, cut
 use Rattle.journal.specs.Extents.{AgreeOnClean, AreAllDirty, AreSpelled, image_in, extent_in, extent_of}
 use Rattle.journal.proofs.Cutting.{named_below}
 use Rattle.journal.proofs.Forced.{forced_calm}
-use Rattle.journal.proofs.Standing.{holds_now, run_none}
+use Rattle.journal.proofs.Recovering.{holds_now, run_none}
 use Rattle.device_map.specs.Layout.{other}
 use Rattle.oplog.specs.Log.{Log}
 use Rattle.meaning.specs.State.{State, IsState}

@@ -16,7 +16,7 @@ use Rattle.journal.specs.Steps.{RecoversStill}
 use Rattle.journal.specs.Extents.{AreAllDirty}
 use Rattle.journal.proofs.Costs.{finish_few, no_call}
 use Rattle.journal.proofs.Loaded.{made, made_of}
-use Rattle.journal.proofs.Settling.{all_unwritten, alike_after, as_alike, as_before, as_still, still_after, still_now, still_synced, still_then, unread, unwritten_from, unwritten_then}
+use Rattle.journal.proofs.Opened.{all_unwritten, alike_after, as_alike, as_before, as_still, still_after, still_now, still_synced, still_then, unread, unwritten_from, unwritten_then}
 use Rattle.oplog.specs.Beyond.{KeepsBeyond}
 use Rattle.device_map.specs.Layout.{device_size, layout_of}
 use Rattle.oplog.specs.Log.{Log}

@@ -5,7 +5,7 @@ use Rattle.checkpoint.specs.Header.{HasHeader}
 use Rattle.checkpoint.specs.Refusals.{IsDevice}
 use Rattle.journal.specs.Parts.{IsMadeOf}
 use Rattle.journal.proofs.Costs.{opening_after}
-use Rattle.journal.proofs.Settling.{if_err, if_ok, never_synced, synced_then, unwritten_from, unwritten_then}
+use Rattle.journal.proofs.Opened.{if_err, if_ok, never_synced, synced_then, unwritten_from, unwritten_then}
 use Rattle.device_map.specs.Layout.{layout_of}
 use Rattle.oplog.proofs.Beyond.{beyond_then}
 use Rattle.journal.proofs.opening.open_on.Goals as goal
@@ -20,7 +20,9 @@ returns-clause-any_moment g c = λ k.
 
 pub returns-clause-made_of : goal.returns-clause-made_of
 returns-clause-made_of g c =
-    if_ok c.open_committed.result _ _ (λ p made k. subst (λ (l : List ℕ). IsMadeOf l p (g.D.Disk.medium c.open_committed.new.disk)) (c.first_sync.ensures.now k) (made k)) c.open_committed.ensures.made_of
+    if_ok c.open_committed.result _ _
+    (λ p made k. subst (λ (l : List ℕ). IsMadeOf l p (g.D.Disk.medium c.open_committed.new.disk)) (c.first_sync.ensures.now k) (made k))
+    c.open_committed.ensures.made_of
 
 pub returns-clause-unwritten : goal.returns-clause-unwritten
 returns-clause-unwritten g c =
@@ -46,7 +48,8 @@ returns-clause-beyond g c = λ k h head.
     let w0 = g.D.Disk.medium c.args.disk.now in
     let w1 = g.D.Disk.medium c.first_sync.new.disk in
     let w2 = g.D.Disk.medium c.open_committed.new.disk in
-    beyond_then (layout_of h) w0 w1 w2 (c.first_sync.ensures.beyond k (layout_of h)) (c.open_committed.ensures.beyond k h (subst (λ (l : List ℕ). HasHeader h l) (sym (c.first_sync.ensures.now k)) head))
+    beyond_then (layout_of h) w0 w1 w2 (c.first_sync.ensures.beyond k (layout_of h))
+    (c.open_committed.ensures.beyond k h (subst (λ (l : List ℕ). HasHeader h l) (sym (c.first_sync.ensures.now k)) head))
 
 pub returns-in_err-first_sync-clause-takes : goal.returns-in_err-first_sync-clause-takes
 returns-in_err-first_sync-clause-takes g c =

@@ -13,7 +13,7 @@ use Rattle.journal.specs.Opening.{area_state}
 use Rattle.journal.specs.Steps.{IsAlone, finished_now}
 use Rattle.journal.proofs.Costs.{no_call}
 use Rattle.journal.proofs.Loaded.{are_loaded, behind_fine, behind_holds, behind_refused}
-use Rattle.journal.proofs.Settling.{alone_finished, bad_half, still_synced}
+use Rattle.journal.proofs.Opened.{alone_finished, bad_half, still_synced}
 use Rattle.oplog.specs.Front.{front}
 use Rattle.device_map.specs.Layout.{image, layout_of, other, part_bytes}
 use Rattle.oplog.specs.Log.{Log}

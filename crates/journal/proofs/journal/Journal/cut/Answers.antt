@@ -9,7 +9,7 @@ use Rattle.image.specs.Pieces.{piece_count}
 use Rattle.journal.specs.Journal.{JournalView, records, records_in, committed}
 use Rattle.journal.specs.Images.{KeepsImages}
 use Rattle.journal.specs.Keeping.{IsCutState, IsSoundJournal, held_of}
-use Rattle.journal.specs.DirtyPieces.{count_dirty, cut_dirty, all_clean}
+use Rattle.journal.specs.DirtyPieces.{all_clean, count_dirty, cut_dirty}
 use Rattle.journal.specs.Steps.{cut_now}
 use Rattle.journal.proofs.Logging.{committed_of}
 use Rattle.journal.proofs.Rows.{count_most, whole_items, whole_put}

@@ -10,7 +10,7 @@ use Rattle.journal.specs.Steps.{IsWritten}
 use Rattle.checkpoint.specs.Version.{named_version}
 use Rattle.journal.proofs.Flipping.{flip_asks, flip_kept, flip_version}
 use Rattle.journal.proofs.Logging.{committed_of}
-use Rattle.journal.proofs.Standing.{holds_now}
+use Rattle.journal.proofs.Recovering.{holds_now}
 use Rattle.image.specs.Pieces.{piece_count}
 use Rattle.oplog.specs.Front.{front}
 use Rattle.oplog.specs.Beyond.{KeepsBeyond}
