@@ -8,19 +8,19 @@ use Rattle.std.specs.List.{AllByRecursion}
 use Rattle.affinity.specs.Interval.{IsAffinity}
 use Rattle.affinity.specs.declared.geometry.Geometry.{Geometry}
 use Rattle.run_queue.specs.RunQueue.{has_room}
-use Rattle.run_queue.specs.ReadyTable.{AreLeast, IsReadyAt, earliest_from, if_passes, ready_in, rank_of}
+use Rattle.run_queue.specs.ReadyTable.{AreLeast, IsFlagRight, earliest_from, if_passes, ready_in, rank_of}
 use Rattle.run_queue.specs.Order.{Ascend, earlier}
 use Rattle.run_queue.specs.declared.queued_message.QueuedMessage.{QueuedMessage}
 use Rattle.run_queue.proofs.Earliest.{first_below, below-step}
-use Rattle.run_queue.proofs.Ready.{none-marked, room-at}
+use Rattle.run_queue.proofs.Ready.{none-ready, room-at}
 
 -- ---- one ready flag is set
 
-pub marked-same : (ready_table : List (Option QueuedMessage)) (n : ℕ) (o : Option QueuedMessage) → n < length ready_table → ready_in (slice_set ready_table n o) n ≡ o
-marked-same ready_table n o here = get_or-set_same ready_table n o None here
+pub ready_in-same : (ready_table : List (Option QueuedMessage)) (n : ℕ) (o : Option QueuedMessage) → n < length ready_table → ready_in (slice_set ready_table n o) n ≡ o
+ready_in-same ready_table n o here = get_or-set_same ready_table n o None here
 
-pub marked-other : (ready_table : List (Option QueuedMessage)) (n k : ℕ) (o : Option QueuedMessage) → k ≢ n → ready_in (slice_set ready_table n o) k ≡ ready_in ready_table k
-marked-other ready_table n k o other = get_or-set_other ready_table n k o None other
+pub ready_in-other : (ready_table : List (Option QueuedMessage)) (n k : ℕ) (o : Option QueuedMessage) → k ≢ n → ready_in (slice_set ready_table n o) k ≡ ready_in ready_table k
+ready_in-other ready_table n k o other = get_or-set_other ready_table n k o None other
 
 -- a rank stays, so that of the block does
 pub least-kept : (ready_table : List (Option QueuedMessage)) (least : List ℕ) (n : ℕ) (o : Option QueuedMessage) → n < length ready_table → AreLeast ready_table least
@@ -28,10 +28,10 @@ pub least-kept : (ready_table : List (Option QueuedMessage)) (least : List ℕ) 
 least-kept ready_table least n o here are same block i below = elim (cases_eq (16 * block + i) n) [
   | inl at ↦ (let was = are block i below in
       let old = ap (λ k. rank_of (ready_in ready_table k)) at in
-      let new = ap (λ k. rank_of (ready_in (slice_set ready_table n o) k)) at ∙ ap (λ m. rank_of m) (marked-same ready_table n o here) in
+      let new = ap (λ k. rank_of (ready_in (slice_set ready_table n o) k)) at ∙ ap (λ m. rank_of m) (ready_in-same ready_table n o here) in
       omega (arith, was, old, new, same))
   | inr other ↦ (let was = are block i below in
-      let new = ap (λ m. rank_of m) (marked-other ready_table n (16 * block + i) o other) in
+      let new = ap (λ m. rank_of m) (ready_in-other ready_table n (16 * block + i) o other) in
       omega (arith, was, new))
 ]
 
@@ -49,7 +49,7 @@ least-found ready_table least n found o are here new block i below = elim (cases
       let under = mul-div-le n 16 in
       let away : 16 * block + i ≢ n = λ same. other (omega (arith, over, under, same, below)) in
       let value = get_or-set_other least (n / 16) block found 0 other in
-      let update_ready = ap (λ m. rank_of m) (marked-other ready_table n (16 * block + i) o away) in
+      let update_ready = ap (λ m. rank_of m) (ready_in-other ready_table n (16 * block + i) o away) in
       omega (arith, low, value, update_ready))
 ]
 
@@ -57,7 +57,7 @@ least-found ready_table least n found o are here new block i below = elim (cases
 
 pub none-least : (numbers blocks : ℕ) → AreLeast (replicate numbers None) (replicate blocks 18446744073709551615)
 none-least numbers blocks block i below =
-    let none = ap (λ m. rank_of m) (none-marked numbers (16 * block + i)) in
+    let none = ap (λ m. rank_of m) (none-ready numbers (16 * block + i)) in
     let low = at_most blocks block in
     omega (arith, none, low)
   where
@@ -70,12 +70,12 @@ none-least numbers blocks block i below =
 
 -- the first one that may go at a number below this one, and at so many behind it
 pub below-from : (g : Geometry) (room : Bool) (held waiting : List QueuedMessage) → AllByRecursion (λ d. IsAffinity g d.affinity) waiting → Ascend waiting
-    → (ready_table : List (Option QueuedMessage)) → ((n : ℕ) → IsReadyAt held waiting ready_table n) → (from n : ℕ)
+    → (ready_table : List (Option QueuedMessage)) → ((n : ℕ) → IsFlagRight held waiting ready_table n) → (from n : ℕ)
     → earliest_from (has_room room) ready_table from n (first_below room held waiting from) ≡ first_below room held waiting (from + n)
-below-from g room held waiting placed ascends ready_table marked from zero = ap (λ k. first_below room held waiting k) (let none : from ≡ from + 0 = omega arith in none)
-below-from g room held waiting placed ascends ready_table marked from (suc n) =
-    ap (λ (o : Option QueuedMessage). earlier o (if_passes (has_room room) (ready_in ready_table (from + n)))) (below-from g room held waiting placed ascends ready_table marked from n)
-    ∙ ap (λ (o : Option QueuedMessage). earlier (first_below room held waiting (from + n)) (if_passes (has_room room) o)) (marked (from + n))
+below-from g room held waiting placed ascends ready_table right from zero = ap (λ k. first_below room held waiting k) (let none : from ≡ from + 0 = omega arith in none)
+below-from g room held waiting placed ascends ready_table right from (suc n) =
+    ap (λ (o : Option QueuedMessage). earlier o (if_passes (has_room room) (ready_in ready_table (from + n)))) (below-from g room held waiting placed ascends ready_table right from n)
+    ∙ ap (λ (o : Option QueuedMessage). earlier (first_below room held waiting (from + n)) (if_passes (has_room room) o)) (right (from + n))
     ∙ ap (λ (o : Option QueuedMessage). earlier (first_below room held waiting (from + n)) o) (room-at g room held waiting placed ascends (from + n))
     ∙ sym (below-step g room held waiting placed ascends (from + n))
     ∙ ap (λ k. first_below room held waiting k) (let one : from + n + 1 ≡ from + suc n = omega arith in one)

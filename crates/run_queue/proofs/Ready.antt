@@ -14,7 +14,7 @@ use Rattle.run_queue.specs.RunQueue.{are_related_intervals, is_free_of, has_room
 use Rattle.run_queue.specs.Slots.{times_seated}
 use Rattle.run_queue.specs.Order.{Ascend, comes_first, is_conflict_free, may_go_at}
 use Rattle.run_queue.specs.Queues.{IsBetween}
-use Rattle.run_queue.specs.ReadyTable.{if_passes, ready_at, ready_in, IsReadyAt, StayReady, AreNearReady}
+use Rattle.run_queue.specs.ReadyTable.{if_passes, ready_at, ready_in, IsFlagRight, StayRight, AreNearRight}
 use Rattle.run_queue.specs.declared.queued_message.QueuedMessage.{QueuedMessage}
 use Rattle.run_queue.proofs.Nearby.{number-below, same_path}
 use Rattle.run_queue.proofs.Seating.{times-cons_is, times-cons_other}
@@ -58,10 +58,10 @@ past-ready_table [] n past = refl
 past-ready_table (o ∷ ready_table) zero past = absurd (omega arith)
 past-ready_table (o ∷ ready_table) (suc n) past = past-ready_table ready_table n (omega arith)
 
-pub none-marked : (n i : ℕ) → ready_in (replicate n None) i ≡ None
-none-marked zero i = refl
-none-marked (suc n) zero = refl
-none-marked (suc n) (suc i) = none-marked n i
+pub none-ready : (n i : ℕ) → ready_in (replicate n None) i ≡ None
+none-ready zero i = refl
+none-ready (suc n) zero = refl
+none-ready (suc n) (suc i) = none-ready n i
 
 none-at : (g : Geometry) (waiting : List QueuedMessage) (n : ℕ) → AllByRecursion (λ d. IsAffinity g d.affinity) waiting → server_size g ≤ n
     → find (has_number n) waiting ≡ None
@@ -71,12 +71,12 @@ none-at g (d ∷ waiting) n placed past =
     find-skip (has_number n) d waiting (ne_eqb d.affinity.number n (λ same. omega (arith, below, same, past))) ∙ none-at g waiting n placed.1 past
 
 pub update_ready-past : (g : Geometry) (held waiting : List QueuedMessage) (ready_table : List (Option QueuedMessage)) (n : ℕ) → AllByRecursion (λ d. IsAffinity g d.affinity) waiting
-    → server_size g ≤ length ready_table → length ready_table ≤ n → IsReadyAt held waiting ready_table n
+    → server_size g ≤ length ready_table → length ready_table ≤ n → IsFlagRight held waiting ready_table n
 update_ready-past g held waiting ready_table n placed all past =
     past-ready_table ready_table n past
     ∙ ap (λ (o : Option QueuedMessage). if_passes (is_conflict_free held waiting) o) (sym (none-at g waiting n placed (omega (arith, all, past))))
 
-pub stay-trans : (held waiting : List QueuedMessage) (a b c : List (Option QueuedMessage)) → StayReady held waiting a b → StayReady held waiting b c → StayReady held waiting a c
+pub stay-trans : (held waiting : List QueuedMessage) (a b c : List (Option QueuedMessage)) → StayRight held waiting a b → StayRight held waiting b c → StayRight held waiting a c
 stay-trans held waiting a b c first second = (second.0 ∙ first.0, λ n right. second.1 n (first.1 n right))
 
 -- ---- one that arrives
@@ -119,19 +119,19 @@ ready-arrived held waiting t n later other =
     by None is = find-last_other (has_number n) waiting t (ne_eqb t.affinity.number n (other is))
     by (Some f) is = find-last_found (has_number n) waiting t f is
 
-pub marked-arrived : (held waiting : List QueuedMessage) (t : QueuedMessage) (before after : List (Option QueuedMessage)) → CameBefore t.ticket waiting
-    → ((n : ℕ) → IsReadyAt held waiting before n) → StayReady held (waiting ++ t ∷ []) before after
-    → (find (has_number t.affinity.number) waiting ≡ None → IsReadyAt held (waiting ++ t ∷ []) after t.affinity.number)
-    → (n : ℕ) → IsReadyAt held (waiting ++ t ∷ []) after n
-marked-arrived held waiting t before after later marked stay here n = elim (cases_eq n t.affinity.number) [
-  | inl e ↦ subst (λ m. IsReadyAt held (waiting ++ t ∷ []) after m) (sym e) (by (find (has_number t.affinity.number) waiting) refl)
-  | inr other ↦ stay.1 n (marked n ∙ sym (ready-arrived held waiting t n later (λ none same. other (sym same))))
+pub right-arrived : (held waiting : List QueuedMessage) (t : QueuedMessage) (before after : List (Option QueuedMessage)) → CameBefore t.ticket waiting
+    → ((n : ℕ) → IsFlagRight held waiting before n) → StayRight held (waiting ++ t ∷ []) before after
+    → (find (has_number t.affinity.number) waiting ≡ None → IsFlagRight held (waiting ++ t ∷ []) after t.affinity.number)
+    → (n : ℕ) → IsFlagRight held (waiting ++ t ∷ []) after n
+right-arrived held waiting t before after later right stay here n = elim (cases_eq n t.affinity.number) [
+  | inl e ↦ subst (λ m. IsFlagRight held (waiting ++ t ∷ []) after m) (sym e) (by (find (has_number t.affinity.number) waiting) refl)
+  | inr other ↦ stay.1 n (right n ∙ sym (ready-arrived held waiting t n later (λ none same. other (sym same))))
 ]
   where
-    by : (o : Option QueuedMessage) → find (has_number t.affinity.number) waiting ≡ o → IsReadyAt held (waiting ++ t ∷ []) after t.affinity.number
+    by : (o : Option QueuedMessage) → find (has_number t.affinity.number) waiting ≡ o → IsFlagRight held (waiting ++ t ∷ []) after t.affinity.number
     by None is = here is
     by (Some f) is = stay.1 t.affinity.number
-        (marked t.affinity.number ∙ sym (ready-arrived held waiting t t.affinity.number later (λ none. absurd (none-some f (sym none ∙ is)))))
+        (right t.affinity.number ∙ sym (ready-arrived held waiting t t.affinity.number later (λ none. absurd (none-some f (sym none ∙ is)))))
 
 -- ---- numbers one by one
 
@@ -291,12 +291,12 @@ module _ (held held' waiting : List QueuedMessage) (t : QueuedMessage) (joined :
       (find-without (has_number n) waiting t it_alone (ne_eqb t.affinity.number n other))
       (λ f found. gone-clear n f found other)
 
-  pub marked-gone : (before after : List (Option QueuedMessage)) → ((n : ℕ) → IsReadyAt held waiting before n)
-      → StayReady held' (without_slot t.slot waiting) before after → IsReadyAt held' (without_slot t.slot waiting) after t.affinity.number
-      → (n : ℕ) → IsReadyAt held' (without_slot t.slot waiting) after n
-  marked-gone before after marked stay here n = elim (cases_eq t.affinity.number n) [
-    | inl e ↦ subst (λ m. IsReadyAt held' (without_slot t.slot waiting) after m) e here
-    | inr other ↦ stay.1 n (marked n ∙ sym (ready-gone n other))
+  pub right-gone : (before after : List (Option QueuedMessage)) → ((n : ℕ) → IsFlagRight held waiting before n)
+      → StayRight held' (without_slot t.slot waiting) before after → IsFlagRight held' (without_slot t.slot waiting) after t.affinity.number
+      → (n : ℕ) → IsFlagRight held' (without_slot t.slot waiting) after n
+  right-gone before after right stay here n = elim (cases_eq t.affinity.number n) [
+    | inl e ↦ subst (λ m. IsFlagRight held' (without_slot t.slot waiting) after m) e here
+    | inr other ↦ stay.1 n (right n ∙ sym (ready-gone n other))
   ]
 
 -- ---- what is freed
@@ -322,23 +322,23 @@ module _ (g : Geometry) (t : QueuedMessage) (placed : IsAffinity g t.affinity) w
     | inr k ↦ rw k (ap (λ b. are_related_intervals u.affinity d.affinity || b) (any-freed u ds all.1 far))
   ]
 
-  pub marked-freed : (held waiting : List QueuedMessage) (before after : List (Option QueuedMessage)) → AllByRecursion (λ d. IsAffinity g d.affinity) held
-      → AllByRecursion (λ d. IsAffinity g d.affinity) waiting → ((n : ℕ) → IsReadyAt held waiting before n)
-      → AreNearReady g t.affinity (without_number t.affinity.number held) waiting after
-      → StayReady (without_number t.affinity.number held) waiting before after
-      → (n : ℕ) → IsReadyAt (without_number t.affinity.number held) waiting after n
-  marked-freed held waiting before after held_placed waiting_placed marked near stay n = by (find (has_number n) waiting) refl
+  pub right-freed : (held waiting : List QueuedMessage) (before after : List (Option QueuedMessage)) → AllByRecursion (λ d. IsAffinity g d.affinity) held
+      → AllByRecursion (λ d. IsAffinity g d.affinity) waiting → ((n : ℕ) → IsFlagRight held waiting before n)
+      → AreNearRight g t.affinity (without_number t.affinity.number held) waiting after
+      → StayRight (without_number t.affinity.number held) waiting before after
+      → (n : ℕ) → IsFlagRight (without_number t.affinity.number held) waiting after n
+  right-freed held waiting before after held_placed waiting_placed right near stay n = by (find (has_number n) waiting) refl
     where
       stays : ((f : QueuedMessage) → find (has_number n) waiting ≡ Some f → are_related_intervals t.affinity f.affinity ≡ false)
-          → IsReadyAt (without_number t.affinity.number held) waiting after n
-      stays far = stay.1 n (marked n ∙ sym (ready-same held waiting (without_number t.affinity.number held) waiting n refl (λ f found.
+          → IsFlagRight (without_number t.affinity.number held) waiting after n
+      stays far = stay.1 n (right n ∙ sym (ready-same held waiting (without_number t.affinity.number held) waiting n refl (λ f found.
           ap (λ b. not b && not (list_any (comes_first f) waiting)) (any-freed f held held_placed (far f found)))))
 
-      by : (o : Option QueuedMessage) → find (has_number n) waiting ≡ o → IsReadyAt (without_number t.affinity.number held) waiting after n
+      by : (o : Option QueuedMessage) → find (has_number n) waiting ≡ o → IsFlagRight (without_number t.affinity.number held) waiting after n
       by None is = stays (λ f found. absurd (none-some f (sym is ∙ found)))
       by (Some f) is = elim (cases_Bool (are_related_intervals t.affinity f.affinity)) [
         | inl close ↦ (let f_placed = find-all (λ d. IsAffinity g d.affinity) (has_number n) waiting f waiting_placed is in
-            subst (λ m. IsReadyAt (without_number t.affinity.number held) waiting after m)
+            subst (λ m. IsFlagRight (without_number t.affinity.number held) waiting after m)
             (eqb-true f.affinity.number n (find-passes (has_number n) waiting f is)) (near f.affinity f_placed close))
         | inr far ↦ stays (λ u found. (let both = sym is ∙ found in let same : f ≡ u = cc in
             subst (λ (v : QueuedMessage). are_related_intervals t.affinity v.affinity ≡ false) same far))

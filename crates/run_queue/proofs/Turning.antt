@@ -12,8 +12,8 @@ use Rattle.run_queue.specs.RunQueue.{IsNext, are_related_intervals, is_free_of, 
 use Rattle.run_queue.specs.Slots.{times_seated}
 use Rattle.run_queue.specs.Order.{is_conflict_free}
 use Rattle.run_queue.specs.Queues.{Waiting, HeldMessages, IsBetween, IsFirstGone}
-use Rattle.run_queue.specs.ReadyTable.{IsReadyAt, StayReady, AreNearReady}
-use Rattle.run_queue.specs.Invariant.{AreQueued, AreReady, QueueInvariant}
+use Rattle.run_queue.specs.ReadyTable.{IsFlagRight, StayRight, AreNearRight}
+use Rattle.run_queue.specs.Invariant.{AreQueued, AreFlagsRight, QueueInvariant}
 use Rattle.run_queue.specs.declared.queued_message.QueuedMessage.{QueuedMessage}
 use Rattle.run_queue.proofs.ByTicket.{next_is_first}
 use Rattle.run_queue.proofs.Seating.{limit-most, times-append, times-cons_is, times-cons_other, seated-arrived, room-arrived, seated-gone, seated-freed}
@@ -21,7 +21,7 @@ use Rattle.run_queue.proofs.Sorting.{all-filter, all-last, ascend-filter, ascend
 use Rattle.run_queue.proofs.Clearing.{find-cons, find-skip, find-all, find-passes, any-found}
 use Rattle.run_queue.proofs.Earliest.{own_overlap, clear-first}
 use Rattle.run_queue.proofs.Passing.{next_waits}
-use Rattle.run_queue.proofs.Ready.{none-marked, marked-arrived, marked-gone, marked-freed}
+use Rattle.run_queue.proofs.Ready.{none-ready, right-arrived, right-gone, right-freed}
 
 -- ---- the start
 
@@ -44,9 +44,9 @@ kept-start g slots numbers most = record {
     waiting_placed = tt;
     held_placed = tt;
   };
-  marked = record {
+  right = record {
     numbers = λ any. (let all = all_below any in omega (arith, all, most, length-replicate {A = Option QueuedMessage} numbers None));
-    marked = λ n. none-marked numbers n;
+    right = λ n. none-ready numbers n;
   };
 }
 
@@ -85,16 +85,16 @@ seat-arrived g slots w h t are there new =
 
 pub kept-arrived : (g : Geometry) (slots : ℕ) (w v : Waiting) (h : HeldMessages) (t : QueuedMessage) (before after : List (Option QueuedMessage))
     → QueueInvariant g slots w h before → AreQueued g slots v h → v ≡ record w { messages = w.messages ++ t ∷ [] } → CameBefore t.ticket w.messages
-    → StayReady h.messages v.messages before after
-    → (find (has_number t.affinity.number) w.messages ≡ None → IsReadyAt h.messages v.messages after t.affinity.number) → QueueInvariant g slots v h after
+    → StayRight h.messages v.messages before after
+    → (find (has_number t.affinity.number) w.messages ≡ None → IsFlagRight h.messages v.messages after t.affinity.number) → QueueInvariant g slots v h after
 kept-arrived g slots w v h t before after are rows came later stay here = record {
   rows = rows;
-  marked = record {
-    numbers = λ any. (let all = are.marked.numbers any in let same = stay.0 in omega (arith, all, same));
-    marked = λ n. subst (λ (ts : List QueuedMessage). IsReadyAt h.messages ts after n) (sym is)
-        (marked-arrived h.messages w.messages t before after later are.marked.marked
-        (subst (λ (ts : List QueuedMessage). StayReady h.messages ts before after) is stay)
-        (λ none. subst (λ (ts : List QueuedMessage). IsReadyAt h.messages ts after t.affinity.number) is (here none)) n);
+  right = record {
+    numbers = λ any. (let all = are.right.numbers any in let same = stay.0 in omega (arith, all, same));
+    right = λ n. subst (λ (ts : List QueuedMessage). IsFlagRight h.messages ts after n) (sym is)
+        (right-arrived h.messages w.messages t before after later are.right.right
+        (subst (λ (ts : List QueuedMessage). StayRight h.messages ts before after) is stay)
+        (λ none. subst (λ (ts : List QueuedMessage). IsFlagRight h.messages ts after t.affinity.number) is (here none)) n);
   };
 }
   where
@@ -117,16 +117,16 @@ messages-freed g slots w h n are = record {
 
 pub kept-freed : (g : Geometry) (slots : ℕ) (w : Waiting) (h k : HeldMessages) (t : QueuedMessage) (n : ℕ) (before after : List (Option QueuedMessage))
     → QueueInvariant g slots w h before → find (has_number n) h.messages ≡ Some t → k ≡ record h { messages = without_number n h.messages }
-    → AreNearReady g t.affinity k.messages w.messages after → StayReady k.messages w.messages before after → QueueInvariant g slots w k after
+    → AreNearRight g t.affinity k.messages w.messages after → StayRight k.messages w.messages before after → QueueInvariant g slots w k after
 kept-freed g slots w h k t n before after are found freed near stay = record {
   rows = subst (λ (x : HeldMessages). AreQueued g slots w x) (sym freed) (messages-freed g slots w h n are.rows);
-  marked = record {
-    numbers = λ any. (let all = are.marked.numbers any in let same = stay.0 in omega (arith, all, same));
-    marked = λ m. subst (λ (ts : List QueuedMessage). IsReadyAt ts w.messages after m) (sym is)
-        (marked-freed g t (find-all (λ d. IsAffinity g d.affinity) (has_number n) h.messages t are.rows.held_placed found)
-        h.messages w.messages before after are.rows.held_placed are.rows.waiting_placed are.marked.marked
-        (subst (λ (ts : List QueuedMessage). AreNearReady g t.affinity ts w.messages after) is near)
-        (subst (λ (ts : List QueuedMessage). StayReady ts w.messages before after) is stay) m);
+  right = record {
+    numbers = λ any. (let all = are.right.numbers any in let same = stay.0 in omega (arith, all, same));
+    right = λ m. subst (λ (ts : List QueuedMessage). IsFlagRight ts w.messages after m) (sym is)
+        (right-freed g t (find-all (λ d. IsAffinity g d.affinity) (has_number n) h.messages t are.rows.held_placed found)
+        h.messages w.messages before after are.rows.held_placed are.rows.waiting_placed are.right.right
+        (subst (λ (ts : List QueuedMessage). AreNearRight g t.affinity ts w.messages after) is near)
+        (subst (λ (ts : List QueuedMessage). StayRight ts w.messages before after) is stay) m);
   };
 }
   where
@@ -231,18 +231,18 @@ module _ (g : Geometry) (slots : ℕ) (w v : Waiting) (h k : HeldMessages) (t : 
       (messages-gone g slots w h k t are (next-placed g slots w h are t next.0 next.1)
       (next_waits (record { geometry = g; waiting = w.messages; held = h.messages; slots = slots }) t next) same joined)
 
-  pub kept-gone : (before after : List (Option QueuedMessage)) → AreReady h.messages w.messages before → StayReady k.messages v.messages before after
-      → IsReadyAt k.messages v.messages after n → QueueInvariant g slots v k after
-  kept-gone before after marked stay here = record {
+  pub kept-gone : (before after : List (Option QueuedMessage)) → AreFlagsRight h.messages w.messages before → StayRight k.messages v.messages before after
+      → IsFlagRight k.messages v.messages after n → QueueInvariant g slots v k after
+  kept-gone before after right stay here = record {
     rows = rows-gone;
-    marked = record {
-      numbers = λ any. (let all = marked.numbers any in let count = stay.0 in omega (arith, all, count));
-      marked = λ m. subst (λ (ts : List QueuedMessage). IsReadyAt k.messages ts after m) (sym is)
-          (marked-gone h.messages k.messages w.messages t joined are.ascends (next-once g slots w h are t next.0 next.1) first
-          (next-clear g slots w h are t next.0 next.1) before after marked.marked
-          (subst (λ (ts : List QueuedMessage). StayReady k.messages ts before after) is stay)
-          (subst (λ i. IsReadyAt k.messages (without_slot t.slot w.messages) after i) number
-          (subst (λ (ts : List QueuedMessage). IsReadyAt k.messages ts after n) is here)) m);
+    right = record {
+      numbers = λ any. (let all = right.numbers any in let count = stay.0 in omega (arith, all, count));
+      right = λ m. subst (λ (ts : List QueuedMessage). IsFlagRight k.messages ts after m) (sym is)
+          (right-gone h.messages k.messages w.messages t joined are.ascends (next-once g slots w h are t next.0 next.1) first
+          (next-clear g slots w h are t next.0 next.1) before after right.right
+          (subst (λ (ts : List QueuedMessage). StayRight k.messages ts before after) is stay)
+          (subst (λ i. IsFlagRight k.messages (without_slot t.slot w.messages) after i) number
+          (subst (λ (ts : List QueuedMessage). IsFlagRight k.messages ts after n) is here)) m);
     };
   }
     where

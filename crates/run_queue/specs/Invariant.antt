@@ -6,7 +6,7 @@ use Rattle.affinity.specs.declared.geometry.Geometry.{Geometry}
 use Rattle.run_queue.specs.Order.{Ascend}
 use Rattle.run_queue.specs.Queues.{Waiting, HeldMessages}
 use Rattle.run_queue.specs.Slots.{AreSeated}
-use Rattle.run_queue.specs.ReadyTable.{IsReadyAt}
+use Rattle.run_queue.specs.ReadyTable.{IsFlagRight}
 use Rattle.run_queue.specs.declared.queued_message.QueuedMessage.{QueuedMessage}
 
 -- There is a queue and a place for each affinity of any geometry, and each has its own slot.
@@ -20,11 +20,11 @@ pub record AreQueued (g : Geometry) (slots : ℕ) (waiting : Waiting) (held : He
   pub held_placed : AllByRecursion (λ t. IsAffinity g t.affinity) held.messages
 
 -- There is a ready flag for each affinity of any geometry, and each is right.
-pub record AreReady (held waiting : List QueuedMessage) (ready_table : List (Option QueuedMessage)) : Type 0 where
+pub record AreFlagsRight (held waiting : List QueuedMessage) (ready_table : List (Option QueuedMessage)) : Type 0 where
   pub numbers : (any : Geometry) → server_size any ≤ length ready_table
-  pub marked : (n : ℕ) → IsReadyAt held waiting ready_table n
+  pub right : (n : ℕ) → IsFlagRight held waiting ready_table n
 
 pub record QueueInvariant (g : Geometry) (slots : ℕ) (waiting : Waiting) (held : HeldMessages)
     (ready_table : List (Option QueuedMessage)) : Type 0 where
   pub rows : AreQueued g slots waiting held
-  pub marked : AreReady held.messages waiting.messages ready_table
+  pub right : AreFlagsRight held.messages waiting.messages ready_table

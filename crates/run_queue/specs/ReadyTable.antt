@@ -20,18 +20,18 @@ abbrev pub ready_in : List (Option QueuedMessage) → ℕ → Option QueuedMessa
 ready_in ready_table n = slice_index_or ready_table n None
 
 -- The ready flag at this number is right.
-abbrev pub IsReadyAt : List QueuedMessage → List QueuedMessage → List (Option QueuedMessage) → ℕ → Type 0
-IsReadyAt held waiting ready_table n = ready_in ready_table n ≡ ready_at held waiting n
+abbrev pub IsFlagRight : List QueuedMessage → List QueuedMessage → List (Option QueuedMessage) → ℕ → Type 0
+IsFlagRight held waiting ready_table n = ready_in ready_table n ≡ ready_at held waiting n
 
 -- No ready flag that was right is wrong, and there are as many.
-abbrev pub StayReady : List QueuedMessage → List QueuedMessage → List (Option QueuedMessage) → List (Option QueuedMessage) → Type 0
-StayReady held waiting before after =
-    (length after ≡ length before) × ((n : ℕ) → IsReadyAt held waiting before n → IsReadyAt held waiting after n)
+abbrev pub StayRight : List QueuedMessage → List QueuedMessage → List (Option QueuedMessage) → List (Option QueuedMessage) → Type 0
+StayRight held waiting before after =
+    (length after ≡ length before) × ((n : ℕ) → IsFlagRight held waiting before n → IsFlagRight held waiting after n)
 
 -- The ready flags at all affinities related to this one are right.
-abbrev pub AreNearReady : Geometry → Interval → List QueuedMessage → List QueuedMessage → List (Option QueuedMessage) → Type 0
-AreNearReady g a held waiting ready_table = (b : Interval) → IsAffinity g b → are_related_intervals a b ≡ true
-    → IsReadyAt held waiting ready_table b.number
+abbrev pub AreNearRight : Geometry → Interval → List QueuedMessage → List QueuedMessage → List (Option QueuedMessage) → Type 0
+AreNearRight g a held waiting ready_table = (b : Interval) → IsAffinity g b → are_related_intervals a b ≡ true
+    → IsFlagRight held waiting ready_table b.number
 
 -- the last rank of one that is there
 abbrev pub last_rank : ℕ

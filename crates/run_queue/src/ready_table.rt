@@ -20,7 +20,7 @@ const LAST_RANK: u64 = u64::MAX - 1;
 /// All memory is taken by `new`.
 #[derive(Drop)]
 pub(crate) struct ReadyTable {
-    clear: Vec<Option<QueuedMessage>>, // by number
+    ready: Vec<Option<QueuedMessage>>, // by number
     ranks: Vec<u64>, // by number
     least: Vec<u64>, // by block
 }
@@ -32,10 +32,10 @@ impl Model for ReadyTable {
 
     ghost Value = { List (Option QueuedMessage) };
 
-    ghost view = { λ m. m.clear.items };
+    ghost view = { λ m. m.ready.items };
 
-    ghost invariant = { λ m. (m.ranks.items ≡ map rank_of m.clear.items) × AreLeast m.clear.items m.least.items
-        × (length m.clear.items ≤ 65536) × (length m.least.items ≡ length m.clear.items / 16 + 1) };
+    ghost invariant = { λ m. (m.ranks.items ≡ map rank_of m.ready.items) × AreLeast m.ready.items m.least.items
+        × (length m.ready.items ≤ 65536) × (length m.least.items ≡ length m.ready.items / 16 + 1) };
 }
 
 impl ReadyTable {
@@ -44,14 +44,14 @@ impl ReadyTable {
         requires { numbers ≤ 65536 }
         ensures { IfOk result (λ ready_table. ready_table ≡ replicate numbers None) }
     {
-        let mut clear = Vec::with_capacity(alloc, numbers)?;
+        let mut ready = Vec::with_capacity(alloc, numbers)?;
         for _ in 0..numbers {
-            clear.push_reserved(None);
+            ready.push_reserved(None);
         }
         let ranks = vec![in alloc; u64::MAX; numbers]?;
         let least = vec![in alloc; u64::MAX; numbers / BLOCK + 1]?;
         Ok(ReadyTable {
-            clear,
+            ready,
             ranks,
             least,
         })
@@ -61,14 +61,14 @@ impl ReadyTable {
     pub(crate) fn len(&self) -> usize
         ensures { result ≡ length self.now }
     {
-        self.clear.len()
+        self.ready.len()
     }
 
     /// The ready message at a number.
     pub(crate) fn at(&self, number: usize) -> Option<&QueuedMessage>
         ensures { option_copied result ≡ ready_in self.now number }
     {
-        self.clear.get(number)?.as_ref()
+        self.ready.get(number)?.as_ref()
     }
 
     /// The rank of the ready message at a number, or the greatest `u64` if there is none.
@@ -100,13 +100,13 @@ impl ReadyTable {
     }
 
     /// Sets or clears the ready flag at `number`.
-    pub(crate) fn set(&mut self, number: usize, clear: Option<QueuedMessage>)
+    pub(crate) fn set(&mut self, number: usize, ready: Option<QueuedMessage>)
         requires { number < length self.old }
-        ensures { self.new ≡ slice_set self.old number clear }
+        ensures { self.new ≡ slice_set self.old number ready }
     {
-        let rank = rank_of(&clear);
+        let rank = rank_of(&ready);
         let was = self.rank(number);
-        self.clear[number] = clear;
+        self.ready[number] = ready;
         self.ranks[number] = rank;
         if rank != was {
             let block = number / BLOCK;
@@ -116,10 +116,10 @@ impl ReadyTable {
 }
 
 // The rank of this one.
-fn rank_of(clear: &Option<QueuedMessage>) -> u64
-    ensures { result ≡ rank_of clear.now }
+fn rank_of(ready: &Option<QueuedMessage>) -> u64
+    ensures { result ≡ rank_of ready.now }
 {
-    match clear {
+    match ready {
         Some(queued) => queued.ticket.min(LAST_RANK),
         None => u64::MAX,
     }

@@ -3,7 +3,7 @@ ghost use Rattle.std.specs.Prelude.{◌≡◌, ◌≤◌, ◌==◌, ℕ, true, l
 ghost use Rattle.std.specs.List.{list_any, AllByRecursion};
 ghost use Rattle.affinity.specs.Interval.{IsAffinity, contains, server_size};
 ghost use Rattle.run_queue.specs.Order.{Ascend};
-ghost use Rattle.run_queue.specs.ReadyTable.{ready_at, IsReadyAt, StayReady, AreNearReady};
+ghost use Rattle.run_queue.specs.ReadyTable.{ready_at, IsFlagRight, StayRight, AreNearRight};
 
 use crate::QueuedMessage;
 use crate::conflicts::{is_conflict_free, numbers_above};
@@ -39,8 +39,8 @@ pub(crate) fn update_ready(
     requires held_placed { AllByRecursion (λ t. IsAffinity g.now t.affinity) held.now.messages }
     requires waiting_placed { AllByRecursion (λ t. IsAffinity g.now t.affinity) waiting.now.messages }
     requires ascends { Ascend waiting.now.messages }
-    ensures marked { IsReadyAt held.now.messages waiting.now.messages ready_table.new number }
-    ensures others { StayReady held.now.messages waiting.now.messages ready_table.old ready_table.new }
+    ensures right { IsFlagRight held.now.messages waiting.now.messages ready_table.new number }
+    ensures others { StayRight held.now.messages waiting.now.messages ready_table.old ready_table.new }
 {
     if number < ready_table.len() {
         ready_table.set(number, ready_at(g, held, waiting, number));
@@ -59,8 +59,8 @@ fn update_ready_below(
     requires held_placed { AllByRecursion (λ t. IsAffinity g.now t.affinity) held.now.messages }
     requires waiting_placed { AllByRecursion (λ t. IsAffinity g.now t.affinity) waiting.now.messages }
     requires ascends { Ascend waiting.now.messages }
-    ensures marked { (n : ℕ) → contains a n ≡ true → IsReadyAt held.now.messages waiting.now.messages ready_table.new n }
-    ensures others { StayReady held.now.messages waiting.now.messages ready_table.old ready_table.new }
+    ensures right { (n : ℕ) → contains a n ≡ true → IsFlagRight held.now.messages waiting.now.messages ready_table.new n }
+    ensures others { StayRight held.now.messages waiting.now.messages ready_table.old ready_table.new }
 {
     for n in a.number()..a.end() {
         update_ready(ready_table, g, held, waiting, usize::from(n));
@@ -79,9 +79,9 @@ fn update_ready_each(
     requires held_placed { AllByRecursion (λ t. IsAffinity g.now t.affinity) held.now.messages }
     requires waiting_placed { AllByRecursion (λ t. IsAffinity g.now t.affinity) waiting.now.messages }
     requires ascends { Ascend waiting.now.messages }
-    ensures marked { (n : ℕ) → list_any (λ m. m == n) numbers.now ≡ true
-        → IsReadyAt held.now.messages waiting.now.messages ready_table.new n }
-    ensures others { StayReady held.now.messages waiting.now.messages ready_table.old ready_table.new }
+    ensures right { (n : ℕ) → list_any (λ m. m == n) numbers.now ≡ true
+        → IsFlagRight held.now.messages waiting.now.messages ready_table.new n }
+    ensures others { StayRight held.now.messages waiting.now.messages ready_table.old ready_table.new }
 {
     for n in numbers {
         update_ready(ready_table, g, held, waiting, usize::from(*n));
@@ -101,8 +101,8 @@ pub(crate) fn update_ready_near(
     requires held_placed { AllByRecursion (λ t. IsAffinity g.now t.affinity) held.now.messages }
     requires waiting_placed { AllByRecursion (λ t. IsAffinity g.now t.affinity) waiting.now.messages }
     requires ascends { Ascend waiting.now.messages }
-    ensures near { AreNearReady g.now a held.now.messages waiting.now.messages ready_table.new }
-    ensures others { StayReady held.now.messages waiting.now.messages ready_table.old ready_table.new }
+    ensures near { AreNearRight g.now a held.now.messages waiting.now.messages ready_table.new }
+    ensures others { StayRight held.now.messages waiting.now.messages ready_table.old ready_table.new }
 {
     update_ready_below(ready_table, g, held, waiting, a);
     update_ready_each(ready_table, g, held, waiting, &numbers_above(g, a));

@@ -11,6 +11,6 @@ returns-clause-near c = λ b placed close.
     let is = c.numbers_above.ensures p c.requires.placed.1 in
     let are = are_above c.args.g.now p c.args.a c.requires.placed.1 in
     elim (or_cases _ _ (sym (are b placed) ∙ close)) [
-      | inl below ↦ c.update_ready_each.ensures.others.1 b.number (c.update_ready_below.ensures.marked b.number below)
-      | inr above ↦ c.update_ready_each.ensures.marked b.number (subst (λ (ns : List ℕ). list_any (λ n. n == b.number) ns ≡ true) (sym is) above)
+      | inl below ↦ c.update_ready_each.ensures.others.1 b.number (c.update_ready_below.ensures.right b.number below)
+      | inr above ↦ c.update_ready_each.ensures.right b.number (subst (λ (ns : List ℕ). list_any (λ n. n == b.number) ns ≡ true) (sym is) above)
     ]

@@ -18,8 +18,8 @@ returns c = c.loop.invariant.0 ∙ all_none c.loop.counter c.args.numbers (omega
 
 pub invariant_of-result : goal.invariant_of-result
 invariant_of-result c =
-    let none : c.loop.clear.items ≡ replicate c.args.numbers None = c.loop.invariant.0 ∙ all_none c.loop.counter c.args.numbers (omega arith) in
-    let many : length c.loop.clear.items ≡ c.args.numbers = ap (λ (ready_table : List (Option QueuedMessage)). length ready_table) none ∙ length-replicate c.args.numbers None in
+    let none : c.loop.ready.items ≡ replicate c.args.numbers None = c.loop.invariant.0 ∙ all_none c.loop.counter c.args.numbers (omega arith) in
+    let many : length c.loop.ready.items ≡ c.args.numbers = ap (λ (ready_table : List (Option QueuedMessage)). length ready_table) none ∙ length-replicate c.args.numbers None in
     let least : c.in_ok-least.least.items ≡ replicate (c.args.numbers / 16 + 1) 18446744073709551615
     = c.in_ok-least.ensures.items_if_clones_equal (λ y same. same) in (
       c.in_ok-ranks.ensures.items_if_clones_equal (λ y same. same) ∙ no_ranks c.args.numbers ∙ ap (λ (ready_table : List (Option QueuedMessage)). map rank_of ready_table) (sym none),

@@ -19,10 +19,10 @@ rank-at ready_table ranks n all = ap (λ rs. get_or rs n 18446744073709551615) a
 
 pub invariant_of-self : goal.invariant_of-self
 invariant_of-self c =
-    let ready_table = c.self.inside.clear.items in
+    let ready_table = c.self.inside.ready.items in
     let least = c.self.inside.least.items in
     let n = c.args.number in
-    let o = c.args.clear in
+    let o = c.args.ready in
     let are = ranks_set ready_table c.self.inside.ranks.items n c.rank_of-rank.result o c.self.invariant.0 c.rank_of-rank.ensures in
     let many = length-set ready_table n o in
     let blocks = length-set least (n / 16) c.least_from.result in
@@ -45,9 +45,9 @@ invariant_of-self c =
 
 pub invariant_of-self-else-rank-was : goal.invariant_of-self-else-rank-was
 invariant_of-self-else-rank-was c =
-    let ready_table = c.self.inside.clear.items in
+    let ready_table = c.self.inside.ready.items in
     let n = c.args.number in
-    let o = c.args.clear in
+    let o = c.args.ready in
     let many = length-set ready_table n o in
     let few = c.self.invariant.2 in
     let within = subst (λ (now : List (Option QueuedMessage)). n < length now) (sym c.self.view_is) c.requires in

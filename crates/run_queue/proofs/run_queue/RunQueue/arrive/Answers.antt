@@ -5,7 +5,7 @@ use Rattle.std.proofs.lemmas.Bool.{true≢false}
 use Rattle.affinity.specs.Interval.{IsAffinity}
 use Rattle.run_queue.specs.RunQueue.{RunQueueView, has_slot, has_number, CameBefore}
 use Rattle.run_queue.specs.Queues.{Waiting}
-use Rattle.run_queue.specs.ReadyTable.{IsReadyAt}
+use Rattle.run_queue.specs.ReadyTable.{IsFlagRight}
 use Rattle.run_queue.specs.Invariant.{AreQueued}
 use Rattle.run_queue.proofs.Nearby.{number-below}
 use Rattle.run_queue.proofs.Turning.{messages-arrived, seat-arrived, kept-arrived}
@@ -49,7 +49,7 @@ invariant_of-self c =
     let number : c.from-number.result ≡ t.affinity.number = omega arith in
     kept-arrived c.self.inside.geometry c.self.inside.slots c.self.inside.waiting c.push.new.self c.self.inside.held t
     c.self.inside.ready_table c.update_ready.new.ready_table c.self.invariant rows c.push.ensures later c.update_ready.ensures.others
-    (λ none. subst (λ n. IsReadyAt c.self.inside.held.messages c.push.new.self.messages c.update_ready.new.ready_table n) number c.update_ready.ensures.marked)
+    (λ none. subst (λ n. IsFlagRight c.self.inside.held.messages c.push.new.self.messages c.update_ready.new.ready_table n) number c.update_ready.ensures.right)
 
 pub invariant_of-self-else-is_first : goal.invariant_of-self-else-is_first
 invariant_of-self-else-is_first c =

@@ -10,5 +10,5 @@ invariant_of-self c =
     let held = subst (λ (q : RunQueueView). q.held ≡ []) (sym c.self.view_is) c.requires.none_held in
     record {
       rows = messages-begun c.self.inside.geometry c.args.geometry.now c.self.inside.slots c.self.inside.waiting c.self.inside.held c.self.invariant.rows waits held;
-      marked = c.self.invariant.marked;
+      right = c.self.invariant.right;
     }

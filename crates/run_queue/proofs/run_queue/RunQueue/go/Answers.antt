@@ -48,7 +48,7 @@ invariant_of-self c =
     let number : c.from-number.result ≡ c.args.queued.affinity.number = omega arith in
     kept-gone c.self.inside.geometry c.self.inside.slots c.self.inside.waiting c.pop.new.self c.self.inside.held c.hold.new.self
     c.args.queued c.self.invariant.rows next c.from-number.result number c.pop.ensures c.hold.ensures.rest c.hold.ensures.messages
-    c.self.inside.ready_table c.update_ready.new.ready_table c.self.invariant.marked c.update_ready.ensures.others c.update_ready.ensures.marked
+    c.self.inside.ready_table c.update_ready.new.ready_table c.self.invariant.right c.update_ready.ensures.others c.update_ready.ensures.right
 
 pub returns-clause-waiting : goal.returns-clause-waiting
 returns-clause-waiting c =

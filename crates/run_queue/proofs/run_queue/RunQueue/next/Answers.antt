@@ -24,7 +24,7 @@ loop-block-preserved c =
     let next : from + 16 ≡ 16 * (c.loop-block.block + 1) = omega arith in
     let step : earliest_from (has_room room) ready_table from 16 (ready_in ready_table c.loop-block.best) ≡ first_below room held waiting (16 * (c.loop-block.block + 1)) =
     ap (λ (o : Option QueuedMessage). earliest_from (has_room room) ready_table from 16 o) c.loop-block.invariant
-    ∙ below-from c.self.inside.geometry room held waiting c.self.invariant.rows.waiting_placed c.self.invariant.rows.ascends ready_table c.self.invariant.marked.marked from 16
+    ∙ below-from c.self.inside.geometry room held waiting c.self.invariant.rows.waiting_placed c.self.invariant.rows.ascends ready_table c.self.invariant.right.right from 16
     ∙ ap (λ n. first_below room held waiting n) next in
     elim c.if-least-bound.branch [
       | then-least-bound w ↦ ap (λ i. ready_in ready_table i) w.best-is ∙ w.best_in-best.ensures ∙ step
