@@ -81,7 +81,7 @@ impl Bench {
         }
         let words = &self.table.shared;
         put_offer(words, &mut seat.seat, &mut seat.lent, k, job);
-        steps::ring(words, &mut seat.seat, OFFER_EVENT);
+        steps::signal(words, &mut seat.seat, OFFER_EVENT);
         wake_worker(words);
         Ok(())
     }
@@ -112,7 +112,7 @@ impl Bench {
     {
         let words = &self.table.shared;
         steps::close(words, &mut seat.seat);
-        steps::ring(words, &mut seat.seat, OFFER_EVENT);
+        steps::signal(words, &mut seat.seat, OFFER_EVENT);
         words.wake_all(OFFER_EVENT);
     }
 }

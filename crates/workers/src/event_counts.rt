@@ -41,7 +41,7 @@ pub fn signal_delivery(words: &Words, seat: &mut Seat) -> bool
     requires { IsAtBench words.now.table_id seat.old.table_id }
     ensures { (seat.new.table_id ≡ seat.old.table_id) × (seat.new.me ≡ seat.old.me) }
 {
-    let found = steps::ring(words, seat, DELIVERY_EVENT);
+    let found = steps::signal(words, seat, DELIVERY_EVENT);
     let sleeps = words.peek(SLEPT_AT) == found;
     if sleeps {
         words.wake_one(DELIVERY_EVENT);
@@ -90,9 +90,9 @@ pub fn spin_then_sleep<R: Wait>(words: &Words, seat: &mut Seat, rt: &R, seen: u6
     ensures { (seat.new.table_id ≡ seat.old.table_id) × (seat.new.me ≡ seat.old.me) }
 {
     steps::count_in(words, seat, SPINNERS);
-    let is_rung = is_offered_soon(words, seen);
+    let is_signaled = is_offered_soon(words, seen);
     steps::count_out(words, seat, SPINNERS);
-    if !is_rung {
+    if !is_signaled {
         sleep(words, seat, rt, seen);
     }
 }

@@ -143,7 +143,7 @@ pub fn collect(words: &Words, seat: &mut Seat, k: usize) -> bool
 }
 
 /// Adds one to an event count, and returns the number that it had.
-pub fn ring(words: &Words, seat: &mut Seat, event: usize) -> u64
+pub fn signal(words: &Words, seat: &mut Seat, event: usize) -> u64
     requires bench { IsAtBench words.now.table_id seat.old.table_id }
     requires event { event < FIRST_PLACE }
     ensures { (seat.new.table_id ≡ seat.old.table_id) × (seat.new.me ≡ seat.old.me) }

@@ -1,7 +1,7 @@
 -- An event count belongs to no place, so adding one to it keeps the rule of the bench.
 use Rattle.std.proofs.Common.{rules, arith, ◌+◌, ◌%◌, ◌^◌}
 use Rattle.workers.proofs.Keeps.{offer_count}
-use Rattle.workers.proofs.steps.ring.Goals as goal
+use Rattle.workers.proofs.steps.signal.Goals as goal
 
 pub fetch_add-requires : goal.fetch_add-requires
 fetch_add-requires c = let w = c.requires.bench.1.0 in let low = c.requires.event in
