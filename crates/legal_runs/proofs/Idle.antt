@@ -3,7 +3,7 @@ use Rattle.std.proofs.Common.{◌≡◌, ◌<◌, List, [], ◌∷◌, ◌++◌,
 use Rattle.std.specs.List.{AllByRecursion}
 use Rattle.affinity.specs.declared.geometry.Geometry.{Geometry}
 use Rattle.legal_runs.specs.CoreState.{Replied, CoreState, entries}
-use Rattle.legal_runs.specs.Eligible.{in_flight}
+use Rattle.legal_runs.specs.Eligible.{unlogged_changes}
 use Rattle.legal_runs.specs.Laws.{AreApart, AreReplied, AreAscending, AreOnce, IsSoundCoreState, IsIdle}
 
 -- the parts of a list of which nothing is there
@@ -32,8 +32,8 @@ module _ (w : CoreState) (h : IsIdle w) where
   none_to_come : w.out ++ w.waiting ≡ []
   none_to_come = λ i. none_out i ++ h.none_waits i
 
-  few : in_flight w ≡ 0
-  few = λ i. in_flight (record w { out = none_out i; ran = none_ran i })
+  few : unlogged_changes w ≡ 0
+  few = λ i. unlogged_changes (record w { out = none_out i; ran = none_ran i })
 
   pub idle_sound : (g : Geometry) → IsSoundCoreState g w
   idle_sound g =

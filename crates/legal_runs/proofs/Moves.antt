@@ -15,7 +15,7 @@ use Rattle.legal_runs.specs.declared.outcomes.CoreFault.TheVariants as faults
 use Rattle.legal_runs.specs.declared.outcomes.PointRefusal.{PointRefusal}
 use Rattle.legal_runs.specs.declared.outcomes.PointRefusal.TheVariants as points
 use Rattle.legal_runs.specs.CoreState.{Entry, Replied, CoreState, held}
-use Rattle.legal_runs.specs.Eligible.{changes, in_flight, next_eligible}
+use Rattle.legal_runs.specs.Eligible.{changes, unlogged_changes, next_eligible}
 use Rattle.legal_runs.specs.Events.{Hand, Hands, Empty, Job, Result, Event, IsAllowed, IsFault, IsCarriedOut, arrive, grant, give_back, out_with, batch, fails, loggable, log, log_some, answer, point_refusal, piece_refusal, flip_refusal, unless_refused, fewer, grant_to, run_hand, result_in, back_from, is_empty, happens, fault}
 use Rattle.legal_runs.specs.Runs.{goes, arrives, answers}
 use Rattle.legal_runs.specs.Laws.{DoubtsOnlyFailed, DoubtsWhatRan}
@@ -32,7 +32,7 @@ pub record Same (old new : CoreState) : Type 0 where
   pub next : new.next ≡ old.next
   pub slots : new.slots ≡ old.slots
   -- and what is in flight has room still
-  pub room : in_flight old ≤ old.room → in_flight old ≤ new.room
+  pub room : unlogged_changes old ≤ old.room → unlogged_changes old ≤ new.room
   -- and nothing comes into `doubt`, unless the device has failed
   pub doubt : DoubtsOnlyFailed old → DoubtsOnlyFailed new
   -- and what is in `doubt` ran
@@ -66,7 +66,7 @@ pub data Move (g : Geometry) (old new : CoreState) (p : Passed) : Type 0 where
 
 module _ (g : Geometry) (w : CoreState) where
   -- the room and the pieces that are left alone
-  repoints : (room : ℕ) (left : Option ℕ) → (in_flight w ≤ w.room → in_flight w ≤ room) → Move g w
+  repoints : (room : ℕ) (left : Option ℕ) → (unlogged_changes w ≤ w.room → unlogged_changes w ≤ room) → Move g w
       (record w { room = room; left = left }) nothing
   repoints room left fits = Stays kept refl
     where
@@ -118,8 +118,8 @@ module _ (g : Geometry) (w : CoreState) where
   answer_moves (a ∷ as') e = Answers a as' e refl refl
 
   -- nothing is in flight where a point may begin
-  none_in_flight : point_refusal w ≡ None → in_flight w ≡ 0
-  none_in_flight e =
+  none_unlogged : point_refusal w ≡ None → unlogged_changes w ≡ 0
+  none_unlogged e =
       let a = past w.failed points.Failed _ e in
       let b = past (is_some w.left) points.Running _ a in
       let c : length (held w) ≤ 0 = ltb-false 0 (length (held w)) (late (nat_lt 0 (length (held w))) points.Held b) in
@@ -134,8 +134,8 @@ module _ (g : Geometry) (w : CoreState) where
       late true why e = absurd (true≢false (ap is_some e))
       late false why e = refl
 
-  emptied : (n : ℕ) → point_refusal w ≡ None → in_flight w ≤ w.room → in_flight w ≤ n
-  emptied n e h = let z = none_in_flight e in omega (arith, z)
+  emptied : (n : ℕ) → point_refusal w ≡ None → unlogged_changes w ≤ w.room → unlogged_changes w ≤ n
+  emptied n e h = let z = none_unlogged e in omega (arith, z)
 
   point_moves : (r : Option PointRefusal) → point_refusal w ≡ r
       → At steps.Point (unless_refused w r (outcomes.Pointed, record w { room = g.half }))

@@ -8,7 +8,7 @@ use Rattle.affinity.specs.declared.geometry.Geometry.{Geometry}
 use Rattle.messages.specs.declared.Msg.{Msg}
 use Rattle.meaning.specs.Serial.{reply_to, is_loggable, is_done}
 use Rattle.legal_runs.specs.CoreState.{Entry, Replied, CoreState}
-use Rattle.legal_runs.specs.Eligible.{changes, in_flight, is_conflict_free, has_room, is_eligible}
+use Rattle.legal_runs.specs.Eligible.{changes, unlogged_changes, is_conflict_free, has_room, is_eligible}
 use Rattle.legal_runs.specs.Events.{batch}
 use Rattle.legal_runs.proofs.Lists.{picked}
 use Rattle.legal_runs.proofs.Moves.{Passed, Move, Stays, Arrives, Grants, Backs, Logs, Answers}
@@ -47,22 +47,22 @@ ran_split : (w : CoreState) (n : ℕ) → ran_count (take n w.ran) + ran_count (
 ran_split w n = sym (sum_by-append _ (take n w.ran) (drop n w.ran)) ∙ ap ran_count (take-append-drop n w.ran)
 
 -- Whatever a log appends, there is room for it.
-pub log_has_room : (w : CoreState) (n : ℕ) → in_flight w ≤ w.room → length (batch w n) ≤ w.room
+pub log_has_room : (w : CoreState) (n : ℕ) → unlogged_changes w ≤ w.room → length (batch w n) ≤ w.room
 log_has_room w n h = omega (arith, h, batch_few w n, ran_split w n)
 
-pub move_room : (g : Geometry) (old new : CoreState) (p : Passed) → Move g old new p → in_flight old ≤ old.room → in_flight new ≤ new.room
+pub move_room : (g : Geometry) (old new : CoreState) (p : Passed) → Move g old new p → unlogged_changes old ≤ old.room → unlogged_changes new ≤ new.room
 move_room g old new p (Stays s e) h =
     let k = s.room h in
-    let same : in_flight new ≡ in_flight old = λ i. out_count (s.out i) + ran_count (s.ran i) in
+    let same : unlogged_changes new ≡ unlogged_changes old = λ i. out_count (s.out i) + ran_count (s.ran i) in
     omega (arith, k, same)
-move_room g old new p (Arrives m fits is e) h = subst (λ w. in_flight w ≤ w.room) (sym is) h
+move_room g old new p (Arrives m fits is e) h = subst (λ w. unlogged_changes w ≤ w.room) (sym is) h
 move_room g old new p (Grants found first is e) h =
     let k = picked (is_eligible g old) old.waiting found first in
     let roomy = (and_parts (is_conflict_free g old found.0) (has_room old found.0) k.passes).1 in
     let now : out_count (old.out ++ found.0 ∷ []) ≡ out_count old.out + out_count (found.0 ∷ []) = sum_by-append _ old.out (found.0 ∷ []) in
     let single = sum_by-cons (λ (e : Entry). cond (changes e.1) 1 0) found.0 [] in
-    let fits : in_flight old + one found.0.1 ≤ old.room = enough (changes found.0.1) (in_flight old) old.room h roomy in
-    subst (λ w. in_flight w ≤ w.room) (sym is) (omega (arith, now, single, fits))
+    let fits : unlogged_changes old + one found.0.1 ≤ old.room = enough (changes found.0.1) (unlogged_changes old) old.room h roomy in
+    subst (λ w. unlogged_changes w ≤ w.room) (sym is) (omega (arith, now, single, fits))
   where
     enough : (b : Bool) (n room : ℕ) → n ≤ room → (not b || nat_lt n room) ≡ true → n + cond b 1 0 ≤ room
     enough true n room h r = let lt = ltb-true n room r in omega (arith, lt)
@@ -76,6 +76,6 @@ move_room g old new p (Backs ticket found one_out is e) h =
     let a : Replied = (found.0.0, found.0.1, reply_to g old.committed found.0.1) in
     let more : ran_count (old.ran ++ a ∷ []) ≡ ran_count old.ran + ran_count (a ∷ []) = sum_by-append _ old.ran (a ∷ []) in
     let single = sum_by-cons (λ (a : Replied). cond (changes a.1) 1 0) a [] in
-    subst (λ w. in_flight w ≤ w.room) (sym is) (omega (arith, h, was, one_was, now, more, single))
-move_room g old new p (Logs n is e) h = subst (λ w. in_flight w ≤ w.room) (sym is) (omega (arith, h, batch_few old n, ran_split old n))
-move_room g old new p (Answers a rest front is e) h = subst (λ w. in_flight w ≤ w.room) (sym is) h
+    subst (λ w. unlogged_changes w ≤ w.room) (sym is) (omega (arith, h, was, one_was, now, more, single))
+move_room g old new p (Logs n is e) h = subst (λ w. unlogged_changes w ≤ w.room) (sym is) (omega (arith, h, batch_few old n, ran_split old n))
+move_room g old new p (Answers a rest front is e) h = subst (λ w. unlogged_changes w ≤ w.room) (sym is) h

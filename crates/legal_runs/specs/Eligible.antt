@@ -15,12 +15,12 @@ is_conflict_free g w e = not (list_any (are_related_entries g e) (held w))
 abbrev pub changes : Msg → Bool
 changes m = is_changing (kind m)
 
--- how many of the messages that are dispatched or ran may come to need a record
-abbrev pub in_flight : CoreState → ℕ
-in_flight w = count_by (λ e. changes e.1) w.out + count_by (λ a. changes a.1) w.ran
+-- how many of the messages in flight and of those that ran may come to need a record
+abbrev pub unlogged_changes : CoreState → ℕ
+unlogged_changes w = count_by (λ e. changes e.1) w.out + count_by (λ a. changes a.1) w.ran
 
 abbrev pub has_room : CoreState → Entry → Bool
-has_room w e = not (changes e.1) || nat_lt (in_flight w) w.room
+has_room w e = not (changes e.1) || nat_lt (unlogged_changes w) w.room
 
 abbrev pub is_eligible : Geometry → CoreState → Entry → Bool
 is_eligible g w e = is_conflict_free g w e && has_room w e

@@ -13,7 +13,7 @@ use Rattle.legal_runs.specs.declared.outcomes.Outcome.TheVariants as outcomes
 use Rattle.legal_runs.specs.declared.outcomes.CoreFault.TheVariants as faults
 use Rattle.legal_runs.specs.declared.outcomes.PointRefusal.TheVariants as points
 use Rattle.legal_runs.specs.CoreState.{Entry, Replied, CoreState, entries, held, are_related_entries}
-use Rattle.legal_runs.specs.Eligible.{in_flight}
+use Rattle.legal_runs.specs.Eligible.{unlogged_changes}
 use Rattle.legal_runs.specs.Events.{Hand, Hands, Event, is_empty, loggable}
 use Rattle.legal_runs.specs.Runs.{IsLegal, last, went, journal, arrived, answered}
 
@@ -64,7 +64,7 @@ pub record IsSoundCoreState (g : Geometry) (w : CoreState) : Type 0 where
   pub once : AreOnce (w.out ++ w.waiting)
   pub given : AllByRecursion (λ e. e.0 < w.next) (w.out ++ w.waiting)
   -- what is dispatched and what ran has room in the log
-  pub room : in_flight w ≤ w.room
+  pub room : unlogged_changes w ≤ w.room
   -- there is a slot for each message
   pub fits : length w.waiting + length (held w) ≤ w.slots
 
@@ -109,7 +109,7 @@ pub record IsStopped (old new : CoreState) : Type 0 where
 
 -- What is dispatched and what ran has room in the log, and each message has one of so many slots.
 abbrev pub HasRoom : ℕ → CoreState → Type 0
-HasRoom slots w = (in_flight w ≤ w.room) × (length w.waiting + length (held w) ≤ slots)
+HasRoom slots w = (unlogged_changes w ≤ w.room) × (length w.waiting + length (held w) ≤ slots)
 
 -- Nothing waits, and nothing is held.
 pub record IsIdle (w : CoreState) : Type 0 where

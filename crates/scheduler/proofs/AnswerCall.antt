@@ -27,12 +27,12 @@ front_low row c i parted first =
     let all = times-append i row.free (concat row.chains) in
     parted.within i (omega (arith, some, all))
 
-module _ (keeps : Type 0) (row : Row Slot) (replies : List Reply) (tree : TreeView) (journal : JournalView) (queue : RunQueueView) (batch : List Msg) (next flight : ℕ)
+module _ (keeps : Type 0) (row : Row Slot) (replies : List Reply) (tree : TreeView) (journal : JournalView) (queue : RunQueueView) (batch : List Msg) (next unlogged : ℕ)
     (opened : TreeView) (since : List Msg) (is : HasChains row)
-    (k : IsCore keeps (parts row replies tree journal queue batch next flight opened since)) (slot : ℕ) (first : front_of row 3 ≡ Some slot)
+    (k : IsCore keeps (parts row replies tree journal queue batch next unlogged opened since)) (slot : ℕ) (first : front_of row 3 ≡ Some slot)
     (taken : Slot) (value : value_at row slot ≡ Some taken) where
   abbrev p : Parts
-  p = parts row replies tree journal queue batch next flight opened since
+  p = parts row replies tree journal queue batch next unlogged opened since
 
   abbrev x : SlotView
   x = (slot, taken, get_or replies slot Done)
@@ -51,7 +51,7 @@ module _ (keeps : Type 0) (row : Row Slot) (replies : List Reply) (tree : TreeVi
   turned = record queue { held = without_number taken.affinity.number queue.held }
 
   abbrev after : Parts
-  after = parts (after_take row slot) replies tree journal turned batch next flight opened since
+  after = parts (after_take row slot) replies tree journal turned batch next unlogged opened since
 
   after_is : after ≡ with_answer p behind (suc p.free) taken.affinity.number
   after_is = λ i. record (with_answer p behind (suc p.free) taken.affinity.number) {

@@ -90,7 +90,7 @@ module _ (keeps : Type 0) (p : Parts) (k : IsCore keeps p) (x : SlotView) (behin
       record {
         claimed = omega (arith, count, claimed, is_free);
         placed = record { waiting = k.placed.waiting; out = k.placed.out; ran = k.placed.ran; logged = all_logged.1 };
-        turned = k.turned;
+        queue_geometry = k.queue_geometry;
         seats = k.seats;
         waits = k.waits;
         holds = λ test. any_filter test (λ t. not (has_number x.1.affinity.number t)) p.queue.held
@@ -99,7 +99,7 @@ module _ (keeps : Type 0) (p : Parts) (k : IsCore keeps p) (x : SlotView) (behin
             (other_numbers g x all_logged.0 behind all_logged.1 behinds)
             (other_numbers g x all_logged.0 p.lines.ran k.placed.ran rans)
             (other_numbers g x all_logged.0 p.lines.out k.placed.out outs);
-        flies = k.flies;
+        unlogged_is = k.unlogged_is;
         sound = move_sound g (core_state_in p) (core_state_in after) _ (Answers (replied_of x) (map replied_of behind) answer_front refl refl) k.sound;
         geometry = k.geometry;
         tree = k.tree;

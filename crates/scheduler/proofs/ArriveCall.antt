@@ -50,11 +50,11 @@ came_before : (ticket : ℕ) (ys : List SlotView) → AllByRecursion (λ e. e.0 
 came_before ticket [] all = tt
 came_before ticket (y ∷ ys) all = (all.0, came_before ticket ys all.1)
 
-module _ (keeps : Type 0) (row : Row Slot) (replies : List Reply) (tree : TreeView) (journal : JournalView) (queue : RunQueueView) (batch : List Msg) (next flight : ℕ)
+module _ (keeps : Type 0) (row : Row Slot) (replies : List Reply) (tree : TreeView) (journal : JournalView) (queue : RunQueueView) (batch : List Msg) (next unlogged : ℕ)
     (opened : TreeView) (since : List Msg) (is : HasChains row)
-    (k : IsCore keeps (parts row replies tree journal queue batch next flight opened since)) (value : Slot) where
+    (k : IsCore keeps (parts row replies tree journal queue batch next unlogged opened since)) (value : Slot) where
   abbrev p : Parts
-  p = parts row replies tree journal queue batch next flight opened since
+  p = parts row replies tree journal queue batch next unlogged opened since
 
   abbrev m : Msg
   m = value.message
@@ -117,7 +117,7 @@ module _ (keeps : Type 0) (row : Row Slot) (replies : List Reply) (tree : TreeVi
     turned = record queue { waiting = queue.waiting ++ queued_of x ∷ [] }
 
     abbrev after : Parts
-    after = parts (after_move (after_put row value) slot 0) replies tree journal turned batch (next + 1) flight opened since
+    after = parts (after_move (after_put row value) slot 0) replies tree journal turned batch (next + 1) unlogged opened since
 
     abbrev new_free : ℕ
     new_free = length (after_move (after_put row value) slot 0).free

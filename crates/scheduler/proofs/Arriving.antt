@@ -41,11 +41,11 @@ module _ (keeps : Type 0) (p : Parts) (k : IsCore keeps p) (x : SlotView) (free 
           ran = k.placed.ran;
           logged = k.placed.logged;
         };
-        turned = k.turned;
+        queue_geometry = k.queue_geometry;
         seats = k.seats;
         waits = ap (λ ts. ts ++ queued_of x ∷ []) k.waits ∙ sym (map-append queued_of p.lines.waiting (x ∷ []));
         holds = k.holds;
-        flies = k.flies;
+        unlogged_is = k.unlogged_is;
         sound = subst (IsSoundCoreState p.journal.geometry) (sym arrival_state)
             (move_sound p.journal.geometry (core_state_in p) _ _ (Arrives x.1.message has_slot refl refl) k.sound);
         geometry = k.geometry;

@@ -171,10 +171,10 @@ module _ (keeps : Type 0) (p : Parts) (k : IsCore keeps p) where
   or_turned false true = refl
   or_turned false false = refl
 
-  module _ (room : Bool) (is_room : room ≡ nat_lt p.flight p.journal.room) where
+  module _ (room : Bool) (is_room : room ≡ nat_lt p.unlogged p.journal.room) where
     room_same : (x : SlotView) → has_room room (queued_of x) ≡ has_room_for w (entry_of x)
     room_same x = or_turned room (queued_of x).changing
-        ∙ ap (λ b. not (queued_of x).changing || b) (is_room ∙ ap (λ n. nat_lt n p.journal.room) k.flies)
+        ∙ ap (λ b. not (queued_of x).changing || b) (is_room ∙ ap (λ n. nat_lt n p.journal.room) k.unlogged_is)
 
     same_test : Same (λ t. has_room room t && is_conflict_free p.queue.held p.queue.waiting t) (is_eligible geometry w) p.lines.waiting
     same_test = all_of (IsPlaced geometry) _
@@ -213,7 +213,7 @@ module _ (keeps : Type 0) (p : Parts) (k : IsCore keeps p) where
       by true false rest h j = refl
       by false r rest h j = j h
 
-  module _ (room : Bool) (is_room : room ≡ nat_lt p.flight p.journal.room) (none : next_queued room p.queue.held p.queue.waiting ≡ None) where
+  module _ (room : Bool) (is_room : room ≡ nat_lt p.unlogged p.journal.room) (none : next_queued room p.queue.held p.queue.waiting ≡ None) where
     pub lacks_room : (t : QueuedMessage) → next_queued true p.queue.held p.queue.waiting ≡ Some t → no_grant geometry w ≡ outcomes.NoRoom
     lacks_room t h = ap (λ b. if b then outcomes.NoRoom else outcomes.NoneEligible)
         (lacking w.waiting (none_any room is_room none) ∙ some_chosen _ (is_clear_in geometry w) p.lines.waiting clear_test t (sym found_clear ∙ h))

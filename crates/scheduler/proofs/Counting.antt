@@ -1,9 +1,9 @@
--- How many messages there are, and how many of them are in flight.
+-- How many messages there are, and how many changing ones are in flight or ran.
 use Rattle.std.proofs.Common.{◌≡◌, ℕ, ◌+◌, List, [], ◌∷◌, ◌++◌, map, length, refl, ap, sym, ◌∙◌}
 use Rattle.std.specs.Prelude.{cond, count_by}
 use Rattle.std.proofs.lemmas.List.{length-map}
 use Rattle.std.proofs.lemmas.List.Sums.{sum_by-append, sum_by-cons}
-use Rattle.legal_runs.specs.Eligible.{changes, in_flight}
+use Rattle.legal_runs.specs.Eligible.{changes, unlogged_changes}
 use Rattle.legal_runs.specs.CoreState.{Entry, Replied, held}
 use Rattle.legal_runs.proofs.Apart.{length_held}
 use Rattle.scheduler.specs.Parts.{Parts, entry_of, replied_of, core_state_in}
@@ -32,8 +32,8 @@ ran_changing [] = refl
 ran_changing (x ∷ xs) = sum_by-cons (λ (a : Replied). cond (changes a.1) 1 0) (replied_of x) (map replied_of xs)
     ∙ ap (λ n. one_for x + n) (ran_changing xs) ∙ sym (changing-cons x xs)
 
-pub flight_of : (p : Parts) → in_flight (core_state_in p) ≡ changing p.lines.out + changing p.lines.ran
-flight_of p = λ i. out_changing p.lines.out i + ran_changing p.lines.ran i
+pub unlogged_of : (p : Parts) → unlogged_changes (core_state_in p) ≡ changing p.lines.out + changing p.lines.ran
+unlogged_of p = λ i. out_changing p.lines.out i + ran_changing p.lines.ran i
 
 -- how many messages wait or are held
 pub count_of : (p : Parts) → length (core_state_in p).waiting + length (held (core_state_in p))

@@ -52,12 +52,12 @@ pub some_value : (o : Option Slot) → is_some o ≡ true → o ≡ None → ⊥
 some_value None holds none = true≢false (sym holds)
 some_value (Some s) holds none = true≢false (sym holds ∙ ap is_some none)
 
-module _ (keeps : Type 0) (row : Row Slot) (replies : List Reply) (tree : TreeView) (journal : JournalView) (queue : RunQueueView) (batch : List Msg) (next flight : ℕ)
+module _ (keeps : Type 0) (row : Row Slot) (replies : List Reply) (tree : TreeView) (journal : JournalView) (queue : RunQueueView) (batch : List Msg) (next unlogged : ℕ)
     (opened : TreeView) (since : List Msg) (is : HasChains row)
-    (k : IsCore keeps (parts row replies tree journal queue batch next flight opened since)) (room : Bool) (is_room : room ≡ nat_lt flight journal.room)
+    (k : IsCore keeps (parts row replies tree journal queue batch next unlogged opened since)) (room : Bool) (is_room : room ≡ nat_lt unlogged journal.room)
     (queued : QueuedMessage) (goes : next_queued room queue.held queue.waiting ≡ Some queued) where
   abbrev p : Parts
-  p = parts row replies tree journal queue batch next flight opened since
+  p = parts row replies tree journal queue batch next unlogged opened since
 
   pub chosen : Chosen (is_eligible journal.geometry (core_state_in p)) p.lines.waiting queued
   chosen = goes_first keeps p k room is_room queued goes
@@ -138,7 +138,7 @@ module _ (keeps : Type 0) (row : Row Slot) (replies : List Reply) (tree : TreeVi
         (waits : went ≡ record queue { waiting = without_slot queued.slot queue.waiting; held = went.held }) (joined : HasJoined queued queue.held went.held)
         (more : ℕ) (is_more : more ≡ cond queued.changing 1 0) where
       abbrev after : Parts
-      after = parts (after_move row queued.slot 1) replies lent journal went batch next (flight + more) opened since
+      after = parts (after_move row queued.slot 1) replies lent journal went batch next (unlogged + more) opened since
 
       abbrev found : Entry × List Entry
       found = (entry_of x, map entry_of (chosen.before ++ chosen.behind))
@@ -163,7 +163,7 @@ module _ (keeps : Type 0) (row : Row Slot) (replies : List Reply) (tree : TreeVi
         free = ap (λ (fs : List ℕ). length fs) grant_lines.free i;
         capacity = grant_size i;
         queue = (waits ∙ (λ j. record queue { waiting = goes_waits j; held = went.held })) i;
-        flight = flight + one_more i;
+        unlogged = unlogged + one_more i;
       }
 
       joined_at : HasJoined (queued_of x) queue.held went.held

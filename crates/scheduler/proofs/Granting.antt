@@ -17,7 +17,7 @@ use Rattle.parcel.specs.Holding.{TreeHolds}
 use Rattle.parcel.specs.Tree.{LendsAt, TreeView, in_tree}
 use Rattle.parcel.specs.declared.parts.Parcels.{Parcels}
 use Rattle.parcel.specs.declared.parts.Standing.{Standing}
-use Rattle.scheduler.proofs.Counting.{changing, changing-append, changing-cons, flight_of, one_for}
+use Rattle.scheduler.proofs.Counting.{changing, changing-append, changing-cons, unlogged_of, one_for}
 use Rattle.scheduler.proofs.Tests.{any_granted}
 use Rattle.scheduler.proofs.Trees.{grant_tree}
 use Rattle.scheduler.specs.Parts.{IsCore, IsPlaced, Parts, entry_of, is_below, reached, queued_of, core_state_in}
@@ -46,7 +46,7 @@ with_grant p waiting x tree held = record p {
   lines = record p.lines { waiting = waiting; out = p.lines.out ++ x ∷ [] };
   tree = tree;
   queue = record p.queue { waiting = map queued_of waiting; held = held };
-  flight = p.flight + one_for x;
+  unlogged = p.unlogged + one_for x;
 }
 
 module _ (keeps : Type 0) (p : Parts) (k : IsCore keeps p) (before : List SlotView) (x : SlotView) (behind : List SlotView)
@@ -75,8 +75,8 @@ module _ (keeps : Type 0) (p : Parts) (k : IsCore keeps p) (before : List SlotVi
       let now = length-append before behind in
       let more = length-append p.lines.out (x ∷ []) in
       let claimed = k.claimed in
-      let flew = k.flies ∙ flight_of p in
-      let flies = flight_of after in
+      let unlogged_was = k.unlogged_is ∙ unlogged_of p in
+      let unlogged_is = unlogged_of after in
       let out = changing-append p.lines.out (x ∷ []) ∙ ap (λ n. changing p.lines.out + n) (changing-cons x []) in
       record {
         claimed = omega (arith, was, now, more, claimed);
@@ -87,11 +87,11 @@ module _ (keeps : Type 0) (p : Parts) (k : IsCore keeps p) (before : List SlotVi
           ran = k.placed.ran;
           logged = k.placed.logged;
         };
-        turned = k.turned;
+        queue_geometry = k.queue_geometry;
         seats = k.seats;
         waits = refl;
         holds = λ test. joined test ∙ ap (λ b. test (queued_of x) || b) (k.holds test) ∙ any_granted test p.lines (before ++ behind) x;
-        flies = omega (arith, flew, flies, out);
+        unlogged_is = omega (arith, unlogged_was, unlogged_is, out);
         sound = subst (IsSoundCoreState p.journal.geometry) (sym grant_state)
             (move_sound p.journal.geometry (core_state_in p) _ _ (Grants found first refl refl) k.sound);
         geometry = geometry;

@@ -80,11 +80,11 @@ module _ (keeps : Type 0) (p : Parts) (k : IsCore keeps p) (works : p.journal.fa
     step_core room left failed dirty sound same = record {
       claimed = k.claimed;
       placed = k.placed;
-      turned = k.turned;
+      queue_geometry = k.queue_geometry;
       seats = k.seats;
       waits = k.waits;
       holds = k.holds;
-      flies = k.flies;
+      unlogged_is = k.unlogged_is;
       sound = sound;
       geometry = k.geometry;
       tree = k.tree;

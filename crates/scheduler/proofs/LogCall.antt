@@ -25,7 +25,7 @@ use Rattle.oplog.specs.declared.fault.LogFault.{LogFault}
 use Rattle.parcel.specs.Tree.{TreeView, state_in}
 use Rattle.meaning.specs.Serial.{fold}
 use Rattle.meaning.specs.State.{State}
-use Rattle.scheduler.proofs.Counting.{changing, changing-append, changing-cons, flight_of}
+use Rattle.scheduler.proofs.Counting.{changing, changing-append, changing-cons, unlogged_of}
 use Rattle.scheduler.proofs.Lines.{same_line}
 use Rattle.scheduler.proofs.Logging.{batch_at, batch_carried, batch_fits, batch_logged, doubt_core, log_core, log_throughout, log_state, same_batch, with_doubt, with_log}
 use Rattle.scheduler.specs.CoreView.{CoreView, RecoversThroughout}
@@ -69,12 +69,12 @@ counted row replies (y ∷ ys) =
     ∙ ap (λ (m : ℕ). cond (changes (unwrap_or (value_at row y) no_slot).message) 1 0 + m) (counted row replies ys)
     ∙ sym (changing-cons (place_at row replies y) (map (place_at row replies) ys))
 
-module _ (keeps : Type 0) (row : Row Slot) (replies : List Reply) (tree : TreeView) (journal : JournalView) (queue : RunQueueView) (batch : List Msg) (next flight : ℕ)
+module _ (keeps : Type 0) (row : Row Slot) (replies : List Reply) (tree : TreeView) (journal : JournalView) (queue : RunQueueView) (batch : List Msg) (next unlogged : ℕ)
     (opened : TreeView) (since : List Msg) (is : HasChains row)
-    (k : IsCore keeps (parts row replies tree journal queue batch next flight opened since)) (works : journal.failed ≡ false)
+    (k : IsCore keeps (parts row replies tree journal queue batch next unlogged opened since)) (works : journal.failed ≡ false)
     (n count ran : ℕ) (ran_is : ran ≡ length (line row replies 2)) (count_is : count ≡ min n ran) where
   abbrev p : Parts
-  p = parts row replies tree journal queue batch next flight opened since
+  p = parts row replies tree journal queue batch next unlogged opened since
 
   abbrev slots : List ℕ
   slots = chain_at row 2
@@ -100,24 +100,24 @@ module _ (keeps : Type 0) (row : Row Slot) (replies : List Reply) (tree : TreeVi
   pub log_count : count ≡ length (take n (core_state_in p).ran)
   log_count = min_is ∙ ap (λ (m : ℕ). min n m) (sym (length-map ran_line replied_of)) ∙ sym (length-take n (map replied_of ran_line))
 
-  module _ (flew : ℕ) (flew_is : flew ≡ changing_in row (take count slots)) where
-    flew_same : flew ≡ changing (take n ran_line)
-    flew_same = flew_is ∙ counted row replies (take count slots)
+  module _ (logged_changes : ℕ) (logged_changes_is : logged_changes ≡ changing_in row (take count slots)) where
+    logged_changes_same : logged_changes ≡ changing (take n ran_line)
+    logged_changes_same = logged_changes_is ∙ counted row replies (take count slots)
         ∙ ap (λ (l : List SlotView). changing l) (sym (take-map (place_at row replies) count slots) ∙ take_is)
 
-    flies : (flight - flew) + changing (take n ran_line) ≡ flight
-    flies =
-        let fly = k.flies ∙ flight_of p in
+    unlogged_is : (unlogged - logged_changes) + changing (take n ran_line) ≡ unlogged
+    unlogged_is =
+        let unlogged_was = k.unlogged_is ∙ unlogged_of p in
         let all = ap (λ (l : List SlotView). changing l) (sym (take-append-drop n ran_line)) ∙ changing-append (take n ran_line) (drop n ran_line) in
-        let same = flew_same in
-        omega (arith, fly, all, same)
+        let same = logged_changes_same in
+        omega (arith, unlogged_was, all, same)
 
-    pub log_flight : flew ≤ flight
-    log_flight =
-        let fly = k.flies ∙ flight_of p in
+    pub log_unlogged : logged_changes ≤ unlogged
+    log_unlogged =
+        let unlogged_was = k.unlogged_is ∙ unlogged_of p in
         let all = ap (λ (l : List SlotView). changing l) (sym (take-append-drop n ran_line)) ∙ changing-append (take n ran_line) (drop n ran_line) in
-        let same = flew_same in
-        omega (arith, fly, all, same)
+        let same = logged_changes_same in
+        omega (arith, unlogged_was, all, same)
 
   module _ (messages : List Msg) (gathered_is : messages ≡ gathered row replies (take count slots)) where
     messages_are : messages ≡ batch_at p n
@@ -150,7 +150,7 @@ module _ (keeps : Type 0) (row : Row Slot) (replies : List Reply) (tree : TreeVi
             (any keep (core_state_in p).committed (k.is_committed keep works))
 
         pub log_call_throughout : (now : CoreView) → now.medium ≡ new.medium → keeps → RecoversThroughout (batch_of (core_state_in p) n) (kept_of p) now
-        log_call_throughout now same keep = log_throughout keeps p k works n flight new.dirty new.medium any_at now same keep
+        log_call_throughout now same keep = log_throughout keeps p k works n unlogged new.dirty new.medium any_at now same keep
 
         pub log_untouched : (length passed ≡ 0 → new ≡ journal) → touches_device (core_state_in p) (steps.Log n) ≡ false → new.medium ≡ journal.medium
         log_untouched same quiet = ap (λ (j : JournalView). j.medium) (same (none_passed (none_to_log journal.failed (length (batch_of (core_state_in p) n)) works quiet)))
@@ -159,7 +159,7 @@ module _ (keeps : Type 0) (row : Row Slot) (replies : List Reply) (tree : TreeVi
 
         module _ (broken : new ≡ record journal { failed = true; medium = new.medium }) where
           abbrev doubting : Parts
-          doubting = parts row replies tree new queue messages next flight opened since
+          doubting = parts row replies tree new queue messages next unlogged opened since
 
           doubting_is : doubting ≡ with_doubt p n new.medium
           doubting_is = λ i. record (with_doubt p n new.medium) { journal = broken i; batch = messages_are i }
@@ -176,7 +176,7 @@ module _ (keeps : Type 0) (row : Row Slot) (replies : List Reply) (tree : TreeVi
           }
 
           pub doubt_call_core : IsCore keeps doubting
-          doubt_call_core = subst (IsCore keeps) (sym doubting_is) (doubt_core keeps p k works n flight new.dirty new.medium any_at doubt_sound)
+          doubt_call_core = subst (IsCore keeps) (sym doubting_is) (doubt_core keeps p k works n unlogged new.dirty new.medium any_at doubt_sound)
 
           pub doubt_call_state : core_state_in doubting ≡ record (core_state_in p) { failed = true; doubt = batch_of (core_state_in p) n }
           doubt_call_state = ap core_state_in doubting_is ∙ (λ i. record (core_state_in p) { failed = true; doubt = same_batch keeps p k n i })
@@ -188,11 +188,11 @@ module _ (keeps : Type 0) (row : Row Slot) (replies : List Reply) (tree : TreeVi
 
         module _ (made : new ≡ record journal { room = journal.room - length passed; dirty = new.dirty; medium = new.medium })
             (settles : keeps → committed new ≡ option_map (λ x. fold journal.geometry x passed) (committed journal)) (recovers : keeps → IsCommitted new)
-            (moved : Row Slot) (has : HasLogged count row moved) (flew : ℕ) (flew_is : flew ≡ changing_in row (take count slots))
+            (moved : Row Slot) (has : HasLogged count row moved) (logged_changes : ℕ) (logged_changes_is : logged_changes ≡ changing_in row (take count slots))
             (first : TreeView) (first_is : first ≡ opened) (after_since : List Msg) (since_is : after_since ≡ since ++ messages)
             (emptied : List Msg) (empty : emptied ≡ []) where
           abbrev after : Parts
-          after = parts moved replies tree new queue emptied next (flight - flew) first after_since
+          after = parts moved replies tree new queue emptied next (unlogged - logged_changes) first after_since
 
           abbrev room : ℕ
           room = journal.room - length (batch_at p n)
@@ -218,8 +218,8 @@ module _ (keeps : Type 0) (row : Row Slot) (replies : List Reply) (tree : TreeVi
               let same = min_is in
               omega (arith, now, were, same)
 
-          after_is : after ≡ with_log p n (flight - flew) room new.dirty new.medium
-          after_is = λ i. record (with_log p n (flight - flew) room new.dirty new.medium) {
+          after_is : after ≡ with_log p n (unlogged - logged_changes) room new.dirty new.medium
+          after_is = λ i. record (with_log p n (unlogged - logged_changes) room new.dirty new.medium) {
             lines = record {
               waiting = same_line row moved replies 0 has.values has.waiting i;
               out = same_line row moved replies 1 has.values has.out i;
@@ -235,7 +235,7 @@ module _ (keeps : Type 0) (row : Row Slot) (replies : List Reply) (tree : TreeVi
           }
 
           settles_at : keeps → committed (record journal { room = room; dirty = new.dirty; medium = new.medium })
-              ≡ Some (core_state_in (with_log p n (flight - flew) room new.dirty new.medium)).committed
+              ≡ Some (core_state_in (with_log p n (unlogged - logged_changes) room new.dirty new.medium)).committed
           settles_at keep =
               sym (ap committed made) ∙ settles keep
               ∙ ap (option_map (λ x. fold journal.geometry x passed)) (k.is_committed keep works)
@@ -246,7 +246,8 @@ module _ (keeps : Type 0) (row : Row Slot) (replies : List Reply) (tree : TreeVi
           recovers_at keep c leaves = ap (λ (j : JournalView). holds j.geometry c) (sym made) ∙ (recovers keep).each c leaves ∙ ap committed made
 
           pub log_call_core : IsCore keeps after
-          log_call_core = subst (IsCore keeps) (sym after_is) (log_core keeps p k works n (flight - flew) new.dirty new.medium (flies flew flew_is) settles_at recovers_at)
+          log_call_core = subst (IsCore keeps) (sym after_is) (log_core keeps p k works n (unlogged - logged_changes) new.dirty new.medium
+              (unlogged_is logged_changes logged_changes_is) settles_at recovers_at)
 
           pub log_call_state : core_state_in after ≡ log journal.geometry (core_state_in p) n
-          log_call_state = ap core_state_in after_is ∙ log_state keeps p k works n (flight - flew) new.dirty new.medium
+          log_call_state = ap core_state_in after_is ∙ log_state keeps p k works n (unlogged - logged_changes) new.dirty new.medium

@@ -29,7 +29,7 @@ use Rattle.parcel.specs.Tree.{in_tree}
 use Rattle.meaning.proofs.Unchanged.{unlogged_changes_nothing}
 use Rattle.meaning.specs.Serial.{fold, is_loggable, next_state}
 use Rattle.meaning.specs.State.{State}
-use Rattle.scheduler.proofs.Counting.{changing, changing-append, flight_of}
+use Rattle.scheduler.proofs.Counting.{changing, changing-append, unlogged_of}
 use Rattle.scheduler.proofs.Journaling.{with_none}
 use Rattle.scheduler.proofs.Tests.{any_logged}
 use Rattle.scheduler.proofs.Trees.{log_reaches}
@@ -106,23 +106,23 @@ module _ (keeps : Type 0) (p : Parts) (k : IsCore keeps p) (n : ℕ) where
 -- ---- what holds afterwards
 
 abbrev pub with_log : Parts → ℕ → ℕ → ℕ → DirtyPieces → Medium → Parts
-with_log p n flight room dirty medium = record p {
+with_log p n unlogged room dirty medium = record p {
   lines = record p.lines { ran = drop n p.lines.ran; logged = p.lines.logged ++ take n p.lines.ran };
   journal = record p.journal { room = room; dirty = dirty; medium = medium };
   batch = [];
-  flight = flight;
+  unlogged = unlogged;
   since = p.since ++ batch_at p n;
 }
 
 abbrev pub with_doubt : Parts → ℕ → Medium → Parts
 with_doubt p n medium = record p { journal = record p.journal { failed = true; medium = medium }; batch = batch_at p n }
 
-module _ (keeps : Type 0) (p : Parts) (k : IsCore keeps p) (works : p.journal.failed ≡ false) (n flight : ℕ) (dirty : DirtyPieces) (medium : Medium) where
+module _ (keeps : Type 0) (p : Parts) (k : IsCore keeps p) (works : p.journal.failed ≡ false) (n unlogged : ℕ) (dirty : DirtyPieces) (medium : Medium) where
   abbrev room : ℕ
   room = p.journal.room - length (batch_at p n)
 
   abbrev after : Parts
-  after = with_log p n flight room dirty medium
+  after = with_log p n unlogged room dirty medium
 
   pub log_state : core_state_in after ≡ log p.journal.geometry (core_state_in p) n
   log_state = λ i. record (core_state_in after) {
@@ -133,7 +133,7 @@ module _ (keeps : Type 0) (p : Parts) (k : IsCore keeps p) (works : p.journal.fa
     doubt = sym (k.no_doubt works) i;
   }
 
-  module _ (flies : flight + changing (take n p.lines.ran) ≡ p.flight)
+  module _ (unlogged_is : unlogged + changing (take n p.lines.ran) ≡ p.unlogged)
       (is_committed : keeps → committed (record p.journal { room = room; dirty = dirty; medium = medium }) ≡ Some (core_state_in after).committed)
       (recovers : keeps → (c : List ℕ) → IsCrashImage medium c → holds p.journal.geometry c ≡ committed (record p.journal { room = room; dirty = dirty; medium = medium })) where
     pub log_core : IsCore keeps after
@@ -142,8 +142,8 @@ module _ (keeps : Type 0) (p : Parts) (k : IsCore keeps p) (works : p.journal.fa
         let counts = ap length whole ∙ length-append (take n p.lines.ran) (drop n p.lines.ran) in
         let more = length-append p.lines.logged (take n p.lines.ran) in
         let claimed = k.claimed in
-        let flew = k.flies ∙ flight_of p in
-        let fly = flight_of after in
+        let unlogged_was = k.unlogged_is ∙ unlogged_of p in
+        let unlogged_now = unlogged_of after in
         let ran = ap changing whole ∙ changing-append (take n p.lines.ran) (drop n p.lines.ran) in
         let placed = subst (AllByRecursion (IsPlaced p.journal.geometry)) whole k.placed.ran in
         record {
@@ -155,11 +155,11 @@ module _ (keeps : Type 0) (p : Parts) (k : IsCore keeps p) (works : p.journal.fa
             logged = all_join (IsPlaced p.journal.geometry) p.lines.logged (take n p.lines.ran) k.placed.logged
                 (all_front (IsPlaced p.journal.geometry) (take n p.lines.ran) (drop n p.lines.ran) placed);
           };
-          turned = k.turned;
+          queue_geometry = k.queue_geometry;
           seats = k.seats;
           waits = k.waits;
           holds = λ test. k.holds test ∙ any_logged test p.lines (take n p.lines.ran) (drop n p.lines.ran) whole;
-          flies = omega (arith, flew, fly, ran, flies);
+          unlogged_is = omega (arith, unlogged_was, unlogged_now, ran, unlogged_is);
           sound = subst (IsSoundCoreState p.journal.geometry) (sym log_state)
               (move_sound p.journal.geometry (core_state_in p) _ _ (Logs n refl refl) k.sound);
           geometry = k.geometry;
@@ -184,11 +184,11 @@ module _ (keeps : Type 0) (p : Parts) (k : IsCore keeps p) (works : p.journal.fa
     doubt_core sound = record {
       claimed = k.claimed;
       placed = k.placed;
-      turned = k.turned;
+      queue_geometry = k.queue_geometry;
       seats = k.seats;
       waits = k.waits;
       holds = k.holds;
-      flies = k.flies;
+      unlogged_is = k.unlogged_is;
       sound = sound;
       geometry = k.geometry;
       tree = k.tree;

@@ -39,11 +39,11 @@ module _ (keeps : Type 0) (slots : ℕ) (replies : List Reply) (tree : TreeView)
     opened_core = record {
       claimed = let all = length-numbers 0 slots in let there = size in omega (arith, all, there);
       placed = record { waiting = tt; out = tt; ran = tt; logged = tt };
-      turned = refl;
+      queue_geometry = refl;
       seats = sym size;
       waits = refl;
       holds = λ test. refl;
-      flies = refl;
+      unlogged_is = refl;
       sound = idle_sound (core_state_in opened) (record { none_waits = refl; none_held = refl }) journal.geometry;
       geometry = same;
       tree = tree_holds;

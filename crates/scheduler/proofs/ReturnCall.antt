@@ -182,12 +182,12 @@ module _ (keeps : Type 0) (p : Parts) (k : IsCore keeps p) (before : List SlotVi
 
 -- ---- the call
 
-module _ (keeps : Type 0) (row : Row Slot) (replies : List Reply) (tree : TreeView) (journal : JournalView) (queue : RunQueueView) (batch : List Msg) (next flight : ℕ)
+module _ (keeps : Type 0) (row : Row Slot) (replies : List Reply) (tree : TreeView) (journal : JournalView) (queue : RunQueueView) (batch : List Msg) (next unlogged : ℕ)
     (opened : TreeView) (since : List Msg) (is : HasChains row)
-    (k : IsCore keeps (parts row replies tree journal queue batch next flight opened since)) (done : Result)
-    (result : IsResultOf journal.geometry (core_state_in (parts row replies tree journal queue batch next flight opened since)) done) where
+    (k : IsCore keeps (parts row replies tree journal queue batch next unlogged opened since)) (done : Result)
+    (result : IsResultOf journal.geometry (core_state_in (parts row replies tree journal queue batch next unlogged opened since)) done) where
   abbrev p : Parts
-  p = parts row replies tree journal queue batch next flight opened since
+  p = parts row replies tree journal queue batch next unlogged opened since
 
   recovers : Recovers (done.ticket, done.message) p.lines.out
   recovers = recovers_in (done.ticket, done.message) p.lines.out result.is_out
@@ -258,7 +258,7 @@ module _ (keeps : Type 0) (row : Row Slot) (replies : List Reply) (tree : TreeVi
         told_here = ap (λ n. get_or told n Done) (sym slot_is) ∙ get_or-set_same replies slot reply Done there ∙ reply_is
 
         abbrev after : Parts
-        after = parts (after_move row slot 2) told now journal queue batch next flight opened since
+        after = parts (after_move row slot 2) told now journal queue batch next unlogged opened since
 
         joined : line (after_move row slot 2) told 2 ≡ p.lines.ran ++ y ∷ []
         joined = lines.joined ∙ (λ j. p.lines.ran ++ (x.0, x.1, told_here j) ∷ [])

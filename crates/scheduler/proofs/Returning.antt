@@ -21,7 +21,7 @@ use Rattle.parcel.specs.Tree.{RestoresAt, TreeView, in_tree}
 use Rattle.parcel.specs.declared.parts.Parcels.{Parcels}
 use Rattle.parcel.specs.declared.parts.Standing.{Standing}
 use Rattle.meaning.specs.Serial.{next_state, reply_to}
-use Rattle.scheduler.proofs.Counting.{changing, changing-append, changing-cons, flight_of}
+use Rattle.scheduler.proofs.Counting.{changing, changing-append, changing-cons, unlogged_of}
 use Rattle.scheduler.proofs.Tests.{any_back}
 use Rattle.scheduler.proofs.Trees.{back_reaches, back_tree}
 use Rattle.scheduler.specs.Parts.{IsCore, IsPlaced, Parts, entry_of, is_below, reached, replied_of, core_state_in}
@@ -87,8 +87,8 @@ module _ (keeps : Type 0) (p : Parts) (k : IsCore keeps p) (before : List SlotVi
         let now = length-append before behind in
         let more = length-append p.lines.ran (y ∷ []) in
         let claimed = k.claimed in
-        let flew = k.flies ∙ flight_of p in
-        let flies = flight_of after in
+        let unlogged_was = k.unlogged_is ∙ unlogged_of p in
+        let unlogged_is = unlogged_of after in
         let out_was = ap changing whole ∙ changing-append before (x ∷ behind) ∙ ap (λ n. changing before + n) (changing-cons x behind) in
         let out_now = changing-append before behind in
         let ran_now = changing-append p.lines.ran (y ∷ []) ∙ ap (λ n. changing p.lines.ran + n) (changing-cons y []) in
@@ -102,11 +102,11 @@ module _ (keeps : Type 0) (p : Parts) (k : IsCore keeps p) (before : List SlotVi
                 (record { affinity = returned_is_placed.affinity; range = returned_is_placed.range; message = returned_is_placed.message }, tt);
             logged = k.placed.logged;
           };
-          turned = k.turned;
+          queue_geometry = k.queue_geometry;
           seats = k.seats;
           waits = k.waits;
           holds = λ test. k.holds test ∙ any_back test p.lines before x y behind whole refl;
-          flies = omega (arith, flew, flies, out_was, out_now, ran_now);
+          unlogged_is = omega (arith, unlogged_was, unlogged_is, out_was, out_now, ran_now);
           sound = subst (IsSoundCoreState p.journal.geometry) (sym return_state)
               (move_sound p.journal.geometry (core_state_in p) _ _ (Backs x.1.ticket found returned_is_found refl refl) k.sound);
           geometry = geometry;

@@ -6,7 +6,7 @@ use Rattle.affinity.specs.Path.{Path, begins}
 use Rattle.affinity.specs.declared.geometry.Geometry.{Geometry}
 use Rattle.arena.specs.Row.{Row, capacity_of}
 use Rattle.journal.specs.Journal.{JournalView, committed}
-use Rattle.legal_runs.specs.Eligible.{changes, in_flight}
+use Rattle.legal_runs.specs.Eligible.{changes, unlogged_changes}
 use Rattle.legal_runs.specs.Laws.{IsSoundCoreState}
 use Rattle.legal_runs.specs.CoreState.{Entry, Replied, CoreState, entries}
 use Rattle.messages.specs.Messages.{IsMessage, is_in_range, place}
@@ -49,13 +49,13 @@ pub record Parts : Type 0 where
   pub batch : List Msg
   pub next : ℕ
   -- how many changing messages are in flight or ran
-  pub flight : ℕ
+  pub unlogged : ℕ
   pub opened : TreeView
   pub since : List Msg
 
 -- the parts of a core with these fields
 abbrev pub parts : Row Slot → List Reply → TreeView → JournalView → RunQueueView → List Msg → ℕ → ℕ → TreeView → List Msg → Parts
-parts row replies tree journal queue batch next flight opened since = record {
+parts row replies tree journal queue batch next unlogged opened since = record {
   lines = stages_of row replies;
   free = length row.free;
   capacity = capacity_of row;
@@ -64,7 +64,7 @@ parts row replies tree journal queue batch next flight opened since = record {
   queue = queue;
   batch = batch;
   next = next;
-  flight = flight;
+  unlogged = unlogged;
   opened = opened;
   since = since;
 }
@@ -115,11 +115,11 @@ pub record IsCore (keeps : Type 0) (p : Parts) : Type 0 where
   pub claimed : p.free + (length p.lines.waiting + (length p.lines.logged + (length p.lines.ran + length p.lines.out))) ≡ p.capacity
   pub placed : ArePlaced p.journal.geometry p.lines
   -- the run queue
-  pub turned : p.queue.geometry ≡ p.journal.geometry
+  pub queue_geometry : p.queue.geometry ≡ p.journal.geometry
   pub seats : p.queue.slots ≡ p.capacity
   pub waits : p.queue.waiting ≡ map queued_of p.lines.waiting
   pub holds : (test : QueuedMessage → Bool) → list_any test p.queue.held ≡ held_any test p.lines
-  pub flies : p.flight ≡ in_flight (core_state_in p)
+  pub unlogged_is : p.unlogged ≡ unlogged_changes (core_state_in p)
   pub sound : IsSoundCoreState p.journal.geometry (core_state_in p)
   -- the tree holds what was reached, but for the places of messages in flight
   pub geometry : p.tree.geometry ≡ p.journal.geometry

@@ -66,7 +66,7 @@ pub struct Core<D: Disk> {
     next: u64,
 
     /// How many changing messages are in flight or ran.
-    flight: usize,
+    unlogged: usize,
 
     /// How many messages ran.
     ran: usize,
@@ -83,11 +83,11 @@ impl<D: Disk> Model for Core<D> {
     ghost Value = { CoreView };
 
     ghost view = { λ c. kept_of
-        (parts c.slots c.replies.items c.tree c.journal c.queue c.batch.items c.next c.flight c.history.opened c.history.since) };
+        (parts c.slots c.replies.items c.tree c.journal c.queue c.batch.items c.next c.unlogged c.history.opened c.history.since) };
 
     ghost invariant = { λ c. HasChains c.slots
         × IsCore D.keeps
-        (parts c.slots c.replies.items c.tree c.journal c.queue c.batch.items c.next c.flight c.history.opened c.history.since)
+        (parts c.slots c.replies.items c.tree c.journal c.queue c.batch.items c.next c.unlogged c.history.opened c.history.since)
         × (capacity_of c.slots ≤ vec_capacity c.batch)
         × (length c.replies.items ≡ capacity_of c.slots)
         × (c.ran ≡ length (line c.slots c.replies.items 2)) };
@@ -173,7 +173,7 @@ impl<D: Disk> Core<D> {
             journal,
             batch,
             next: 0,
-            flight: 0,
+            unlogged: 0,
             ran: 0,
         })
     }
@@ -225,7 +225,7 @@ impl<D: Disk> Core<D> {
         if self.journal.failed() {
             return Granted::Failed;
         }
-        let room = self.flight < self.journal.room();
+        let room = self.unlogged < self.journal.room();
         let queued = match choose(&self.queue, room) {
             Ok(queued) => queued,
             Err(why) => return why,
@@ -243,7 +243,7 @@ impl<D: Disk> Core<D> {
         let g = self.journal.geometry();
         self.queue.go(queued);
         self.slots.move_to(number, OUT);
-        self.flight += more;
+        self.unlogged += more;
         Granted::Job(Job::new(g, ticket, message, standing, parcels))
     }
 
@@ -298,7 +298,7 @@ impl<D: Disk> Core<D> {
         self.history.note(&self.batch);
         self.batch.clear();
         move_ran(&mut self.slots, count);
-        self.flight -= changing;
+        self.unlogged -= changing;
         self.ran -= count;
         Ok(count)
     }

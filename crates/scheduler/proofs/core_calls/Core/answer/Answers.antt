@@ -25,26 +25,26 @@ invariant_of-self g c =
     let first = sym c.front.ensures.slot ∙ c.in_ok-slot.was in
     let value = sym c.take.ensures.answer ∙ c.in-Some.is in
     subst (λ (row : Row Slot). HasChains row × IsCore g.D.Disk.keeps (parts row c.self.inside.replies.items c.self.inside.tree c.self.inside.journal
-    c.free.new.self c.self.inside.batch.items c.self.inside.next c.self.inside.flight c.self.inside.history.opened c.self.inside.history.since)
+    c.free.new.self c.self.inside.batch.items c.self.inside.next c.self.inside.unlogged c.self.inside.history.opened c.self.inside.history.since)
     × (capacity_of row ≤ vec_capacity c.self.inside.batch) × (length c.self.inside.replies.items ≡ capacity_of row)
     × (c.self.inside.ran ≡ length (line row c.self.inside.replies.items 2))) (sym c.take.ensures.row) (
       answer_call_chains g.D.Disk.keeps c.self.inside.slots c.self.inside.replies.items c.self.inside.tree c.self.inside.journal c.self.inside.queue
-          c.self.inside.batch.items c.self.inside.next c.self.inside.flight c.self.inside.history.opened c.self.inside.history.since v.0 v.1
+          c.self.inside.batch.items c.self.inside.next c.self.inside.unlogged c.self.inside.history.opened c.self.inside.history.since v.0 v.1
           c.in_ok-slot.slot first c.in-Some.taken value (subst IsParted c.take.ensures.row c.take.ensures.parted),
       subst (λ (q : RunQueueView). IsCore g.D.Disk.keeps (parts (after_take c.self.inside.slots c.in_ok-slot.slot) c.self.inside.replies.items
-          c.self.inside.tree c.self.inside.journal q c.self.inside.batch.items c.self.inside.next c.self.inside.flight c.self.inside.history.opened
+          c.self.inside.tree c.self.inside.journal q c.self.inside.batch.items c.self.inside.next c.self.inside.unlogged c.self.inside.history.opened
           c.self.inside.history.since)) (sym c.free.ensures)
           (answer_call_core g.D.Disk.keeps c.self.inside.slots c.self.inside.replies.items c.self.inside.tree c.self.inside.journal
-          c.self.inside.queue c.self.inside.batch.items c.self.inside.next c.self.inside.flight c.self.inside.history.opened
+          c.self.inside.queue c.self.inside.batch.items c.self.inside.next c.self.inside.unlogged c.self.inside.history.opened
           c.self.inside.history.since v.0 v.1 c.in_ok-slot.slot first c.in-Some.taken value),
       subst (λ (n : ℕ). n ≤ vec_capacity c.self.inside.batch) (sym (answer_call_size g.D.Disk.keeps c.self.inside.slots c.self.inside.replies.items
-          c.self.inside.tree c.self.inside.journal c.self.inside.queue c.self.inside.batch.items c.self.inside.next c.self.inside.flight
+          c.self.inside.tree c.self.inside.journal c.self.inside.queue c.self.inside.batch.items c.self.inside.next c.self.inside.unlogged
           c.self.inside.history.opened c.self.inside.history.since v.0 v.1 c.in_ok-slot.slot first c.in-Some.taken value)) v.2,
       v.3 ∙ sym (answer_call_size g.D.Disk.keeps c.self.inside.slots c.self.inside.replies.items c.self.inside.tree c.self.inside.journal
-          c.self.inside.queue c.self.inside.batch.items c.self.inside.next c.self.inside.flight c.self.inside.history.opened
+          c.self.inside.queue c.self.inside.batch.items c.self.inside.next c.self.inside.unlogged c.self.inside.history.opened
           c.self.inside.history.since v.0 v.1 c.in_ok-slot.slot first c.in-Some.taken value),
       v.4 ∙ sym (answer_call_ran g.D.Disk.keeps c.self.inside.slots c.self.inside.replies.items c.self.inside.tree c.self.inside.journal
-          c.self.inside.queue c.self.inside.batch.items c.self.inside.next c.self.inside.flight c.self.inside.history.opened
+          c.self.inside.queue c.self.inside.batch.items c.self.inside.next c.self.inside.unlogged c.self.inside.history.opened
           c.self.inside.history.since v.0 v.1 c.in_ok-slot.slot first c.in-Some.taken value),
     )
 
@@ -61,9 +61,9 @@ returns-clause-state_after g c =
           ∙ get_or_any c.self.inside.replies.items c.in_ok-slot.slot c.index-reply.result.now Done low) i),
       core_state_in
           (parts (c.take.ensures.row i) c.self.inside.replies.items c.self.inside.tree c.self.inside.journal (c.free.ensures i)
-          c.self.inside.batch.items c.self.inside.next c.self.inside.flight c.self.inside.history.opened c.self.inside.history.since),
+          c.self.inside.batch.items c.self.inside.next c.self.inside.unlogged c.self.inside.history.opened c.self.inside.history.since),
     ))
     ∙ answer_call_state g.D.Disk.keeps c.self.inside.slots c.self.inside.replies.items c.self.inside.tree c.self.inside.journal c.self.inside.queue
-    c.self.inside.batch.items c.self.inside.next c.self.inside.flight c.self.inside.history.opened c.self.inside.history.since v.0 v.1
+    c.self.inside.batch.items c.self.inside.next c.self.inside.unlogged c.self.inside.history.opened c.self.inside.history.since v.0 v.1
     c.in_ok-slot.slot first c.in-Some.taken value
     ∙ ap (λ (o : CoreView). answer (core_state_of o) o.logged) c.self.view_is

@@ -18,11 +18,11 @@ use Rattle.scheduler.proofs.core_calls.Core.arrive.Goals as goal
 pub invariant_of-self : goal.invariant_of-self
 invariant_of-self g c =
     subst (λ (row : Row Slot). HasChains row × IsCore g.D.Disk.keeps (parts row c.self.inside.replies.items c.self.inside.tree c.self.inside.journal
-    c.self.inside.queue c.self.inside.batch.items c.self.inside.next c.self.inside.flight c.self.inside.history.opened
+    c.self.inside.queue c.self.inside.batch.items c.self.inside.next c.self.inside.unlogged c.self.inside.history.opened
     c.self.inside.history.since)
     × (capacity_of row ≤ vec_capacity c.self.inside.batch) × (length c.self.inside.replies.items ≡ capacity_of row) × (c.self.inside.ran ≡ length (line row c.self.inside.replies.items 2)))
     (sym (c.put.ensures.row ∙ full_row g.D.Disk.keeps c.self.inside.slots c.self.inside.replies.items c.self.inside.tree c.self.inside.journal
-    c.self.inside.queue c.self.inside.batch.items c.self.inside.next c.self.inside.flight c.self.inside.history.opened
+    c.self.inside.queue c.self.inside.batch.items c.self.inside.next c.self.inside.unlogged c.self.inside.history.opened
     c.self.inside.history.since c.self.invariant.0 c.self.invariant.1
     (record { ticket = c.self.inside.next; message = c.args.m.now; affinity = c.in-Some.affinity }) c.in_default-put.field-0
     (sym c.put.ensures.answer ∙ c.in_default-put.is))) c.self.invariant
@@ -33,14 +33,14 @@ returns-in_default-put-clause-state_after g c =
       outcomes.ArriveRefused arrivals.Full,
       core_state_in (parts ((c.put.ensures.row
           ∙ full_row g.D.Disk.keeps c.self.inside.slots c.self.inside.replies.items c.self.inside.tree c.self.inside.journal c.self.inside.queue
-          c.self.inside.batch.items c.self.inside.next c.self.inside.flight c.self.inside.history.opened c.self.inside.history.since
+          c.self.inside.batch.items c.self.inside.next c.self.inside.unlogged c.self.inside.history.opened c.self.inside.history.since
           c.self.invariant.0 c.self.invariant.1 (record { ticket = c.self.inside.next; message = c.args.m.now; affinity = c.in-Some.affinity })
           c.in_default-put.field-0 (sym c.put.ensures.answer ∙ c.in_default-put.is)) i) c.self.inside.replies.items c.self.inside.tree
-          c.self.inside.journal c.self.inside.queue c.self.inside.batch.items c.self.inside.next c.self.inside.flight c.self.inside.history.opened
+          c.self.inside.journal c.self.inside.queue c.self.inside.batch.items c.self.inside.next c.self.inside.unlogged c.self.inside.history.opened
           c.self.inside.history.since),
     ))
     ∙ full_state g.D.Disk.keeps c.self.inside.slots c.self.inside.replies.items c.self.inside.tree c.self.inside.journal c.self.inside.queue
-    c.self.inside.batch.items c.self.inside.next c.self.inside.flight c.self.inside.history.opened c.self.inside.history.since
+    c.self.inside.batch.items c.self.inside.next c.self.inside.unlogged c.self.inside.history.opened c.self.inside.history.since
     c.self.invariant.0 c.self.invariant.1 (record { ticket = c.self.inside.next; message = c.args.m.now; affinity = c.in-Some.affinity })
     c.in_default-put.field-0 (sym c.put.ensures.answer ∙ c.in_default-put.is) (sym c.failed.ensures ∙ c.if-failed.false)
     (range_of c.geometry-g.result c.self.inside.journal.geometry c.args.m.now c.kind.result c.numbers.result c.geometry-g.ensures c.kind.ensures
@@ -49,19 +49,19 @@ returns-in_default-put-clause-state_after g c =
 
 pub arrive-requires-clause-later : goal.arrive-requires-clause-later
 arrive-requires-clause-later g c = arrive_later g.D.Disk.keeps c.self.inside.slots c.self.inside.replies.items c.self.inside.tree
-    c.self.inside.journal c.self.inside.queue c.self.inside.batch.items c.self.inside.next c.self.inside.flight c.self.inside.history.opened
+    c.self.inside.journal c.self.inside.queue c.self.inside.batch.items c.self.inside.next c.self.inside.unlogged c.self.inside.history.opened
     c.self.inside.history.since c.self.invariant.0 c.self.invariant.1 (record
     { ticket = c.self.inside.next; message = c.args.m.now; affinity = c.in-Some.affinity }) c.in-Ok.slot (sym c.put.ensures.answer ∙ c.in-Ok.is)
 
 pub arrive-requires-clause-slot : goal.arrive-requires-clause-slot
 arrive-requires-clause-slot g c = arrive_slot g.D.Disk.keeps c.self.inside.slots c.self.inside.replies.items c.self.inside.tree
-    c.self.inside.journal c.self.inside.queue c.self.inside.batch.items c.self.inside.next c.self.inside.flight c.self.inside.history.opened
+    c.self.inside.journal c.self.inside.queue c.self.inside.batch.items c.self.inside.next c.self.inside.unlogged c.self.inside.history.opened
     c.self.inside.history.since c.self.invariant.0 c.self.invariant.1 (record
     { ticket = c.self.inside.next; message = c.args.m.now; affinity = c.in-Some.affinity }) c.in-Ok.slot (sym c.put.ensures.answer ∙ c.in-Ok.is)
 
 pub arrive-requires-clause-new_slot : goal.arrive-requires-clause-new_slot
 arrive-requires-clause-new_slot g c = arrive_new g.D.Disk.keeps c.self.inside.slots c.self.inside.replies.items c.self.inside.tree
-    c.self.inside.journal c.self.inside.queue c.self.inside.batch.items c.self.inside.next c.self.inside.flight c.self.inside.history.opened
+    c.self.inside.journal c.self.inside.queue c.self.inside.batch.items c.self.inside.next c.self.inside.unlogged c.self.inside.history.opened
     c.self.inside.history.since c.self.invariant.0 c.self.invariant.1 (record
     { ticket = c.self.inside.next; message = c.args.m.now; affinity = c.in-Some.affinity }) c.in-Ok.slot (sym c.put.ensures.answer ∙ c.in-Ok.is)
 
@@ -69,18 +69,18 @@ pub invariant_of-self-2 : goal.invariant_of-self-2
 invariant_of-self-2 g c =
     let rows = c.move_to.ensures.row ∙ ap (λ (r : Row Slot). after_move r c.in-Ok.slot 0) c.put.ensures.row in
     subst (λ (row : Row Slot). HasChains row × IsCore g.D.Disk.keeps (parts row c.self.inside.replies.items c.self.inside.tree c.self.inside.journal
-    c.arrive.new.self c.self.inside.batch.items (c.self.inside.next + 1) c.self.inside.flight c.self.inside.history.opened
+    c.arrive.new.self c.self.inside.batch.items (c.self.inside.next + 1) c.self.inside.unlogged c.self.inside.history.opened
     c.self.inside.history.since)
     × (capacity_of row ≤ vec_capacity c.self.inside.batch) × (length c.self.inside.replies.items ≡ capacity_of row) × (c.self.inside.ran ≡ length (line row c.self.inside.replies.items 2)))
     (sym rows) (
       arrive_chains g.D.Disk.keeps c.self.inside.slots c.self.inside.replies.items c.self.inside.tree c.self.inside.journal c.self.inside.queue
-          c.self.inside.batch.items c.self.inside.next c.self.inside.flight c.self.inside.history.opened c.self.inside.history.since
+          c.self.inside.batch.items c.self.inside.next c.self.inside.unlogged c.self.inside.history.opened c.self.inside.history.since
           c.self.invariant.0 c.self.invariant.1 (record { ticket = c.self.inside.next; message = c.args.m.now; affinity = c.in-Some.affinity })
           c.in-Ok.slot (sym c.put.ensures.answer ∙ c.in-Ok.is) (subst IsParted rows c.move_to.ensures.parted),
       subst (λ (q : RunQueueView). IsCore g.D.Disk.keeps (parts (after_move
           (after_put c.self.inside.slots (record { ticket = c.self.inside.next; message = c.args.m.now; affinity = c.in-Some.affinity }))
           c.in-Ok.slot 0) c.self.inside.replies.items c.self.inside.tree c.self.inside.journal q c.self.inside.batch.items (c.self.inside.next + 1)
-          c.self.inside.flight c.self.inside.history.opened c.self.inside.history.since))
+          c.self.inside.unlogged c.self.inside.history.opened c.self.inside.history.since))
           (sym (c.arrive.ensures ∙ ap (λ (b : Bool). record c.self.inside.queue {
             waiting = c.self.inside.queue.waiting ++ record {
               slot = c.in-Ok.slot;
@@ -91,7 +91,7 @@ invariant_of-self-2 g c =
             } ∷ [];
           }) (c.changing.ensures ∙ ap is_changing c.kind-2.ensures)))
           (arrive_core g.D.Disk.keeps c.self.inside.slots c.self.inside.replies.items c.self.inside.tree c.self.inside.journal c.self.inside.queue
-          c.self.inside.batch.items c.self.inside.next c.self.inside.flight c.self.inside.history.opened c.self.inside.history.since
+          c.self.inside.batch.items c.self.inside.next c.self.inside.unlogged c.self.inside.history.opened c.self.inside.history.since
           c.self.invariant.0 c.self.invariant.1 (record { ticket = c.self.inside.next; message = c.args.m.now; affinity = c.in-Some.affinity })
           c.in-Ok.slot (sym c.put.ensures.answer ∙ c.in-Ok.is) refl
           (record {
@@ -103,17 +103,17 @@ invariant_of-self-2 g c =
             message = c.know_message.ensures;
           })),
       subst (λ (n : ℕ). n ≤ vec_capacity c.self.inside.batch) (sym (arrive_size g.D.Disk.keeps c.self.inside.slots c.self.inside.replies.items
-          c.self.inside.tree c.self.inside.journal c.self.inside.queue c.self.inside.batch.items c.self.inside.next c.self.inside.flight
+          c.self.inside.tree c.self.inside.journal c.self.inside.queue c.self.inside.batch.items c.self.inside.next c.self.inside.unlogged
           c.self.inside.history.opened c.self.inside.history.since c.self.invariant.0 c.self.invariant.1
           (record { ticket = c.self.inside.next; message = c.args.m.now; affinity = c.in-Some.affinity }) c.in-Ok.slot
           (sym c.put.ensures.answer ∙ c.in-Ok.is))) c.self.invariant.2,
       c.self.invariant.3 ∙ sym (arrive_size g.D.Disk.keeps c.self.inside.slots c.self.inside.replies.items c.self.inside.tree c.self.inside.journal
-          c.self.inside.queue c.self.inside.batch.items c.self.inside.next c.self.inside.flight c.self.inside.history.opened
+          c.self.inside.queue c.self.inside.batch.items c.self.inside.next c.self.inside.unlogged c.self.inside.history.opened
           c.self.inside.history.since c.self.invariant.0 c.self.invariant.1
           (record { ticket = c.self.inside.next; message = c.args.m.now; affinity = c.in-Some.affinity }) c.in-Ok.slot
           (sym c.put.ensures.answer ∙ c.in-Ok.is)),
       c.self.invariant.4 ∙ sym (arrive_ran g.D.Disk.keeps c.self.inside.slots c.self.inside.replies.items c.self.inside.tree c.self.inside.journal
-          c.self.inside.queue c.self.inside.batch.items c.self.inside.next c.self.inside.flight c.self.inside.history.opened
+          c.self.inside.queue c.self.inside.batch.items c.self.inside.next c.self.inside.unlogged c.self.inside.history.opened
           c.self.inside.history.since c.self.invariant.0 c.self.invariant.1
           (record { ticket = c.self.inside.next; message = c.args.m.now; affinity = c.in-Some.affinity }) c.in-Ok.slot
           (sym c.put.ensures.answer ∙ c.in-Ok.is)),
@@ -134,10 +134,10 @@ returns-clause-state_after g c =
                   c.self.inside.next;
             } ∷ [];
           }) (c.changing.ensures ∙ ap is_changing c.kind-2.ensures)) i) c.self.inside.batch.items (c.self.inside.next + 1)
-          c.self.inside.flight c.self.inside.history.opened c.self.inside.history.since),
+          c.self.inside.unlogged c.self.inside.history.opened c.self.inside.history.since),
     ))
     ∙ arrive_state g.D.Disk.keeps c.self.inside.slots c.self.inside.replies.items c.self.inside.tree c.self.inside.journal c.self.inside.queue
-    c.self.inside.batch.items c.self.inside.next c.self.inside.flight c.self.inside.history.opened c.self.inside.history.since
+    c.self.inside.batch.items c.self.inside.next c.self.inside.unlogged c.self.inside.history.opened c.self.inside.history.since
     c.self.invariant.0 c.self.invariant.1 (record { ticket = c.self.inside.next; message = c.args.m.now; affinity = c.in-Some.affinity })
     c.in-Ok.slot (sym c.put.ensures.answer ∙ c.in-Ok.is) refl (record {
       affinity = placed_of c.geometry-g.result c.self.inside.journal.geometry c.args.m.now c.kind.result c.numbers.result c.in-Some.affinity

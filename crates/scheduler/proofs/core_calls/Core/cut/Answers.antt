@@ -22,20 +22,20 @@ pub returns-in-Some-clause-any_moment : goal.returns-in-Some-clause-any_moment
 returns-in-Some-clause-any_moment g c = λ keep.
     subst (λ (o : CoreView). RecoversThroughout [] o o) c.self.view_is
     (still_standing g.D.Disk.keeps (parts c.self.inside.slots c.self.inside.replies.items c.self.inside.tree c.self.inside.journal
-    c.self.inside.queue c.self.inside.batch.items c.self.inside.next c.self.inside.flight c.self.inside.history.opened
+    c.self.inside.queue c.self.inside.batch.items c.self.inside.next c.self.inside.unlogged c.self.inside.history.opened
     c.self.inside.history.since) c.self.invariant.1 keep [] (kept_of
     (parts c.self.inside.slots c.self.inside.replies.items c.self.inside.tree c.self.inside.journal c.self.inside.queue
-    c.self.inside.batch.items c.self.inside.next c.self.inside.flight c.self.inside.history.opened c.self.inside.history.since)) refl)
+    c.self.inside.batch.items c.self.inside.next c.self.inside.unlogged c.self.inside.history.opened c.self.inside.history.since)) refl)
 
 pub cut-requires-clause-whole : goal.cut-requires-clause-whole
 cut-requires-clause-whole g c = point_whole g.D.Disk.keeps (parts c.self.inside.slots c.self.inside.replies.items c.self.inside.tree
-    c.self.inside.journal c.self.inside.queue c.self.inside.batch.items c.self.inside.next c.self.inside.flight c.self.inside.history.opened
+    c.self.inside.journal c.self.inside.queue c.self.inside.batch.items c.self.inside.next c.self.inside.unlogged c.self.inside.history.opened
     c.self.inside.history.since) c.self.invariant.1 (ap (λ (o : CoreView). point_refusal (core_state_of o)) c.self.view_is
     ∙ sym c.point_refusal.ensures ∙ c.in_default.is)
 
 pub cut-requires-clause-state : goal.cut-requires-clause-state
 cut-requires-clause-state g c = point_state g.D.Disk.keeps (parts c.self.inside.slots c.self.inside.replies.items c.self.inside.tree
-    c.self.inside.journal c.self.inside.queue c.self.inside.batch.items c.self.inside.next c.self.inside.flight c.self.inside.history.opened
+    c.self.inside.journal c.self.inside.queue c.self.inside.batch.items c.self.inside.next c.self.inside.unlogged c.self.inside.history.opened
     c.self.inside.history.since) c.self.invariant.1 (ap (λ (o : CoreView). point_refusal (core_state_of o)) c.self.view_is
     ∙ sym c.point_refusal.ensures ∙ c.in_default.is)
 
@@ -43,7 +43,7 @@ pub invariant_of-self : goal.invariant_of-self
 invariant_of-self g c = (
   c.self.invariant.0,
   cut_core g.D.Disk.keeps (parts c.self.inside.slots c.self.inside.replies.items c.self.inside.tree c.self.inside.journal c.self.inside.queue
-      c.self.inside.batch.items c.self.inside.next c.self.inside.flight c.self.inside.history.opened c.self.inside.history.since) c.self.invariant.1
+      c.self.inside.batch.items c.self.inside.next c.self.inside.unlogged c.self.inside.history.opened c.self.inside.history.since) c.self.invariant.1
       c.cut.new.self c.cut.ensures.any_moment c.cut.result (ap (λ (o : CoreView). point_refusal (core_state_of o)) c.self.view_is
       ∙ sym c.point_refusal.ensures ∙ c.in_default.is) c.cut.ensures.committed c.cut.ensures.begun c.cut.ensures.few c.cut.ensures.broken,
   c.self.invariant.2,
@@ -55,9 +55,9 @@ pub returns-then-is_err-clause-any_moment : goal.returns-then-is_err-clause-any_
 returns-then-is_err-clause-any_moment g c = λ keep.
     subst (λ (o : CoreView). CrashImagesAre o.medium c.cut.new.self.medium (HoldsSome o.geometry (core_state_of o).committed (if o.failed then o.doubt else []))) c.self.view_is
     (step_moment g.D.Disk.keeps (parts c.self.inside.slots c.self.inside.replies.items c.self.inside.tree c.self.inside.journal c.self.inside.queue
-    c.self.inside.batch.items c.self.inside.next c.self.inside.flight c.self.inside.history.opened c.self.inside.history.since)
+    c.self.inside.batch.items c.self.inside.next c.self.inside.unlogged c.self.inside.history.opened c.self.inside.history.since)
     c.self.invariant.1 (point_works g.D.Disk.keeps (parts c.self.inside.slots c.self.inside.replies.items c.self.inside.tree
-    c.self.inside.journal c.self.inside.queue c.self.inside.batch.items c.self.inside.next c.self.inside.flight c.self.inside.history.opened
+    c.self.inside.journal c.self.inside.queue c.self.inside.batch.items c.self.inside.next c.self.inside.unlogged c.self.inside.history.opened
     c.self.inside.history.since) c.self.invariant.1 (ap (λ (o : CoreView). point_refusal (core_state_of o)) c.self.view_is
     ∙ sym c.point_refusal.ensures ∙ c.in_default.is)) c.cut.new.self c.cut.ensures.any_moment keep)
 
@@ -65,7 +65,7 @@ pub invariant_of-self-2 : goal.invariant_of-self-2
 invariant_of-self-2 g c = (
   c.self.invariant.0,
   cut_core g.D.Disk.keeps (parts c.self.inside.slots c.self.inside.replies.items c.self.inside.tree c.self.inside.journal c.self.inside.queue
-      c.self.inside.batch.items c.self.inside.next c.self.inside.flight c.self.inside.history.opened c.self.inside.history.since) c.self.invariant.1
+      c.self.inside.batch.items c.self.inside.next c.self.inside.unlogged c.self.inside.history.opened c.self.inside.history.since) c.self.invariant.1
       c.cut.new.self c.cut.ensures.any_moment c.cut.result (ap (λ (o : CoreView). point_refusal (core_state_of o)) c.self.view_is
       ∙ sym c.point_refusal.ensures ∙ c.in_default.is) c.cut.ensures.committed c.cut.ensures.begun c.cut.ensures.few c.cut.ensures.broken,
   c.self.invariant.2,
@@ -77,9 +77,9 @@ pub returns-clause-any_moment : goal.returns-clause-any_moment
 returns-clause-any_moment g c = λ keep.
     subst (λ (o : CoreView). CrashImagesAre o.medium c.cut.new.self.medium (HoldsSome o.geometry (core_state_of o).committed (if o.failed then o.doubt else []))) c.self.view_is
     (step_moment g.D.Disk.keeps (parts c.self.inside.slots c.self.inside.replies.items c.self.inside.tree c.self.inside.journal c.self.inside.queue
-    c.self.inside.batch.items c.self.inside.next c.self.inside.flight c.self.inside.history.opened c.self.inside.history.since)
+    c.self.inside.batch.items c.self.inside.next c.self.inside.unlogged c.self.inside.history.opened c.self.inside.history.since)
     c.self.invariant.1 (point_works g.D.Disk.keeps (parts c.self.inside.slots c.self.inside.replies.items c.self.inside.tree
-    c.self.inside.journal c.self.inside.queue c.self.inside.batch.items c.self.inside.next c.self.inside.flight c.self.inside.history.opened
+    c.self.inside.journal c.self.inside.queue c.self.inside.batch.items c.self.inside.next c.self.inside.unlogged c.self.inside.history.opened
     c.self.inside.history.since) c.self.invariant.1 (ap (λ (o : CoreView). point_refusal (core_state_of o)) c.self.view_is
     ∙ sym c.point_refusal.ensures ∙ c.in_default.is)) c.cut.new.self c.cut.ensures.any_moment keep)
 
@@ -89,7 +89,7 @@ returns-clause-state_after g c =
     let begun = on_ok c.cut.result _ made c.cut.ensures.begun in
     let few = on_ok c.cut.result _ made c.cut.ensures.few in
     let new : JournalView → CoreState = λ j. core_state_in (parts c.self.inside.slots c.self.inside.replies.items c.self.inside.tree j
-    c.self.inside.queue c.self.inside.batch.items c.self.inside.next c.self.inside.flight c.self.inside.history.opened
+    c.self.inside.queue c.self.inside.batch.items c.self.inside.next c.self.inside.unlogged c.self.inside.history.opened
     c.self.inside.history.since) in
     subst (λ (o : CoreView). (point_refusal (core_state_of o) ≡ None) × ((n : ℕ) × (n ≤ piece_count o.geometry)
     × (new c.cut.new.self ≡ record (core_state_of o) { room = o.geometry.half; left = Some n }))) c.self.view_is

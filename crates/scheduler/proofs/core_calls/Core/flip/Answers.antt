@@ -17,34 +17,34 @@ pub returns-then-failed-clause-any_moment : goal.returns-then-failed-clause-any_
 returns-then-failed-clause-any_moment g c = λ keep.
     subst (λ (o : CoreView). RecoversThroughout [] o o) c.self.view_is
     (still_standing g.D.Disk.keeps (parts c.self.inside.slots c.self.inside.replies.items c.self.inside.tree c.self.inside.journal
-    c.self.inside.queue c.self.inside.batch.items c.self.inside.next c.self.inside.flight c.self.inside.history.opened
+    c.self.inside.queue c.self.inside.batch.items c.self.inside.next c.self.inside.unlogged c.self.inside.history.opened
     c.self.inside.history.since) c.self.invariant.1 keep [] (kept_of
     (parts c.self.inside.slots c.self.inside.replies.items c.self.inside.tree c.self.inside.journal c.self.inside.queue
-    c.self.inside.batch.items c.self.inside.next c.self.inside.flight c.self.inside.history.opened c.self.inside.history.since)) refl)
+    c.self.inside.batch.items c.self.inside.next c.self.inside.unlogged c.self.inside.history.opened c.self.inside.history.since)) refl)
 
 pub returns-in_default-clause-any_moment : goal.returns-in_default-clause-any_moment
 returns-in_default-clause-any_moment g c = λ keep.
     subst (λ (o : CoreView). RecoversThroughout [] o o) c.self.view_is
     (still_standing g.D.Disk.keeps (parts c.self.inside.slots c.self.inside.replies.items c.self.inside.tree c.self.inside.journal
-    c.self.inside.queue c.self.inside.batch.items c.self.inside.next c.self.inside.flight c.self.inside.history.opened
+    c.self.inside.queue c.self.inside.batch.items c.self.inside.next c.self.inside.unlogged c.self.inside.history.opened
     c.self.inside.history.since) c.self.invariant.1 keep [] (kept_of
     (parts c.self.inside.slots c.self.inside.replies.items c.self.inside.tree c.self.inside.journal c.self.inside.queue
-    c.self.inside.batch.items c.self.inside.next c.self.inside.flight c.self.inside.history.opened c.self.inside.history.since)) refl)
+    c.self.inside.batch.items c.self.inside.next c.self.inside.unlogged c.self.inside.history.opened c.self.inside.history.since)) refl)
 
 pub returns-then-left-gt0-clause-any_moment : goal.returns-then-left-gt0-clause-any_moment
 returns-then-left-gt0-clause-any_moment g c = λ keep.
     subst (λ (o : CoreView). RecoversThroughout [] o o) c.self.view_is
     (still_standing g.D.Disk.keeps (parts c.self.inside.slots c.self.inside.replies.items c.self.inside.tree c.self.inside.journal
-    c.self.inside.queue c.self.inside.batch.items c.self.inside.next c.self.inside.flight c.self.inside.history.opened
+    c.self.inside.queue c.self.inside.batch.items c.self.inside.next c.self.inside.unlogged c.self.inside.history.opened
     c.self.inside.history.since) c.self.invariant.1 keep [] (kept_of
     (parts c.self.inside.slots c.self.inside.replies.items c.self.inside.tree c.self.inside.journal c.self.inside.queue
-    c.self.inside.batch.items c.self.inside.next c.self.inside.flight c.self.inside.history.opened c.self.inside.history.since)) refl)
+    c.self.inside.batch.items c.self.inside.next c.self.inside.unlogged c.self.inside.history.opened c.self.inside.history.since)) refl)
 
 pub invariant_of-self : goal.invariant_of-self
 invariant_of-self g c = (
   c.self.invariant.0,
   flip_core g.D.Disk.keeps (parts c.self.inside.slots c.self.inside.replies.items c.self.inside.tree c.self.inside.journal c.self.inside.queue
-      c.self.inside.batch.items c.self.inside.next c.self.inside.flight c.self.inside.history.opened c.self.inside.history.since) c.self.invariant.1
+      c.self.inside.batch.items c.self.inside.next c.self.inside.unlogged c.self.inside.history.opened c.self.inside.history.since) c.self.invariant.1
       c.flip.new.self c.flip.ensures.any_moment c.flip.result (sym c.failed.ensures ∙ c.if-failed.false) c.flip.ensures.committed
       c.flip.ensures.after,
   c.self.invariant.2,
@@ -56,14 +56,14 @@ pub returns-then-is_err-clause-any_moment : goal.returns-then-is_err-clause-any_
 returns-then-is_err-clause-any_moment g c = λ keep.
     subst (λ (o : CoreView). CrashImagesAre o.medium c.flip.new.self.medium (HoldsSome o.geometry (core_state_of o).committed (if o.failed then o.doubt else []))) c.self.view_is
     (step_moment g.D.Disk.keeps (parts c.self.inside.slots c.self.inside.replies.items c.self.inside.tree c.self.inside.journal c.self.inside.queue
-    c.self.inside.batch.items c.self.inside.next c.self.inside.flight c.self.inside.history.opened c.self.inside.history.since)
+    c.self.inside.batch.items c.self.inside.next c.self.inside.unlogged c.self.inside.history.opened c.self.inside.history.since)
     c.self.invariant.1 (sym c.failed.ensures ∙ c.if-failed.false) c.flip.new.self c.flip.ensures.any_moment keep)
 
 pub invariant_of-self-2 : goal.invariant_of-self-2
 invariant_of-self-2 g c = (
   c.self.invariant.0,
   flip_core g.D.Disk.keeps (parts c.self.inside.slots c.self.inside.replies.items c.self.inside.tree c.self.inside.journal c.self.inside.queue
-      c.self.inside.batch.items c.self.inside.next c.self.inside.flight c.self.inside.history.opened c.self.inside.history.since) c.self.invariant.1
+      c.self.inside.batch.items c.self.inside.next c.self.inside.unlogged c.self.inside.history.opened c.self.inside.history.since) c.self.invariant.1
       c.flip.new.self c.flip.ensures.any_moment c.flip.result (sym c.failed.ensures ∙ c.if-failed.false) c.flip.ensures.committed
       c.flip.ensures.after,
   c.self.invariant.2,
@@ -75,7 +75,7 @@ pub returns-clause-any_moment : goal.returns-clause-any_moment
 returns-clause-any_moment g c = λ keep.
     subst (λ (o : CoreView). CrashImagesAre o.medium c.flip.new.self.medium (HoldsSome o.geometry (core_state_of o).committed (if o.failed then o.doubt else []))) c.self.view_is
     (step_moment g.D.Disk.keeps (parts c.self.inside.slots c.self.inside.replies.items c.self.inside.tree c.self.inside.journal c.self.inside.queue
-    c.self.inside.batch.items c.self.inside.next c.self.inside.flight c.self.inside.history.opened c.self.inside.history.since)
+    c.self.inside.batch.items c.self.inside.next c.self.inside.unlogged c.self.inside.history.opened c.self.inside.history.since)
     c.self.invariant.1 (sym c.failed.ensures ∙ c.if-failed.false) c.flip.new.self c.flip.ensures.any_moment keep)
 
 pub returns-then-failed-clause-beyond : goal.returns-then-failed-clause-beyond

@@ -22,7 +22,7 @@ use Rattle.scheduler.proofs.core_calls.Core.give_back.Goals as goal
 
 pub unreachable-requires-in_default-holder : goal.unreachable-requires-in_default-holder
 unreachable-requires-in_default-holder g c = true≢false (sym (back_is_held g.D.Disk.keeps c.self.inside.slots c.self.inside.replies.items
-    c.self.inside.tree c.self.inside.journal c.self.inside.queue c.self.inside.batch.items c.self.inside.next c.self.inside.flight
+    c.self.inside.tree c.self.inside.journal c.self.inside.queue c.self.inside.batch.items c.self.inside.next c.self.inside.unlogged
     c.self.inside.history.opened c.self.inside.history.since c.self.invariant.0 c.self.invariant.1 c.args.d
     (subst (λ (o : CoreView). IsResultOf o.geometry (core_state_of o) c.args.d) (sym c.self.view_is) c.requires) c.in-Some.affinity
     (placed_of c.geometry-g.result c.self.inside.journal.geometry c.args.d.message c.kind.result c.numbers.result c.in-Some.affinity
@@ -32,7 +32,7 @@ unreachable-requires-in_default-holder g c = true≢false (sym (back_is_held g.D
 pub index_mut-requires : goal.index_mut-requires
 index_mut-requires g c = subst (λ (n : ℕ). c.in-Some-holder.slot < n) (sym c.self.invariant.3 ∙ sym c.self.inside.replies.ok.0)
     (back_low g.D.Disk.keeps c.self.inside.slots c.self.inside.replies.items c.self.inside.tree c.self.inside.journal c.self.inside.queue
-    c.self.inside.batch.items c.self.inside.next c.self.inside.flight c.self.inside.history.opened c.self.inside.history.since c.self.invariant.0
+    c.self.inside.batch.items c.self.inside.next c.self.inside.unlogged c.self.inside.history.opened c.self.inside.history.since c.self.invariant.0
     c.self.invariant.1 c.args.d (subst (λ (o : CoreView). IsResultOf o.geometry (core_state_of o) c.args.d) (sym c.self.view_is) c.requires)
     c.in-Some.affinity (placed_of c.geometry-g.result c.self.inside.journal.geometry c.args.d.message c.kind.result c.numbers.result
     c.in-Some.affinity c.geometry-g.ensures (c.kind.ensures ∙ ap kind c.msg.ensures) (c.numbers.ensures ∙ ap four_numbers c.msg-2.ensures)
@@ -42,7 +42,7 @@ pub restore-requires-clause-fits : goal.restore-requires-clause-fits
 restore-requires-clause-fits g c = subst (λ (l : Parcels). (q : Path) → IsAffinityOf c.self.inside.tree.geometry q c.in-Some.affinity → IsKindOf q l
     → Fits c.self.inside.tree.geometry q l) (sym c.into_parcels.ensures)
     (back_fits g.D.Disk.keeps c.self.inside.slots c.self.inside.replies.items c.self.inside.tree c.self.inside.journal c.self.inside.queue
-    c.self.inside.batch.items c.self.inside.next c.self.inside.flight c.self.inside.history.opened c.self.inside.history.since
+    c.self.inside.batch.items c.self.inside.next c.self.inside.unlogged c.self.inside.history.opened c.self.inside.history.since
     c.self.invariant.0 c.self.invariant.1 c.args.d (subst (λ (o : CoreView). IsResultOf o.geometry (core_state_of o) c.args.d)
     (sym c.self.view_is) c.requires) c.in-Some.affinity (placed_of c.geometry-g.result c.self.inside.journal.geometry c.args.d.message
     c.kind.result c.numbers.result c.in-Some.affinity c.geometry-g.ensures (c.kind.ensures ∙ ap kind c.msg.ensures)
@@ -50,7 +50,7 @@ restore-requires-clause-fits g c = subst (λ (l : Parcels). (q : Path) → IsAff
 
 pub unreachable-requires-in_default-restore : goal.unreachable-requires-in_default-restore
 unreachable-requires-in_default-restore g c = back_goes_in g.D.Disk.keeps c.self.inside.slots c.self.inside.replies.items c.self.inside.tree
-    c.self.inside.journal c.self.inside.queue c.self.inside.batch.items c.self.inside.next c.self.inside.flight c.self.inside.history.opened
+    c.self.inside.journal c.self.inside.queue c.self.inside.batch.items c.self.inside.next c.self.inside.unlogged c.self.inside.history.opened
     c.self.inside.history.since c.self.invariant.0 c.self.invariant.1 c.args.d
     (subst (λ (o : CoreView). IsResultOf o.geometry (core_state_of o) c.args.d) (sym c.self.view_is) c.requires) c.in-Some.affinity
     (placed_of c.geometry-g.result c.self.inside.journal.geometry c.args.d.message c.kind.result c.numbers.result c.in-Some.affinity
@@ -63,14 +63,14 @@ invariant_of-self g c =
     let rows = c.move_to.ensures.row in
     subst (λ (row : Row Slot). HasChains row × IsCore g.D.Disk.keeps (parts row
     (slice_set c.self.inside.replies.items c.in-Some-holder.slot c.reply.result.now) c.restore.new.self c.self.inside.journal
-    c.self.inside.queue c.self.inside.batch.items c.self.inside.next c.self.inside.flight c.self.inside.history.opened
+    c.self.inside.queue c.self.inside.batch.items c.self.inside.next c.self.inside.unlogged c.self.inside.history.opened
     c.self.inside.history.since)
     × (capacity_of row ≤ vec_capacity c.self.inside.batch) × (length (slice_set c.self.inside.replies.items c.in-Some-holder.slot
     c.reply.result.now) ≡ capacity_of row) × (c.self.inside.ran + 1
     ≡ length (line row (slice_set c.self.inside.replies.items c.in-Some-holder.slot c.reply.result.now) 2)))
     (sym rows) (
       back_chains g.D.Disk.keeps c.self.inside.slots c.self.inside.replies.items c.self.inside.tree c.self.inside.journal c.self.inside.queue
-          c.self.inside.batch.items c.self.inside.next c.self.inside.flight c.self.inside.history.opened c.self.inside.history.since
+          c.self.inside.batch.items c.self.inside.next c.self.inside.unlogged c.self.inside.history.opened c.self.inside.history.since
           c.self.invariant.0 c.self.invariant.1 c.args.d (subst (λ (o : CoreView). IsResultOf o.geometry (core_state_of o) c.args.d)
           (sym c.self.view_is) c.requires) c.in-Some.affinity (placed_of c.geometry-g.result c.self.inside.journal.geometry c.args.d.message
           c.kind.result c.numbers.result c.in-Some.affinity c.geometry-g.ensures (c.kind.ensures ∙ ap kind c.msg.ensures)
@@ -80,7 +80,7 @@ invariant_of-self g c =
           → RestoresAt c.self.inside.tree.geometry q l (in_tree c.self.inside.tree) (in_tree c.restore.new.self)) c.into_parcels.ensures
           c.in-Ok.ensures.ok) (subst IsParted rows c.move_to.ensures.parted),
       back_core g.D.Disk.keeps c.self.inside.slots c.self.inside.replies.items c.self.inside.tree c.self.inside.journal c.self.inside.queue
-          c.self.inside.batch.items c.self.inside.next c.self.inside.flight c.self.inside.history.opened c.self.inside.history.since
+          c.self.inside.batch.items c.self.inside.next c.self.inside.unlogged c.self.inside.history.opened c.self.inside.history.since
           c.self.invariant.0 c.self.invariant.1 c.args.d (subst (λ (o : CoreView). IsResultOf o.geometry (core_state_of o) c.args.d)
           (sym c.self.view_is) c.requires) c.in-Some.affinity (placed_of c.geometry-g.result c.self.inside.journal.geometry c.args.d.message
           c.kind.result c.numbers.result c.in-Some.affinity c.geometry-g.ensures (c.kind.ensures ∙ ap kind c.msg.ensures)
@@ -90,7 +90,7 @@ invariant_of-self g c =
           → RestoresAt c.self.inside.tree.geometry q l (in_tree c.self.inside.tree) (in_tree c.restore.new.self)) c.into_parcels.ensures
           c.in-Ok.ensures.ok),
       subst (λ (n : ℕ). n ≤ vec_capacity c.self.inside.batch) (sym (back_size g.D.Disk.keeps c.self.inside.slots c.self.inside.replies.items
-          c.self.inside.tree c.self.inside.journal c.self.inside.queue c.self.inside.batch.items c.self.inside.next c.self.inside.flight
+          c.self.inside.tree c.self.inside.journal c.self.inside.queue c.self.inside.batch.items c.self.inside.next c.self.inside.unlogged
           c.self.inside.history.opened c.self.inside.history.since c.self.invariant.0 c.self.invariant.1 c.args.d
           (subst (λ (o : CoreView). IsResultOf o.geometry (core_state_of o) c.args.d) (sym c.self.view_is) c.requires) c.in-Some.affinity
           (placed_of c.geometry-g.result c.self.inside.journal.geometry c.args.d.message c.kind.result c.numbers.result c.in-Some.affinity
@@ -101,7 +101,7 @@ invariant_of-self g c =
           → RestoresAt c.self.inside.tree.geometry q l (in_tree c.self.inside.tree) (in_tree c.restore.new.self)) c.into_parcels.ensures
           c.in-Ok.ensures.ok))) c.self.invariant.2,
       back_long g.D.Disk.keeps c.self.inside.slots c.self.inside.replies.items c.self.inside.tree c.self.inside.journal c.self.inside.queue
-          c.self.inside.batch.items c.self.inside.next c.self.inside.flight c.self.inside.history.opened c.self.inside.history.since
+          c.self.inside.batch.items c.self.inside.next c.self.inside.unlogged c.self.inside.history.opened c.self.inside.history.since
           c.self.invariant.0 c.self.invariant.1 c.args.d (subst (λ (o : CoreView). IsResultOf o.geometry (core_state_of o) c.args.d)
           (sym c.self.view_is) c.requires) c.in-Some.affinity (placed_of c.geometry-g.result c.self.inside.journal.geometry c.args.d.message
           c.kind.result c.numbers.result c.in-Some.affinity c.geometry-g.ensures (c.kind.ensures ∙ ap kind c.msg.ensures)
@@ -111,7 +111,7 @@ invariant_of-self g c =
           → RestoresAt c.self.inside.tree.geometry q l (in_tree c.self.inside.tree) (in_tree c.restore.new.self)) c.into_parcels.ensures
           c.in-Ok.ensures.ok),
       back_ran g.D.Disk.keeps c.self.inside.slots c.self.inside.replies.items c.self.inside.tree c.self.inside.journal c.self.inside.queue
-          c.self.inside.batch.items c.self.inside.next c.self.inside.flight c.self.inside.history.opened c.self.inside.history.since
+          c.self.inside.batch.items c.self.inside.next c.self.inside.unlogged c.self.inside.history.opened c.self.inside.history.since
           c.self.invariant.0 c.self.invariant.1 c.args.d (subst (λ (o : CoreView). IsResultOf o.geometry (core_state_of o) c.args.d)
           (sym c.self.view_is) c.requires) c.in-Some.affinity (placed_of c.geometry-g.result c.self.inside.journal.geometry c.args.d.message
           c.kind.result c.numbers.result c.in-Some.affinity c.geometry-g.ensures (c.kind.ensures ∙ ap kind c.msg.ensures)
@@ -126,19 +126,19 @@ pub returns-clause-state_after : goal.returns-clause-state_after
 returns-clause-state_after g c =
     subst (λ (o : CoreView). (found : Entry × List Entry) × (out_with (core_state_of o) c.args.d.ticket ≡ Some found) × (found.0 ≡ (c.args.d.ticket, c.args.d.message))
     × (core_state_in (parts c.move_to.new.self (slice_set c.self.inside.replies.items c.in-Some-holder.slot c.reply.result.now) c.restore.new.self
-    c.self.inside.journal c.self.inside.queue c.self.inside.batch.items c.self.inside.next c.self.inside.flight c.self.inside.history.opened
+    c.self.inside.journal c.self.inside.queue c.self.inside.batch.items c.self.inside.next c.self.inside.unlogged c.self.inside.history.opened
     c.self.inside.history.since) ≡ give_back o.geometry (core_state_of o) found)) c.self.view_is
     (subst (λ (row : Row Slot). (found : Entry × List Entry) × (out_with
     (core_state_in (parts c.self.inside.slots c.self.inside.replies.items c.self.inside.tree c.self.inside.journal c.self.inside.queue
-    c.self.inside.batch.items c.self.inside.next c.self.inside.flight c.self.inside.history.opened c.self.inside.history.since)) c.args.d.ticket
+    c.self.inside.batch.items c.self.inside.next c.self.inside.unlogged c.self.inside.history.opened c.self.inside.history.since)) c.args.d.ticket
     ≡ Some found) × (found.0 ≡ (c.args.d.ticket, c.args.d.message))
     × (core_state_in (parts row (slice_set c.self.inside.replies.items c.in-Some-holder.slot c.reply.result.now) c.restore.new.self
-    c.self.inside.journal c.self.inside.queue c.self.inside.batch.items c.self.inside.next c.self.inside.flight c.self.inside.history.opened
+    c.self.inside.journal c.self.inside.queue c.self.inside.batch.items c.self.inside.next c.self.inside.unlogged c.self.inside.history.opened
     c.self.inside.history.since) ≡ give_back c.self.inside.journal.geometry
     (core_state_in (parts c.self.inside.slots c.self.inside.replies.items c.self.inside.tree c.self.inside.journal c.self.inside.queue
-    c.self.inside.batch.items c.self.inside.next c.self.inside.flight c.self.inside.history.opened c.self.inside.history.since)) found))
+    c.self.inside.batch.items c.self.inside.next c.self.inside.unlogged c.self.inside.history.opened c.self.inside.history.since)) found))
     (sym c.move_to.ensures.row) (back_state g.D.Disk.keeps c.self.inside.slots c.self.inside.replies.items c.self.inside.tree c.self.inside.journal
-    c.self.inside.queue c.self.inside.batch.items c.self.inside.next c.self.inside.flight c.self.inside.history.opened
+    c.self.inside.queue c.self.inside.batch.items c.self.inside.next c.self.inside.unlogged c.self.inside.history.opened
     c.self.inside.history.since c.self.invariant.0 c.self.invariant.1 c.args.d
     (subst (λ (o : CoreView). IsResultOf o.geometry (core_state_of o) c.args.d) (sym c.self.view_is) c.requires) c.in-Some.affinity
     (placed_of c.geometry-g.result c.self.inside.journal.geometry c.args.d.message c.kind.result c.numbers.result c.in-Some.affinity

@@ -19,15 +19,15 @@ use Rattle.scheduler.proofs.core_calls.Core.grant.Goals as goal
 
 pub unreachable-requires : goal.unreachable-requires
 unreachable-requires g c = grant_has_slot g.D.Disk.keeps c.self.inside.slots c.self.inside.replies.items c.self.inside.tree c.self.inside.journal
-    c.self.inside.queue c.self.inside.batch.items c.self.inside.next c.self.inside.flight c.self.inside.history.opened c.self.inside.history.since
-    c.self.invariant.0 c.self.invariant.1 _ (ap (nat_lt c.self.inside.flight) c.room.ensures.room) c.in-Ok.queued c.in-Ok.ensures.next
+    c.self.inside.queue c.self.inside.batch.items c.self.inside.next c.self.inside.unlogged c.self.inside.history.opened c.self.inside.history.since
+    c.self.invariant.0 c.self.invariant.1 _ (ap (nat_lt c.self.inside.unlogged) c.room.ensures.room) c.in-Ok.queued c.in-Ok.ensures.next
     (sym c.get.ensures.value ∙ ap option_copied c.in_default.is)
 
 pub lend-requires : goal.lend-requires
 lend-requires g c = record {
   affinity = grant_affinity g.D.Disk.keeps c.self.inside.slots c.self.inside.replies.items c.self.inside.tree
-      c.self.inside.journal c.self.inside.queue c.self.inside.batch.items c.self.inside.next c.self.inside.flight c.self.inside.history.opened
-      c.self.inside.history.since c.self.invariant.0 c.self.invariant.1 _ (ap (nat_lt c.self.inside.flight) c.room.ensures.room) c.in-Ok.queued
+      c.self.inside.journal c.self.inside.queue c.self.inside.batch.items c.self.inside.next c.self.inside.unlogged c.self.inside.history.opened
+      c.self.inside.history.since c.self.invariant.0 c.self.invariant.1 _ (ap (nat_lt c.self.inside.unlogged) c.room.ensures.room) c.in-Ok.queued
       c.in-Ok.ensures.next;
 }
 
@@ -35,22 +35,22 @@ pub returns-in-Err-clause-state_after : goal.returns-in-Err-clause-state_after
 returns-in-Err-clause-state_after g c =
     subst (λ (o : CoreView). IsGranted o.geometry (core_state_of o) (core_state_of o) c.in-Err.why) c.self.view_is
     (none_is_granted g.D.Disk.keeps (parts c.self.inside.slots c.self.inside.replies.items c.self.inside.tree c.self.inside.journal
-    c.self.inside.queue c.self.inside.batch.items c.self.inside.next c.self.inside.flight c.self.inside.history.opened
-    c.self.inside.history.since) c.self.invariant.1 _ (ap (nat_lt c.self.inside.flight) c.room.ensures.room) c.in-Err.ensures.next
+    c.self.inside.queue c.self.inside.batch.items c.self.inside.next c.self.inside.unlogged c.self.inside.history.opened
+    c.self.inside.history.since) c.self.invariant.1 _ (ap (nat_lt c.self.inside.unlogged) c.room.ensures.room) c.in-Err.ensures.next
     (sym c.failed.ensures ∙ c.if-failed.false) c.in-Err.why c.in-Err.ensures.why)
 
 pub unreachable-requires-in_default-lend : goal.unreachable-requires-in_default-lend
 unreachable-requires-in_default-lend g c =
     let at = chosen g.D.Disk.keeps c.self.inside.slots c.self.inside.replies.items c.self.inside.tree c.self.inside.journal c.self.inside.queue
-    c.self.inside.batch.items c.self.inside.next c.self.inside.flight c.self.inside.history.opened c.self.inside.history.since
-    c.self.invariant.0 c.self.invariant.1 _ (ap (nat_lt c.self.inside.flight) c.room.ensures.room) c.in-Ok.queued c.in-Ok.ensures.next in
+    c.self.inside.batch.items c.self.inside.next c.self.inside.unlogged c.self.inside.history.opened c.self.inside.history.since
+    c.self.invariant.0 c.self.invariant.1 _ (ap (nat_lt c.self.inside.unlogged) c.room.ensures.room) c.in-Ok.queued c.in-Ok.ensures.next in
     let is = grant_place g.D.Disk.keeps c.self.inside.slots c.self.inside.replies.items c.self.inside.tree c.self.inside.journal c.self.inside.queue
-    c.self.inside.batch.items c.self.inside.next c.self.inside.flight c.self.inside.history.opened c.self.inside.history.since
-    c.self.invariant.0 c.self.invariant.1 _ (ap (nat_lt c.self.inside.flight) c.room.ensures.room) c.in-Ok.queued c.in-Ok.ensures.next in
+    c.self.inside.batch.items c.self.inside.next c.self.inside.unlogged c.self.inside.history.opened c.self.inside.history.since
+    c.self.invariant.0 c.self.invariant.1 _ (ap (nat_lt c.self.inside.unlogged) c.room.ensures.room) c.in-Ok.queued c.in-Ok.ensures.next in
     let aff = subst (λ a. IsAffinityOf c.self.inside.journal.geometry (place c.self.inside.journal.geometry at.at.1.message) a) (ap (λ t. t.affinity) at.queued) is.affinity in
     grant_has_room g.D.Disk.keeps c.self.inside.slots c.self.inside.replies.items c.self.inside.tree c.self.inside.journal c.self.inside.queue
-    c.self.inside.batch.items c.self.inside.next c.self.inside.flight c.self.inside.history.opened c.self.inside.history.since
-    c.self.invariant.0 c.self.invariant.1 _ (ap (nat_lt c.self.inside.flight) c.room.ensures.room) c.in-Ok.queued c.in-Ok.ensures.next
+    c.self.inside.batch.items c.self.inside.next c.self.inside.unlogged c.self.inside.history.opened c.self.inside.history.since
+    c.self.invariant.0 c.self.invariant.1 _ (ap (nat_lt c.self.inside.unlogged) c.room.ensures.room) c.in-Ok.queued c.in-Ok.ensures.next
     (subst (λ h. HasGap h (place c.self.inside.journal.geometry at.at.1.message) (in_tree c.self.inside.tree)) c.self.invariant.1.geometry
     (c.in_default-lend.ensures.none (place c.self.inside.journal.geometry at.at.1.message)
     (subst (λ h. IsAffinityOf h (place c.self.inside.journal.geometry at.at.1.message) c.in-Ok.queued.affinity) (sym c.self.invariant.1.geometry) aff)).0)
@@ -58,8 +58,8 @@ unreachable-requires-in_default-lend g c =
 pub new-requires : goal.new-requires
 new-requires g c = subst (λ (h : Geometry). Suits h c.in-Some.slot.now.message c.in-Some-lend.parcels) (sym c.geometry-g.ensures)
     (grant_suits g.D.Disk.keeps c.self.inside.slots c.self.inside.replies.items c.self.inside.tree c.self.inside.journal c.self.inside.queue
-    c.self.inside.batch.items c.self.inside.next c.self.inside.flight c.self.inside.history.opened c.self.inside.history.since
-    c.self.invariant.0 c.self.invariant.1 _ (ap (nat_lt c.self.inside.flight) c.room.ensures.room) c.in-Ok.queued c.in-Ok.ensures.next
+    c.self.inside.batch.items c.self.inside.next c.self.inside.unlogged c.self.inside.history.opened c.self.inside.history.since
+    c.self.invariant.0 c.self.invariant.1 _ (ap (nat_lt c.self.inside.unlogged) c.room.ensures.room) c.in-Ok.queued c.in-Ok.ensures.next
     c.in-Some.slot.now (sym (ap option_copied c.in-Some.is) ∙ c.get.ensures.value) c.lend.new.self c.in-Some-lend.standing
     c.in-Some-lend.parcels c.in-Some-lend.ensures.some)
 
@@ -68,31 +68,31 @@ invariant_of-self g c =
     let v = c.self.invariant in
     let rows = c.move_to.ensures.row in
     subst (λ (row : Row Slot). HasChains row × IsCore g.D.Disk.keeps (parts row c.self.inside.replies.items c.lend.new.self c.self.inside.journal
-    c.go.new.self c.self.inside.batch.items c.self.inside.next (c.self.inside.flight + c.one_if-more.result) c.self.inside.history.opened
+    c.go.new.self c.self.inside.batch.items c.self.inside.next (c.self.inside.unlogged + c.one_if-more.result) c.self.inside.history.opened
     c.self.inside.history.since)
     × (capacity_of row ≤ vec_capacity c.self.inside.batch) × (length c.self.inside.replies.items ≡ capacity_of row) × (c.self.inside.ran ≡ length (line row c.self.inside.replies.items 2)))
     (sym rows) (
       grant_chains g.D.Disk.keeps c.self.inside.slots c.self.inside.replies.items c.self.inside.tree c.self.inside.journal c.self.inside.queue
-          c.self.inside.batch.items c.self.inside.next c.self.inside.flight c.self.inside.history.opened c.self.inside.history.since
-          c.self.invariant.0 c.self.invariant.1 _ (ap (nat_lt c.self.inside.flight) c.room.ensures.room) c.in-Ok.queued c.in-Ok.ensures.next
+          c.self.inside.batch.items c.self.inside.next c.self.inside.unlogged c.self.inside.history.opened c.self.inside.history.since
+          c.self.invariant.0 c.self.invariant.1 _ (ap (nat_lt c.self.inside.unlogged) c.room.ensures.room) c.in-Ok.queued c.in-Ok.ensures.next
           (subst IsParted rows c.move_to.ensures.parted),
       grant_call_core g.D.Disk.keeps c.self.inside.slots c.self.inside.replies.items c.self.inside.tree c.self.inside.journal c.self.inside.queue
-          c.self.inside.batch.items c.self.inside.next c.self.inside.flight c.self.inside.history.opened c.self.inside.history.since
-          c.self.invariant.0 c.self.invariant.1 _ (ap (nat_lt c.self.inside.flight) c.room.ensures.room) c.in-Ok.queued c.in-Ok.ensures.next
+          c.self.inside.batch.items c.self.inside.next c.self.inside.unlogged c.self.inside.history.opened c.self.inside.history.since
+          c.self.invariant.0 c.self.invariant.1 _ (ap (nat_lt c.self.inside.unlogged) c.room.ensures.room) c.in-Ok.queued c.in-Ok.ensures.next
           c.in-Some.slot.now (sym (ap option_copied c.in-Some.is) ∙ c.get.ensures.value) c.lend.new.self c.in-Some-lend.standing
           c.in-Some-lend.parcels c.in-Some-lend.ensures.some c.lend.ensures.geometry c.go.new.self c.go.ensures.waiting c.go.ensures.held
           c.one_if-more.result c.one_if-more.ensures,
       subst (λ (n : ℕ). n ≤ vec_capacity c.self.inside.batch) (sym (grant_size g.D.Disk.keeps c.self.inside.slots c.self.inside.replies.items
-          c.self.inside.tree c.self.inside.journal c.self.inside.queue c.self.inside.batch.items c.self.inside.next c.self.inside.flight
+          c.self.inside.tree c.self.inside.journal c.self.inside.queue c.self.inside.batch.items c.self.inside.next c.self.inside.unlogged
           c.self.inside.history.opened c.self.inside.history.since c.self.invariant.0 c.self.invariant.1 _
-          (ap (nat_lt c.self.inside.flight) c.room.ensures.room) c.in-Ok.queued c.in-Ok.ensures.next)) v.2,
+          (ap (nat_lt c.self.inside.unlogged) c.room.ensures.room) c.in-Ok.queued c.in-Ok.ensures.next)) v.2,
       v.3 ∙ sym (grant_size g.D.Disk.keeps c.self.inside.slots c.self.inside.replies.items c.self.inside.tree c.self.inside.journal
-          c.self.inside.queue c.self.inside.batch.items c.self.inside.next c.self.inside.flight c.self.inside.history.opened
-          c.self.inside.history.since c.self.invariant.0 c.self.invariant.1 _ (ap (nat_lt c.self.inside.flight) c.room.ensures.room) c.in-Ok.queued
+          c.self.inside.queue c.self.inside.batch.items c.self.inside.next c.self.inside.unlogged c.self.inside.history.opened
+          c.self.inside.history.since c.self.invariant.0 c.self.invariant.1 _ (ap (nat_lt c.self.inside.unlogged) c.room.ensures.room) c.in-Ok.queued
           c.in-Ok.ensures.next),
       v.4 ∙ sym (grant_ran g.D.Disk.keeps c.self.inside.slots c.self.inside.replies.items c.self.inside.tree c.self.inside.journal
-          c.self.inside.queue c.self.inside.batch.items c.self.inside.next c.self.inside.flight c.self.inside.history.opened
-          c.self.inside.history.since c.self.invariant.0 c.self.invariant.1 _ (ap (nat_lt c.self.inside.flight) c.room.ensures.room) c.in-Ok.queued
+          c.self.inside.queue c.self.inside.batch.items c.self.inside.next c.self.inside.unlogged c.self.inside.history.opened
+          c.self.inside.history.since c.self.invariant.0 c.self.invariant.1 _ (ap (nat_lt c.self.inside.unlogged) c.room.ensures.room) c.in-Ok.queued
           c.in-Ok.ensures.next),
     )
 
@@ -100,19 +100,19 @@ pub returns-clause-state_after : goal.returns-clause-state_after
 returns-clause-state_after g c =
     subst (λ (o : CoreView). IsGrantOf o.geometry (core_state_of o) (core_state_in
     (parts c.move_to.new.self c.self.inside.replies.items c.lend.new.self c.self.inside.journal c.go.new.self c.self.inside.batch.items
-    c.self.inside.next (c.self.inside.flight + c.one_if-more.result) c.self.inside.history.opened c.self.inside.history.since)) c.new.result)
+    c.self.inside.next (c.self.inside.unlogged + c.one_if-more.result) c.self.inside.history.opened c.self.inside.history.since)) c.new.result)
     c.self.view_is
     (subst (λ (row : Row Slot). IsGrantOf c.self.inside.journal.geometry
     (core_state_in (parts c.self.inside.slots c.self.inside.replies.items c.self.inside.tree c.self.inside.journal c.self.inside.queue
-    c.self.inside.batch.items c.self.inside.next c.self.inside.flight c.self.inside.history.opened c.self.inside.history.since))
+    c.self.inside.batch.items c.self.inside.next c.self.inside.unlogged c.self.inside.history.opened c.self.inside.history.since))
     (core_state_in (parts row c.self.inside.replies.items c.lend.new.self c.self.inside.journal c.go.new.self c.self.inside.batch.items
-    c.self.inside.next (c.self.inside.flight + c.one_if-more.result) c.self.inside.history.opened c.self.inside.history.since)) c.new.result)
+    c.self.inside.next (c.self.inside.unlogged + c.one_if-more.result) c.self.inside.history.opened c.self.inside.history.since)) c.new.result)
     (sym c.move_to.ensures.row)
     (subst (λ (job : JobView). IsGrantOf c.self.inside.journal.geometry
     (core_state_in (parts c.self.inside.slots c.self.inside.replies.items c.self.inside.tree c.self.inside.journal c.self.inside.queue
-    c.self.inside.batch.items c.self.inside.next c.self.inside.flight c.self.inside.history.opened c.self.inside.history.since))
+    c.self.inside.batch.items c.self.inside.next c.self.inside.unlogged c.self.inside.history.opened c.self.inside.history.since))
     (core_state_in (parts (after_move c.self.inside.slots c.in-Ok.queued.slot 1) c.self.inside.replies.items c.lend.new.self
-    c.self.inside.journal c.go.new.self c.self.inside.batch.items c.self.inside.next (c.self.inside.flight + c.one_if-more.result)
+    c.self.inside.journal c.go.new.self c.self.inside.batch.items c.self.inside.next (c.self.inside.unlogged + c.one_if-more.result)
     c.self.inside.history.opened c.self.inside.history.since)) job)
     (sym (c.new.ensures ∙ ap (λ (h : Geometry). record {
       geometry = h;
@@ -122,8 +122,8 @@ returns-clause-state_after g c =
       parcels = c.in-Some-lend.parcels;
     }) c.geometry-g.ensures))
     (grant_call_is g.D.Disk.keeps c.self.inside.slots c.self.inside.replies.items c.self.inside.tree c.self.inside.journal c.self.inside.queue
-    c.self.inside.batch.items c.self.inside.next c.self.inside.flight c.self.inside.history.opened c.self.inside.history.since
-    c.self.invariant.0 c.self.invariant.1 _ (ap (nat_lt c.self.inside.flight) c.room.ensures.room) c.in-Ok.queued c.in-Ok.ensures.next
+    c.self.inside.batch.items c.self.inside.next c.self.inside.unlogged c.self.inside.history.opened c.self.inside.history.since
+    c.self.invariant.0 c.self.invariant.1 _ (ap (nat_lt c.self.inside.unlogged) c.room.ensures.room) c.in-Ok.queued c.in-Ok.ensures.next
     c.in-Some.slot.now (sym (ap option_copied c.in-Some.is) ∙ c.get.ensures.value) c.lend.new.self c.in-Some-lend.standing
     c.in-Some-lend.parcels c.in-Some-lend.ensures.some c.lend.ensures.geometry c.go.new.self c.go.ensures.waiting c.go.ensures.held
     c.one_if-more.result c.one_if-more.ensures (sym c.failed.ensures ∙ c.if-failed.false))))
