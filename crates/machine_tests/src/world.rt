@@ -177,7 +177,7 @@ impl CoreState {
         None
     }
 
-    /// Whether the log has room for one change more than are dispatched or ran.
+    /// Whether the log has room for one change more than are in flight or ran.
     fn has_room(&self) -> bool {
         let out = self.hands.iter().filter_map(|hand| hand.taken());
         let out = out.filter(|taken| is_changing(taken)).count();
