@@ -1,16 +1,15 @@
--- Steps of a loop that decodes pairs of digits and looks at the greatest value in the end.
-use Rattle.std.proofs.Common.{◌≡◌, ℕ, max, ◌+◌, ◌*◌, ◌<◌, ◌≤◌, ◌⊎◌, true, false, List, length, slice_index, Option, Some, None, Ok, Err, refl, sym, ◌∙◌, arith}
+-- Steps of loops that decode pairs of digits and look at the greatest value in the end.
+use Rattle.std.proofs.Common.{◌≡◌, ℕ, zero, suc, max, ◌+◌, ◌*◌, ◌-◌, ◌%◌, ◌<◌, ◌≤◌, ◌⊎◌, ⊎_elim, true, false, List, length, take, drop, slice_index, slice_set, Option, Some, None, Ok, Err, refl, sym, ap, subst, ◌∙◌, arith}
 use Rattle.std.specs.Prelude.{IsErr}
 use Rattle.std.specs.Option.{unwrap_or}
 use Rattle.std.proofs.Math.Nat.{le-max_left, le-max_right}
-use Rattle.std.proofs.lemmas.Bool.{true≢false}
+use Rattle.std.proofs.lemmas.Bool.{cases_lt, true≢false}
+use Rattle.std.proofs.lemmas.List.{get_or-set_other, get_or-set_same, set-get_or}
 use Rattle.std.proofs.lemmas.List.Elements.{All-get_or}
 use Rattle.hex.specs.Hex.{decode_pairs, digit_or_error, hex_digit_value, is_hex_digit, pair_value, value_at}
 use Rattle.hex.proofs.HexLemmas.{decode_pairs-ok}
-
--- the value of a digit, and 255 where it is none
-abbrev pub value_of : ℕ → ℕ
-value_of c = unwrap_or (hex_digit_value c) 255
+use Rattle.hex.proofs.Pairs.{decode_done, decode_start, decode_step, prepend}
+use Rattle.message.specs.Digits.{AreDecoded, HasOther, IsDecoded, value_of}
 
 read_as : (c i : ℕ) (o : Option ℕ) → unwrap_or o 255 < 16 → digit_or_error c i o ≡ Ok (unwrap_or o 255)
 read_as c i (Some v) h = refl
@@ -27,7 +26,7 @@ no_digit : (c : ℕ) → 16 ≤ value_of c → is_hex_digit c ≡ false
 no_digit c h = grind arith
 
 -- what has a byte that is no digit isn't decoded
-pub other_refused : (s : List ℕ) (k : ℕ) → k < length s → 16 ≤ value_of (slice_index s k) → IsErr (decode_pairs 0 s)
+other_refused : (s : List ℕ) (k : ℕ) → k < length s → 16 ≤ value_of (slice_index s k) → IsErr (decode_pairs 0 s)
 other_refused s k h other =
     elim (decode_pairs 0 s) as (λ r. decode_pairs 0 s ≡ r → IsErr r) [
       | Err e ↦ λ was. refl
@@ -46,3 +45,95 @@ greatest_small a b c h =
 
 pub greatest_other : (a b c : ℕ) → 16 ≤ max (max a b) c → (16 ≤ a) ⊎ (16 ≤ b) ⊎ (16 ≤ c)
 greatest_other a b c h = grind arith
+
+pub one_other : (a b : ℕ) → 16 ≤ max a b → (16 ≤ a) ⊎ (16 ≤ b)
+one_other a b h = grind arith
+
+-- ---- bytes that are read
+
+-- The byte of two digits is put in its place.
+pub byte_read : (digits out : List ℕ) (i : ℕ) → i < length out → value_of (slice_index digits (2 * i)) < 16
+    → value_of (slice_index digits (2 * i + 1)) < 16
+    → IsDecoded digits (slice_set out i ((value_of (slice_index digits (2 * i)) * 16 % 256 + value_of (slice_index digits (2 * i + 1))) % 256)) i
+byte_read digits out i room h l = record { high = h; low = l; byte = get_or-set_same out i _ 0 room ∙ omega (arith, h, l) }
+
+-- One byte more is read.
+pub read_more : (digits out : List ℕ) (from i v : ℕ) → IsDecoded digits (slice_set out i v) i → AreDecoded digits out from i
+    → AreDecoded digits (slice_set out i v) from (i + 1)
+read_more digits out from i v here before j least less = ⊎_elim
+    (λ (earlier : j < i).
+    let r = before j least earlier in
+    record { high = r.high; low = r.low; byte = get_or-set_other out i j v 0 (λ same. omega (arith, same, earlier)) ∙ r.byte })
+    (λ (more : i ≤ j). let last : i ≡ j = omega (arith, less, more) in subst (IsDecoded digits (slice_set out i v)) last here)
+    (cases_lt j i)
+
+-- Bytes stay read where they stay.
+pub read_still : (digits old new : List ℕ) (to : ℕ) → ((i : ℕ) → i < to → slice_index new i ≡ slice_index old i)
+    → AreDecoded digits old 0 to → AreDecoded digits new 0 to
+read_still digits old new to same before i least less =
+    let r = before i least less in
+    record { high = r.high; low = r.low; byte = same i less ∙ r.byte }
+
+-- those up to a place, and those from there on
+pub read_both : (digits out : List ℕ) (from to : ℕ) → AreDecoded digits out 0 from → AreDecoded digits out from to → AreDecoded digits out 0 to
+read_both digits out from to first second i least less = ⊎_elim
+    (λ (earlier : i < from). first i least earlier)
+    (λ (later : from ≤ i). second i later less)
+    (cases_lt i from)
+
+-- A group of digits has these values, each of them a digit's. Their bytes are put in the places from `at` on, and those before it stay.
+pub record IsGroup (digits old new values : List ℕ) (at : ℕ) : Type 0 where
+  pub each : (k : ℕ) → k < 32 → slice_index values k ≡ value_of (slice_index digits (2 * at + k))
+  pub small : (k : ℕ) → k < 32 → slice_index values k < 16
+  pub pairs : (k : ℕ) → k < 16 → slice_index new (at + k) ≡ (slice_index values (2 * k) * 16 % 256 + slice_index values (2 * k + 1)) % 256
+  pub before : (i : ℕ) → i < at → slice_index new i ≡ slice_index old i
+
+group_at : (digits old new values : List ℕ) (at k : ℕ) → IsGroup digits old new values at → k < 16 → IsDecoded digits new (at + k)
+group_at digits old new values at k g few =
+    let h = sym (g.each (2 * k) (omega (arith, few))) in
+    let l = sym (g.each (2 * k + 1) (omega (arith, few))) in
+    let first : 2 * at + 2 * k ≡ 2 * (at + k) = omega arith in
+    let second : 2 * at + (2 * k + 1) ≡ 2 * (at + k) + 1 = omega arith in
+    let high : value_of (slice_index digits (2 * (at + k))) ≡ slice_index values (2 * k) = ap (λ i. value_of (slice_index digits i)) (sym first) ∙ h in
+    let low : value_of (slice_index digits (2 * (at + k) + 1)) ≡ slice_index values (2 * k + 1) =
+    ap (λ i. value_of (slice_index digits i)) (sym second) ∙ l in
+    let small_high = g.small (2 * k) (omega (arith, few)) in
+    let small_low = g.small (2 * k + 1) (omega (arith, few)) in
+    record {
+      high = omega (arith, high, small_high);
+      low = omega (arith, low, small_low);
+      byte = g.pairs k few ∙ omega (arith, high, low, small_high, small_low);
+    }
+
+-- A group more is read.
+pub group_read : (digits old new values : List ℕ) (at : ℕ) → IsGroup digits old new values at → AreDecoded digits old 0 at
+    → AreDecoded digits new 0 (at + 16)
+group_read digits old new values at g before i least less = ⊎_elim
+    (λ (earlier : i < at). read_still digits old new at g.before before i least earlier)
+    (λ (later : at ≤ i).
+    let here : at + (i - at) ≡ i = omega (arith, later) in
+    subst (IsDecoded digits new) here (group_at digits old new values at (i - at) g (omega (arith, less, later))))
+    (cases_lt i at)
+
+decoded_to : (digits out : List ℕ) (i : ℕ) → i ≤ length out → length digits ≡ 2 * length out → AreDecoded digits out 0 (length out)
+    → decode_pairs 0 digits ≡ prepend (take i out) (decode_pairs (2 * i) (drop (2 * i) digits))
+decoded_to digits out zero few fits all = decode_start digits out
+decoded_to digits out (suc i) few fits all =
+    let next : i + 1 ≡ suc i = omega arith in
+    let room : i < length out = omega (arith, few) in
+    let r = all i (omega arith) room in
+    let pair = pair_read (slice_index digits (2 * i)) (slice_index digits (2 * i + 1)) (2 * i) r.high r.low ∙ ap Ok (sym r.byte) in
+    let step = decode_step digits out i (slice_index out i) (omega (arith, room, fits)) room pair
+    (decoded_to digits out i (omega (arith, few)) fits all) in
+    subst (λ (k : ℕ). decode_pairs 0 digits ≡ prepend (take k out) (decode_pairs (2 * k) (drop (2 * k) digits))) next
+    (subst (λ (l : List ℕ). decode_pairs 0 digits ≡ prepend (take (i + 1) l) (decode_pairs (2 * (i + 1)) (drop (2 * (i + 1)) digits)))
+    (set-get_or out i 0) step)
+
+-- Where all bytes are read, the digits are decoded.
+pub decoded : (digits out : List ℕ) → length digits ≡ 2 * length out → AreDecoded digits out 0 (length out) → decode_pairs 0 digits ≡ Ok out
+decoded digits out fits all =
+    decode_done digits out (length out) (omega arith) (omega (arith, fits)) (decoded_to digits out (length out) (omega arith) fits all)
+
+-- Where one is none, they are not.
+pub not_decoded : (digits : List ℕ) → HasOther digits → IsErr (decode_pairs 0 digits)
+not_decoded digits other = other_refused digits other.0 other.1 other.2

@@ -1,4 +1,5 @@
 -- The words of records, heads of messages, and readers and writers of lines.
+pub mod Digits
 pub mod Records
 pub mod Heads
 pub mod Reader

@@ -1,12 +1,16 @@
-//! The digits of a block as bytes, with no branch on a digit: `hex`, which branches at each, takes
-//! eight times as long.
+//! The digits of a block as bytes, 32 of them at once and with no branch on a digit: `hex`, which branches at each, takes many times as
+//! long.
 
-ghost use Rattle.std.specs.Prelude.{◌≡◌, ◌≢◌, ◌*◌, ◌<◌, ◌≤◌, length, Ok, Some, None, IsErr, MatchResult};
+ghost use Rattle.std.specs.Prelude.{◌≡◌, ◌≢◌, ◌+◌, ◌*◌, ◌%◌, ◌<◌, ◌≤◌, ℕ, length, slice_index, Ok, Some, None, IsErr, MatchResult};
 ghost use Rattle.std.specs.Option.{unwrap_or};
 ghost use Rattle.hex.specs.Hex.{decode_sized, hex_digit_value, decode_pairs};
+ghost use Rattle.message.specs.Digits.{AreDecoded, HasOther, value_of};
 
 /// The value of a byte that is no digit: more than any digit's.
 const NO_DIGIT: u8 = 255;
+
+/// How many bytes are decoded at once: so few that the compiler unrolls the loops over them, and takes their digits in vectors.
+const LANES: usize = 16;
 
 /// The value of a digit, in either case, or `NO_DIGIT`.
 fn digit_value(digit: u8) -> u8
@@ -26,6 +30,58 @@ fn digit_value(digit: u8) -> u8
     }
 }
 
+/// Puts the values of the `2 * LANES` digits from here on in their order, and gives the greatest of them.
+#[inline(always)]
+fn values_at(digits: &[u8], at: usize, values: &mut [u8; 2 * LANES]) -> u8
+    requires { at + 32 ≤ length digits.now }
+    ensures each { (k : ℕ) → k < 32 → slice_index values.new k ≡ value_of (slice_index digits.now (at + k)) }
+    ensures bound { (k : ℕ) → k < 32 → slice_index values.new k ≤ result }
+    ensures met { 16 ≤ result → HasOther digits.now }
+{
+    let mut greatest = 0u8;
+    for k in 0..2 * LANES {
+        let value = digit_value(digits[at + k]);
+        values[k] = value;
+        greatest = greatest.max(value);
+    }
+    greatest
+}
+
+/// Puts the bytes of pairs of values in the places from here on. Where a value is no digit's, its byte is unspecified.
+#[inline(always)]
+fn put_pairs(values: &[u8; 2 * LANES], out: &mut [u8], at: usize)
+    requires { at + 16 ≤ length out.old }
+    ensures size { length out.new ≡ length out.old }
+    ensures before { (i : ℕ) → i < at → slice_index out.new i ≡ slice_index out.old i }
+    ensures pairs { (k : ℕ) → k < 16 → slice_index out.new (at + k)
+        ≡ (slice_index values.now (2 * k) * 16 % 256 + slice_index values.now (2 * k + 1)) % 256 }
+{
+    for k in 0..LANES {
+        out[at + k] = values[2 * k]
+            .wrapping_mul(16)
+            .wrapping_add(values[2 * k + 1]);
+    }
+}
+
+/// Decodes the pairs of digits from a place on into their bytes, and gives the greatest of their values. Where that is no digit's, the
+/// bytes are unspecified.
+fn decode_from(digits: &[u8], out: &mut [u8], from: usize) -> u8
+    requires { length digits.now ≡ 2 * length out.old }
+    ensures before { (i : ℕ) → i < from → slice_index out.new i ≡ slice_index out.old i }
+    ensures size { length out.new ≡ length out.old }
+    ensures read { result < 16 → AreDecoded digits.now out.new from (length out.new) }
+    ensures other { 16 ≤ result → HasOther digits.now }
+{
+    let mut greatest = 0u8;
+    for i in from..out.len() {
+        let high = digit_value(digits[2 * i]);
+        let low = digit_value(digits[2 * i + 1]);
+        greatest = greatest.max(high).max(low);
+        out[i] = high.wrapping_mul(16).wrapping_add(low);
+    }
+    greatest
+}
+
 /// Decodes pairs of digits into as many bytes, and gives the greatest of their values. Where that
 /// is no digit's, the bytes are unspecified.
 fn decode_all(digits: &[u8], out: &mut [u8]) -> u8
@@ -34,13 +90,15 @@ fn decode_all(digits: &[u8], out: &mut [u8]) -> u8
     ensures other { 16 ≤ result → IsErr (decode_pairs 0 digits.now) }
 {
     let mut greatest = 0u8;
-    for i in 0..out.len() {
-        let high = digit_value(digits[2 * i]);
-        let low = digit_value(digits[2 * i + 1]);
-        greatest = greatest.max(high).max(low);
-        out[i] = high.wrapping_mul(16).wrapping_add(low);
+    let groups = out.len() / LANES;
+    for n in 0..groups {
+        let mut values = [0; 2 * LANES];
+        let most = values_at(digits, 2 * LANES * n, &mut values);
+        put_pairs(&values, out, LANES * n);
+        greatest = greatest.max(most);
     }
-    greatest
+    let most = decode_from(digits, out, LANES * groups);
+    greatest.max(most)
 }
 
 /// Decodes digits into bytes, two into each, as `hex::decode_to_slice` does. It takes the same time

@@ -1,35 +1,53 @@
--- Each pair adds one byte, and the greatest value of all is at least 16 exactly where one character is no digit.
-use Rattle.std.proofs.Common.{◌≡◌, ◌+◌, ◌*◌, ◌%◌, Ok, arith, ap, sym, ◌∙◌, inl, inr, get_or}
-use Rattle.message.proofs.DigitLoop.{value_of, greatest_small, greatest_other, pair_read, other_refused}
-use Rattle.hex.proofs.Pairs.{decode_step, decode_done}
+-- Each group puts its bytes behind those before it, and the rest puts the others.
+use Rattle.std.proofs.Common.{◌≡◌, ℕ, ◌+◌, ◌*◌, ◌<◌, ⊎_elim, max, ap, arith, length, slice_index, sym, ◌∙◌, subst}
+use Rattle.std.proofs.Math.Nat.{le-max_left, le-max_right}
+use Rattle.message.specs.Digits.{AreDecoded, value_of}
+use Rattle.message.proofs.DigitLoop.{IsGroup, decoded, group_read, not_decoded, one_other, read_both, read_still}
 use Rattle.message.proofs.decoding.decode_all.Goals as goal
 
-pub loop-i-preserved : goal.loop-i-preserved
-loop-i-preserved c =
+pub loop-n-preserved : goal.loop-n-preserved
+loop-n-preserved c =
     let digits = c.args.digits.now in
-    let i = c.loop-i.i in
-    let high = c.digit_value-high.ensures in
-    let low = c.digit_value-low.ensures in
-    let first = c.max.ensures in
-    let second = c.max-greatest.ensures in
+    let n = c.loop-n.n in
+    let most = c.max-greatest.ensures in
+    let left = le-max_left c.loop-n.greatest c.values_at-most.result in
+    let right = le-max_right c.loop-n.greatest c.values_at-most.result in
     record {
+      size = c.put_pairs.ensures.size ∙ c.loop-n.invariant.size;
       read = λ small.
-          let each = greatest_small c.loop-i.greatest c.digit_value-high.result c.digit_value-low.result (rw (sym first, sym second) small) in
-          let h = each.1 in
-          let l = each.2 in
-          let byte : (c.digit_value-high.result * 16 % 256 + c.digit_value-low.result) % 256
-          ≡ value_of (get_or digits (2 * i) 0) * 16 + value_of (get_or digits (2 * i + 1) 0) = rw (sym high, sym low) (omega arith) in
-          decode_step digits c.loop-i.out i _ (omega arith) (omega arith)
-          (pair_read (get_or digits (2 * i) 0) (get_or digits (2 * i + 1) 0) (2 * i) (rw (sym high) h) (rw (sym low) l) ∙ ap Ok (sym byte))
-          (c.loop-i.invariant.read each.0);
-      refused = λ great. elim (greatest_other c.loop-i.greatest c.digit_value-high.result c.digit_value-low.result (rw (sym first, sym second) great)) [
-        | inl before ↦ c.loop-i.invariant.refused before
-        | inr here ↦ elim here [
-          | inl h ↦ other_refused digits (2 * i) (omega arith) (rw (sym high) h)
-          | inr l ↦ other_refused digits (2 * i + 1) (omega arith) (rw (sym low) l)
-        ]
-      ];
+          let both : max c.loop-n.greatest c.values_at-most.result < 16 = rw (sym most) small in
+          let group : IsGroup digits c.loop-n.out c.put_pairs.new.out c.values_at-most.new.values (16 * n) = record {
+            each = λ k few.
+                let same : 2 * 16 * n + k ≡ 2 * (16 * n) + k = omega arith in
+                c.values_at-most.ensures.each k few ∙ ap (λ (i : ℕ). value_of (slice_index digits i)) same;
+            small = λ k few. let at_most = c.values_at-most.ensures.bound k few in omega (arith, at_most, right, both);
+            pairs = c.put_pairs.ensures.pairs;
+            before = c.put_pairs.ensures.before;
+          } in
+          let next : 16 * n + 16 ≡ 16 * (n + 1) = omega arith in
+          subst (AreDecoded digits c.put_pairs.new.out 0) next
+          (group_read digits c.loop-n.out c.put_pairs.new.out c.values_at-most.new.values (16 * n) group
+          (c.loop-n.invariant.read (omega (arith, left, both))));
+      other = λ great. ⊎_elim c.loop-n.invariant.other c.values_at-most.ensures.met
+          (one_other c.loop-n.greatest c.values_at-most.result (rw (sym most) great));
     }
 
 pub returns-clause-digits : goal.returns-clause-digits
-returns-clause-digits c = λ small. decode_done c.args.digits.now c.loop-i.out c.loop-i.i (omega arith) (omega arith) (c.loop-i.invariant.read small)
+returns-clause-digits c = λ small.
+    let digits = c.args.digits.now in
+    let out = c.decode_from-most.new.out in
+    let both : max c.loop-n.greatest c.decode_from-most.result < 16 = rw (sym c.max.ensures) small in
+    let left = le-max_left c.loop-n.greatest c.decode_from-most.result in
+    let right = le-max_right c.loop-n.greatest c.decode_from-most.result in
+    let size = c.decode_from-most.ensures.size ∙ c.loop-n.invariant.size in
+    decoded digits out (omega (arith, size, c.requires))
+    (read_both digits out _ (length out)
+    (read_still digits c.loop-n.out out _ c.decode_from-most.ensures.before
+    (λ i least less. c.loop-n.invariant.read (omega (arith, left, both)) i least (omega (arith, less, c.loop-n-test.false))))
+    (c.decode_from-most.ensures.read (omega (arith, right, both))))
+
+pub returns-clause-other : goal.returns-clause-other
+returns-clause-other c = λ great.
+    not_decoded c.args.digits.now
+    (⊎_elim c.loop-n.invariant.other c.decode_from-most.ensures.other
+    (one_other c.loop-n.greatest c.decode_from-most.result (rw (sym c.max.ensures) great)))

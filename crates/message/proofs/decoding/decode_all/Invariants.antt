@@ -1,12 +1,11 @@
--- While the greatest value is a digit's, the pairs so far are decoded; once it is not, the digits are refused.
-use Rattle.std.proofs.Common.{◌≡◌, ◌*◌, ◌<◌, ◌≤◌, take, drop}
-use Rattle.std.specs.Prelude.{IsErr}
-use Rattle.hex.specs.Hex.{decode_pairs}
-use Rattle.hex.proofs.Pairs.{prepend}
+-- While the greatest value is a digit's, the groups so far are read; once it is not, one of the digits is none.
+use Rattle.std.proofs.Common.{◌≡◌, ◌*◌, ◌<◌, ◌≤◌, length}
+use Rattle.message.specs.Digits.{AreDecoded, HasOther}
 use Rattle.message.proofs.decoding.decode_all.Given as goal
 
-abbrev pub invariant-loop-i : goal.invariant-loop-i
-invariant-loop-i l = record {
-  read : l.greatest < 16 → decode_pairs 0 l.digits ≡ prepend (take l.i l.out) (decode_pairs (2 * l.i) (drop (2 * l.i) l.digits));
-  refused : 16 ≤ l.greatest → IsErr (decode_pairs 0 l.digits);
+abbrev pub invariant-loop-n : goal.invariant-loop-n
+invariant-loop-n l = record {
+  size : length l.out ≡ length l.initial.out;
+  read : l.greatest < 16 → AreDecoded l.digits l.out 0 (16 * l.n);
+  other : 16 ≤ l.greatest → HasOther l.digits;
 }
