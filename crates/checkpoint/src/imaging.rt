@@ -1,6 +1,6 @@
 //! An image, read into a tree piece by piece.
-ghost use Rattle.std.specs.Prelude.{◌≡◌, ◌↔◌, ◌+◌, ◌*◌, ◌<◌, ◌≤◌, ℕ, true, None, Some, length, IfErr, IsOk, OnOk};
-ghost use Rattle.checkpoint.specs.declared.fault.OpenFault.TheVariants.{BadPiece};
+ghost use Rattle.std.specs.Prelude.{◌≡◌, ◌≢◌, ◌↔◌, ◌+◌, ◌*◌, ◌<◌, ◌≤◌, ℕ, true, None, Some, length, IfErr, IsOk, OnOk};
+ghost use Rattle.checkpoint.specs.declared.fault.OpenFault.TheVariants.{BadPiece, OutOfMemory};
 ghost use Rattle.checkpoint.specs.Loading.{IsOpeningCall, IsFaultOfBytes};
 ghost use Rattle.checkpoint.specs.Refusals.{fault_or_later, first_bad_piece};
 ghost use Rattle.disk.specs.Device.{moments};
@@ -70,6 +70,7 @@ pub(crate) fn read_pieces<D: Disk>(
         (part_bytes (layout_of tree.old.geometry) (image number) (D.medium disk.old).now) ≡ None) }
     ensures refused { IfErr result (λ e. D.keeps → IsFaultOfBytes (fault_or_later BadPiece (first_bad_piece tree.old.geometry
         (part_bytes (layout_of tree.old.geometry) (image number) (D.medium disk.old).now)) None) e) }
+    ensures took_none { IfErr result (λ e. e ≢ OutOfMemory) }
     ensures whole { OnOk result (IsWholeTree tree.new) }
     ensures geometry { tree.new.geometry ≡ tree.old.geometry }
     ensures untouched { D.keeps → moments (D.medium disk.new) ≡ moments (D.medium disk.old) }

@@ -1,6 +1,6 @@
 //! Reads of a device: any range, a chain byte, and the head of an image.
-ghost use Rattle.std.specs.Prelude.{◌≡◌, ◌+◌, ◌<◌, ◌≤◌, ◌==◌, not, true, None, length, IfErr, IfOk, OnOk};
-ghost use Rattle.checkpoint.specs.declared.fault.OpenFault.TheVariants.{Device, BadVersion};
+ghost use Rattle.std.specs.Prelude.{◌≡◌, ◌≢◌, ◌+◌, ◌<◌, ◌≤◌, ◌==◌, not, true, None, length, IfErr, IfOk, OnOk};
+ghost use Rattle.checkpoint.specs.declared.fault.OpenFault.TheVariants.{BadVersion, Device, OutOfMemory};
 ghost use Rattle.checkpoint.specs.Loading.{IsOpeningCall, IsFaultOfBytes};
 ghost use Rattle.checkpoint.specs.Refusals.{fault_if};
 ghost use Rattle.disk.specs.Device.{moments};
@@ -79,6 +79,7 @@ pub(crate) fn version_of<D: Disk>(
         has_head (part_bytes (layout_of g.now) (image number) (D.medium disk.old).now) ≡ true) }
     ensures refused { IfErr result (λ e. D.keeps → IsFaultOfBytes (fault_if (not (has_head
         (part_bytes (layout_of g.now) (image number) (D.medium disk.old).now))) BadVersion None) e) }
+    ensures took_none { IfErr result (λ e. e ≢ OutOfMemory) }
     ensures untouched { D.keeps → moments (D.medium disk.new) ≡ moments (D.medium disk.old) }
     ensures call { IsOpeningCall result (D.medium disk.old) (D.medium disk.new) }
 {
