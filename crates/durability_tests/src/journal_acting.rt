@@ -11,6 +11,33 @@ use std::alloc::Global;
 /// One volume of one file of four blocks, each in a stripe of its own, and eight records in a half.
 pub(crate) const FLAT: [u16; 8] = [1, 1, 4, 1, 1, 4, 1, 8];
 
+/// Does these things to a server, all of which go well.
+pub(crate) fn act_all(
+    alloc: Global,
+    server: &mut Server<MemDisk>,
+    acts: &[Act],
+) -> Result<(), Wrong> {
+    for act in acts {
+        let messages = messages_of(alloc, act.changes())?;
+        if server.act(act, messages.as_slice()).is_err() {
+            return Err(Wrong::Unfit);
+        }
+    }
+    Ok(())
+}
+
+/// What a server on this device leaves that does these things. A server is taken apart on each way out, as its drop costs the prover
+/// many seconds wherever it is.
+pub(crate) fn left_by_acts(alloc: Global, device: MemDisk, acts: &[Act]) -> Result<MemDisk, Wrong> {
+    let Ok(mut server) = Server::open(alloc, device) else {
+        return Err(Wrong::Unfit);
+    };
+    let end = act_all(alloc, &mut server, acts);
+    let (device, _) = server.into_device();
+    end?;
+    Ok(device)
+}
+
 /// A device, what leads to the state to which it recovers, and what is done to a server on it.
 #[derive(Drop)]
 pub(crate) struct Script {
@@ -63,7 +90,11 @@ fn progress_of(answered: usize, begun: usize, is_whole: bool) -> Progress {
 }
 
 /// Does all of a script, until the device fails.
-fn act_all(alloc: Global, server: &mut Server<MemDisk>, acts: &[Act]) -> Result<Progress, Wrong> {
+fn progress_in(
+    alloc: Global,
+    server: &mut Server<MemDisk>,
+    acts: &[Act],
+) -> Result<Progress, Wrong> {
     let mut answered = 0usize;
     for act in acts {
         let messages = messages_of(alloc, act.changes())?;
@@ -89,9 +120,12 @@ impl Trial for Play<'_> {
     fn run(&self, alloc: Global, device: MemDisk) -> Result<Ended, Wrong> {
         match Server::open(alloc, device) {
             Ok(mut server) => {
-                let progress = act_all(alloc, &mut server, self.script.acts)?;
+                let progress = progress_in(alloc, &mut server, self.script.acts);
                 let (device, _) = server.into_device();
-                Ok(Ended { device, progress })
+                Ok(Ended {
+                    device,
+                    progress: progress?,
+                })
             }
             Err((device, OpenFault::Device)) => Ok(Ended {
                 device,

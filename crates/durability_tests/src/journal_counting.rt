@@ -52,6 +52,21 @@ fn are_more(rt: &impl Abort, before: &Counts, after: &Counts, reads: u64, more: 
     counts(rt, after.written, before.written.saturating_add(written));
 }
 
+/// An act takes so many more writes, syncs and bytes.
+fn takes(
+    rt: &impl Abort,
+    alloc: Global,
+    server: &mut Server<MemDisk>,
+    act: &Act,
+    more: [u64; 3],
+) -> Result<(), Wrong> {
+    let before = server.counts();
+    let messages = messages_of(alloc, act.changes())?;
+    holds(rt, server.act(act, messages.as_slice()).is_ok());
+    are_more(rt, &before, &server.counts(), 0, more);
+    Ok(())
+}
+
 #[test]
 fn each_act_takes_few_calls(rt: HostRuntime) -> Result<(), Fail> {
     let alloc = rt.alloc();
@@ -59,11 +74,9 @@ fn each_act_takes_few_calls(rt: HostRuntime) -> Result<(), Fail> {
         return Err(Wrong::Unfit.into());
     };
     for (act, more) in ACTS {
-        let before = server.counts();
-        let messages = messages_of(alloc, act.changes())?;
-        holds(&rt, server.act(&act, messages.as_slice()).is_ok());
-        are_more(&rt, &before, &server.counts(), 0, more);
+        holds(&rt, takes(&rt, alloc, &mut server, &act, more).is_ok());
     }
+    let _device = server.into_device();
     Ok(())
 }
 
@@ -128,10 +141,13 @@ fn logged_until(alloc: Global, messages: &[Msg], n: u64) -> Result<(bool, MemDis
         return Err(Wrong::Unfit);
     };
     let logged = server.log(messages);
-    if logged == Err(Halt::Unfit) || logged.is_err() != server.failed() {
-        return Err(Wrong::Unfit);
+    let is_told = logged != Err(Halt::Unfit) && logged.is_err() == server.failed();
+    let (device, _) = server.into_device();
+    if is_told {
+        Ok((logged.is_ok(), device))
+    } else {
+        Err(Wrong::Unfit)
     }
-    Ok((logged.is_ok(), server.into_device().0))
 }
 
 /// Where the device stops at the n-th call of a log of these messages, this many of them are in force after a crash of

@@ -1,11 +1,12 @@
 //! Devices that are opened, and such as are refused.
 use crate::common::{SMALL, holds};
+use crate::journal_acting::left_by_acts;
 use affinity::Geometry;
 use checkpoint::{OpenFault, inspect};
 use disk::MemDisk;
 use harness::{
     Act, Ended, KINDS, OpenedDevice, Progress, Questions, Server, Trial, Wrong, device_with,
-    expected, find, messages_of, sweep, torn,
+    expected, find, sweep, torn,
 };
 use message::Reply;
 use std::alloc::Global;
@@ -50,7 +51,10 @@ fn is_refused(
 ) -> Result<(), Wrong> {
     let bytes = device.bytes().to_vec(alloc)?;
     let device = match Server::open(alloc, device) {
-        Ok(_) => return Err(Wrong::Unfit),
+        Ok(server) => {
+            let _device = server.into_device();
+            return Err(Wrong::Unfit);
+        }
         Err((device, told)) => {
             holds(rt, told == fault);
             device
@@ -102,7 +106,10 @@ fn the_sync_comes_first(rt: HostRuntime) -> Result<(), Fail> {
         let mut device = MemDisk::new(rt.alloc(), len)?;
         device.fail_at(n.max(1));
         match Server::open(rt.alloc(), device) {
-            Ok(_) => holds(&rt, false),
+            Ok(server) => {
+                let _device = server.into_device();
+                holds(&rt, false);
+            }
             Err((_, told)) => holds(&rt, told == fault),
         }
     }
@@ -143,6 +150,25 @@ const OPENED: [(&[(usize, u8)], &[&str], usize); 11] = [
     ),
 ];
 
+/// What a server tells that is opened on a device, and the device. Nothing is in its log.
+fn opened(
+    rt: &impl Abort,
+    alloc: Global,
+    device: MemDisk,
+    questions: &Questions,
+) -> Result<(Vec<u8>, MemDisk), Wrong> {
+    let Ok(mut server) = Server::open(alloc, device) else {
+        return Err(Wrong::Unfit);
+    };
+    let told = server.told(alloc, questions);
+    holds(
+        rt,
+        !server.failed() && server.left().is_none() && server.room() == 4,
+    );
+    let (device, _) = server.into_device();
+    Ok((told?, device))
+}
+
 /// A device is opened, and holds that.
 fn is_opened(
     rt: &impl Abort,
@@ -156,15 +182,9 @@ fn is_opened(
     };
     let questions = Questions::new(alloc, &g)?;
     let wanted = expected(alloc, &g, lines, &questions)?;
-    let Ok(mut server) = Server::open(alloc, device_with(alloc, SMALL, changes)?) else {
-        return Err(Wrong::Unfit);
-    };
-    holds(rt, server.told(alloc, &questions)? == wanted);
-    holds(
-        rt,
-        !server.failed() && server.left().is_none() && server.room() == 4,
-    );
-    let (device, _) = server.into_device();
+    let device = device_with(alloc, SMALL, changes)?;
+    let (told, device) = opened(rt, alloc, device, &questions)?;
+    holds(rt, told == wanted);
     let image = if area == 0 { 4424 } else { 6632 };
     holds(rt, (device.bytes().get(64) == Some(&1)) == (area == 1));
     holds(rt, device.bytes().get(image) == Some(&2));
@@ -318,14 +338,7 @@ fn longer_device(alloc: Global) -> Result<MemDisk, Wrong> {
 fn what_lies_behind_the_parts_stays(rt: HostRuntime) -> Result<(), Fail> {
     let alloc = rt.alloc();
     for kind in 0..KINDS {
-        let Ok(mut server) = Server::open(alloc, longer_device(alloc)?) else {
-            return Err(Wrong::Unfit.into());
-        };
-        for act in ALL_CALLS {
-            let messages = messages_of(alloc, act.changes())?;
-            holds(&rt, server.act(&act, messages.as_slice()).is_ok());
-        }
-        let (device, _) = server.into_device();
+        let device = left_by_acts(alloc, longer_device(alloc)?, &ALL_CALLS)?;
         let device = device.crash(torn(alloc, kind)?);
         holds(&rt, device.bytes().get(8840..) == Some(&[9; BEHIND]));
     }

@@ -1,6 +1,6 @@
 //! Worked examples of logs, points and cuts.
 use crate::common::{SMALL, holds};
-use crate::journal_acting::FLAT;
+use crate::journal_acting::{FLAT, act_all, left_by_acts};
 use affinity::Geometry;
 use checkpoint::{Shown, inspect};
 use disk::MemDisk;
@@ -13,30 +13,9 @@ use std::alloc::Global;
 use std::process::Abort;
 use std::test::Fail;
 
-/// A server on this device.
-fn opened(alloc: Global, device: MemDisk) -> Result<Server<MemDisk>, Wrong> {
-    match Server::open(alloc, device) {
-        Ok(server) => Ok(server),
-        Err(_) => Err(Wrong::Unfit),
-    }
-}
-
-/// Does these things to a server, all of which go well.
-fn act_all(alloc: Global, server: &mut Server<MemDisk>, acts: &[Act]) -> Result<(), Wrong> {
-    for act in acts {
-        let messages = messages_of(alloc, act.changes())?;
-        if server.act(act, messages.as_slice()).is_err() {
-            return Err(Wrong::Unfit);
-        }
-    }
-    Ok(())
-}
-
 /// The device that these acts leave of a new one, after a crash that leaves what was synced.
 fn left_by(alloc: Global, numbers: [u16; 8], acts: &[Act]) -> Result<MemDisk, Wrong> {
-    let mut server = opened(alloc, device_with(alloc, numbers, &[])?)?;
-    act_all(alloc, &mut server, acts)?;
-    let (device, _) = server.into_device();
+    let device = left_by_acts(alloc, device_with(alloc, numbers, &[])?, acts)?;
     Ok(device.crash(torn(alloc, OLD)?))
 }
 
@@ -134,13 +113,24 @@ const WRITES: [&str; 3] = ["write 0 0 0 0 61", "write 0 0 0 1 62", "write 0 0 0 
 
 /// How many calls opening a new flat device and making the file take.
 fn calls_of_file(alloc: Global) -> Result<u64, Wrong> {
-    Ok(counted_by(alloc)?.calls())
+    let device = left_by_acts(alloc, device_with(alloc, FLAT, &[])?, &FILE)?;
+    Ok(device.calls())
 }
 
-fn counted_by(alloc: Global) -> Result<MemDisk, Wrong> {
-    let mut server = opened(alloc, device_with(alloc, FLAT, &[])?)?;
-    act_all(alloc, &mut server, &FILE)?;
-    Ok(server.into_device().0)
+/// What is left of this device where the file is made and the writes are not logged, as it has failed.
+fn left_unlogged(alloc: Global, device: MemDisk) -> Result<MemDisk, Wrong> {
+    let messages = messages_of(alloc, &WRITES)?;
+    let Ok(mut server) = Server::open(alloc, device) else {
+        return Err(Wrong::Unfit);
+    };
+    let is_made = act_all(alloc, &mut server, &FILE).is_ok();
+    let is_unlogged = server.log(messages.as_slice()).is_err() && server.failed();
+    let (device, _) = server.into_device();
+    if is_made && is_unlogged {
+        Ok(device)
+    } else {
+        Err(Wrong::Unfit)
+    }
 }
 
 /// What three writes to a file leave where the device stopped at the write of their gates, which were torn: they are open,
@@ -148,13 +138,7 @@ fn counted_by(alloc: Global) -> Result<MemDisk, Wrong> {
 fn torn_writes(alloc: Global) -> Result<MemDisk, Wrong> {
     let mut device = device_with(alloc, FLAT, &[])?;
     device.stop_at(calls_of_file(alloc)?.saturating_add(3));
-    let mut server = opened(alloc, device)?;
-    act_all(alloc, &mut server, &FILE)?;
-    let messages = messages_of(alloc, &WRITES)?;
-    if server.log(messages.as_slice()).is_ok() || !server.failed() {
-        return Err(Wrong::Unfit);
-    }
-    let (device, _) = server.into_device();
+    let device = left_unlogged(alloc, device)?;
     Ok(device.crash(torn(alloc, MIXED)?))
 }
 
@@ -163,13 +147,11 @@ fn a_torn_batch_leaves_its_beginning(rt: HostRuntime) -> Result<(), Fail> {
     let alloc = rt.alloc();
     let lines = ["makevol 0 0", "create 0 0 0", "write 0 0 0 0 61"];
     let device = is_found(&rt, alloc, FLAT, torn_writes(alloc)?, &lines)?;
-    let mut server = opened(alloc, device)?;
     let more = [
         Act::Log(&["punch 0 0 0 0"]),
         Act::Log(&["write 0 0 0 3 64"]),
     ];
-    act_all(alloc, &mut server, &more)?;
-    let (device, _) = server.into_device();
+    let device = left_by_acts(alloc, device, &more)?;
     // What lies after the gates of the first incarnation is not in force.
     let device = device.crash(torn(alloc, OLD)?);
     let lines = ["makevol 0 0", "create 0 0 0", "write 0 0 0 3 64"];
@@ -207,17 +189,27 @@ const PIECES: [(Act, Option<usize>); 22] = [
     (Act::End, None),
 ];
 
+/// Whether this act leaves so many pieces. With none left, a piece calls the device never.
+fn leaves_pieces(
+    alloc: Global,
+    server: &mut Server<MemDisk>,
+    act: Act,
+    left: Option<usize>,
+) -> bool {
+    let (before, was_left) = (server.counts(), server.left());
+    let is_done = act_all(alloc, server, &[act]).is_ok();
+    let is_idle = was_left == Some(0) && left == Some(0);
+    is_done && server.left() == left && (!is_idle || server.counts() == before)
+}
+
 #[test]
 fn pieces_that_changed_are_left(rt: HostRuntime) -> Result<(), Fail> {
     let alloc = rt.alloc();
-    let mut server = opened(alloc, device_with(alloc, SMALL, &[])?)?;
+    let Ok(mut server) = Server::open(alloc, device_with(alloc, SMALL, &[])?) else {
+        return Err(Wrong::Unfit.into());
+    };
     for (act, left) in PIECES {
-        let (before, was_left) = (server.counts(), server.left());
-        act_all(alloc, &mut server, &[act])?;
-        holds(&rt, server.left() == left);
-        // With none left, a piece calls the device never.
-        let is_idle = was_left == Some(0) && left == Some(0);
-        holds(&rt, !is_idle || server.counts() == before);
+        holds(&rt, leaves_pieces(alloc, &mut server, act, left));
     }
     let (device, _) = server.into_device();
     let (shown, device) = shown_of(alloc, device.crash(torn(alloc, OLD)?))?;

@@ -196,6 +196,21 @@ fn carry_out(tree: &mut Tree, messages: &[Msg]) -> bool
     true
 }
 
+/// Sets bytes, where there are any at these places.
+fn set(bytes: &mut [u8], changes: &[(usize, u8)]) {
+    for (at, byte) in changes {
+        if let Some(there) = bytes.get_mut(*at) {
+            *there = *byte;
+        }
+    }
+}
+
+/// A device that was formatted.
+fn formatted(alloc: Global, g: Geometry) -> Result<MemDisk, Wrong> {
+    let disk = MemDisk::new(alloc, device_len(&g))?;
+    format(alloc, disk, g).map_err(|_| Wrong::OutOfMemory)
+}
+
 /// A device that was formatted, with other bytes at some places.
 pub fn device_with(
     alloc: Global,
@@ -205,15 +220,7 @@ pub fn device_with(
     let Ok(g) = Geometry::new(numbers) else {
         return Err(Wrong::Unfit);
     };
-    let disk = MemDisk::new(alloc, device_len(&g))?;
-    let Ok(disk) = format(alloc, disk, g) else {
-        return Err(Wrong::OutOfMemory);
-    };
-    let mut bytes = disk.bytes().to_vec(alloc)?;
-    for (at, byte) in changes {
-        if let Some(there) = bytes.get_mut(*at) {
-            *there = *byte;
-        }
-    }
+    let mut bytes = formatted(alloc, g)?.bytes().to_vec(alloc)?;
+    set(&mut bytes, changes);
     Ok(MemDisk::of_bytes(alloc, bytes)?)
 }

@@ -132,38 +132,86 @@ fn agrees(shown: &Shown, told: &[u8]) -> bool {
     told.starts_with(&line[..size])
 }
 
+/// What `inspect` reports of a device of these bytes.
+fn inspected(alloc: Global, bytes: &[u8]) -> Result<Result<Shown, OpenFault>, AllocError> {
+    match inspect(alloc, device_of(alloc, bytes)?) {
+        Ok((shown, _)) => Ok(Ok(shown)),
+        Err(e) => Ok(Err(e.fault)),
+    }
+}
+
 /// Whether `inspect` agrees with `open` on a device of these bytes, before and after opening.
 fn is_shown(
     alloc: Global,
     bytes: &[u8],
     opened: &[u8],
     found: &OpenedDevice,
-) -> Result<bool, Wrong> {
-    let before = inspect(alloc, device_of(alloc, bytes)?);
-    match (before, found) {
-        (Ok((before, _)), OpenedDevice::Tells(told)) => {
-            let Ok((after, _)) = inspect(alloc, device_of(alloc, opened)?) else {
-                return Ok(false);
-            };
+) -> Result<bool, AllocError> {
+    let before = inspected(alloc, bytes)?;
+    let after = inspected(alloc, opened)?;
+    Ok(match (before, after, found) {
+        (Ok(before), Ok(after), OpenedDevice::Tells(told)) => {
             let is_new = after.records == 0 && after.version == 2;
-            Ok(is_new && agrees(&before, told.as_slice()) && agrees(&after, told.as_slice()))
+            is_new && agrees(&before, told.as_slice()) && agrees(&after, told.as_slice())
         }
-        (Err(e), OpenedDevice::Refuses(fault)) => Ok(e.fault == *fault),
-        _ => Ok(false),
-    }
+        (Err(before), _, OpenedDevice::Refuses(fault)) => before == *fault,
+        _ => false,
+    })
 }
 
-/// Whether it was opened, where the same was found again.
-fn same_again(is_same: bool, is_opened: bool, first: Crash, second: Crash) -> Result<bool, Wrong> {
+/// That the same was found again.
+fn same_again(is_same: bool, first: Crash, second: Crash) -> Result<(), Wrong> {
     if is_same {
-        Ok(is_opened)
+        Ok(())
     } else {
         Err(Wrong::Reopened(first, second))
     }
 }
 
-/// Opens a device of these bytes that stops at its n-th call, and opens it again after a crash of each kind: the same is
-/// found each time. Whether it was opened, or refused, before that call.
+/// Opens a device that stops at this call: the device as it is then. None where it was opened, or refused, before that call;
+/// then the same is found as without a stop.
+fn stopped(
+    questions: &Questions,
+    alloc: Global,
+    first: Crash,
+    second: Crash,
+    seen: &Seen,
+) -> Result<Option<MemDisk>, Wrong>
+    requires { 0 < second.call }
+{
+    let mut device = device_of(alloc, seen.bytes.as_slice())?;
+    device.stop_at(second.call);
+    let (found, device) = find(alloc, device, questions)?;
+    if device.calls() < second.call {
+        same_again(found == seen.found, first, second)?;
+        return Ok(None);
+    }
+    same_again(
+        found == OpenedDevice::Refuses(OpenFault::Device),
+        first,
+        second,
+    )?;
+    Ok(Some(device))
+}
+
+/// Opens the device that the second crash left: the same is found as behind the first one.
+fn reopen_behind(
+    questions: &Questions,
+    alloc: Global,
+    first: Crash,
+    second: Crash,
+    seen: &Seen,
+    device: MemDisk,
+) -> Result<(), Wrong> {
+    if device.bytes() == seen.bytes.as_slice() {
+        return Ok(());
+    }
+    let (again, _) = find(alloc, device, questions)?;
+    same_again(again == seen.found, first, second)
+}
+
+/// Opens a device of these bytes that stops at its n-th call, and opens it again after a crash of each kind. Whether it was
+/// opened, or refused, before that call.
 fn reopen_at(
     alloc: Global,
     questions: &Questions,
@@ -173,30 +221,13 @@ fn reopen_at(
 ) -> Result<bool, Wrong>
     requires { 0 < n }
 {
-    let mut last: Vec<u8> = Vec::new(alloc);
     for kind in 0..KINDS {
         let second = Crash { call: n, kind };
-        let mut device = device_of(alloc, seen.bytes.as_slice())?;
-        device.stop_at(n);
-        let (stopped, device) = find(alloc, device, questions)?;
-        if device.calls() < n {
-            return same_again(stopped == seen.found, true, first, second);
-        }
-        let is_told = stopped == OpenedDevice::Refuses(OpenFault::Device);
-        same_again(is_told, false, first, second)?;
+        let Some(device) = stopped(questions, alloc, first, second, seen)? else {
+            return Ok(true);
+        };
         let device = device.crash(torn(alloc, kind)?);
-        if device.bytes() == last.as_slice() {
-            // Nothing is unsynced.
-            if kind == 1 {
-                break;
-            }
-            continue;
-        }
-        last = device.bytes().to_vec(alloc)?;
-        if last != seen.bytes {
-            let (again, _) = find(alloc, device, questions)?;
-            same_again(again == seen.found, false, first, second)?;
-        }
+        reopen_behind(questions, alloc, first, second, seen, device)?;
     }
     Ok(false)
 }
@@ -224,6 +255,23 @@ pub struct Seen {
     pub found: OpenedDevice,
 }
 
+/// What is found on the device that a crash left, which is opened also stopped at each of its calls.
+fn opened(
+    alloc: Global,
+    questions: &Questions,
+    first: Crash,
+    device: MemDisk,
+) -> Result<Seen, Wrong> {
+    let bytes = device.bytes().to_vec(alloc)?;
+    let (found, device) = find(alloc, device, questions)?;
+    if !is_shown(alloc, bytes.as_slice(), device.bytes(), &found)? {
+        return Err(Wrong::Shown(first));
+    }
+    let seen = Seen { bytes, found };
+    reopen(alloc, questions, first, &seen)?;
+    Ok(seen)
+}
+
 /// A trial and what was found in it so far.
 #[derive(Drop)]
 struct Stops<'a, T: Trial> {
@@ -233,24 +281,24 @@ struct Stops<'a, T: Trial> {
 }
 
 impl<T: Trial> Stops<'_, T> {
+    /// Whether a device of these bytes was opened already, and that is allowed.
+    fn seen_before(&self, progress: &Progress, bytes: &[u8]) -> Option<bool> {
+        let mut seen = self.seen.iter();
+        let seen = seen.find(|seen| seen.bytes.as_slice() == bytes)?;
+        Some(self.trial.allows(progress, &seen.found))
+    }
+
     /// What is found on the device that a crash left is allowed.
     fn look(&mut self, progress: &Progress, first: Crash, device: MemDisk) -> Result<(), Wrong> {
-        for seen in self.seen.as_slice() {
-            if seen.bytes.as_slice() == device.bytes() {
-                return self.judge(progress, first, &seen.found);
+        match self.seen_before(progress, device.bytes()) {
+            Some(true) => Ok(()),
+            Some(false) => Err(Wrong::Found(first)),
+            None => {
+                let seen = opened(self.alloc, self.trial.questions(), first, device)?;
+                self.judge(progress, first, &seen.found)?;
+                Ok(self.seen.push(seen)?)
             }
         }
-        let bytes = device.bytes().to_vec(self.alloc)?;
-        let questions = self.trial.questions();
-        let (found, opened) = find(self.alloc, device, questions)?;
-        self.judge(progress, first, &found)?;
-        if !is_shown(self.alloc, bytes.as_slice(), opened.bytes(), &found)? {
-            return Err(Wrong::Shown(first));
-        }
-        let seen = Seen { bytes, found };
-        reopen(self.alloc, questions, first, &seen)?;
-        self.seen.push(seen)?;
-        Ok(())
     }
 
     fn judge(&self, progress: &Progress, first: Crash, found: &OpenedDevice) -> Result<(), Wrong> {
@@ -279,23 +327,23 @@ impl<T: Trial> Stops<'_, T> {
         }
     }
 
-    /// Makes the trial on a device that stops at this call, with a crash of each kind after it. Whether it ended before
-    /// that call.
+    /// Makes the trial on a device that stops at this call, and crashes it: whether it ended before that call.
+    fn crash(&mut self, first: Crash) -> Result<bool, Wrong>
+        requires { 0 < first.call }
+    {
+        let Ended { device, progress } = self.make(first)?;
+        let device = device.crash(torn(self.alloc, first.kind)?);
+        self.look(&progress, first, device)?;
+        Ok(progress.is_whole)
+    }
+
+    /// The same with a crash of each kind.
     fn stop(&mut self, call: u64) -> Result<bool, Wrong>
         requires { 0 < call }
     {
-        let mut last: Vec<u8> = Vec::new(self.alloc);
         let mut is_whole = false;
         for kind in 0..KINDS {
-            let first = Crash { call, kind };
-            let Ended { device, progress } = self.make(first)?;
-            is_whole = progress.is_whole;
-            let device = device.crash(torn(self.alloc, kind)?);
-            if kind == 1 && device.bytes() == last.as_slice() {
-                break; // nothing is unsynced
-            }
-            last = device.bytes().to_vec(self.alloc)?;
-            self.look(&progress, first, device)?;
+            is_whole = self.crash(Crash { call, kind })?;
         }
         Ok(is_whole)
     }

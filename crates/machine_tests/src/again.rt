@@ -40,7 +40,10 @@ fn opened_again(
     if refused.disk.calls() > most_calls {
         return Err(Wrong::OutOfMemory);
     }
-    Core::open(alloc, refused.disk, 2).map_err(|_| Wrong::OutOfMemory)
+    match Core::open(alloc, refused.disk, 2) {
+        Ok(core) => Ok(core),
+        Err(_) => Err(Wrong::OutOfMemory),
+    }
 }
 
 /// A machine with one hand, or the core where memory is refused.
@@ -51,11 +54,28 @@ fn machine_of(alloc: Global, core: Core<MemDisk>) -> Result<Machine<MemDisk>, Co
     }
 }
 
-/// The same, at the second try where the first one is refused.
-fn machine_made_again(alloc: Global, core: Core<MemDisk>) -> Result<Machine<MemDisk>, Wrong> {
-    match machine_of(alloc, core) {
-        Ok(machine) => Ok(machine),
-        Err(core) => machine_of(alloc, core).map_err(|_| Wrong::OutOfMemory),
+/// A machine over this core answers as if no memory had been refused. Where its own is, it is made at the second try, if there is to be
+/// one. What owns a core is taken apart in the end, as its drop costs the prover half a minute.
+fn serves(
+    rt: &impl Abort,
+    alloc: Global,
+    core: Core<MemDisk>,
+    tries_again: bool,
+) -> Result<(), Wrong> {
+    let made = match machine_of(alloc, core) {
+        Err(core) if tries_again => machine_of(alloc, core),
+        made => made,
+    };
+    match made {
+        Ok(mut machine) => {
+            goes_so(rt, &mut machine, &ITS_VOLUME);
+            let _device = machine.into_core().into_disk();
+            Ok(())
+        }
+        Err(core) => {
+            let _device = core.into_disk();
+            Err(Wrong::OutOfMemory)
+        }
     }
 }
 
@@ -71,12 +91,9 @@ fn core_opened_again(
     Ok(core)
 }
 
-/// A machine with that core answers as if no memory had been refused.
 fn serves_again(rt: &impl Abort, alloc: Global, most_calls: u64) -> Result<(), Wrong> {
     let core = core_opened_again(rt, alloc, most_calls)?;
-    let mut machine = machine_of(alloc, core).map_err(|_| Wrong::OutOfMemory)?;
-    goes_so(rt, &mut machine, &ITS_VOLUME);
-    Ok(())
+    serves(rt, alloc, core, false)
 }
 
 #[test]
@@ -95,8 +112,9 @@ fn a_core_is_opened_at_the_next_try(rt: HostRuntime) -> Result<(), Fail> {
 #[test]
 fn a_machine_is_made_at_the_next_try(rt: HostRuntime) -> Result<(), Fail> {
     let device = device_with(rt.alloc(), SMALL, &A_VOLUME)?;
-    let core = Core::open(rt.alloc(), device, 2).map_err(|_| Wrong::OutOfMemory)?;
-    let mut machine = machine_made_again(rt.alloc(), core)?;
-    goes_so(&rt, &mut machine, &ITS_VOLUME);
+    let Ok(core) = Core::open(rt.alloc(), device, 2) else {
+        return Err(Wrong::OutOfMemory.into());
+    };
+    serves(&rt, rt.alloc(), core, true)?;
     Ok(())
 }

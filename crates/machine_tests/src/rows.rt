@@ -303,24 +303,35 @@ fn steps_come_out_so(rt: HostRuntime) -> Result<(), Fail> {
     Ok(())
 }
 
-/// The last of these incarnations prints where its first step comes and where its last one is over: in between no memory is asked
-/// for, which `tests/run calls` counts.
+/// The same, and it prints where its first step comes and where its last one is over: in between no memory is asked for, which
+/// `tests/run calls` counts.
+fn lived_without_memory(
+    rt: &(impl Abort + Print),
+    alloc: Global,
+    device: MemDisk,
+    incarnation: &Incarnation,
+) -> Result<MemDisk, Wrong> {
+    let mut machine = machine_on(alloc, device, incarnation.slots, incarnation.hands)?;
+    holds(rt, rt.println("no memory from here").is_ok());
+    goes_so(rt, &mut machine, incarnation.rows);
+    holds(rt, rt.println("no memory to here").is_ok());
+    Ok(machine.into_core().into_disk())
+}
+
+/// The last of these incarnations takes memory before its steps alone.
 fn takes_memory_before_its_steps_alone(
     rt: &(impl Abort + Print),
     alloc: Global,
     incarnations: &Incarnations,
 ) -> Result<(), Wrong> {
-    let mut device = device_with(alloc, incarnations.numbers, &[])?;
     let Some((last, earlier)) = incarnations.incarnations.split_last() else {
         return Err(Wrong::Unfit);
     };
+    let mut device = device_with(alloc, incarnations.numbers, &[])?;
     for incarnation in earlier {
         device = lived(rt, alloc, device, incarnation)?;
     }
-    let mut machine = machine_on(alloc, device, last.slots, last.hands)?;
-    holds(rt, rt.println("no memory from here").is_ok());
-    goes_so(rt, &mut machine, last.rows);
-    holds(rt, rt.println("no memory to here").is_ok());
+    lived_without_memory(rt, alloc, device, last)?;
     Ok(())
 }
 
@@ -378,6 +389,13 @@ const LOG_FAILS: Incarnation = Incarnation {
     ],
 };
 
+/// The device is opened, and nothing is done.
+const OPENED: Incarnation = Incarnation {
+    slots: 1,
+    hands: 1,
+    rows: &[],
+};
+
 /// How many rows come before that log.
 const BEFORE_THE_LOG: usize = 4;
 
@@ -394,8 +412,7 @@ fn leaves_volumes(
     if let Some(kind) = crash {
         device = device.crash(torn(alloc, kind)?);
     }
-    let machine = machine_on(alloc, device, 1, 1)?;
-    let device = machine.into_core().into_disk();
+    let device = lived(rt, alloc, device, &OPENED)?;
     is_shown(rt, alloc, device, 0, 0, [volumes, 0, 0])?;
     Ok(())
 }
@@ -622,8 +639,7 @@ fn cuts_write_what_has_changed(rt: HostRuntime) -> Result<(), Fail> {
     let device = device_with(alloc, SMALL, &[])?;
     let device = lived(&rt, alloc, device, &CHANGED_PIECES)?;
     let device = device.crash(torn(alloc, OLD)?);
-    let machine = machine_on(alloc, device, 1, 1)?;
-    let device = machine.into_core().into_disk();
+    let device = lived(&rt, alloc, device, &OPENED)?;
     is_shown(&rt, alloc, device, 1, 0, [1, 1, 1])?;
     Ok(())
 }

@@ -1,7 +1,7 @@
-//! Where messages belong, how affinities are numbered, and which are related.
+//! Where messages belong, how affinities are numbered, and which are related; and the text of numbers out of range.
 
 use crate::common::SMALL;
-use affinity::{Geometry, Kind, place_of, related};
+use affinity::{BadGeometry, Geometry, Kind, place_of, related};
 use std::process::Abort;
 use std::test::Fail;
 
@@ -106,5 +106,12 @@ fn each_stripe_is_related_to_all_but_the_other_one_and_the_label(
     for (message, row) in EACH_AFFINITY.iter().zip(ARE_RELATED.iter()) {
         checks_related(&rt, &g, *message, row);
     }
+    Ok(())
+}
+
+#[test]
+fn bad_geometry_is_named(rt: HostRuntime) -> Result<(), Fail> {
+    let text = format!(in rt.alloc(); "{}", BadGeometry)?;
+    assert!(rt; text.as_str() == "geometry out of range");
     Ok(())
 }

@@ -2,27 +2,19 @@
 #![tactic(auto)]
 
 #[cfg(test)]
-mod affinity_geometry;
-#[cfg(test)]
 mod affinity_places;
 #[cfg(test)]
 mod common;
 #[cfg(test)]
 mod message_lines;
 #[cfg(test)]
-mod message_reader;
-#[cfg(test)]
 mod message_records;
 #[cfg(test)]
 mod message_replies;
 #[cfg(test)]
-mod message_reply_buffer;
-#[cfg(test)]
 mod parcel_lines;
 #[cfg(test)]
 mod parcel_pieces;
-#[cfg(test)]
-mod parcel_stripes;
 #[cfg(test)]
 mod parcel_trees;
 #[cfg(test)]

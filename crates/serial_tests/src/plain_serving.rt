@@ -1,8 +1,7 @@
 //! How a session ends: at the end of its input, at a failed read, at a failed write.
 use crate::common::{SMALL, holds, same};
 use crate::plain_rows::{ends, room, served_into};
-use affinity::Geometry;
-use plain::{PlainFault, serve_from};
+use plain::PlainFault;
 use std::alloc::{AllocError, Global};
 use std::io;
 use std::io::{ErrorKind, Read, Write};
@@ -24,20 +23,6 @@ impl<'a> Read for Failing<'a> {
         *place = *first;
         self.0 = others;
         Ok(1)
-    }
-}
-
-/// Takes nothing.
-#[derive(Drop)]
-struct Full;
-
-impl Write for Full {
-    fn write(&mut self, _buf: &[u8]) -> io::Result<usize> {
-        Err(io::Error::from(ErrorKind::Other))
-    }
-
-    fn flush(&mut self) -> io::Result<()> {
-        Ok(())
     }
 }
 
@@ -135,14 +120,6 @@ fn whole_lines_are_answered_before_a_read_that_fails_at_each_place(
     Ok(())
 }
 
-const ONE_LINE: &[u8] = b"makevol 0 0\n";
-
-#[test]
-fn a_failed_write_is_told(rt: HostRuntime) {
-    let end = served_into(rt.alloc(), SMALL, ONE_LINE, &mut Full);
-    ends(&rt, end, Err(PlainFault::Write));
-}
-
 /// Gives one byte a read, so that each reply is written before the next line is read.
 #[derive(Drop)]
 struct ByteByByte<'a>(&'a [u8]);
@@ -191,47 +168,6 @@ fn after_each_write_that_fails_nothing_more_is_written(rt: HostRuntime) -> Resul
     Ok(())
 }
 
-/// How a session ends that serves at the small geometry what a reader has left.
-fn served_from<R: Read>(
-    alloc: Global,
-    input: &mut R,
-    output: &mut Vec<u8>,
-) -> Result<(), PlainFault> {
-    let Ok(geometry) = Geometry::new(SMALL) else {
-        return Err(PlainFault::OutOfMemory);
-    };
-    serve_from(alloc, &geometry, input, output)
-}
-
-const CUT_LINE: &[u8] = b"makevol 0 0\ncreate 0 0 2";
-
-#[test]
-fn a_reader_that_is_lent_has_nothing_left(rt: HostRuntime) -> Result<(), Fail> {
-    let mut input = CUT_LINE;
-    let mut output = room(rt.alloc())?;
-    let end = served_from(rt.alloc(), &mut input, &mut output);
-    ends(&rt, end, Ok(()));
-    same(&rt, input, b"");
-    same(&rt, output.as_slice(), b"done\nerror range\n");
-    Ok(())
-}
-
-#[test]
-fn a_reader_that_fails_is_read_no_further(rt: HostRuntime) -> Result<(), Fail> {
-    let mut input = Failing(CUT_LINE);
-    let mut output = room(rt.alloc())?;
-    let end = served_from(rt.alloc(), &mut input, &mut output);
-    ends(&rt, end, Err(PlainFault::Read));
-    same(&rt, output.as_slice(), b"done\n");
-
-    // What is left is answered to the next call, from an empty state on.
-    input.0 = ONE_LINE;
-    let end = served_from(rt.alloc(), &mut input, &mut output);
-    ends(&rt, end, Err(PlainFault::Read));
-    same(&rt, output.as_slice(), b"done\ndone\n");
-    Ok(())
-}
-
 /// Lines that take memory for a volume, its label, a file, a block, a number for its stripe and a seal.
 const FIRST_OF_ALL: &[u8] = b"makevol 0 0
 setlabel 0 0 6162
@@ -274,55 +210,5 @@ fn lines_are_answered_at_the_next_try(rt: HostRuntime) -> Result<(), Fail> {
     let end = served_into(alloc, SMALL, FIRST_OF_ALL, &mut output);
     ends(&rt, end, Ok(()));
     same(&rt, output.as_slice(), FIRST_REPLIES);
-    Ok(())
-}
-
-/// Inputs that change nothing, and the reply to each. All but the last two are no messages.
-const LINES_ALONE: [(&[u8], &[u8]); 16] = [
-    (b"\n", b"error line\n"),
-    (b"read 00 0 0 0\n", b"error line\n"),
-    (b"read 0 0 0 0\r\n", b"error line\n"),
-    (b"read  0 0 0 0\n", b"error line\n"),
-    (b"read 0 0 0 65536\n", b"error line\n"),
-    (b"READ 0 0 0 0\n", b"error line\n"),
-    (b"summary 0\n", b"error line\n"),
-    (b"write 0 0 0 0 6\n", b"error line\n"),
-    (b"write 0 0 0 0 6g\n", b"error line\n"),
-    (b"write 0 0 0 0\n", b"error line\n"),
-    (b"read 0 0 0 -1\n", b"error line\n"),
-    (b"read\t0\t0\t0\t0\n", b"error line\n"),
-    (b"\x00\n", b"error line\n"),
-    (b"\xFF\n", b"error line\n"),
-    (b"read 0 0 0 65535\n", b"error range\n"),
-    (b"summary", b"summary 0 0 0\n"),
-];
-
-#[test]
-fn lines_that_are_no_message_change_nothing(rt: HostRuntime) -> Result<(), Fail> {
-    for (input, reply) in LINES_ALONE {
-        expect(&rt, rt.alloc(), input, Ok(()), reply)?;
-    }
-    Ok(())
-}
-
-/// Long inputs: what each begins with, how often which byte comes then, how it ends, and the reply. Blocks have 512 bytes, and no line
-/// of more than 1,100 is a message.
-const LONG: [(&[u8], u8, usize, &[u8], &[u8]); 5] = [
-    (b"", b'a', 1100, b"\n", b"error line\n"),
-    (b"", b'a', 1101, b"\n", b"error line\n"),
-    (b"", b'a', 1_000_000, b"", b"error line\n"),
-    (b"write 0 0 0 0 ", b'6', 1024, b"\n", b"error volume\n"),
-    (b"write 0 0 0 0 ", b'6', 1026, b"\n", b"error line\n"),
-];
-
-#[test]
-fn long_lines_are_told_once(rt: HostRuntime) -> Result<(), Fail> {
-    for (start, byte, count, end, reply) in LONG {
-        let mut input = Vec::new(rt.alloc());
-        input.extend_from_slice(start)?;
-        input.extend_from_slice(vec![in rt.alloc(); byte; count]?.as_slice())?;
-        input.extend_from_slice(end)?;
-        expect(&rt, rt.alloc(), input.as_slice(), Ok(()), reply)?;
-    }
     Ok(())
 }

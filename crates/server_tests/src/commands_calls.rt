@@ -217,6 +217,14 @@ fn is_said(printed: &[u8], said: Said<'_>) -> bool {
     }
 }
 
+/// How a call ended that should have ended otherwise.
+fn amiss(words: &str, ended: &Ended) -> Fail {
+    let found = ended.status;
+    let printed = text(ended.output.as_slice());
+    let told = text(ended.faults.as_slice());
+    Fail::new(format_args!("{words}: {found}, {printed}, {told}"))
+}
+
 /// That a call ends so: its status, what it prints, and what it prints of faults.
 pub(crate) fn expect<T: System>(
     rt: &T,
@@ -226,15 +234,14 @@ pub(crate) fn expect<T: System>(
     faults: Said<'_>,
 ) -> Result<(), Fail> {
     let ended = end_of(rt, &call)?;
-    let is_so = is_said(ended.output.as_slice(), output)
+    let is_so = ended.status == status
+        && is_said(ended.output.as_slice(), output)
         && is_said(ended.faults.as_slice(), faults);
-    if ended.status == status && is_so {
-        return Ok(());
+    if is_so {
+        Ok(())
+    } else {
+        Err(amiss(call.words, &ended))
     }
-    let (words, found) = (call.words, ended.status);
-    let printed = text(ended.output.as_slice());
-    let told = text(ended.faults.as_slice());
-    Err(Fail::new(format_args!("{words}: {found}, {printed}, {told}")))
 }
 
 const OPTIONS: &str = "

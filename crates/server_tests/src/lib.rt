@@ -12,17 +12,9 @@ mod commands_devices;
 #[cfg(test)]
 mod commands_service;
 #[cfg(test)]
-mod commands_stopping;
-#[cfg(test)]
 mod serving_again;
 #[cfg(test)]
-mod serving_crashing;
-#[cfg(test)]
-mod serving_drawing;
-#[cfg(test)]
 mod serving_faults;
-#[cfg(test)]
-mod serving_incarnations;
 #[cfg(test)]
 mod serving_noting;
 #[cfg(test)]
@@ -36,13 +28,8 @@ mod serving_points;
 #[cfg(test)]
 mod serving_precedence;
 #[cfg(test)]
-mod serving_rows;
-#[cfg(test)]
 mod serving_running;
-#[cfg(test)]
-mod serving_sessions;
 #[cfg(test)]
 mod serving_streams;
 #[cfg(test)]
 mod serving_waiting;
-pub mod serving_watching;

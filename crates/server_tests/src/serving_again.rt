@@ -4,13 +4,15 @@ ghost use Rattle.legal_runs.specs.Laws.{IsIdle};
 ghost use Rattle.scheduler.specs.CoreView.{core_state_of};
 
 use crate::serving_noting::{Notes, Pieces};
-use crate::serving_rows::leaves;
-use crate::serving_running::{SMALL, writes};
+use crate::serving_running::{SMALL, holds, writes};
+use checkpoint::{OpenFault, inspect};
 use disk::MemDisk;
 use harness::{Wrong, device_with};
+use message::Reply;
 use scheduler::Core;
 use serving::{ServeError, ServeFault, serve};
 use std::alloc::Global;
+use std::process::Abort;
 use std::sync::Wait;
 use std::test::Fail;
 use std::thread::Threads;
@@ -31,6 +33,12 @@ const TWICE: [(bool, bool, usize); 4] = [
     (false, true, 0),
     (true, true, 1),
 ];
+
+/// Takes a core apart, as its drop costs the prover half a minute wherever it is.
+fn unfit(core: Core<MemDisk>) -> Wrong {
+    let _device = core.into_disk();
+    Wrong::Unfit
+}
 
 /// Serves the first input, at whose end the reader fails, or doesn't.
 fn serve_first<T: Threads + Wait + Sync>(
@@ -70,7 +78,7 @@ fn serve_first<T: Threads + Wait + Sync>(
                 fault: ServeFault::Read,
             },
         ) => Ok(core),
-        Err(_) => Err(Wrong::Unfit),
+        Err(e) => Err(unfit(e.core)),
     }
 }
 
@@ -105,7 +113,7 @@ fn serve_twice<T: Threads + Wait + Sync>(
     let mut output = Vec::new(alloc);
     let mut core = serve_first(rt, alloc, core, workers, fails, &mut output)?;
     if !begin_cut(&mut core, cuts) {
-        return Err(Wrong::Unfit);
+        return Err(unfit(core));
     }
     let mut input = SECOND;
     match serve(
@@ -119,8 +127,37 @@ fn serve_twice<T: Threads + Wait + Sync>(
         &OpenGate,
     ) {
         Ok(core) => Ok((core.into_disk(), output)),
-        Err(_) => Err(Wrong::Unfit),
+        Err(e) => Err(unfit(e.core)),
     }
+}
+
+/// Where lines were served to their end, this area is named, and there is so much in it, and no record after it.
+fn leaves(
+    rt: &impl Abort,
+    alloc: Global,
+    device: MemDisk,
+    area: usize,
+    counts: [u32; 3],
+) -> Result<(), Wrong> {
+    let shown = match inspect(alloc, device) {
+        Ok((shown, _)) => shown,
+        Err(e) => {
+            return Err(if e.fault == OpenFault::OutOfMemory {
+                Wrong::OutOfMemory
+            } else {
+                Wrong::Unfit
+            });
+        }
+    };
+    let [volumes, files, blocks] = counts;
+    let summary = Reply::Summary {
+        volumes,
+        files,
+        blocks,
+    };
+    let is_new = shown.version == 2 && shown.records == 0;
+    holds(rt, is_new && shown.area == area && shown.summary == summary);
+    Ok(())
 }
 
 #[test]
@@ -154,12 +191,18 @@ fn serve_at_next_try<T: Threads + Wait + Sync>(
                 fault: ServeFault::OutOfMemory,
             },
         ) => core,
-        Err(_) => return Err(Wrong::Unfit),
+        Err(e) => return Err(unfit(e.core)),
     };
     if input.len() != FIRST.len() || !output.is_empty() {
-        return Err(Wrong::Unfit);
+        return Err(unfit(core));
     }
-    serve(rt, alloc, core, &mut input, output, 3, 0, &OpenGate).map_err(|_| Wrong::OutOfMemory)
+    match serve(rt, alloc, core, &mut input, output, 3, 0, &OpenGate) {
+        Ok(core) => Ok(core),
+        Err(e) => {
+            let _device = e.core.into_disk();
+            Err(Wrong::OutOfMemory)
+        }
+    }
 }
 
 #[test]

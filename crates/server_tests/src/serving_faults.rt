@@ -15,7 +15,7 @@ use std::thread::Threads;
 use workers::OpenGate;
 
 /// Changes that are done. Those at 2 and 3, and at 5 and 6, are unrelated; any others are related.
-pub(crate) const CHANGES: [&str; 10] = [
+const CHANGES: [&str; 10] = [
     "makevol 0 0",
     "create 0 0 0",
     "write 0 0 0 0 61",
@@ -36,31 +36,21 @@ const ORDERS: [[usize; 10]; 2] = [
 
 /// Some changes, and what a server answers to the questions after them.
 #[derive(Drop)]
-pub(crate) struct Known {
+struct Known {
     /// The sum of 2 to the power of each one's place.
     changes: u32,
     sent: Vec<u8>,
 }
 
-impl Known {
-    /// Whether that is found.
-    pub(crate) fn is_told(&self, found: &OpenedDevice) -> bool {
-        match found {
-            OpenedDevice::Tells(sent) => self.sent == *sent,
-            OpenedDevice::Refuses(_) => false,
-        }
-    }
-}
-
 /// A device that recovers to the first so many changes and on which the others are served, and what may be found on it.
 #[derive(Drop)]
-pub(crate) struct Play {
+struct Play {
     there: usize,
     lines: Vec<u8>,
     blank: Vec<u8>,
-    pub(crate) questions: Questions,
+    questions: Questions,
     /// The first of these are behind the changes in their own order.
-    pub(crate) known: Vec<Known>,
+    known: Vec<Known>,
 }
 
 /// What is known after the first m changes in this order.
@@ -94,7 +84,7 @@ fn first(count: usize) -> u32 {
 
 impl Play {
     /// One on a device that was formatted, with other bytes at some places, so that it recovers to the first so many changes.
-    pub(crate) fn new(alloc: Global, changes: &[(usize, u8)], there: usize) -> Result<Play, Wrong> {
+    fn new(alloc: Global, changes: &[(usize, u8)], there: usize) -> Result<Play, Wrong> {
         let Ok(g) = Geometry::new(SMALL) else {
             return Err(Wrong::Unfit);
         };
@@ -120,7 +110,7 @@ impl Play {
     }
 
     /// Whether this may be found where so many lines were written.
-    pub(crate) fn allows(&self, answered: usize, found: &OpenedDevice) -> bool {
+    fn allows(&self, answered: usize, found: &OpenedDevice) -> bool {
         let OpenedDevice::Tells(sent) = found else {
             return false;
         };
@@ -130,7 +120,7 @@ impl Play {
     }
 
     /// Serves on a device that fails at this call, and gives what a crash leaves.
-    pub(crate) fn meet<T: Threads + Wait + Sync>(
+    fn meet<T: Threads + Wait + Sync>(
         &self,
         rt: &T,
         alloc: Global,
@@ -167,7 +157,7 @@ impl Play {
 }
 
 /// Lets the call of this crash fail, or stop the device for good: which call that is.
-pub(crate) fn set_injected_fault(device: &mut MemDisk, crash: Crash) -> u64 {
+fn set_injected_fault(device: &mut MemDisk, crash: Crash) -> u64 {
     let n = crash.call.max(1);
     if crash.kind < KINDS {
         device.stop_at(n);
@@ -186,15 +176,15 @@ fn has_said(notes: &Notes, way: Way) -> bool {
 
 /// What came of a session whose device was to fail.
 #[derive(Drop)]
-pub(crate) struct Met {
+struct Met {
     /// It ended before that.
-    pub(crate) is_whole: bool,
+    is_whole: bool,
     /// Lines were written, and records are in the half behind the one that is named.
     is_chained: bool,
     /// How many lines were written.
-    pub(crate) answered: usize,
+    answered: usize,
     /// The device behind the crash.
-    pub(crate) left: MemDisk,
+    left: MemDisk,
 }
 
 /// Where the chain byte of a half lies, and the first gate of the other one.
@@ -207,7 +197,7 @@ fn is_chained(bytes: &[u8]) -> bool {
 }
 
 /// Whether a server ends so where its device has not failed, or has.
-pub(crate) fn is_told(end: End, is_whole: bool) -> bool {
+fn is_told(end: End, is_whole: bool) -> bool {
     match end {
         End::Whole => is_whole,
         End::Unopened(why) => !is_whole && why == OpenFault::Device,
@@ -217,7 +207,7 @@ pub(crate) fn is_told(end: End, is_whole: bool) -> bool {
 }
 
 /// More calls than a session has.
-pub(crate) const MOST_CALLS: u64 = 1000;
+const MOST_CALLS: u64 = 1000;
 
 /// Devices that were opened, of which those with the same bytes are opened once.
 #[derive(Drop)]
@@ -302,7 +292,7 @@ fn survives<T: Threads + Wait + Sync>(
 }
 
 /// A way with four slots.
-pub(crate) fn way(workers: usize, every: u64) -> Way {
+fn way(workers: usize, every: u64) -> Way {
     Way {
         workers,
         slots: 4,

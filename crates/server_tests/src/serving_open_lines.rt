@@ -1,98 +1,27 @@
 //! How many lines are read and not answered in the output: no more than there are slots.
-use crate::serving_noting::{Flag, Notes, Taking};
-use crate::serving_running::{End, PIPED, SMALL, Streams, Way, ends, holds, session};
+use crate::serving_noting::{Notes, Taking};
+use crate::serving_running::{SMALL, holds};
 use disk::MemDisk;
 use harness::{Wrong, device_with};
 use message::Msg;
 use scheduler::Core;
 use serving::{ServeError, ServeFault, serve};
 use std::alloc::{AllocError, Global};
-use std::process::Abort;
 use std::sync::Wait;
 use std::test::Fail;
 use std::thread::Threads;
-use workers::{Gate, OpenGate};
+use workers::OpenGate;
 
 /// How many lines there are; each takes a ticket.
 const MANY: usize = 500;
 
-/// How many bytes each has.
-const LINE: usize = 13;
-
 /// These lines. Neighbors are unrelated.
 fn reads(alloc: Global) -> Result<Vec<u8>, AllocError> {
     let mut lines = Vec::new(alloc);
-    for number in 0..MANY {
-        let block = number % 4;
-        let line = format!(in alloc; "read 0 0 0 {block}\n")?;
-        lines.extend_from_slice(line.as_bytes())?;
+    for _ in 0..MANY / 4 {
+        lines.extend_from_slice(b"read 0 0 0 0\nread 0 0 0 1\nread 0 0 0 2\nread 0 0 0 3\n")?;
     }
     Ok(lines)
-}
-
-/// Looks, when a job begins, how many of the lines up to its own are not answered in the output.
-#[derive(Drop)]
-struct Counting<'a> {
-    notes: &'a Notes,
-    slots: u64,
-    /// Whether there were more than slots.
-    is_amiss: Flag,
-}
-
-impl Gate for Counting<'_> {
-    fn before(&self, ticket: u64) {
-        let open = ticket
-            .saturating_add(1)
-            .saturating_sub(self.notes.flushed.get());
-        if open > self.slots {
-            self.is_amiss.set();
-        }
-    }
-
-    fn answered(&self, _ticket: u64) {}
-}
-
-/// Serves these lines, of which so many bytes are read at a time. No job begins while more lines are outstanding than slots.
-fn keeps_to_slots<T: Threads + Wait + Sync + Abort>(
-    rt: &T,
-    alloc: Global,
-    way: Way,
-    lines: &[u8],
-    size: usize,
-) -> Result<(), Wrong> {
-    let notes = Notes::new();
-    let gate = Counting {
-        notes: &notes,
-        slots: way.slots as u64,
-        is_amiss: Flag::new(),
-    };
-    let streams = Streams {
-        read: size,
-        ..PIPED
-    };
-    let device = device_with(alloc, SMALL, &[])?;
-    let left = session(rt, alloc, device, way, lines, streams, &gate, &notes);
-    ends(rt, left.end, End::Whole);
-    let is_all = notes.flushed.get() == MANY as u64;
-    holds(rt, is_all && !gate.is_amiss.get() && !notes.is_late.get());
-    Ok(())
-}
-
-#[test]
-fn no_more_lines_are_open_than_slots(rt: HostRuntime) -> Result<(), Fail> {
-    let lines = reads(rt.alloc())?;
-    for slots in [1, 3, 16] {
-        let way = Way {
-            workers: 2,
-            slots,
-            every: 0,
-        };
-        // All lines come with one read, and each with one of its own.
-        for size in [70_000, LINE] {
-            keeps_to_slots(&rt, rt.alloc(), way, lines.as_slice(), size)?;
-        }
-    }
-    Ok(())
 }
 
 /// Serves these lines to a writer whose n-th call fails: how many were read by then, which is the next ticket, and how many of their
@@ -117,16 +46,18 @@ fn stopped_at<T: Threads + Wait + Sync>(
         return Err(Wrong::OutOfMemory);
     };
     match serve(rt, alloc, core, &mut input, &mut writer, 2, 0, &OpenGate) {
-        Err(
-            ServeError {
-                mut core,
-                fault: ServeFault::Write,
-            },
-        ) => match core.arrive(&Msg::Summary) {
-            Ok(read) => Ok((read, notes.flushed.get())),
-            Err(_) => Err(Wrong::Unfit),
-        },
-        _ => Err(Wrong::Unfit),
+        Err(ServeError { mut core, fault }) => {
+            let read = core.arrive(&Msg::Summary);
+            let _device = core.into_disk();
+            match (fault, read) {
+                (ServeFault::Write, Ok(read)) => Ok((read, notes.flushed.get())),
+                _ => Err(Wrong::Unfit),
+            }
+        }
+        Ok(core) => {
+            let _device = core.into_disk();
+            Err(Wrong::Unfit)
+        }
     }
 }
 

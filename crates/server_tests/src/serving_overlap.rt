@@ -1,12 +1,8 @@
 //! Which messages run at once.
-use crate::serving_drawing::draw_lines;
 use crate::serving_noting::Notes;
-use crate::serving_running::{End, FLAT, PIPED, SMALL, Way, holds, serve_lines, session, writes};
-use affinity::{Affinity, Geometry, place_of, related};
+use crate::serving_running::{End, FLAT, PIPED, SMALL, Way, serve_lines, session, writes};
 use harness::{Wrong, device_with};
-use message::parse_line;
 use std::alloc::Global;
-use std::process::Abort;
 use std::sync::Wait;
 use std::sync::atomic::{AtomicBool, Ordering};
 use std::test::Fail;
@@ -167,99 +163,6 @@ fn unrelated_messages_run_at_once(rt: HostRuntime) -> Result<(), Fail> {
     for row in AT_ONCE {
         let output = runs_at_once(&rt, rt.alloc(), row)?;
         writes(&rt, output.as_slice(), row.want);
-    }
-    Ok(())
-}
-
-/// Looks whether each job waits until all related ones with smaller tickets are answered.
-#[derive(Drop)]
-struct InOrder {
-    /// The places of the messages, by ticket.
-    places: Vec<Affinity>,
-    answered: Vec<AtomicBool>,
-    is_amiss: AtomicBool,
-}
-
-impl InOrder {
-    /// A gate for the messages in range of these lines.
-    fn new(alloc: Global, g: &Geometry, lines: &[u8]) -> Result<InOrder, Wrong> {
-        let mut gate = InOrder {
-            places: Vec::new(alloc),
-            answered: Vec::new(alloc),
-            is_amiss: AtomicBool::new(false),
-        };
-        for line in lines.split(|byte| *byte == b'\n') {
-            let message = parse_line(line);
-            let place = message.and_then(|m| place_of(g, m.kind(), m.numbers()));
-            if let Some(place) = place {
-                gate.places.push(place)?;
-                gate.answered.push(AtomicBool::new(false))?;
-            }
-        }
-        Ok(gate)
-    }
-
-    /// Whether one before this, which is related to it, isn't answered.
-    fn is_early(&self, ticket: u64) -> bool {
-        let Some(place) = self.places.get(ticket as usize) else {
-            return true;
-        };
-        let before = self.places.iter().zip(self.answered.iter());
-        let mut before = before.take(ticket as usize);
-        before.any(|(other, answered)| {
-            related(*place, *other) && !answered.load(Ordering::SeqCst)
-        })
-    }
-}
-
-impl Gate for InOrder {
-    fn before(&self, ticket: u64) {
-        if self.is_early(ticket) {
-            self.is_amiss.store(true, Ordering::SeqCst);
-        }
-    }
-
-    fn answered(&self, ticket: u64) {
-        if let Some(answered) = self.answered.get(ticket as usize) {
-            answered.store(true, Ordering::SeqCst);
-        }
-    }
-}
-
-/// Two aggregates of two volumes, each of two files of four blocks in two stripes, and eight records in a half.
-const WIDE: [u16; 8] = [2, 2, 2, 1, 2, 4, 2, 8];
-
-/// No message runs before all related ones with smaller tickets are answered.
-fn goes_in_turn<T: Threads + Wait + Sync + Abort>(
-    rt: &T,
-    alloc: Global,
-    way: Way,
-    lines: &[u8],
-) -> Result<(), Wrong> {
-    let Ok(g) = Geometry::new(WIDE) else {
-        return Err(Wrong::Unfit);
-    };
-    let gate = InOrder::new(alloc, &g, lines)?;
-    let device = device_with(alloc, WIDE, &[])?;
-    let notes = Notes::new();
-    let left = session(rt, alloc, device, way, lines, PIPED, &gate, &notes);
-    holds(
-        rt,
-        left.end == End::Whole && !gate.is_amiss.load(Ordering::SeqCst),
-    );
-    Ok(())
-}
-
-#[test]
-fn related_messages_go_one_after_the_other(rt: HostRuntime) -> Result<(), Fail> {
-    let lines = draw_lines(rt.alloc(), 5, 3, 1000)?;
-    for workers in [2, 4] {
-        let way = Way {
-            workers,
-            slots: 16,
-            every: 3,
-        };
-        goes_in_turn(&rt, rt.alloc(), way, lines.as_slice())?;
     }
     Ok(())
 }

@@ -54,18 +54,27 @@ impl Gate for Stepwise<'_> {
     }
 }
 
-/// How many blocks are written. Eight that come one after the other are unrelated.
-const WRITES: u64 = 800;
+/// A write of each block: they are unrelated.
+const EIGHT_WRITES: &[u8] = b"write 0 0 0 0 61
+write 0 0 0 1 61
+write 0 0 0 2 61
+write 0 0 0 3 61
+write 0 0 0 4 61
+write 0 0 0 5 61
+write 0 0 0 6 61
+write 0 0 0 7 61
+";
+
+/// How often they come.
+const ROUNDS: u64 = 100;
 
 /// A file and the writes of its blocks, and what they are answered.
 fn lines(alloc: Global) -> Result<(Vec<u8>, Vec<u8>), AllocError> {
     let mut lines = b"makevol 0 0\ncreate 0 0 0\n".to_vec(alloc)?;
     let mut answers = b"done\ndone\n".to_vec(alloc)?;
-    for number in 0..WRITES {
-        let block = number % 8;
-        let line = format!(in alloc; "write 0 0 0 {block} 61\n")?;
-        lines.extend_from_slice(line.as_bytes())?;
-        answers.extend_from_slice(b"done\n")?;
+    for _ in 0..ROUNDS {
+        lines.extend_from_slice(EIGHT_WRITES)?;
+        answers.extend_from_slice(b"done\ndone\ndone\ndone\ndone\ndone\ndone\ndone\n")?;
     }
     Ok((lines, answers))
 }

@@ -1,2 +1,0 @@
--- The words of a client that crashes the device each time lines are sent to it.
-pub mod Sights
