@@ -110,7 +110,7 @@ fn the_sync_comes_first(rt: HostRuntime) -> Result<(), Fail> {
                 let _device = server.into_device();
                 holds(&rt, false);
             }
-            Err((_, told)) => holds(&rt, told == fault),
+            Err((_device, told)) => holds(&rt, told == fault),
         }
     }
     Ok(())
