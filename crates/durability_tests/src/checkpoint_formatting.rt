@@ -185,7 +185,7 @@ fn may_fail(
 
 #[test]
 fn each_call_may_fail(rt: HostRuntime) -> Result<(), Fail> {
-    for (which, calls) in CALLS {
+    for &(which, calls) in &CALLS {
         for n in 1..15 {
             may_fail(&rt, rt.alloc(), which, true, n, calls)?;
             may_fail(&rt, rt.alloc(), which, false, n, calls)?;

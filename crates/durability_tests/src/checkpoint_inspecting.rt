@@ -84,7 +84,7 @@ const SHOWN: [(&[(usize, u8)], usize, u32, u32, u8); 7] = [
 
 #[test]
 fn records_and_images_are_told(rt: HostRuntime) -> Result<(), Fail> {
-    for (changes, records, volumes, files, version) in SHOWN {
+    for &(changes, records, volumes, files, version) in &SHOWN {
         let want = shown(records, volumes, files, version)?;
         match inspect(rt.alloc(), device(rt.alloc(), changes)?) {
             Ok((told, _)) => holds(&rt, told == want),

@@ -73,7 +73,7 @@ fn each_act_takes_few_calls(rt: HostRuntime) -> Result<(), Fail> {
     let Ok(mut server) = Server::open(alloc, device_with(alloc, SMALL, &[])?) else {
         return Err(Wrong::Unfit.into());
     };
-    for (act, more) in ACTS {
+    for &(act, more) in &ACTS {
         holds(&rt, takes(&rt, alloc, &mut server, &act, more).is_ok());
     }
     let _device = server.into_device();
@@ -190,7 +190,7 @@ const LEFT: [(u64, usize, usize); 8] = [
 
 #[test]
 fn a_long_log_is_two_batches(rt: HostRuntime) -> Result<(), Fail> {
-    for (n, old, new) in LEFT {
+    for &(n, old, new) in &LEFT {
         leaves(&rt, rt.alloc(), 70, n, OLD, old)?;
         leaves(&rt, rt.alloc(), 70, n, NEW, new)?;
     }

@@ -73,7 +73,7 @@ fn is_refused(
 
 #[test]
 fn damage_is_told(rt: HostRuntime) -> Result<(), Fail> {
-    for (changes, fault) in REFUSED {
+    for &(changes, fault) in &REFUSED {
         let device = device_with(rt.alloc(), SMALL, changes)?;
         is_refused(&rt, rt.alloc(), device, fault)?;
     }
@@ -102,7 +102,7 @@ const SYNCED_FIRST: [(u64, u64, OpenFault); 4] = [
 
 #[test]
 fn the_sync_comes_first(rt: HostRuntime) -> Result<(), Fail> {
-    for (len, n, fault) in SYNCED_FIRST {
+    for &(len, n, fault) in &SYNCED_FIRST {
         let mut device = MemDisk::new(rt.alloc(), len)?;
         device.fail_at(n.max(1));
         match Server::open(rt.alloc(), device) {
@@ -201,7 +201,7 @@ fn is_opened(
 
 #[test]
 fn what_a_device_recovers_for_is_opened(rt: HostRuntime) -> Result<(), Fail> {
-    for (changes, lines, area) in OPENED {
+    for &(changes, lines, area) in &OPENED {
         is_opened(&rt, rt.alloc(), changes, lines, area)?;
     }
     Ok(())
@@ -269,7 +269,7 @@ fn stays_refused(
 
 #[test]
 fn a_bad_record_behind_a_cut_stays_one(rt: HostRuntime) -> Result<(), Fail> {
-    for (changes, volume) in BAD_BEHIND {
+    for &(changes, volume) in &BAD_BEHIND {
         let questions = Questions::new(rt.alloc(), &Geometry::new(SMALL)?)?;
         let trial = Refusal { questions, changes };
         stays_refused(&rt, rt.alloc(), &trial, volume)?;

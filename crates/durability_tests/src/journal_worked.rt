@@ -208,7 +208,7 @@ fn pieces_that_changed_are_left(rt: HostRuntime) -> Result<(), Fail> {
     let Ok(mut server) = Server::open(alloc, device_with(alloc, SMALL, &[])?) else {
         return Err(Wrong::Unfit.into());
     };
-    for (act, left) in PIECES {
+    for &(act, left) in &PIECES {
         holds(&rt, leaves_pieces(alloc, &mut server, act, left));
     }
     let (device, _) = server.into_device();

@@ -1,7 +1,7 @@
 //! Devices that fail or stop at each call, and crashes of every kind.
-use crate::common::{counts, holds};
+use crate::common::holds;
 use crate::oplog_common::{Server, Way, same_messages};
-use harness::{KINDS, MIXED, NEW, OLD};
+use harness::{KINDS, MIXED};
 use message::Msg;
 use std::alloc::Global;
 use std::process::Abort;
@@ -9,19 +9,43 @@ use std::test::Fail;
 
 const MESSAGES: [Msg; 3] = [Msg::MakeVol(0, 0), Msg::Seal(0, 0), Msg::Unseal(0, 0)];
 
-/// Whether a server for a half of four records took the messages, of whose calls the n-th fails, and all later ones too
-/// if it stops there; and the server after a crash of this kind.
-fn crashed_at(
-    alloc: Global,
-    way: Way,
-    n: u64,
-    stops: bool,
-    kind: usize,
-) -> Result<(bool, Server), Fail> {
+/// What a crash leaves of a server for a half of four records.
+#[derive(Drop)]
+struct Left {
+    /// Whether the messages were taken.
+    went_well: bool,
+    /// The byte that names an area, and the chain byte of half 0.
+    root: u64,
+    chain: u64,
+    /// The messages of the half that counts last.
+    read: Vec<Msg>,
+}
+
+/// What a server recovers to, whose messages were taken or not.
+fn recovered(alloc: Global, way: Way, server: Server, went_well: bool) -> Result<Left, Fail> {
+    let mut server = server;
+    let (root, chain) = (server.byte(64), server.byte(128));
+    // A half that isn't named may hold anything while it is cleared; and after a chain that isn't there, the other one counts for nothing.
+    let last = match way {
+        Way::Named => root,
+        Way::Chained => chain,
+    };
+    let read = server.messages(alloc, usize::from(last == 1))?;
+    Ok(Left {
+        went_well,
+        root,
+        chain,
+        read,
+    })
+}
+
+/// What a crash of this kind leaves of a server that takes the messages, of whose calls the n-th fails, and all later ones too if it
+/// stops there.
+fn left_at(alloc: Global, way: Way, n: u64, stops: bool, kind: usize) -> Result<Left, Fail> {
     let mut server = Server::new(alloc, 4)?;
     server.fails_at(n, stops);
     let went_well = server.takes(way, &MESSAGES);
-    Ok((went_well, server.crashed(alloc, kind)?))
+    recovered(alloc, way, server.crashed(alloc, kind)?, went_well)
 }
 
 /// Of these messages the first m were read, after a fault at the n-th call and a crash of this kind.
@@ -37,30 +61,13 @@ fn is_beginning(rt: &impl Abort, read: &[Msg], n: u64, kind: usize) {
 }
 
 #[test]
-fn the_second_batch_may_be_lost(rt: HostRuntime) -> Result<(), Fail> {
-    let many = vec![in rt.alloc(); Msg::Seal(0, 0); 70]?;
-    for (kind, wanted) in [(OLD, 64), (NEW, 70)] {
-        let mut server = Server::new(rt.alloc(), 128)?;
-        // The write of the second batch's gates fails.
-        server.fails_at(11, true);
-        holds(&rt, !server.takes(Way::Named, &many));
-        let read = server.crashed(rt.alloc(), kind)?.messages(rt.alloc(), 1)?;
-        counts(&rt, read.len() as u64, wanted);
-    }
-    Ok(())
-}
-
-#[test]
 fn each_crash_leaves_a_beginning_of_the_messages(rt: HostRuntime) -> Result<(), Fail> {
     for n in 1..10 {
         for stops in [true, false] {
             for kind in 0..KINDS {
-                let (went_well, mut server) = crashed_at(rt.alloc(), Way::Named, n, stops, kind)?;
-                holds(&rt, went_well == (n == 9));
-                // A half that isn't named may hold anything while it is cleared.
-                let named = usize::from(server.byte(64) == 1);
-                let read = server.messages(rt.alloc(), named)?;
-                is_beginning(&rt, &read, n, kind);
+                let left = left_at(rt.alloc(), Way::Named, n, stops, kind)?;
+                holds(&rt, left.went_well == (n == 9));
+                is_beginning(&rt, &left.read, n, kind);
             }
         }
     }
@@ -72,17 +79,13 @@ fn each_crash_of_a_chain_leaves_one_too(rt: HostRuntime) -> Result<(), Fail> {
     for n in 1..10 {
         for stops in [true, false] {
             for kind in 0..KINDS {
-                let (went_well, mut server) = crashed_at(rt.alloc(), Way::Chained, n, stops, kind)?;
-                holds(&rt, went_well == (n == 9));
-                let chain = server.byte(128);
+                let left = left_at(rt.alloc(), Way::Chained, n, stops, kind)?;
+                holds(&rt, left.went_well == (n == 9));
                 // Half 0 is named, and its chain byte is written by the third call and synced by the fourth.
-                holds(&rt, server.byte(64) == 0);
-                holds(&rt, n > 2 || chain == 0);
-                holds(&rt, n < 5 || chain == 1);
-                // After a chain that isn't there, the other half counts for nothing.
-                let last = usize::from(chain == 1);
-                let read = server.messages(rt.alloc(), last)?;
-                is_beginning(&rt, &read, n, kind);
+                holds(&rt, left.root == 0);
+                holds(&rt, n > 2 || left.chain == 0);
+                holds(&rt, n < 5 || left.chain == 1);
+                is_beginning(&rt, &left.read, n, kind);
             }
         }
     }

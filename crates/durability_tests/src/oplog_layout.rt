@@ -37,7 +37,7 @@ fn lies(rt: &impl Abort, g: &Geometry, want: [u64; 7]) {
 
 #[test]
 fn parts_lie_in_a_row(rt: HostRuntime) -> Result<(), Fail> {
-    for (numbers, want) in LAYOUTS {
+    for &(numbers, want) in &LAYOUTS {
         lies(&rt, &Geometry::new(numbers)?, want);
     }
     Ok(())

@@ -47,7 +47,7 @@ const WALKS: [&[(Step, [u64; 4])]; 3] = [&ROOM, &CHAIN, &CHANGES];
 
 #[test]
 fn a_half_that_was_cleared_has_room(rt: HostRuntime) -> Result<(), Fail> {
-    for rows in WALKS {
+    for &rows in &WALKS {
         goes(&rt, &mut Server::new(rt.alloc(), 4)?, rows);
     }
     Ok(())
@@ -96,7 +96,7 @@ const RECORDS: [([u8; 3], Result<Msg, LogFault>); 8] = [
 
 #[test]
 fn no_message_that_changes_nothing_is_read(rt: HostRuntime) -> Result<(), Fail> {
-    for (front, wanted) in RECORDS {
+    for &(front, wanted) in &RECORDS {
         let mut server = Server::new(rt.alloc(), 4)?;
         holds(&rt, server.writes(196 + 3 * 520, &front));
         reads(&rt, server.record(0, 3), wanted);
@@ -114,7 +114,7 @@ const GATES: [([u8; 4], usize); 4] = [
 
 #[test]
 fn the_front_ends_at_a_gate_that_is_not_open(rt: HostRuntime) -> Result<(), Fail> {
-    for (gates, wanted) in GATES {
+    for &(gates, wanted) in &GATES {
         let mut server = Server::new(rt.alloc(), 4)?;
         holds(&rt, server.writes(2340, &gates));
         finds(&rt, server.front(1), wanted);
@@ -162,7 +162,7 @@ const FAULTS: [(u64, Step); 5] = [
 
 #[test]
 fn a_failed_log_says_so(rt: HostRuntime) -> Result<(), Fail> {
-    for (n, step) in FAULTS {
+    for &(n, step) in &FAULTS {
         let mut server = Server::new(rt.alloc(), 4)?;
         server.fails_at(n, false);
         answers(&rt, server.does(step), Err(LogFault::Device));

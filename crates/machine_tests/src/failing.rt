@@ -75,7 +75,7 @@ fn stays_failed(rt: &impl Abort, alloc: Global, before: &[Row], failing: Row) ->
 
 #[test]
 fn what_has_failed_says_so_at_each_step(rt: HostRuntime) -> Result<(), Fail> {
-    for (before, failing) in FAULTS {
+    for &(before, failing) in &FAULTS {
         stays_failed(&rt, rt.alloc(), before, failing)?;
     }
     Ok(())

@@ -630,7 +630,7 @@ fn cuts_leave(
 #[test]
 fn cuts_write_what_has_changed(rt: HostRuntime) -> Result<(), Fail> {
     let alloc = rt.alloc();
-    for (first, area, summary) in NAMED {
+    for &(first, area, summary) in &NAMED {
         cuts_leave(&rt, alloc, first, area, summary)?;
     }
     let last_cut = calls_of(&rt, alloc, SMALL, &CHANGED_PIECES, 20)?;

@@ -55,7 +55,7 @@ const NONE_BLOWN: [Result<(), DiskFault>; 5] = [FINE, FINE, OUTSIDE, FINE, FINE]
 
 #[test]
 fn fuses_fail_the_calls_that_they_name(rt: HostRuntime) -> Result<(), Fail> {
-    for (fuses, wanted) in BLOWN {
+    for &(fuses, wanted) in &BLOWN {
         let mut disk = MemDisk::new(rt.alloc(), 4)?;
         for injected_fault in fuses {
             set(&mut disk, injected_fault);

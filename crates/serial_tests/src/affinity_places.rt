@@ -59,7 +59,7 @@ fn checks_numbers(rt: &impl Abort, g: &Geometry, rows: &[Numbered]) {
 
 #[test]
 fn servers_are_numbered(rt: HostRuntime) -> Result<(), Fail> {
-    for (numbers, rows) in NUMBERED {
+    for &(numbers, rows) in &NUMBERED {
         checks_numbers(&rt, &Geometry::new(numbers)?, rows);
     }
     Ok(())

@@ -61,7 +61,7 @@ pub(crate) fn expect_told(
 
 #[test]
 fn each_session_is_answered_as_by_the_serial_server(rt: HostRuntime) -> Result<(), Fail> {
-    for (name, numbers, rows) in SESSIONS {
+    for &(name, numbers, rows) in &SESSIONS {
         let mut tree = Tree::new(rt.alloc(), Geometry::new(numbers)?)?;
         expect_told(&rt, rt.alloc(), &mut tree, name, rows)?;
     }

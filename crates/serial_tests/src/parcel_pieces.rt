@@ -122,7 +122,7 @@ const TAKEN: [(&[Row<'static>], bool); 2] = [(&GOOD, true), (&BAD, false)];
 
 #[test]
 fn good_pieces_come_back_and_bad_ones_are_refused(rt: HostRuntime) -> Result<(), Fail> {
-    for (rows, good) in TAKEN {
+    for &(rows, good) in &TAKEN {
         for (volume, stripe) in rows {
             expect_good(&rt, rt.alloc(), volume, stripe, good)?;
         }
@@ -177,7 +177,7 @@ fn expect_pieces_told(
 
 #[test]
 fn what_pieces_say_is_told(rt: HostRuntime) -> Result<(), Fail> {
-    for (name, pieces, rows) in TOLD_OF {
+    for &(name, pieces, rows) in &TOLD_OF {
         expect_pieces_told(&rt, rt.alloc(), name, pieces, rows)?;
     }
     Ok(())

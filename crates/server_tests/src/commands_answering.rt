@@ -108,7 +108,7 @@ const ANSWERED: [(&str, &str, &str); 15] = [
 
 #[test]
 fn answers_each_line_with_a_line(rt: HostRuntime) -> Result<(), Fail> {
-    for (words, input, output) in ANSWERED {
+    for &(words, input, output) in &ANSWERED {
         let call = Call::of(words, input.as_bytes());
         expect(&rt, call, 0, Said::Is(output), NOTHING)?;
     }
@@ -125,7 +125,7 @@ const LONG: [(usize, &[u8], &str); 4] = [
 
 #[test]
 fn long_lines_are_one_line(rt: HostRuntime) -> Result<(), Fail> {
-    for (length, behind, output) in LONG {
+    for &(length, behind, output) in &LONG {
         let mut input = vec![in rt.alloc(); b'a'; length]?;
         input.extend_from_slice(behind)?;
         let call = Call::of(PLAIN, input.as_slice());
@@ -150,7 +150,7 @@ const GIVEN: [(Streams, &str, u8, &str, &str); 3] = [
 
 #[test]
 fn answers_however_the_lines_are_given(rt: HostRuntime) -> Result<(), Fail> {
-    for (streams, input, status, output, told) in GIVEN {
+    for &(streams, input, status, output, told) in &GIVEN {
         let call = Call {
             words: PLAIN,
             path: "",

@@ -294,7 +294,7 @@ const HELP: [(&str, &str); 24] = [
 
 #[test]
 fn help_goes_to_the_output(rt: HostRuntime) -> Result<(), Fail> {
-    for (words, part) in HELP {
+    for &(words, part) in &HELP {
         expect(&rt, Call::of(words, b""), 0, Said::Has(part), NOTHING)?;
     }
     Ok(())
@@ -413,7 +413,7 @@ const WRONG: [(&str, Said<'static>); 48] = [
 /// Nothing is read for them.
 #[test]
 fn wrong_words_are_told_on_the_standard_error(rt: HostRuntime) -> Result<(), Fail> {
-    for (words, told) in WRONG {
+    for &(words, told) in &WRONG {
         expect(&rt, Call::of(words, b"makevol 0 0\n"), 2, NOTHING, told)?;
     }
     Ok(())
@@ -451,7 +451,7 @@ const UNWRITTEN: [(&str, Streams, u8, &str); 6] = [
 
 #[test]
 fn what_cannot_be_written_is_a_write_fault(rt: HostRuntime) -> Result<(), Fail> {
-    for (words, streams, status, told) in UNWRITTEN {
+    for &(words, streams, status, told) in &UNWRITTEN {
         let call = Call {
             words,
             path: "",

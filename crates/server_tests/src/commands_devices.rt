@@ -125,7 +125,7 @@ const MAKING: [(&str, &str, Left<'static>); 4] = [
 #[test]
 fn a_device_is_made_and_shown(rt: HostRuntime) -> Result<(), Fail> {
     let path = new_path(&rt, "made")?;
-    for (words, output, left) in MAKING {
+    for &(words, output, left) in &MAKING {
         let call = Call::on(path.as_str(), words, b"");
         expect_left(&rt, call, 0, Said::Is(output), NOTHING, left)?;
     }
@@ -145,7 +145,7 @@ const LENGTHS: [(u64, u8, &str, &str); 4] = [
 fn a_device_may_be_longer_and_not_shorter(rt: HostRuntime) -> Result<(), Fail> {
     let path = new_path(&rt, "longer")?;
     write_made(&rt, path.as_str(), &[])?;
-    for (len, status, output, told) in LENGTHS {
+    for &(len, status, output, told) in &LENGTHS {
         let file = OpenOptions::new().write(true).open(&rt, path.as_str())?;
         file.set_len(len)?;
         let call = Call::on(path.as_str(), SHOW, b"");
@@ -248,12 +248,12 @@ const REFUSED: [Refused<'static>; 5] = [
 #[test]
 fn each_refusal_has_its_text_and_leaves_the_file_so(rt: HostRuntime) -> Result<(), Fail> {
     let path = new_path(&rt, "refused")?;
-    for (changes, told) in DAMAGED {
+    for &(changes, told) in &DAMAGED {
         for words in [SHOW, SERVE] {
             expect_refusal(&rt, path.as_str(), words, changes, 1, told, changes)?;
         }
     }
-    for (words, before, status, told, after) in REFUSED {
+    for &(words, before, status, told, after) in &REFUSED {
         expect_refusal(&rt, path.as_str(), words, before, status, told, after)?;
     }
     fs::remove_file(&rt, path.as_str())?;
@@ -281,7 +281,7 @@ const SHOWN: [(Changes<'static>, &str); 4] = [
 #[test]
 fn what_a_device_holds_is_shown(rt: HostRuntime) -> Result<(), Fail> {
     let path = new_path(&rt, "shown")?;
-    for (changes, output) in SHOWN {
+    for &(changes, output) in &SHOWN {
         write_made(&rt, path.as_str(), changes)?;
         expect_shown(&rt, path.as_str(), output)?;
     }
@@ -322,7 +322,7 @@ const UNOPENED: [(&str, &str); 11] = [
 
 #[test]
 fn what_the_system_refuses_is_a_device_fault(rt: HostRuntime) -> Result<(), Fail> {
-    for (words, told) in UNOPENED {
+    for &(words, told) in &UNOPENED {
         expect(&rt, Call::of(words, b""), 1, NOTHING, Said::Is(told))?;
     }
     Ok(())
@@ -360,7 +360,7 @@ const UNWRITTEN: [(&str, Streams); 4] = [
 #[test]
 fn what_is_told_of_a_device_may_fail_to_be_written(rt: HostRuntime) -> Result<(), Fail> {
     let path = new_path(&rt, "closed")?;
-    for (words, streams) in UNWRITTEN {
+    for &(words, streams) in &UNWRITTEN {
         let call = Call {
             words,
             path: path.as_str(),

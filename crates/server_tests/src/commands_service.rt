@@ -148,7 +148,7 @@ fn expect_next<T: System>(
 #[test]
 fn each_incarnation_goes_on_from_the_last(rt: HostRuntime) -> Result<(), Fail> {
     let path = new_path(&rt, "life")?;
-    for (before, words, input, output, area, summary) in INCARNATIONS {
+    for &(before, words, input, output, area, summary) in &INCARNATIONS {
         write_made(&rt, path.as_str(), before)?;
         let call = Call::on(path.as_str(), words, input.as_bytes());
         expect(&rt, call, 0, Said::Is(output), NOTHING)?;
@@ -177,7 +177,7 @@ const CUT_SHORT: [(&str, &str, u8, &str); 2] = [
 #[test]
 fn a_fault_of_the_input_leaves_the_changes_in_the_log(rt: HostRuntime) -> Result<(), Fail> {
     let path = new_path(&rt, "input")?;
-    for (lines, output, records, summary) in CUT_SHORT {
+    for &(lines, output, records, summary) in &CUT_SHORT {
         write_made(&rt, path.as_str(), &[])?;
         let mut call = Call::on(path.as_str(), SERVE, lines.as_bytes());
         call.streams = Streams::FailingInput;
@@ -347,7 +347,7 @@ const LONG: [(&str, usize, &str, &str); 5] = [
 /// All these lines.
 fn all_lines(alloc: Global) -> Result<Vec<u8>, AllocError> {
     let mut lines = Vec::new(alloc);
-    for (part, _) in LINES {
+    for &(part, _) in &LINES {
         lines.extend_from_slice(part)?;
     }
     for (at, (start, times, text, _)) in LONG.iter().enumerate() {
@@ -365,10 +365,10 @@ fn all_lines(alloc: Global) -> Result<Vec<u8>, AllocError> {
 /// What is answered to them.
 fn all_replies(alloc: Global) -> Result<String, AllocError> {
     let mut replies = String::new(alloc);
-    for (_, told) in LINES {
+    for &(_, told) in &LINES {
         replies.push_str(told)?;
     }
-    for (_, _, _, told) in LONG {
+    for &(_, _, _, told) in &LONG {
         replies.push_str(told)?;
     }
     Ok(replies)
@@ -396,7 +396,7 @@ fn each_server_answers_the_same(rt: HostRuntime) -> Result<(), Fail> {
     let output = all_replies(rt.alloc())?;
     let output = Said::Is(output.as_str());
     let path = new_path(&rt, "servers")?;
-    for words in SERVERS {
+    for &words in &SERVERS {
         write_made(&rt, path.as_str(), &[])?;
         let call = Call::on(path.as_str(), words, input.as_slice());
         expect(&rt, call, 0, output, NOTHING)?;

@@ -162,7 +162,7 @@ fn leaves(
 
 #[test]
 fn a_core_that_came_back_is_served_on(rt: HostRuntime) -> Result<(), Fail> {
-    for (fails, cuts, area) in TWICE {
+    for &(fails, cuts, area) in &TWICE {
         for workers in [1, 2] {
             let (device, output) = serve_twice(&rt, rt.alloc(), workers, fails, cuts)?;
             writes(&rt, output.as_slice(), ANSWERS);

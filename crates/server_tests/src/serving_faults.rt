@@ -99,7 +99,7 @@ impl Play {
             play.lines.extend_from_slice(line.as_bytes())?;
             play.lines.push(b'\n')?;
         }
-        for order in ORDERS {
+        for &order in &ORDERS {
             for count in 0..=order.len() {
                 let some = order.get(..count).unwrap_or_default();
                 let known = behind(alloc, &g, some, &play.questions)?;
@@ -132,27 +132,36 @@ impl Play {
         let notes = Notes::new();
         let lines = self.lines.as_slice();
         let left = session(rt, alloc, device, way, lines, PIPED, &OpenGate, &notes);
-        let Left { device, end, .. } = left;
+        let Left {
+            device,
+            end,
+            output: _output,
+        } = left;
         let is_whole = device.calls() < n;
         // No call follows the one that failed, also where the core that was given back is asked for more.
         let is_last = is_whole || device.calls() == n;
-        if !is_last || !is_told(end, is_whole) || !has_said(&notes, way) {
-            return Err(Wrong::Untold(crash));
-        }
+        let is_reported = is_last && is_told(end, is_whole) && has_said(&notes, way);
         let answered = notes.taken.get() as usize;
         let is_chained = answered >= 2 && is_chained(device.bytes());
-        // No fault is injected into the device that is opened.
-        let left = if crash.kind < KINDS {
-            device.crash(torn(alloc, crash.kind)?)
-        } else {
-            MemDisk::of_bytes(alloc, device.bytes().to_vec(alloc)?)?
-        };
+        let left = left_of(alloc, device, crash)?;
+        if !is_reported {
+            return Err(Wrong::Untold(crash));
+        }
         Ok(Met {
             is_whole,
             is_chained,
             answered,
             left,
         })
+    }
+}
+
+/// What a crash leaves of a device. No fault is injected into the one that is opened.
+fn left_of(alloc: Global, device: MemDisk, crash: Crash) -> Result<MemDisk, Wrong> {
+    if crash.kind < KINDS {
+        Ok(device.crash(torn(alloc, crash.kind)?))
+    } else {
+        Ok(MemDisk::of_bytes(alloc, device.bytes().to_vec(alloc)?)?)
     }
 }
 
@@ -389,7 +398,7 @@ const OLD_IMAGES: [(&[(usize, u8)], usize); 2] = [
 
 #[test]
 fn answers_behind_an_old_image_survive(rt: HostRuntime) -> Result<(), Fail> {
-    for (changes, there) in OLD_IMAGES {
+    for &(changes, there) in &OLD_IMAGES {
         let play = Play::new(rt.alloc(), changes, there)?;
         survives(&rt, rt.alloc(), way(1, 1), &play)?;
     }

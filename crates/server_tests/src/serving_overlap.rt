@@ -160,7 +160,7 @@ fn runs_at_once<T: Threads + Wait + Sync>(
 
 #[test]
 fn unrelated_messages_run_at_once(rt: HostRuntime) -> Result<(), Fail> {
-    for row in AT_ONCE {
+    for &row in &AT_ONCE {
         let output = runs_at_once(&rt, rt.alloc(), row)?;
         writes(&rt, output.as_slice(), row.want);
     }

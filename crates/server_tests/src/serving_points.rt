@@ -78,7 +78,7 @@ fn points_of<T: Threads + Wait + Sync + Abort>(
 
 #[test]
 fn points_are_made_where_they_are_due(rt: HostRuntime) -> Result<(), Fail> {
-    for (count, every, least, most) in POINTS {
+    for &(count, every, least, most) in &POINTS {
         for (workers, slots, size) in [(1, 1, 5), (1, 16, 70_000), (2, 3, 70_000)] {
             let way = Way {
                 workers,

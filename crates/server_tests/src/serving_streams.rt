@@ -76,13 +76,17 @@ fn meets_fault<T: Threads + Wait + Sync + Abort>(
         fails: true,
         ..PIPED
     };
-    let left = serve_new(rt, alloc, way, input, streams, &notes)?;
-    ends(rt, left.end, End::Fault(ServeFault::Read));
     let want = serial(alloc, SMALL, whole_lines(input))?;
-    writes(rt, left.output.as_slice(), want.as_slice());
+    let Left {
+        device,
+        end,
+        output,
+    } = serve_new(rt, alloc, way, input, streams, &notes)?;
+    ends(rt, end, End::Fault(ServeFault::Read));
+    writes(rt, output.as_slice(), want.as_slice());
     let done = want.as_slice().split(|byte| *byte == b'\n');
     let done = done.filter(|line| *line == b"done".as_slice()).count();
-    let Ok((shown, _)) = inspect(alloc, left.device) else {
+    let Ok((shown, _device)) = inspect(alloc, device) else {
         return Err(Wrong::Unfit);
     };
     holds(rt, !notes.is_late.get());
@@ -185,7 +189,7 @@ fn calls_of<T: Threads + Wait + Sync + Abort>(
 
 #[test]
 fn nothing_waits_for_a_read(rt: HostRuntime) -> Result<(), Fail> {
-    for way in WAYS {
+    for &way in &WAYS {
         for read in [1, 12, 100] {
             calls_of(&rt, rt.alloc(), way, LINES, read)?;
         }
