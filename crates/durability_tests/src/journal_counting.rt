@@ -52,7 +52,7 @@ fn are_more(rt: &impl Abort, before: &Counts, after: &Counts, reads: u64, more: 
     counts(rt, after.written, before.written.saturating_add(written));
 }
 
-/// An act takes so many more writes, syncs and bytes.
+/// An act takes this many more writes, syncs and bytes.
 fn takes(
     rt: &impl Abort,
     alloc: Global,

@@ -189,7 +189,7 @@ const PIECES: [(Act, Option<usize>); 22] = [
     (Act::End, None),
 ];
 
-/// Whether this act leaves so many pieces. With none left, a piece calls the device never.
+/// Whether this act leaves this many pieces. With none left, a piece doesn't call the device.
 fn leaves_pieces(
     alloc: Global,
     server: &mut Server<MemDisk>,

@@ -17,7 +17,7 @@ const CHANGES: [&str; 2] = ["makevol 0 0", "create 0 0 0"];
 /// What comes behind both: the pieces of the cut, and its end.
 const END: [Step; 4] = [Step::Piece, Step::Piece, Step::Piece, Step::Flip];
 
-/// The steps of a machine, and the answers that may be found on its device: those of a server after so many of the changes.
+/// The steps of a machine, and the answers that may be found on its device: those of a server after the first m changes.
 #[derive(Drop)]
 struct Play {
     steps: Vec<Step>,
