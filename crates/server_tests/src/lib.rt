@@ -14,6 +14,8 @@ mod commands_service;
 #[cfg(test)]
 mod serving_again;
 #[cfg(test)]
+mod serving_drawing;
+#[cfg(test)]
 mod serving_faults;
 #[cfg(test)]
 mod serving_noting;
@@ -27,6 +29,8 @@ mod serving_pieces;
 mod serving_points;
 #[cfg(test)]
 mod serving_precedence;
+#[cfg(test)]
+mod serving_rows;
 #[cfg(test)]
 mod serving_running;
 #[cfg(test)]

@@ -4,15 +4,13 @@ ghost use Rattle.legal_runs.specs.Laws.{IsIdle};
 ghost use Rattle.scheduler.specs.CoreView.{core_state_of};
 
 use crate::serving_noting::{Notes, Pieces};
-use crate::serving_running::{SMALL, holds, writes};
-use checkpoint::{OpenFault, inspect};
+use crate::serving_rows::leaves;
+use crate::serving_running::{SMALL, writes};
 use disk::MemDisk;
 use harness::{Wrong, device_with};
-use message::Reply;
 use scheduler::Core;
 use serving::{ServeError, ServeFault, serve};
 use std::alloc::Global;
-use std::process::Abort;
 use std::sync::Wait;
 use std::test::Fail;
 use std::thread::Threads;
@@ -129,35 +127,6 @@ fn serve_twice<T: Threads + Wait + Sync>(
         Ok(core) => Ok((core.into_disk(), output)),
         Err(e) => Err(unfit(e.core)),
     }
-}
-
-/// Where lines were served to their end, this area is named, and there is so much in it, and no record after it.
-fn leaves(
-    rt: &impl Abort,
-    alloc: Global,
-    device: MemDisk,
-    area: usize,
-    counts: [u32; 3],
-) -> Result<(), Wrong> {
-    let shown = match inspect(alloc, device) {
-        Ok((shown, _)) => shown,
-        Err(e) => {
-            return Err(if e.fault == OpenFault::OutOfMemory {
-                Wrong::OutOfMemory
-            } else {
-                Wrong::Unfit
-            });
-        }
-    };
-    let [volumes, files, blocks] = counts;
-    let summary = Reply::Summary {
-        volumes,
-        files,
-        blocks,
-    };
-    let is_new = shown.version == 2 && shown.records == 0;
-    holds(rt, is_new && shown.area == area && shown.summary == summary);
-    Ok(())
 }
 
 #[test]

@@ -1,4 +1,5 @@
 //! How input is read and output is written, and what comes of it where one of them fails.
+use crate::serving_drawing::draw_lines;
 use crate::serving_noting::Notes;
 use crate::serving_running::{
     End, Left, PIPED, SMALL, Streams, Way, ends, holds, serial, serve_lines, session, writes,
@@ -168,7 +169,7 @@ fn nothing_is_read_or_written_behind_a_failed_write(rt: HostRuntime) -> Result<(
     Ok(())
 }
 
-/// Lines that come in pieces of this size are answered as they have to, and nothing waits for a read. Gives how many
+/// Random lines that come in pieces of this size are answered as they have to, and nothing waits for a read. Gives how many
 /// reads there are, and how many writes and flushes.
 fn calls_of<T: Threads + Wait + Sync + Abort>(
     rt: &T,
@@ -189,9 +190,10 @@ fn calls_of<T: Threads + Wait + Sync + Abort>(
 
 #[test]
 fn nothing_waits_for_a_read(rt: HostRuntime) -> Result<(), Fail> {
+    let lines = draw_lines(rt.alloc(), 3, 4, 100)?;
     for &way in &WAYS {
         for read in [1, 12, 100] {
-            calls_of(&rt, rt.alloc(), way, LINES, read)?;
+            calls_of(&rt, rt.alloc(), way, lines.as_slice(), read)?;
         }
     }
     Ok(())
