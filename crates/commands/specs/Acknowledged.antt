@@ -17,7 +17,7 @@ use Rattle.commands.specs.declared.faults.Fault.TheVariants.{Write, Open}
 
 -- The device recovered to a state, and the output has these lines for the first lines of the input. A log has each message whose reply
 -- was sent, by its ticket, with that reply. The bytes recover to where the log leads from that state, perhaps with more of the messages
--- that were taken, and they are opened again.
+-- that were taken, and they are not refused.
 pub record HoldsAcknowledged (old : Medium) (input before written : Option (List ℕ)) (bytes : List ℕ) : Type 0 where
   pub geometry : Geometry
   pub start : State

@@ -30,7 +30,7 @@ start_machine s = with_lent s.core (replicate s.places None)
 
 -- What was sent since the start is on a device of these bytes. It is lines for the first lines of the input; each that took a ticket is
 -- in a log with that reply; and the bytes recover to where the log leads from the state at the start, perhaps with more of the messages
--- that arrived. They are opened again.
+-- that arrived. They are not refused.
 pub record HoldsSent (s : Start) (sent : Option (List ℕ)) (bytes : List ℕ) : Type 0 where
   pub taken : List (List ℕ)
   pub first : AreFirst s.input taken
