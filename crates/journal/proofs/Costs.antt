@@ -54,9 +54,9 @@ piece_next : (dirty : List Bool) (n : ℕ) (is : Bool) → n < length dirty → 
 piece_next dirty n is few here = drop_more dirty n true few ∙ ap (λ (b : Bool). b ∷ drop (n + 1) dirty) here
 
 -- A clean piece ends a run, which is written then.
-pub run_closed : (dirty : List Bool) (n from at from' at' start now now' : ℕ) → n < length dirty → get_or dirty n true ≡ false → from' ≡ at'
-    → (from < at → now' ≡ now + 1) → (at ≤ from → now' ≡ now) → RunsLeft dirty n from at start now → RunsLeft dirty (n + 1) from' at' start now'
-run_closed dirty n from at from' at' start now now' few off ends wrote kept left =
+pub run_closed : {dirty : List Bool} {n from at from' at' start now now' : ℕ} → RunsLeft dirty n from at start now → n < length dirty
+    → get_or dirty n true ≡ false → from' ≡ at' → (from < at → now' ≡ now + 1) → (at ≤ from → now' ≡ now) → RunsLeft dirty (n + 1) from' at' start now'
+run_closed {dirty} {n} {from} {at} left few off ends wrote kept =
     let next = piece_next dirty n false few off in
     let after : runs_after true (drop n dirty) ≡ runs_after false (drop (n + 1) dirty) = ap (runs_after true) next in
     let before : runs_after false (drop n dirty) ≡ runs_after false (drop (n + 1) dirty) = ap (runs_after false) next in
@@ -70,9 +70,9 @@ run_closed dirty n from at from' at' start now now' few off ends wrote kept left
     }
 
 -- A dirty piece begins a run, or goes on with it.
-pub run_goes_on : (dirty : List Bool) (n from at from' at' start now now' : ℕ) → n < length dirty → get_or dirty n true ≡ true → from' ≡ from
-    → at < at' → from ≤ at → now' ≡ now → RunsLeft dirty n from at start now → RunsLeft dirty (n + 1) from' at' start now'
-run_goes_on dirty n from at from' at' start now now' few on begins rises order same left =
+pub run_goes_on : {dirty : List Bool} {n from at from' at' start now now' : ℕ} → RunsLeft dirty n from at start now → n < length dirty
+    → get_or dirty n true ≡ true → from' ≡ from → at < at' → from ≤ at → now' ≡ now → RunsLeft dirty (n + 1) from' at' start now'
+run_goes_on {dirty} {n} {from} {at} left few on begins rises order same =
     let next = piece_next dirty n true few on in
     let after : runs_after true (drop n dirty) ≡ runs_after true (drop (n + 1) dirty) = ap (runs_after true) next in
     let before : runs_after false (drop n dirty) ≡ suc (runs_after true (drop (n + 1) dirty)) = ap (runs_after false) next in
@@ -86,17 +86,18 @@ run_goes_on dirty n from at from' at' start now now' few on begins rises order s
     }
 
 -- A write failed.
-pub run_failed : (dirty : List Bool) (n from at start now new : ℕ) → RunsLeft dirty n from at start now → (from < at → new ≤ now + 1) → (at ≤ from → new ≡ now) → new ≤ start + (count_runs dirty + 1)
-run_failed dirty n from at start now new left wrote kept =
+pub run_failed : {dirty : List Bool} {n from at start now : ℕ} → (new : ℕ) → RunsLeft dirty n from at start now → (from < at → new ≤ now + 1)
+    → (at ≤ from → new ≡ now) → new ≤ start + (count_runs dirty + 1)
+run_failed {from} {at} new left wrote kept =
     ⊎_elim
     (λ (more : from < at). omega (arith, wrote more, left.begun more))
     (λ (none : at ≤ from). omega (arith, kept none, left.ended none))
     (cases_lt from at)
 
 -- No piece is left, and the last run is written.
-pub run_ended : (dirty : List Bool) (n from at start now new : ℕ) → length dirty ≤ n → RunsLeft dirty n from at start now
+pub run_ended : {dirty : List Bool} {n from at start now new : ℕ} → RunsLeft dirty n from at start now → length dirty ≤ n
     → (from < at → new ≡ now + 1) → (at ≤ from → new ≡ now) → new ≡ start + count_runs dirty
-run_ended dirty n from at start now new all left wrote kept =
+run_ended {dirty} {n} {from} {at} left all wrote kept =
     let none : drop n dirty ≡ [] = drop_all n dirty all in
     let after : runs_after true (drop n dirty) ≡ 0 = ap (runs_after true) none in
     let before : runs_after false (drop n dirty) ≡ 0 = ap (runs_after false) none in

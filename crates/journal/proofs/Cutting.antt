@@ -99,7 +99,7 @@ module _ (g : Geometry) (n used : ℕ) (x : Option State) (bytes : List ℕ) (w0
     own_recovers c same recovered_before =
         let laid = laid_by g n x c recovered_before.is some in
         let shut = chain_other g n c is_area laid recovered_before.current in (
-          as_other g (other n) x bytes c (front (layout_of g) (other n) w0.now) laid (ap (λ (l : List ℕ). part_bytes (layout_of g) (image (other n)) l) same ∙ is)
+          as_other g (other n) c laid (ap (λ (l : List ℕ). part_bytes (layout_of g) (image (other n)) l) same ∙ is)
               (shut_force (layout_of g) (other n) c shut ∙ ap (λ (l : List ℕ). front (layout_of g) (other n) l) same) behind,
           shut,
         )

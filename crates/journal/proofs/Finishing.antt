@@ -74,8 +74,7 @@ module _ (log : Log) (bytes : List ℕ) (w0 : Medium) (is_area : log.named < 2) 
 
       other_recovers : recovers_as (means log.geometry) (layout_of log.geometry) (other n) w1.now ≡ x
       other_recovers =
-          as_other log.geometry (other n) x bytes w1.now (front (layout_of log.geometry) (other n) w0.now) laid imaged.is
-          (shut_force (layout_of log.geometry) (other n) w1.now no_chain ∙ half_kept.0) leads
+          as_other log.geometry (other n) w1.now laid imaged.is (shut_force (layout_of log.geometry) (other n) w1.now no_chain ∙ half_kept.0) leads
 
       either_way : RecoversEitherWay (means log.geometry) (layout_of log.geometry) x w1
       either_way c left =

@@ -20,7 +20,7 @@ use Rattle.device_map.specs.Layout.{layout_of, image_size, other}
 use Rattle.oplog.specs.Log.{Log}
 use Rattle.meaning.specs.State.{State}
 
-module _ (log : Log) (frozen : List ℕ) (named others due : List Bool) (left : Option ℕ) (w0 : Medium) (none_left : left ≡ Some 0) where
+module _ {log : Log} {frozen : List ℕ} {named others due : List Bool} {left : Option ℕ} {w0 : Medium} (none_left : left ≡ Some 0) where
   pub flip_asks : HasParts log w0 → length frozen ≡ image_size log.geometry → length due ≡ piece_count log.geometry → AreBytes w0.now
       → IsCutState log due left → IsSoundJournal log frozen named others due left w0 → IsWritten log frozen w0
   flip_asks whole size size' are placed' sound =
@@ -37,9 +37,9 @@ module _ (log : Log) (frozen : List ℕ) (named others due : List Bool) (left : 
         behind = sound'.by_cut.behind;
       }
 
-  pub flip_sound : (w1 : Medium) → AreBytes w0.now → AreBytes w1.now → IsCutState log due left → IsWritten log frozen w0
+  pub flip_sound : {w1 : Medium} → AreBytes w0.now → AreBytes w1.now → IsCutState log due left → IsWritten log frozen w0
       → IsSoundJournal log frozen named others due left w0 → IsFlipped log w0 w1 → IsSoundJournal (named_now log) frozen others named due None w1
-  flip_sound w1 are are' placed' written sound flipped =
+  flip_sound {w1} are are' placed' written sound flipped =
       let placed = subst (λ (l : Option ℕ). IsCutState log due l) none_left placed' in
       let sound' = subst (λ (l : Option ℕ). IsSoundJournal log frozen named others due l w0) none_left sound in
       let is_area = named_below log.geometry log.named log.current (holds log.geometry w0.now) w0 are sound.recovers in
@@ -65,19 +65,9 @@ module _ (log : Log) (frozen : List ℕ) (named others due : List Bool) (left : 
         by_cut = tt;
       }
 
-  pub flip_version : (w1 : Medium) → AreBytes w1.now → IsWritten log frozen w0 → IsSoundJournal log frozen named others due left w0 → IsFlipped log w0 w1
+  pub flip_version : {w1 : Medium} → AreBytes w1.now → IsWritten log frozen w0 → IsSoundJournal log frozen named others due left w0 → IsFlipped log w0 w1
       → named_version log.geometry w1.now ≡ 2
-  flip_version w1 are' written sound flipped =
+  flip_version {w1} are' written sound flipped =
       let sound' = subst (λ (l : Option ℕ). IsSoundJournal log frozen named others due l w0) none_left sound in
       ap (λ (n : ℕ). version_in (image_in log.geometry n w1)) (flipped.at.recovers w1.now (itself w1.now w1.unsynced are')).named
       ∙ ap version_in (flipped.images (other log.named) (omega arith) ∙ written.is) ∙ sound'.by_cut.version
-
--- the same of flags that were exchanged
-pub flip_kept : (log new : Log) (frozen : List ℕ) (named others due named' others' : List Bool) (left : Option ℕ) (w0 w1 : Medium) → left ≡ Some 0
-    → new ≡ named_now log → named' ≡ others → others' ≡ named → AreBytes w0.now → AreBytes w1.now → IsCutState log due left → IsWritten log frozen w0
-    → IsSoundJournal log frozen named others due left w0 → IsFlipped log w0 w1 → IsSoundJournal new frozen named' others' due None w1
-flip_kept log new frozen named others due named' others' left w0 w1 none is same same' are are' placed written sound flipped =
-    subst (λ (l : Log). IsSoundJournal l frozen named' others' due None w1) (sym is)
-    (subst (λ (row : List Bool). IsSoundJournal (named_now log) frozen row others' due None w1) (sym same)
-    (subst (λ (row : List Bool). IsSoundJournal (named_now log) frozen others row due None w1) (sym same')
-    (flip_sound log frozen named others due left w0 none w1 are are' placed written sound flipped)))

@@ -32,9 +32,9 @@ forced_both g n x c is_area recovered_before =
 -- ---- while something changes
 
 -- records are added to the current half
-pub forced_more : (g : Geometry) (n h : ℕ) (x : Option State) (more : List (List ℕ)) (a c : List ℕ) → n < 2 → h < 2
+pub forced_more : (g : Geometry) → {n h : ℕ} {x : Option State} {more : List (List ℕ)} {a c : List ℕ} → n < 2 → h < 2
     → RecoversBy (means g) (layout_of g) n h x a → HasMore (layout_of g) h more a c → records_in g c ≡ records_in g a ++ more
-forced_more g n h x more a c is_area is_half recovered_before has =
+forced_more g {n} {h} {more} {a} {c} is_area is_half recovered_before has =
     ap (λ (k : ℕ). in_force (layout_of g) k c) (same_named (means g) (layout_of g) h more a c is_half has ∙ recovered_before.named)
     ∙ grown_force (means g) (layout_of g) h more a c is_half has n is_area recovered_before.current
     ∙ ap (λ (k : ℕ). in_force (layout_of g) k a ++ more) (sym recovered_before.named)

@@ -31,8 +31,9 @@ one_more g x n bytes part is is' =
 pub none_behind : (g : Geometry) (x : State) (bytes : List ℕ) → take 64 bytes ≡ image_head 2 → take 64 bytes ≡ first_pieces g x 0
 none_behind g x bytes head = head ∙ sym (append-nil (image_head 2))
 
-pub all_put : (g : Geometry) (x : State) (n at : ℕ) (bytes : List ℕ) → n ≡ piece_count g → at ≡ piece_at g n → length bytes ≡ image_size g → take at bytes ≡ first_pieces g x n → bytes ≡ image_of 2 g x
-all_put g x n at bytes all place size so_far =
+pub all_put : (g : Geometry) (x : State) → {n at : ℕ} {bytes : List ℕ} → n ≡ piece_count g → at ≡ piece_at g n → length bytes ≡ image_size g
+    → take at bytes ≡ first_pieces g x n → bytes ≡ image_of 2 g x
+all_put g x {at} {bytes} all place size so_far =
     let end : at ≡ image_size g = place ∙ ap (piece_at g) all ∙ whole_image g in
     sym (take_all at bytes (omega (arith, end, size))) ∙ so_far ∙ ap (first_pieces g x) all
 
@@ -66,12 +67,6 @@ rest_more at k now old same = sym (drop-drop k at now) ∙ ap (drop k) same ∙ 
 pub piece_there : (g : Geometry) (x : State) (n : ℕ) (bytes : List ℕ) → extent_in g bytes n ≡ extent_of g x n → slice bytes (piece_at g n) (piece_size g n) ≡ piece_of 2 g x n
 piece_there g x zero bytes is = sym (drop-take 64 (piece_size g 0) bytes) ∙ ap (drop 64) is ∙ drop_at (image_head 2) (piece_of 2 g x 0) 64 refl
 piece_there g x (suc n) bytes is = is
-
-pub one_there : (g : Geometry) (x : State) (n at k : ℕ) (bytes old : List ℕ) → at ≡ piece_at g n → k ≡ piece_size g n → take at bytes ≡ first_pieces g x n → drop at bytes ≡ drop at old
-    → extent_in g old n ≡ extent_of g x n → take (at + k) bytes ≡ first_pieces g x (n + 1)
-one_there g x n at k bytes old place size so_far rest is =
-    let piece : take k (drop at bytes) ≡ piece_of 2 g x n = ap (take k) rest ∙ (λ i. take (size i) (drop (place i) old)) ∙ piece_there g x n old is in
-    take-add at k bytes ∙ one_more g x n (take at bytes) (take k (drop at bytes)) so_far piece
 
 -- An image with its head has the extents that it had.
 pub headed : (g : Geometry) (x : State) (dirty : List Bool) (old new : List ℕ) → take 64 new ≡ image_head 2 → drop 64 new ≡ drop 64 old → AreSpelled g x dirty old → AreSpelled g x dirty new
@@ -111,5 +106,7 @@ module _ (g : Geometry) (x : State) (dirty : List Bool) (first : List ℕ) (n at
     place = (λ i. so_far.place i + size i) ∙ sym (piece_after g n);
     size = so_far.size;
     rest = rest_more at k bytes first so_far.rest;
-    so_far = λ right. one_there g x n at k bytes first so_far.place size (so_far.so_far right) so_far.rest (right n few clean);
+    so_far = λ right.
+        let piece : take k (drop at bytes) ≡ piece_of 2 g x n = ap (take k) so_far.rest ∙ (λ i. take (size i) (drop (so_far.place i) first)) ∙ piece_there g x n first (right n few clean) in
+        take-add at k bytes ∙ one_more g x n (take at bytes) (take k (drop at bytes)) (so_far.so_far right) piece;
   }

@@ -20,13 +20,13 @@ use Rattle.image.proofs.Reading.{read_again}
 use Rattle.journal.specs.declared.opening.Parts.{Parts}
 use Rattle.journal.specs.Journal.{JournalView}
 use Rattle.journal.specs.DirtyPieces.{opened_dirty}
-use Rattle.journal.specs.Keeping.{IsSoundJournal, held_of}
+use Rattle.journal.specs.Keeping.{held_of}
 use Rattle.journal.specs.Opening.{IsOpened}
 use Rattle.journal.specs.Parts.{AreLoaded, AreUnloaded, IsMade, IsMadeOf, KeepsRoom}
 use Rattle.journal.specs.Steps.{IsAlone, IsPointed, IsUnfinished, pointed, run_on}
 use Rattle.journal.specs.Extents.{AreAllDirty}
-use Rattle.journal.proofs.Logging.{committed_of}
-use Rattle.journal.proofs.Saving.{opened_sound, pointed_version}
+use Rattle.journal.proofs.Logging.{committed_of, sound_along}
+use Rattle.journal.proofs.Saving.{HoldsAlone, opened_sound, pointed_version}
 use Rattle.journal.proofs.Recovering.{holds_now, shut_current}
 use Rattle.oplog.specs.Front.{chain, front}
 use Rattle.device_map.specs.Layout.{layout_of, device_size, header, image_size, other, part_bytes}
@@ -109,9 +109,9 @@ not_off false is = absurd (true≢false is)
 abbrev pub loaded_log : Geometry → ℕ → Log
 loaded_log g n = renamed n (new_log g)
 
-pub held_after : (g : Geometry) (log : Log) (n : ℕ) (t u : Bool) (x : State) (w0 w1 : Medium) → log ≡ loaded_log g n → t ≡ u → moments w1
+pub held_after : {g : Geometry} {log : Log} {n : ℕ} {t u : Bool} {x : State} → (w0 w1 : Medium) → log ≡ loaded_log g n → t ≡ u → moments w1
     ≡ moments w0 → NamedHolds g w0.now n t x → NamedHolds log.geometry w1.now log.named u x
-held_after g log n t u x w0 w1 is chained only held =
+held_after {g} {n} {t} {u} {x} w0 w1 is chained only held =
     subst (λ (l : Log). NamedHolds l.geometry w1.now l.named u x) (sym is)
     (subst (λ (b : Bool). NamedHolds g w1.now n b x) chained (subst (λ (c : List ℕ). NamedHolds g c n t x) (sym (same_bytes w0 w1 only)) held))
 
@@ -125,31 +125,36 @@ kept_then p q r first second = record {
   due = second.due ∙ first.due;
 }
 
--- loaded with this log, of parts whose room has the sizes of a geometry
-pub are_loaded : (p q : Parts) (g : Geometry) (log : Log) (m : Medium) → q.halves ≡ log → log.geometry ≡ g → log.failed ≡ false → log.current
-    ≡ log.named → IsWholeTree q.tree → q.tree.geometry ≡ g → KeepsRoom p q
-    → length p.frozen.items ≡ image_size g → length p.named_dirty.items ≡ piece_count g → length p.other_dirty.items ≡ piece_count g
-    → AreAllDirty g p.other_dirty.items → device_size (layout_of g) ≤ length m.now → AreLoaded q m
-are_loaded p q g log m is_log of fine together tree geometry room frozen named dirty all whole =
-    let same : q.halves.geometry ≡ g = ap (λ (l : Log). l.geometry) is_log ∙ of in
+-- Room for an image of this geometry, and flags for each of its pieces, of which those of the other image are set.
+pub record HasRoom (g : Geometry) (p : Parts) : Type 0 where
+  pub frozen : length p.frozen.items ≡ image_size g
+  pub named_dirty : length p.named_dirty.items ≡ piece_count g
+  pub other_dirty : length p.other_dirty.items ≡ piece_count g
+  pub all : AreAllDirty g p.other_dirty.items
+
+-- loaded with this log, of parts that had the room that it asks for
+pub are_loaded : {p q : Parts} {log : Log} {m : Medium} → q.halves ≡ log → log.failed ≡ false → log.current ≡ log.named → IsWholeTree q.tree
+    → q.tree.geometry ≡ log.geometry → KeepsRoom p q → HasRoom log.geometry p → device_size (layout_of log.geometry) ≤ length m.now → AreLoaded q m
+are_loaded {q} {log} {m} is_log fine together tree geometry kept room whole =
+    let same : q.halves.geometry ≡ log.geometry = ap (λ (l : Log). l.geometry) is_log in
     record {
       tree = tree;
       geometry = geometry ∙ sym same;
       fine = ap (λ (l : Log). l.failed) is_log ∙ fine;
       together = ap (λ (l : Log). l.current) is_log ∙ together ∙ sym (ap (λ (l : Log). l.named) is_log);
       whole = subst (λ (h : Geometry). device_size (layout_of h) ≤ length m.now) (sym same) whole;
-      frozen = room.frozen ∙ frozen ∙ sym (ap image_size same);
-      named_dirty = (λ i. length (room.named_dirty i).items) ∙ named ∙ sym (ap piece_count same);
-      other_dirty = (λ i. length (room.other_dirty i).items) ∙ dirty ∙ sym (ap piece_count same);
+      frozen = kept.frozen ∙ room.frozen ∙ sym (ap image_size same);
+      named_dirty = (λ i. length (kept.named_dirty i).items) ∙ room.named_dirty ∙ sym (ap piece_count same);
+      other_dirty = (λ i. length (kept.other_dirty i).items) ∙ room.other_dirty ∙ sym (ap piece_count same);
       all =
           subst (λ (h : Geometry). AreAllDirty h q.other_dirty.items) (sym same)
-          (subst (λ (row : List Bool). AreAllDirty g row) (sym (λ i. (room.other_dirty i).items)) all);
+          (subst (λ (row : List Bool). AreAllDirty log.geometry row) (sym (λ i. (kept.other_dirty i).items)) room.all);
     }
 
 -- once the last point is made
-pub made : (p q r : Parts) (w2 w3 : Medium) → AreUnloaded p → q.halves.geometry ≡ p.tree.geometry → KeepsRoom p q → AreLoaded q w2 → KeepsRoom q r
+pub made : {p q r : Parts} {w2 w3 : Medium} → AreUnloaded p → q.halves.geometry ≡ p.tree.geometry → KeepsRoom p q → AreLoaded q w2 → KeepsRoom q r
     → r.tree ≡ q.tree → r.halves ≡ pointed q.halves → length w3.now ≡ length w2.now → IsMade r w3
-made p q r w2 w3 taken same room loaded room' tree log long =
+made {p} {q} {r} {w3} taken same room loaded room' tree log long =
     let is : r.halves.geometry ≡ q.halves.geometry = ap (λ (l : Log). l.geometry) log in
     let kept = kept_then p q r room room' in
     record {
@@ -179,32 +184,30 @@ opened p old m j made is whole same =
       was = ap (λ (g : Geometry). holds g old.now) made.geometry ∙ is.was;
       is = is.is;
       version = is.version;
-      sound = committed_of p.halves p.frozen.items p.named_dirty.items p.other_dirty.items p.due.items None false m is.sound;
+      sound = committed_of is.sound;
       emptied = is.emptied;
       dirty = made.dirty;
       state = subst (λ (g : Geometry). IsState g (state_in p.tree)) (sym made.geometry) whole.state;
     })
 
-pub made_of : (p : Parts) (log : Log) (old w2 w3 : Medium) (frozen : List ℕ) → AreBytes w3.now → HasHeader p.tree.geometry old.now
-    → refused p.tree.geometry old.now ≡ None → holds p.tree.geometry old.now ≡ Some (state_in p.tree)
-    → p.halves ≡ pointed log → p.tree.geometry ≡ log.geometry → p.frozen.items ≡ frozen → frozen ≡ image_of 2 p.tree.geometry (state_in p.tree)
-    → IsWholeTree p.tree → AreAllDirty log.geometry p.other_dirty.items
-    → IsAlone log w2 → holds log.geometry w2.now ≡ Some (state_in p.tree) → IsPointed log frozen w2 w3 → IsMadeOf old.now p w3
-made_of p log old w2 w3 frozen are head fine was is_log geometry items spelled whole all alone held made =
+-- A device with these bytes is one of this geometry, isn't refused, and recovers to this state.
+pub record RecoversTo (g : Geometry) (c : List ℕ) (x : State) : Type 0 where
+  pub header : HasHeader g c
+  pub fine : refused g c ≡ None
+  pub was : holds g c ≡ Some x
+
+pub made_of : {p : Parts} {log : Log} {c : List ℕ} {w2 w3 : Medium} → AreBytes w3.now → RecoversTo p.tree.geometry c (state_in p.tree)
+    → p.halves ≡ pointed log → p.tree.geometry ≡ log.geometry → p.frozen.items ≡ image_of 2 p.tree.geometry (state_in p.tree)
+    → AreAllDirty log.geometry p.other_dirty.items → HoldsAlone log (state_in p.tree) w2 → IsPointed log p.frozen.items w2 w3 → IsMadeOf c p w3
+made_of {p} {log} {w2} {w3} are before is_log geometry spelled all alone made =
     let same : p.halves.geometry ≡ log.geometry = ap (λ (l : Log). l.geometry) is_log in
-    let is_state = subst (λ (g : Geometry). IsState g (state_in p.tree)) geometry whole.state in
+    let spelled' = spelled ∙ ap (λ (g : Geometry). image_of 2 g (state_in p.tree)) geometry in
     record {
-      header = head;
-      fine = fine;
-      was = was;
-      is = ap (λ (g : Geometry). holds g w3.now) same ∙ holds_now log.geometry (other log.named) (other log.named) (holds log.geometry w2.now) w3 are made.at.recovers ∙ held;
-      version =
-          ap (λ (g : Geometry). named_version g w3.now) same
-          ∙ pointed_version log frozen w2 w3 (state_in p.tree) are (spelled ∙ ap (λ (g : Geometry). image_of 2 g (state_in p.tree)) geometry) made;
+      header = before.header;
+      fine = before.fine;
+      was = before.was;
+      is = ap (λ (g : Geometry). holds g w3.now) same ∙ holds_now log.geometry (other log.named) (other log.named) (holds log.geometry w2.now) w3 are made.at.recovers ∙ alone.is;
+      version = ap (λ (g : Geometry). named_version g w3.now) same ∙ pointed_version log p.frozen.items w2 w3 (state_in p.tree) are spelled' made;
       emptied = subst (λ (g : Geometry). in_force (layout_of g) (named_area (layout_of g) w3.now) w3.now ≡ []) (sym same) made.emptied;
-      sound =
-          subst (λ (l : List ℕ). IsSoundJournal p.halves l p.named_dirty.items p.other_dirty.items p.due.items None w3) (sym items)
-          (subst (λ (l : Log). IsSoundJournal l frozen p.named_dirty.items p.other_dirty.items p.due.items None w3) (sym is_log)
-          (opened_sound log frozen p.named_dirty.items p.other_dirty.items p.due.items w2 w3 (state_in p.tree) alone held is_state
-          (spelled ∙ ap (λ (g : Geometry). image_of 2 g (state_in p.tree)) geometry) all are made));
+      sound = sound_along is_log refl refl refl refl (opened_sound alone spelled' all are made);
     }

@@ -16,7 +16,7 @@ use Rattle.meaning.proofs.Kept.{step_kept}
 use Rattle.std.specs.List.{AllByRecursion}
 use Rattle.journal.specs.Journal.{AreCarriedOut, HoldsSome, IsCommitted, records_in}
 use Rattle.journal.specs.Keeping.{IsCutOr, IsFresh, IsCutState, IsSoundJournal, coming, held_of}
-use Rattle.journal.specs.DirtyPieces.{DirtiesTouched}
+use Rattle.journal.specs.DirtyPieces.{AreBothTouched, DirtiesTouched}
 use Rattle.journal.specs.Steps.{RecoversByArea, run_on}
 use Rattle.journal.specs.Extents.{AgreeOnClean, image_in, extent_of}
 use Rattle.journal.proofs.Cutting.{named_below}
@@ -86,16 +86,16 @@ carried_state : (g : Geometry) (x : State) (ms : List Msg) → IsState g x → A
 carried_state g x [] is out = is
 carried_state g x (m ∷ ms) is out = carried_state g (next_state g x m) ms (step_kept g x m is out.0) out.3
 
-pub fresh_more : (g : Geometry) (x : State) (ms : List Msg) (old new : List Bool) (bytes : List ℕ) → IsState g x → AreCarriedOut g x ms
+pub fresh_more : {g : Geometry} {x : State} → (ms : List Msg) (old new : List Bool) (bytes : List ℕ) → IsState g x → AreCarriedOut g x ms
     → DirtiesTouched g ms old new → IsFresh g (Some x) old bytes → IsFresh g (Some (fold g x ms)) new bytes
-fresh_more g x ms old new bytes is_state out touched fresh y is n few clean =
+fresh_more {g} {x} ms old new bytes is_state out touched fresh y is n few clean =
     let kept = (touched n few).0 clean in
     fresh x refl n few kept.0 ∙ sym (all_stay g x ms n is_state out kept.1) ∙ ap (λ (o : Option State). extent_of g (unwrap_or o x) n) is
 
 -- the journal's facts, in the words of contracts
-pub committed_of : {a b : List Bool} → (log : Log) (frozen : List ℕ) (named others due : List Bool) (left : Option ℕ) (failed : Bool) (m : Medium)
+pub committed_of : {log : Log} {frozen : List ℕ} {named others due a b : List Bool} {left : Option ℕ} {failed : Bool} {m : Medium}
     → IsSoundJournal log frozen named others due left m → IsCommitted (held_of log a b left failed m)
-committed_of log frozen named others due left failed m sound = record {
+committed_of {log} {m} sound = record {
   some = sound.some;
   each = λ c gone. holds_by log.geometry log.named log.current (holds log.geometry m.now) c (sound.recovers c gone);
   forced = sound.forced;
@@ -104,6 +104,11 @@ committed_of log frozen named others due left failed m sound = record {
       let most = used_most (layout_of log.geometry) log.current log.used m sound.ready in
       omega (arith, count, most);
 }
+
+-- the same of a log, a snapshot and flags that are equal to these
+pub sound_along : {log log' : Log} {frozen frozen' : List ℕ} {named named' others others' due : List Bool} {left left' : Option ℕ} {m : Medium} → log' ≡ log → frozen' ≡ frozen
+    → named' ≡ named → others' ≡ others → left' ≡ left → IsSoundJournal log frozen named others due left m → IsSoundJournal log' frozen' named' others' due left' m
+sound_along {due} {m} log bytes row row' left sound = subst (λ (t : Type 0). t) (sym (λ i. IsSoundJournal (log i) (bytes i) (row i) (row' i) due (left i) m)) sound
 
 -- how many records there are is no fact of a cut
 cut_used : (log : Log) (used : ℕ) (frozen : List ℕ) (due : List Bool) (left : Option ℕ) (m : Medium) → IsCutOr log frozen due left m → IsCutOr (record log { used = used }) frozen due left m
@@ -116,7 +121,7 @@ coming_used log used frozen (Some k) m = refl
 
 -- ---- logging
 
-module _ (log : Log) (frozen : List ℕ) (named others due : List Bool) (left : Option ℕ) (ms : List Msg) (w0 w1 : Medium) (are : AreBytes w0.now)
+module _ {log : Log} {frozen : List ℕ} {named others due : List Bool} {left : Option ℕ} (ms : List Msg) {w0 : Medium} (w1 : Medium) (are : AreBytes w0.now)
     (sound : IsSoundJournal log frozen named others due left w0) where
   is_area : log.named < 2
   is_area = named_below log.geometry log.named log.current (holds log.geometry w0.now) w0 are sound.recovers
@@ -137,12 +142,12 @@ module _ (log : Log) (frozen : List ℕ) (named others due : List Bool) (left : 
 
   pub log_records : HasAdded log ms w0 w1 → records_in log.geometry w1.now ≡ records_in log.geometry w0.now ++ records_of ms
   log_records has =
-      forced_more log.geometry log.named log.current (holds log.geometry w0.now) (records_of ms) w0.now w1.now is_area is_half (sound.recovers w0.now (itself w0.now w0.unsynced are)) has.has
+      forced_more log.geometry is_area is_half (sound.recovers w0.now (itself w0.now w0.unsynced are)) has.has
 
   log_forced : HasAdded log ms w0 w1 → (c : List ℕ) → IsCrashImage w1 c → records_in log.geometry c ≡ records_in log.geometry w1.now
   log_forced has c left =
       let after = has.left c left in
-      forced_more log.geometry log.named log.current (holds log.geometry w0.now) (records_of ms) after.old c is_area is_half (sound.recovers after.old after.left) after.change
+      forced_more log.geometry is_area is_half (sound.recovers after.old after.left) after.change
       ∙ ap (λ rs. rs ++ records_of ms) (sound.forced after.old after.left) ∙ sym (log_records has)
 
   log_count : HasAdded log ms w0 w1 → left ≡ None → length (records_in log.geometry w1.now) ≡ log.used + length ms
@@ -183,9 +188,10 @@ module _ (log : Log) (frozen : List ℕ) (named others due : List Bool) (left : 
       version = cut.version;
     }
 
-    pub log_sound : (named' others' : List Bool) → IsCutState log due left → DirtiesTouched log.geometry ms named named' → DirtiesTouched log.geometry ms others others'
+    pub log_sound : {named' others' : List Bool} → IsCutState log due left
+        → AreBothTouched log.geometry ms (record { named = named; others = others }) (record { named = named'; others = others' })
         → IsSoundJournal (record log { used = log.used + length ms }) frozen named' others' due left w1
-    log_sound named' others' placed touched touched' =
+    log_sound {named'} {others'} placed touched =
         let used : log.used + length (records_of ms) ≡ log.used + length ms = ap (λ (n : ℕ). log.used + n) (length-map ms record_of) in
         record {
           some = ap is_some log_committed;
@@ -196,17 +202,17 @@ module _ (log : Log) (frozen : List ℕ) (named others due : List Bool) (left : 
           state = λ z is'. subst (λ (s : State). IsState log.geometry s) (ap (λ (o : Option State). unwrap_or o x) (sym log_committed ∙ is')) (carried_state log.geometry x ms (sound.state x is) out);
           named_fresh =
               subst (λ (o : Option State). IsFresh log.geometry o named' (image_in log.geometry log.named w1)) (sym log_committed)
-              (fresh_more log.geometry x ms named named' (image_in log.geometry log.named w1) (sound.state x is) out touched
+              (fresh_more ms named named' (image_in log.geometry log.named w1) (sound.state x is) out touched.named
               (subst (λ (l : List ℕ). IsFresh log.geometry (Some x) named l) (sym (images log.named is_area))
               (subst (λ (o : Option State). IsFresh log.geometry o named (image_in log.geometry log.named w0)) is sound.named_fresh)));
           frozen_fresh = λ none.
               subst (λ (o : Option State). IsFresh log.geometry o named' frozen) (sym log_committed)
-              (fresh_more log.geometry x ms named named' frozen (sound.state x is) out touched
+              (fresh_more ms named named' frozen (sound.state x is) out touched.named
               (subst (λ (o : Option State). IsFresh log.geometry o named frozen) is (sound.frozen_fresh none)));
           others_fresh =
               subst (λ (l : List ℕ). IsFresh log.geometry (holds log.geometry w1.now) others' l) (sym (coming_used log (log.used + length ms) frozen left w1))
               (subst (λ (o : Option State). IsFresh log.geometry o others' (coming log frozen left w1)) (sym log_committed)
-              (fresh_more log.geometry x ms others others' (coming log frozen left w1) (sound.state x is) out touched'
+              (fresh_more ms others others' (coming log frozen left w1) (sound.state x is) out touched.others
               (subst (λ (l : List ℕ). IsFresh log.geometry (Some x) others l) (sym (still_coming left))
               (subst (λ (o : Option State). IsFresh log.geometry o others (coming log frozen left w0)) is sound.others_fresh))));
           by_cut = cut_used log (log.used + length ms) frozen due left w1 (cut_more left placed sound.by_cut);
@@ -218,24 +224,24 @@ pub placed_used : (log : Log) (used : ℕ) (due : List Bool) (left : Option ℕ)
 placed_used log used due None placed = placed
 placed_used log used due (Some k) placed = placed
 
-pub touched_along : (g g' : Geometry) (ms : List Msg) (old old' new new' : List Bool) → g ≡ g' → old ≡ old' → new' ≡ new → DirtiesTouched g ms old new → DirtiesTouched g' ms old' new'
-touched_along g g' ms old old' new new' same was is touched =
+pub touched_along : {g g' : Geometry} → (ms : List Msg) → {old old' new new' : List Bool} → g ≡ g' → old ≡ old' → new' ≡ new → DirtiesTouched g ms old new → DirtiesTouched g' ms old' new'
+touched_along {g} ms {old} {old'} {new'} same was is touched =
     subst (λ (x : Geometry). DirtiesTouched x ms old' new') same (subst (λ (l : List Bool). DirtiesTouched g ms l new') was (subst (λ (l : List Bool). DirtiesTouched g ms old l) (sym is) touched))
 
-pub log_kept : (log new : Log) (frozen : List ℕ) (named others due named' others' : List Bool) (left : Option ℕ) (ms : List Msg) (w0 w1 : Medium)
-    → new ≡ record log { used = log.used + length ms } → AreBytes w0.now → AreBytes w1.now
-    → IsSoundJournal log frozen named others due left w0 → ((x : State) → holds log.geometry w0.now ≡ Some x → AreCarriedOut log.geometry x ms) → HasAdded log ms w0 w1 → IsCutState log due left
-    → DirtiesTouched log.geometry ms named named' → DirtiesTouched log.geometry ms others others' → IsSoundJournal new frozen named' others' due left w1
-log_kept log new frozen named others due named' others' left ms w0 w1 is are are' sound out has placed touched touched' =
+pub log_kept : {log : Log} {frozen : List ℕ} {named others due named' others' : List Bool} {left : Option ℕ} → (ms : List Msg) → {w0 w1 : Medium} → AreBytes w0.now
+    → AreBytes w1.now → IsSoundJournal log frozen named others due left w0
+    → ((x : State) → holds log.geometry w0.now ≡ Some x → AreCarriedOut log.geometry x ms) → HasAdded log ms w0 w1 → IsCutState log due left
+    → AreBothTouched log.geometry ms (record { named = named; others = others }) (record { named = named'; others = others' })
+    → IsSoundJournal (record log { used = log.used + length ms }) frozen named' others' due left w1
+log_kept {log} ms {w0} {w1} are are' sound out has placed touched =
     let value = some_value (holds log.geometry w0.now) sound.some in
-    subst (λ (l : Log). IsSoundJournal l frozen named' others' due left w1) (sym is)
-    (log_sound log frozen named others due left ms w0 w1 are sound value.0 value.1 (out value.0 value.1) has are' named' others' placed touched touched')
+    log_sound ms w1 are sound value.0 value.1 (out value.0 value.1) has are' placed touched
 
-pub log_told : (log : Log) (frozen : List ℕ) (named others due : List Bool) (left : Option ℕ) (ms : List Msg) (w0 w1 : Medium) → AreBytes w0.now
+pub log_told : {log : Log} {frozen : List ℕ} {named others due : List Bool} {left : Option ℕ} → (ms : List Msg) → {w0 w1 : Medium} → AreBytes w0.now
     → AreBytes w1.now → IsSoundJournal log frozen named others due left w0
     → ((x : State) → holds log.geometry w0.now ≡ Some x → AreCarriedOut log.geometry x ms) → HasAdded log ms w0 w1 → holds log.geometry w1.now
     ≡ option_map (λ x. fold log.geometry x ms) (holds log.geometry w0.now)
-log_told log frozen named others due left ms w0 w1 are are' sound out has =
+log_told {log} ms {w0} {w1} are are' sound out has =
     let value = some_value (holds log.geometry w0.now) sound.some in
-    log_committed log frozen named others due left ms w0 w1 are sound value.0 value.1 (out value.0 value.1) has are'
+    log_committed ms w1 are sound value.0 value.1 (out value.0 value.1) has are'
     ∙ sym (ap (λ (o : Option State). option_map (λ x. fold log.geometry x ms) o) value.1)

@@ -151,17 +151,17 @@ bad_from g h (BadPiece n) w0 w1 w2 now bad = bad
 bad_from g h BadChain w0 w1 w2 now bad = bad
 
 -- a bad record of the other half
-pub bad_behind : (e : OpenFault) (n : ℕ) (w0 w1 : Medium) (g : Geometry) → n < 2 → n ≡ named_area (layout_of g) w0.now → HasHeader g w0.now → IsBad g (other n) w0 w1 e → IsRefusedUnwritten w0 e w1
-bad_behind Device n w0 w1 g is_area named head bad = tt
-bad_behind (BadRecord h i) n w0 w1 g is_area named head bad =
+pub bad_behind : {n : ℕ} → (e : OpenFault) (w0 w1 : Medium) (g : Geometry) → n < 2 → n ≡ named_area (layout_of g) w0.now → HasHeader g w0.now → IsBad g (other n) w0 w1 e → IsRefusedUnwritten w0 e w1
+bad_behind Device w0 w1 g is_area named head bad = tt
+bad_behind (BadRecord h i) w0 w1 g is_area named head bad =
     λ k head'. ((λ here. absurd (omega (arith, is_area, bad.0, here, named))), (λ behind. subst (λ (x : Geometry). IsRefusedBehind x h i w0 w1) (same_geometry g k (sym head ∙ head')) bad.1))
-bad_behind TooShort n w0 w1 g is_area named head bad = absurd bad
-bad_behind NotFormatted n w0 w1 g is_area named head bad = absurd bad
-bad_behind BadGeometry n w0 w1 g is_area named head bad = absurd bad
-bad_behind OutOfMemory n w0 w1 g is_area named head bad = absurd bad
-bad_behind BadVersion n w0 w1 g is_area named head bad = absurd bad
-bad_behind (BadPiece k) n w0 w1 g is_area named head bad = absurd bad
-bad_behind BadChain n w0 w1 g is_area named head bad = absurd bad
+bad_behind TooShort w0 w1 g is_area named head bad = absurd bad
+bad_behind NotFormatted w0 w1 g is_area named head bad = absurd bad
+bad_behind BadGeometry w0 w1 g is_area named head bad = absurd bad
+bad_behind OutOfMemory w0 w1 g is_area named head bad = absurd bad
+bad_behind BadVersion w0 w1 g is_area named head bad = absurd bad
+bad_behind (BadPiece k) w0 w1 g is_area named head bad = absurd bad
+bad_behind BadChain w0 w1 g is_area named head bad = absurd bad
 
 -- nothing is unsynced then
 pub bad_synced : (g : Geometry) (h : ℕ) (e : OpenFault) (w0 w1 : Medium) → e ≢ Device → IsBad g h w0 w1 e → IsSynced w1
@@ -229,9 +229,9 @@ pub leaves_read : (w0 w1 : Medium) → moments w1 ≡ moments w0 → (c : List �
 leaves_read w0 w1 only c left = subst (λ (l : List Bool). IsTornFrom w0.now l c) (same_unsynced w0 w1 only) (subst (λ (l : List ℕ). IsTornFrom l w1.unsynced c) (same_bytes w0 w1 only) left)
 
 -- once a cut was finished and the records behind it were run
-pub alone_finished : (log : Log) (w0 w1 w2 : Medium) (y : State) → AreBytes w2.now → RecoversStill log.geometry w0 w2 → holds log.geometry w0.now
+pub alone_finished : {log : Log} {w0 w1 w2 : Medium} {y : State} → AreBytes w2.now → RecoversStill log.geometry w0 w2 → holds log.geometry w0.now
     ≡ Some y → IsFinished log w0 w1 → moments w2 ≡ moments w1 → IsAlone (finished_now log) w2
-alone_finished log w0 w1 w2 y are still held finished only =
+alone_finished {log} {w0} {w1} {w2} are still held finished only =
     let now = still_now log.geometry w0 w2 are still in
     record {
       some = ap is_some (now ∙ held);
@@ -248,31 +248,38 @@ pub if_err : {T E : Type 0} (r : Result T E) (P Q : E → Type 0) → ((e : E) �
 if_err (Ok v) P Q gives held = tt
 if_err (Err e) P Q gives held = gives e held
 
+-- A cut was finished: the area of half h is named, with the image of what the area named before had by itself, nothing is unsynced,
+-- and the device is refused as it was.
+pub record IsFinishedCut (g : Geometry) (h : ℕ) (old new : Medium) : Type 0 where
+  pub alike : IsRefusedAlike g old.now new.now
+  pub named : named_area (layout_of g) new.now ≡ h
+  pub image : read g (image_in g h new) ≡ area_state g (named_area (layout_of g) old.now) old.now
+  pub calm : IsSynced new
+
 -- A record that can't be run is one of the half whose records are run, once the cut before it is finished: its area is named,
 -- and the device is refused for it as it was.
-pub bad_half : (g : Geometry) (h : ℕ) (o : Option ℕ) (w0 w2 : Medium) (e : OpenFault) → e ≢ OutOfMemory
-    → IsFaultOfBytes (fault_or_later (BadRecord h) o None) e → HasHeader g w0.now → IsRefused w0.now e → IsRefusedAlike g w0.now w2.now
-    → named_area (layout_of g) w2.now ≡ h → read g (image_in g h w2) ≡ area_state g (named_area (layout_of g) w0.now) w0.now → IsSynced w2 → IsBad g h w0 w2 e
-bad_half g h o w0 w2 Device some is head why alike named image calm = tt
-bad_half g h o w0 w2 OutOfMemory some is head why alike named image calm = absurd (some refl)
-bad_half g h o w0 w2 NotFormatted some is head why alike named image calm = absurd is
-bad_half g h o w0 w2 BadGeometry some is head why alike named image calm = absurd is
-bad_half g h None w0 w2 TooShort some is head why alike named image calm = cc
-bad_half g h (Some i) w0 w2 TooShort some is head why alike named image calm = cc
-bad_half g h None w0 w2 BadVersion some is head why alike named image calm = cc
-bad_half g h (Some i) w0 w2 BadVersion some is head why alike named image calm = cc
-bad_half g h None w0 w2 (BadPiece n) some is head why alike named image calm = cc
-bad_half g h (Some i) w0 w2 (BadPiece n) some is head why alike named image calm = cc
-bad_half g h None w0 w2 BadChain some is head why alike named image calm = cc
-bad_half g h (Some i) w0 w2 BadChain some is head why alike named image calm = cc
-bad_half g h o w0 w2 (BadRecord k j) some is head why alike named image calm =
+pub bad_half : {g : Geometry} {h : ℕ} → (o : Option ℕ) → {w0 w2 : Medium} → (e : OpenFault) → e ≢ OutOfMemory
+    → IsFaultOfBytes (fault_or_later (BadRecord h) o None) e → HasHeader g w0.now → IsRefused w0.now e → IsFinishedCut g h w0 w2 → IsBad g h w0 w2 e
+bad_half o Device some is head why done = tt
+bad_half o OutOfMemory some is head why done = absurd (some refl)
+bad_half o NotFormatted some is head why done = absurd is
+bad_half o BadGeometry some is head why done = absurd is
+bad_half None TooShort some is head why done = cc
+bad_half (Some i) TooShort some is head why done = cc
+bad_half None BadVersion some is head why done = cc
+bad_half (Some i) BadVersion some is head why done = cc
+bad_half None (BadPiece n) some is head why done = cc
+bad_half (Some i) (BadPiece n) some is head why done = cc
+bad_half None BadChain some is head why done = cc
+bad_half (Some i) BadChain some is head why done = cc
+bad_half {g} {h} o {w0} {w2} (BadRecord k j) some is head why done =
     let own : k ≡ h = records_half h o (BadRecord k j) is in (
       own,
       record {
-        named = named ∙ sym own;
-        image = ap (λ (n : ℕ). read g (image_in g n w2)) own ∙ image;
-        calm = calm;
-        header = alike.header;
-        refused = alike.refused ∙ ap (λ (x : Geometry). refused x w0.now) (same_geometry g why.geometry (sym head ∙ why.header)) ∙ why.is;
+        named = done.named ∙ sym own;
+        image = ap (λ (n : ℕ). read g (image_in g n w2)) own ∙ done.image;
+        calm = done.calm;
+        header = done.alike.header;
+        refused = done.alike.refused ∙ ap (λ (x : Geometry). refused x w0.now) (same_geometry g why.geometry (sym head ∙ why.header)) ∙ why.is;
       },
     )

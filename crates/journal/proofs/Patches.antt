@@ -22,9 +22,9 @@ pub record UpTo (from : ℕ) (bytes old new : List ℕ) : Type 0 where
   pub done : take from new ≡ take from bytes
   pub rest : drop from new ≡ drop from old
 
-run_up : (from d : ℕ) (bytes old now new : List ℕ) → from + d ≤ length bytes → from + d ≤ length now → UpTo from bytes old now → new
+run_up : {from : ℕ} → (d : ℕ) → {bytes old now new : List ℕ} → from + d ≤ length bytes → from + d ≤ length now → UpTo from bytes old now → new
     ≡ overlaid now from (take d (drop from bytes)) → UpTo (from + d) bytes old new
-run_up from d bytes old now new few inside so_far is =
+run_up {from} d {bytes} {old} {now} {new} few inside so_far is =
     let items : List ℕ = take d (drop from bytes) in
     let long : length items ≡ d = length-take-le d (drop from bytes) (omega (arith, length-drop from bytes, few)) in
     let front : take from new ≡ take from bytes = ap (λ (l : List ℕ). take from l) is ∙ take-overlaid now from items ∙ so_far.done in
@@ -37,15 +37,15 @@ run_up from d bytes old now new few inside so_far is =
       rest = behind ∙ sym (drop-drop d from now) ∙ ap (λ (l : List ℕ). drop d l) so_far.rest ∙ drop-drop d from old;
     }
 
-pub run_done : (from at : ℕ) (bytes old now new : List ℕ) → from ≤ at → at ≤ length bytes → at ≤ length now → UpTo from bytes old now → new
+pub run_done : {from at : ℕ} {bytes old now new : List ℕ} → from ≤ at → at ≤ length bytes → at ≤ length now → UpTo from bytes old now → new
     ≡ overlaid now from (slice bytes from (at - from)) → UpTo at bytes old new
-run_done from at bytes old now new order few inside so_far is =
+run_done {from} {at} {bytes} {old} {new} order few inside so_far is =
     let end : from + (at - from) ≡ at = omega (arith, order) in
-    subst (λ (k : ℕ). UpTo k bytes old new) end (run_up from (at - from) bytes old now new (omega (arith, order, few)) (omega (arith, order, inside)) so_far is)
+    subst (λ (k : ℕ). UpTo k bytes old new) end (run_up (at - from) (omega (arith, order, few)) (omega (arith, order, inside)) so_far is)
 
 -- n bytes that are there already
-pub there_already : (at n end : ℕ) (bytes old new : List ℕ) → end ≡ at + n → UpTo at bytes old new → slice old at n ≡ slice bytes at n → UpTo end bytes old new
-there_already at n end bytes old new ends so_far same =
+pub there_already : {at end : ℕ} → (n : ℕ) → {bytes old new : List ℕ} → end ≡ at + n → UpTo at bytes old new → slice old at n ≡ slice bytes at n → UpTo end bytes old new
+there_already {at} n {bytes} {old} {new} ends so_far same =
     let by : UpTo (at + n) bytes old new = record {
       done =
           take-add at n new ∙ (λ i. so_far.done i ++ (ap (λ (l : List ℕ). take n l) so_far.rest ∙ same) i)
@@ -83,13 +83,13 @@ patch_begun g area bytes m = record {
   up_to = none_yet bytes (image_in g area m);
 }
 
-module _ (g : Geometry) (area from at : ℕ) (bytes : List ℕ) (w0 w w1 : Medium) (is_area : area < 2) (size : length bytes ≡ image_size g)
-    (whole : device_size (layout_of g) ≤ length w0.now) (so_far : IsPatched g area from bytes w0 w)
+module _ {g : Geometry} {area from : ℕ} {bytes : List ℕ} {w0 w w1 : Medium} (so_far : IsPatched g area from bytes w0 w)
     (moments : ChangesOnly w w1 (IsSameBut (layout_of g) (image area))) where
   pub patch_moments : ChangesOnly w0 w1 (IsSameBut (layout_of g) (image area))
   patch_moments = part_then (layout_of g) (image area) w0 w w1 so_far.moments moments
 
-  module _ (order : from ≤ at) (inside : at ≤ image_size g) (same : IsSameBut (layout_of g) (image area) w.now w1.now)
+  module _ {at : ℕ} (is_area : area < 2) (size : length bytes ≡ image_size g) (whole : device_size (layout_of g) ≤ length w0.now)
+      (order : from ≤ at) (inside : at ≤ image_size g) (same : IsSameBut (layout_of g) (image area) w.now w1.now)
       (written : image_in g area w1 ≡ overlaid (image_in g area w) from (slice bytes from (at - from))) where
     pub patched : IsPatched g area at bytes w0 w1
     patched =
@@ -97,26 +97,25 @@ module _ (g : Geometry) (area from at : ℕ) (bytes : List ℕ) (w0 w w1 : Mediu
         record {
           moments = patch_moments;
           same = same_but_both (layout_of g) (image area) w0.now w.now w1.now so_far.same same;
-          up_to = run_done from at bytes (image_in g area w0) (image_in g area w) (image_in g area w1) order (omega (arith, inside, size)) (omega (arith, inside, long)) so_far.up_to written;
+          up_to = run_done order (omega (arith, inside, size)) (omega (arith, inside, long)) so_far.up_to written;
         }
 
 -- one extent more, that is there already
-pub patch_passed : (g : Geometry) (area n at end : ℕ) (bytes : List ℕ) (dirty : List Bool) (w0 w : Medium)
+pub patch_passed : {g : Geometry} {area at end : ℕ} → (n : ℕ) (dirty : List Bool) → {bytes : List ℕ} {w0 w : Medium}
     → AgreeOnClean g dirty (image_in g area w0) bytes → n < piece_count g → get_or dirty n true ≡ false → at ≡ extent_at g n → end
-    ≡ at + extent_size g n
-    → IsPatched g area at bytes w0 w → IsPatched g area end bytes w0 w
-patch_passed g area n at end bytes dirty w0 w agree few clean is ends so_far =
+    ≡ at + extent_size g n → IsPatched g area at bytes w0 w → IsPatched g area end bytes w0 w
+patch_passed {g} {area} n dirty {bytes} {w0} {w} agree few clean is ends so_far =
     record {
       moments = so_far.moments;
       same = so_far.same;
-      up_to = there_already at (extent_size g n) end bytes (image_in g area w0) (image_in g area w) ends so_far.up_to
+      up_to = there_already (extent_size g n) ends so_far.up_to
           (subst (λ (a : ℕ). slice (image_in g area w0) a (extent_size g n) ≡ slice bytes a (extent_size g n)) (sym is) (agree n few clean));
     }
 
 -- all of it, and a sync
-pub patch_synced : (g : Geometry) (area : ℕ) (bytes : List ℕ) (w0 w w1 : Medium) → area < 2 → length bytes ≡ image_size g
+pub patch_synced : {g : Geometry} {area : ℕ} {bytes : List ℕ} {w0 w w1 : Medium} → area < 2 → length bytes ≡ image_size g
     → device_size (layout_of g) ≤ length w0.now → IsPatched g area (image_size g) bytes w0 w → w1 ≡ synced w → Imaged g area bytes w0 w1
-patch_synced g area bytes w0 w w1 is_area size whole so_far syncs =
+patch_synced {g} {area} {bytes} {w0} {w} is_area size whole so_far syncs =
     subst (λ (m : Medium). Imaged g area bytes w0 m) (sym syncs)
     (record {
       same = so_far.same;
@@ -124,16 +123,16 @@ patch_synced g area bytes w0 w w1 is_area size whole so_far syncs =
       calm = refl;
     })
 
-pub along_patch : (g : Geometry) (area from from' : ℕ) (bytes : List ℕ) (w0 w w' : Medium) → from' ≡ from → w' ≡ w → IsPatched g area from bytes w0 w → IsPatched g area from' bytes w0 w'
-along_patch g area from from' bytes w0 w w' same still so_far =
+pub along_patch : {g : Geometry} {area from from' : ℕ} {bytes : List ℕ} {w0 w w' : Medium} → from' ≡ from → w' ≡ w → IsPatched g area from bytes w0 w → IsPatched g area from' bytes w0 w'
+along_patch {g} {area} {from'} {bytes} {w0} {w} same still so_far =
     subst (λ (m : Medium). IsPatched g area from' bytes w0 m) (sym still) (subst (λ (n : ℕ). IsPatched g area n bytes w0 w) (sym same) so_far)
 
 -- ---- one extent
 
 -- one extent is written over, and each other one stays
-pub one_patched : (g : Geometry) (n at : ℕ) (bytes old new : List ℕ) → n < piece_count g → length bytes ≡ image_size g → length old ≡ image_size g
+pub one_patched : {g : Geometry} {n at : ℕ} {bytes old new : List ℕ} → n < piece_count g → length bytes ≡ image_size g → length old ≡ image_size g
     → at ≡ extent_at g n → new ≡ overlaid old at (slice bytes at (extent_size g n)) → IsPatchedAt g n bytes old new
-one_patched g n at bytes old new few size size' place is =
+one_patched {g} {n} {at} {bytes} {old} {new} few size size' place is =
     let inside = extent_inside g n few in
     let items : List ℕ = slice bytes at (extent_size g n) in
     let long : length items ≡ extent_size g n = length-take-le (extent_size g n) (drop at bytes) (omega (arith, length-drop at bytes, size, place, inside)) in

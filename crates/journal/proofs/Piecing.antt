@@ -30,29 +30,29 @@ use Rattle.meaning.specs.State.{State}
 
 -- ---- how many are left
 
-pub piece_left : (log : Log) (due : List Bool) (left : Option ℕ) (n count : ℕ) → is_some left ≡ true → IsCutState log due left → n < length due
+pub piece_left : (log : Log) (due : List Bool) (left : Option ℕ) (n : ℕ) → {count : ℕ} → is_some left ≡ true → IsCutState log due left
     → get_or due n false ≡ true → count ≡ count_dirty (set due n false) → option_map (λ l. l - 1) left ≡ Some count
-piece_left log due None n count some placed few dirty_at is = absurd (true≢false (sym some))
-piece_left log due (Some l) n count some placed few dirty_at is =
-    let fewer = count_cleared due n few dirty_at in
+piece_left log due None n some placed dirty_at is = absurd (true≢false (sym some))
+piece_left log due (Some l) n {count} some placed dirty_at is =
+    let fewer = count_cleared due n dirty_at in
     let one : l - 1 ≡ count = omega (arith, fewer, is, placed.1) in
     ap (λ (k : ℕ). Some k) one
 
 -- one fewer, and those are the ones that are due then
-pub piece_counted : (log : Log) (due : List Bool) (left : Option ℕ) (n fewer : ℕ) → is_some left ≡ true → IsCutState log due left → n < length due
+pub piece_counted : (log : Log) (due : List Bool) (left : Option ℕ) (n : ℕ) → {fewer : ℕ} → is_some left ≡ true → IsCutState log due left
     → get_or due n false ≡ true → fewer ≡ unwrap_or left 0 - 1 → fewer ≡ count_dirty (set due n false)
-piece_counted log due None n fewer some placed few dirty_at is = absurd (true≢false (sym some))
-piece_counted log due (Some l) n fewer some placed few dirty_at is = let one = count_cleared due n few dirty_at in omega (arith, one, is, placed.1)
+piece_counted log due None n some placed dirty_at is = absurd (true≢false (sym some))
+piece_counted log due (Some l) n some placed dirty_at is = let one = count_cleared due n dirty_at in omega (arith, one, is, placed.1)
 
 -- where none is due, none is left
 pub none_due : (log : Log) (due : List Bool) (left : Option ℕ) → is_some left ≡ true → IsCutState log due left → count_dirty due ≡ 0 → left ≡ Some 0
 none_due log due None some placed none = absurd (true≢false (sym some))
 none_due log due (Some l) some placed none = ap (λ (k : ℕ). Some k) (sym placed.1 ∙ none)
 
-pub piece_some : (log : Log) (due : List Bool) (left : Option ℕ) (n : ℕ) → IsCutState log due left → n < length due → get_or due n false ≡ true → left ≡ Some 0 → ⊥
-piece_some log due left n placed few dirty_at none =
+pub piece_some : (log : Log) (due : List Bool) (left : Option ℕ) (n : ℕ) → IsCutState log due left → get_or due n false ≡ true → left ≡ Some 0 → ⊥
+piece_some log due left n placed dirty_at none =
     let placed' = subst (λ (l : Option ℕ). IsCutState log due l) none placed in
-    let fewer = count_cleared due n few dirty_at in
+    let fewer = count_cleared due n dirty_at in
     omega (arith, fewer, placed'.1)
 
 -- ---- the write of one extent
@@ -63,12 +63,13 @@ pub record IsPieced (g : Geometry) (area n : ℕ) (bytes : List ℕ) (old new : 
   pub is : IsPatchedAt g n bytes (image_in g area old) (image_in g area new)
   pub ready : (h k : ℕ) → h < 2 → IsReady (layout_of g) h k old → IsReady (layout_of g) h k new
 
-pub pieced_along : (g g' : Geometry) (a a' n : ℕ) (bytes bytes' : List ℕ) (w0 w1 : Medium) → g ≡ g' → a ≡ a' → bytes ≡ bytes'
+pub pieced_along : {g g' : Geometry} {a a' n : ℕ} {bytes bytes' : List ℕ} {w0 w1 : Medium} → g ≡ g' → a ≡ a' → bytes ≡ bytes'
     → IsPieced g (other a) n bytes w0 w1 → IsPieced g' (other a') n bytes' w0 w1
-pieced_along g g' a a' n bytes bytes' w0 w1 same same' are held =
+pieced_along {g'} {a} {a'} {n} {bytes} {w0} {w1} same same' are held =
     subst (λ (l : List ℕ). IsPieced g' (other a') n l w0 w1) are (subst (λ (b : ℕ). IsPieced g' (other b) n bytes w0 w1) same' (subst (λ (x : Geometry). IsPieced x (other a) n bytes w0 w1) same held))
 
-module _ (log : Log) (frozen : List ℕ) (named others due : List Bool) (left : Option ℕ) (w0 w1 : Medium) (are : AreBytes w0.now) (sound : IsSoundJournal log frozen named others due left w0) where
+module _ {log : Log} {frozen : List ℕ} {named others due : List Bool} {left : Option ℕ} {w0 : Medium} (w1 : Medium) (are : AreBytes w0.now)
+    (sound : IsSoundJournal log frozen named others due left w0) where
   is_area : log.named < 2
   is_area = named_below log.geometry log.named log.current (holds log.geometry w0.now) w0 are sound.recovers
 
@@ -125,9 +126,9 @@ module _ (log : Log) (frozen : List ℕ) (named others due : List Bool) (left : 
         }
 
 -- what it changes, in the words of contracts
-pub patches_one : (g : Geometry) (n k : ℕ) (bytes : List ℕ) (w0 w1 : Medium) → named_area (layout_of g) w0.now ≡ n → IsPieced g (other n) k bytes w0 w1
+pub patches_one : {g : Geometry} {n k : ℕ} {bytes : List ℕ} {w0 w1 : Medium} → named_area (layout_of g) w0.now ≡ n → IsPieced g (other n) k bytes w0 w1
     → PatchesOne g w0.now w1.now
-patches_one g n k bytes w0 w1 named pieced =
+patches_one {g} {k} {w0} {w1} named pieced =
     subst (λ (m : ℕ). PatchesAt g (other m) w0.now w1.now) (sym named) (record { piece = k; same = pieced.same; others = pieced.is.others })
 
 pub some_left : (o : Option ℕ) → is_some o ≡ true → (l : ℕ) × (o ≡ Some l)

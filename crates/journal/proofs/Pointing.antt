@@ -52,7 +52,7 @@ module _ (g : Geometry) (n : ℕ) (x : Option State) (is_area : n < 2) (w0 w1 : 
       other_recovers : (c : List ℕ) → c ≡ w2.now → recovers_as (means g) (layout_of g) n c ≡ x → recovers_as (means g) (layout_of g) (other n) c ≡ x
       other_recovers c is own =
           let laid = laid_by g n x c own some in
-          as_other g (other n) x bytes c [] laid (ap (λ (l : List ℕ). image_of_area l) is ∙ imaged.is)
+          as_other g (other n) c laid (ap (λ (l : List ℕ). image_of_area l) is ∙ imaged.is)
           (ap (λ (l : List ℕ). in_force (layout_of g) (other n) l) is ∙ no_force) (run_none g (read g bytes) ∙ reads)
         where
           image_of_area : List ℕ → List ℕ
@@ -107,7 +107,7 @@ module _ (g : Geometry) (n : ℕ) (x : Option State) (is_area : n < 2) (w0 w1 : 
             ∙ cleared.same.same.others (image n) (λ is. omega (arith, is))
 
 -- what is clean before the other half is cleared is so afterwards
-pub still_clean : (g : Geometry) (n h : ℕ) (dirty : List Bool) (bytes : List ℕ) (w0 w1 : Medium) → h < 2 → Cleared (layout_of g) h w0 w1
+pub still_clean : (g : Geometry) (n : ℕ) (dirty : List Bool) (bytes : List ℕ) → {h : ℕ} {w0 w1 : Medium} → h < 2 → Cleared (layout_of g) h w0 w1
     → AgreeOnClean g dirty (image_in g n w0) bytes → AgreeOnClean g dirty (image_in g n w1) bytes
-still_clean g n h dirty bytes w0 w1 is_half cleared agree =
+still_clean g n dirty bytes is_half cleared agree =
     subst (λ (l : List ℕ). AgreeOnClean g dirty l bytes) (sym (cleared.same.same.others (image n) (λ is. omega (arith, is, is_half)))) agree

@@ -36,10 +36,10 @@ laid_if false y x is some = absurd (true≢false (sym some ∙ ap is_some (sym i
 pub laid_by : (g : Geometry) (n : ℕ) (x : Option State) (c : List ℕ) → recovers_as (means g) (layout_of g) n c ≡ x → is_some x ≡ true → is_laid_out (means g) (layout_of g) c ≡ true
 laid_by g n x c is some = laid_if (is_laid_out (means g) (layout_of g) c) _ x is some
 
-pub as_other : (g : Geometry) (q : ℕ) (x : Option State) (bytes c : List ℕ) (rs : List (List ℕ)) → is_laid_out (means g) (layout_of g) c ≡ true
+pub as_other : (g : Geometry) (q : ℕ) (c : List ℕ) → {x : Option State} {bytes : List ℕ} {rs : List (List ℕ)} → is_laid_out (means g) (layout_of g) c ≡ true
     → part_bytes (layout_of g) (image q) c ≡ bytes → in_force (layout_of g) q c ≡ rs → run_on g (read g bytes) rs ≡ x
     → recovers_as (means g) (layout_of g) q c ≡ x
-as_other g q x bytes c rs laid is force leads = (λ i. cond (laid i) (run (means g) (read g (is i)) (force i)) None) ∙ leads
+as_other g q c laid is force leads = (λ i. cond (laid i) (run (means g) (read g (is i)) (force i)) None) ∙ leads
 
 -- ---- chains
 

@@ -51,12 +51,12 @@ count_most (true ∷ xs) = let most = count_most xs in omega (arith, most)
 count_most (false ∷ xs) = let most = count_most xs in omega (arith, most)
 
 -- one flag fewer
-pub count_cleared : (xs : List Bool) (n : ℕ) → n < length xs → get_or xs n false ≡ true → suc (count_dirty (set xs n false)) ≡ count_dirty xs
-count_cleared [] n few is = absurd (omega (arith, few))
-count_cleared (true ∷ xs) zero few is = refl
-count_cleared (false ∷ xs) zero few is = absurd (true≢false (sym is))
-count_cleared (true ∷ xs) (suc n) few is = let fewer = count_cleared xs n (omega (arith, few)) is in omega (arith, fewer)
-count_cleared (false ∷ xs) (suc n) few is = count_cleared xs n (omega (arith, few)) is
+pub count_cleared : (xs : List Bool) (n : ℕ) → get_or xs n false ≡ true → suc (count_dirty (set xs n false)) ≡ count_dirty xs
+count_cleared [] n is = absurd (true≢false (sym is))
+count_cleared (true ∷ xs) zero is = refl
+count_cleared (false ∷ xs) zero is = absurd (true≢false (sym is))
+count_cleared (true ∷ xs) (suc n) is = let fewer = count_cleared xs n is in omega (arith, fewer)
+count_cleared (false ∷ xs) (suc n) is = count_cleared xs n is
 
 pub no_dirty : (xs : List Bool) (n : ℕ) → count_dirty xs ≡ 0 → n < length xs → get_or xs n true ≡ false
 no_dirty [] n none few = absurd (omega (arith, few))
@@ -177,30 +177,31 @@ all_looked g m k old new all so_far n few =
     let kept = so_far.rest n more in ((λ clean. (sym kept ∙ clean, (untouched_after g m n (all n few more), tt))), (λ both. kept ∙ both.0)))
     (cases_lt n k)
 
-pub no_message : (g : Geometry) (old : List Bool) → DirtiesTouched g [] old old
-no_message g old n few = ((λ clean. (clean, tt)), (λ both. both.0))
+module _ (g : Geometry) (old : List Bool) where
+  pub no_message : DirtiesTouched g [] old old
+  no_message n few = ((λ clean. (clean, tt)), (λ both. both.0))
 
-pub message_more : (g : Geometry) (ms : List Msg) (i : ℕ) (d : Msg) (old mid new : List Bool) → i < length ms → DirtiesTouched g (take i ms) old mid
-    → DirtiesTouched g (get_or ms i d ∷ []) mid new → DirtiesTouched g (take (i + 1) ms) old new
-message_more g ms i d old mid new few so_far more n below =
-    let first = so_far n below in
-    let last = more n below in
-    let spelled = take_more ms i d few in (
-      (λ clean.
-          let after = last.0 clean in
-          let before = first.0 after.0 in (
-            before.0,
-            subst (λ (l : List Msg). AllByRecursion (λ m. may_change g m n ≡ false) l) (sym spelled)
-                (all-append (λ m. may_change g m n ≡ false) (take i ms) (get_or ms i d ∷ []) before.1 after.1),
-          )),
-      (λ both.
-          let parts = all-parts (λ m. may_change g m n ≡ false) (take i ms) (get_or ms i d ∷ []) (subst (λ (l : List Msg). AllByRecursion (λ m. may_change g m n ≡ false) l) spelled both.1) in
-          last.1 (first.1 (both.0, parts.0), parts.1)),
-    )
-  where
-    all-parts : {X : Type 0} (P : X → Type 0) (xs ys : List X) → AllByRecursion P (xs ++ ys) → AllByRecursion P xs × AllByRecursion P ys
-    all-parts P [] ys all = (tt, all)
-    all-parts P (x ∷ xs) ys all = let rest = all-parts P xs ys all.1 in ((all.0, rest.0), rest.1)
+  pub message_more : (ms : List Msg) (i : ℕ) (d : Msg) (mid new : List Bool) → i < length ms → DirtiesTouched g (take i ms) old mid
+      → DirtiesTouched g (get_or ms i d ∷ []) mid new → DirtiesTouched g (take (i + 1) ms) old new
+  message_more ms i d mid new few so_far more n below =
+      let first = so_far n below in
+      let last = more n below in
+      let spelled = take_more ms i d few in (
+        (λ clean.
+            let after = last.0 clean in
+            let before = first.0 after.0 in (
+              before.0,
+              subst (λ (l : List Msg). AllByRecursion (λ m. may_change g m n ≡ false) l) (sym spelled)
+                  (all-append (λ m. may_change g m n ≡ false) (take i ms) (get_or ms i d ∷ []) before.1 after.1),
+            )),
+        (λ both.
+            let parts = all-parts (λ m. may_change g m n ≡ false) (take i ms) (get_or ms i d ∷ []) (subst (λ (l : List Msg). AllByRecursion (λ m. may_change g m n ≡ false) l) spelled both.1) in
+            last.1 (first.1 (both.0, parts.0), parts.1)),
+      )
+    where
+      all-parts : {X : Type 0} (P : X → Type 0) (xs ys : List X) → AllByRecursion P (xs ++ ys) → AllByRecursion P xs × AllByRecursion P ys
+      all-parts P [] ys all = (tt, all)
+      all-parts P (x ∷ xs) ys all = let rest = all-parts P xs ys all.1 in ((all.0, rest.0), rest.1)
 
 by_false : (a b : Bool) → (a ≡ false → b ≡ false) → (b ≡ false → a ≡ false) → a ≡ b
 by_false true true there back = refl

@@ -33,29 +33,29 @@ part_begun g p m = started m _ (λ c left. record { old = c; left = left; change
 
 -- ---- one run
 
-module _ (g : Geometry) (area start from n : ℕ) (is_area : area < 2) (place : start ≡ part_at (layout_of g) (image area)) (inside : from + n ≤ image_size g) where
-  run_alone : (old c : List ℕ) → SameOutside (start + from) n old c → IsSameBut (layout_of g) (image area) old c
-  run_alone old c same =
-      same_but (layout_of g) (image area) from n (start + from) old c (omega (arith, is_area)) (omega (arith, place)) (omega (arith, inside, image_sized (layout_of g) area is_area)) same
+module _ (g : Geometry) (area : ℕ) {start : ℕ} (is_area : area < 2) (place : start ≡ part_at (layout_of g) (image area)) where
+  module _ (from n : ℕ) (inside : from + n ≤ image_size g) where
+    run_alone : (old c : List ℕ) → SameOutside (start + from) n old c → IsSameBut (layout_of g) (image area) old c
+    run_alone old c same =
+        same_but (layout_of g) (image area) from n (start + from) old c (omega (arith, is_area)) (omega (arith, place)) (omega (arith, inside, image_sized (layout_of g) area is_area)) same
 
-  pub run_moments : (w0 w1 : Medium) → ChangesOnly w0 w1 (SameOutside (start + from) n) → ChangesOnly w0 w1 (IsSameBut (layout_of g) (image area))
-  run_moments w0 w1 moments = weaker w0 w1 _ _ moments (λ c after. record { old = after.old; left = after.left; change = run_alone after.old c after.change })
+    pub run_moments : (w0 w1 : Medium) → ChangesOnly w0 w1 (SameOutside (start + from) n) → ChangesOnly w0 w1 (IsSameBut (layout_of g) (image area))
+    run_moments w0 w1 moments = weaker w0 w1 _ _ moments (λ c after. record { old = after.old; left = after.left; change = run_alone after.old c after.change })
 
-  module _ (w0 w1 : Medium) (touched : Touched (start + from) n w0 w1) where
-    pub run_same : IsSameBut (layout_of g) (image area) w0.now w1.now
-    run_same = run_alone w0.now w1.now touched.now
+    module _ {w0 w1 : Medium} (touched : Touched (start + from) n w0 w1) where
+      pub run_same : IsSameBut (layout_of g) (image area) w0.now w1.now
+      run_same = run_alone w0.now w1.now touched.now
 
-    pub run_ready : (h k : ℕ) → h < 2 → IsReady (layout_of g) h k w0 → IsReady (layout_of g) h k w1
-    run_ready h k is_half ready =
-        ready_beside (layout_of g) h k (image area) from n (start + from) w0 w1 (omega (arith, is_area)) (λ same. omega (arith, same, is_half)) (omega (arith, place))
-        (omega (arith, inside, image_sized (layout_of g) area is_area)) touched ready
+      pub run_ready : (h k : ℕ) → h < 2 → IsReady (layout_of g) h k w0 → IsReady (layout_of g) h k w1
+      run_ready h k is_half ready =
+          ready_beside (layout_of g) h k (image area) from n (start + from) w0 w1 (omega (arith, is_area)) (λ same. omega (arith, same, is_half)) (omega (arith, place))
+          (omega (arith, inside, image_sized (layout_of g) area is_area)) touched ready
 
-pub run_written : (g : Geometry) (area start from : ℕ) (bytes : List ℕ) (w0 w1 : Medium) → area < 2 → start ≡ part_at (layout_of g) (image area)
-    → from + length bytes ≤ image_size g → device_size (layout_of g) ≤ length w0.now
-    → w1.now ≡ overlaid w0.now (start + from) bytes → image_in g area w1 ≡ overlaid (image_in g area w0) from bytes
-run_written g area start from bytes w0 w1 is_area place inside whole is =
-    ap (λ (l : List ℕ). part_bytes (layout_of g) (image area) l) is
-    ∙ part_overlaid (layout_of g) (image area) from (start + from) bytes w0.now (omega (arith, is_area)) (omega (arith, place)) (omega (arith, inside, image_sized (layout_of g) area is_area)) whole
+  pub run_written : (from : ℕ) (bytes : List ℕ) (w0 w1 : Medium) → from + length bytes ≤ image_size g → device_size (layout_of g) ≤ length w0.now
+      → w1.now ≡ overlaid w0.now (start + from) bytes → image_in g area w1 ≡ overlaid (image_in g area w0) from bytes
+  run_written from bytes w0 w1 inside whole is =
+      ap (λ (l : List ℕ). part_bytes (layout_of g) (image area) l) is
+      ∙ part_overlaid (layout_of g) (image area) from (start + from) bytes w0.now (omega (arith, is_area)) (omega (arith, place)) (omega (arith, inside, image_sized (layout_of g) area is_area)) whole
 
 -- an empty run
 pub nothing_written : (xs : List ℕ) (from n : ℕ) (bytes : List ℕ) → n ≡ 0 → xs ≡ overlaid xs from (slice bytes from n)

@@ -50,14 +50,14 @@ all_right g h y dirty bytes same all =
 -- ---- of a journal with no cut in progress
 
 -- the last snapshot, where it is clean
-pub frozen_right : (log : Log) (frozen : List ℕ) (named others due : List Bool) (left : Option ℕ) (w0 : Medium) (y : State) → left ≡ None
-    → IsSoundJournal log frozen named others due left w0 → holds log.geometry w0.now ≡ Some y
-    → (g : Geometry) (dirty : List Bool) (bytes : List ℕ) → g ≡ log.geometry → dirty ≡ named → bytes ≡ frozen → AreSpelled g y dirty bytes
-frozen_right log frozen named others due left w0 y alone sound is g dirty bytes same same' same'' =
+pub frozen_right : {log : Log} {frozen : List ℕ} {named others due : List Bool} {left : Option ℕ} {w0 : Medium} {y : State} {g : Geometry} {dirty : List Bool} {bytes : List ℕ}
+    → left ≡ None → IsSoundJournal log frozen named others due left w0 → holds log.geometry w0.now ≡ Some y
+    → g ≡ log.geometry → dirty ≡ named → bytes ≡ frozen → AreSpelled g y dirty bytes
+frozen_right {log} {named} {y} {dirty} {bytes} alone sound is same same' same'' =
     subst (λ (h : Geometry). AreSpelled h y dirty bytes) (sym same) (subst (λ (row : List Bool). AreSpelled log.geometry y row bytes) (sym same')
     (subst (λ (l : List ℕ). AreSpelled log.geometry y named l) (sym same'') (sound.frozen_fresh alone y is)))
 
-module _ (log : Log) (frozen frozen' : List ℕ) (named others due : List Bool) (left : Option ℕ) (w0 : Medium) (y : State) (alone : left ≡ None)
+module _ {log : Log} {frozen frozen' : List ℕ} {named others due : List Bool} {left : Option ℕ} {w0 : Medium} {y : State} (alone : left ≡ None)
     (placed' : IsCutState log due left) (sound' : IsSoundJournal log frozen named others due left w0)
     (is : holds log.geometry w0.now ≡ Some y) (is_state : IsState log.geometry y) (spelled : frozen' ≡ image_of 2 log.geometry y) (are : AreBytes w0.now) where
   pub together : log.current ≡ log.named
@@ -81,12 +81,12 @@ module _ (log : Log) (frozen frozen' : List ℕ) (named others due : List Bool) 
   pub agrees : AgreeOnClean log.geometry others (image_in log.geometry (other log.named) w0) frozen'
   agrees = frozen_agrees log.geometry (holds log.geometry w0.now) y frozen' is is_state spelled others (image_in log.geometry (other log.named) w0) sound.others_fresh
 
-  module _ (w1 : Medium) (are' : AreBytes w1.now) where
+  module _ {w1 : Medium} (are' : AreBytes w1.now) where
     pub point_committed : IsPointed log frozen' w0 w1 → holds log.geometry w1.now ≡ holds log.geometry w0.now
     point_committed made = holds_now log.geometry (other log.named) (other log.named) (holds log.geometry w0.now) w1 are' made.at.recovers
 
-    pub point_sound : (named' others' : List Bool) → others' ≡ named → IsPointed log frozen' w0 w1 → IsSoundJournal (pointed log) frozen' named' others' due None w1
-    point_sound named' others' same_dirty made =
+    pub point_sound : {named' others' : List Bool} → others' ≡ named → IsPointed log frozen' w0 w1 → IsSoundJournal (pointed log) frozen' named' others' due None w1
+    point_sound {named'} {others'} same_dirty made =
         let same = point_committed made in
         let back : other (other log.named) ≡ log.named = omega (arith, is_area) in
         record {
@@ -113,8 +113,8 @@ module _ (log : Log) (frozen frozen' : List ℕ) (named others due : List Bool) 
     pub cut_committed : IsBegun log w0 w1 → holds log.geometry w1.now ≡ holds log.geometry w0.now
     cut_committed begun = holds_now log.geometry log.named (other log.named) (holds log.geometry w0.now) w1 are' begun.at.recovers
 
-    pub cut_sound : (others' due' : List Bool) (count : ℕ) → due' ≡ others → IsBegun log w0 w1 → IsSoundJournal (cut_now log) frozen' named others' due' (Some count) w1
-    cut_sound others' due' count same_dirty begun =
+    pub cut_sound : {others' due' : List Bool} {count : ℕ} → due' ≡ others → IsBegun log w0 w1 → IsSoundJournal (cut_now log) frozen' named others' due' (Some count) w1
+    cut_sound {others'} same_dirty begun =
         let same = cut_committed begun in
         record {
           some = ap is_some same ∙ sound.some;
@@ -146,24 +146,30 @@ pointed_version log bytes w0 w1 y are spelled made =
 
 -- ---- of a device that is opened
 
+-- A device recovers to this state by the named area and its half alone.
+pub record HoldsAlone (log : Log) (x : State) (m : Medium) : Type 0 where
+  pub alone : IsAlone log m
+  pub is : holds log.geometry m.now ≡ Some x
+  pub state : IsState log.geometry x
+
 -- The last point of an opening wrote the whole image; nothing is known of the other one, whose pieces are all dirty.
-pub opened_sound : (log : Log) (frozen : List ℕ) (named others due : List Bool) (w0 w1 : Medium) (y : State) → IsAlone log w0
-    → holds log.geometry w0.now ≡ Some y → IsState log.geometry y → frozen ≡ image_of 2 log.geometry y
+pub opened_sound : {log : Log} {frozen : List ℕ} {named others due : List Bool} {w0 w1 : Medium} {y : State} → HoldsAlone log y w0 → frozen ≡ image_of 2 log.geometry y
     → ((n : ℕ) → n < piece_count log.geometry → get_or others n true ≡ true) → AreBytes w1.now → IsPointed log frozen w0 w1 → IsSoundJournal (pointed log) frozen named others due None w1
-opened_sound log frozen named others due w0 w1 y alone is is_state spelled all are made =
+opened_sound {log} {frozen} {named} {w0} {w1} {y} held spelled all are made =
     let same = holds_now log.geometry (other log.named) (other log.named) (holds log.geometry w0.now) w1 are made.at.recovers in
     record {
-      some = ap is_some same ∙ alone.some;
+      some = ap is_some same ∙ held.alone.some;
       recovers = subst (λ (o : Option State). RecoversByArea log.geometry (other log.named) (other log.named) o w1) (sym same) made.at.recovers;
       ready = made.at.ready;
       forced = forced_calm log.geometry w1 made.at.calm;
       count = λ none. ap length made.emptied;
-      state = λ x is'. subst (λ (s : State). IsState log.geometry s) (ap (λ (o : Option State). unwrap_or o y) (sym is ∙ sym same ∙ is')) is_state;
+      state = λ x is. subst (λ (s : State). IsState log.geometry s) (ap (λ (o : Option State). unwrap_or o y) (sym held.is ∙ sym same ∙ is)) held.state;
       named_fresh =
           subst (λ (o : Option State). IsFresh log.geometry o named (image_in log.geometry (other log.named) w1)) (sym same)
-          (subst (λ (l : List ℕ). IsFresh log.geometry (holds log.geometry w0.now) named l) (sym made.is) (frozen_fresh log.geometry (holds log.geometry w0.now) y frozen is is_state spelled named));
+          (subst (λ (l : List ℕ). IsFresh log.geometry (holds log.geometry w0.now) named l) (sym made.is)
+          (frozen_fresh log.geometry (holds log.geometry w0.now) y frozen held.is held.state spelled named));
       frozen_fresh = λ none.
-          subst (λ (o : Option State). IsFresh log.geometry o named frozen) (sym same) (frozen_fresh log.geometry (holds log.geometry w0.now) y frozen is is_state spelled named);
+          subst (λ (o : Option State). IsFresh log.geometry o named frozen) (sym same) (frozen_fresh log.geometry (holds log.geometry w0.now) y frozen held.is held.state spelled named);
       others_fresh = λ z is' n few clean. absurd (true≢false (sym (all n few) ∙ clean));
       by_cut = tt;
     }

@@ -12,7 +12,7 @@ loop-m-init c = record { size = refl; touched = no_message c.args.g.now c.args.d
 pub loop-m-preserved : goal.loop-m-preserved
 loop-m-preserved c = record {
   size = c.dirty_one.ensures.size ∙ c.loop-m.invariant.size;
-  touched = message_more c.args.g.now c.args.messages.now c.loop-m.m-index _ c.args.dirty.now c.loop-m.dirty c.dirty_one.new.dirty (omega arith) c.loop-m.invariant.touched c.dirty_one.ensures.touched;
+  touched = message_more c.args.g.now c.args.dirty.now c.args.messages.now c.loop-m.m-index _ c.loop-m.dirty c.dirty_one.new.dirty (omega arith) c.loop-m.invariant.touched c.dirty_one.ensures.touched;
 }
 
 pub returns-clause-touched : goal.returns-clause-touched

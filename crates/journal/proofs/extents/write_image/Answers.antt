@@ -37,9 +37,7 @@ write_run-requires-clause-inside g c =
 
 pub returns-in_err-write_run-clause-any_moment : goal.returns-in_err-write_run-clause-any_moment
 returns-in_err-write_run-clause-any_moment g c = λ k.
-    patch_moments c.args.g.now c.args.area c.loop-n.from c.loop-n.at c.args.bytes.now (g.D.Disk.medium c.args.disk.now)
-    (g.D.Disk.medium c.loop-n.disk) (g.D.Disk.medium c.write_run.new.disk) c.requires.area c.requires.size c.requires.whole
-    (c.loop-n.invariant.so_far k) (c.write_run.ensures.any_moment k)
+    patch_moments (c.loop-n.invariant.so_far k) (c.write_run.ensures.any_moment k)
 
 pub loop-n-preserved : goal.loop-n-preserved
 loop-n-preserved g c =
@@ -56,21 +54,13 @@ loop-n-preserved g c =
             len = ap (λ d. length (g.D.Disk.medium d).now) w.disk-is ∙ w.write_run.ensures.call.1 ∙ c.loop-n.invariant.len;
             faults = ap (λ d. (g.D.Disk.medium d).faults) w.disk-is ∙ w.in_ok-write_run.ensures.call.0 ∙ c.loop-n.invariant.faults;
             runs = λ k.
-                run_closed c.args.dirty.now c.loop-n.n c.loop-n.from c.loop-n.at _ _ (moment (g.D.Disk.medium c.args.disk.now))
-                (moment (g.D.Disk.medium c.loop-n.disk)) _ (omega (arith, few, c.requires.dirty)) clean (omega (arith, w.at-is, w.from-is))
+                run_closed (c.loop-n.invariant.runs k) (omega (arith, few, c.requires.dirty)) clean (omega (arith, w.at-is, w.from-is))
                 (λ some. ap (λ d. moment (g.D.Disk.medium d)) w.disk-is ∙ w.in_ok-write_run.ensures.takes some k)
-                (λ none. ap (λ d. moment (g.D.Disk.medium d)) (w.disk-is ∙ w.write_run.ensures.none none))
-                (c.loop-n.invariant.runs k);
+                (λ none. ap (λ d. moment (g.D.Disk.medium d)) (w.disk-is ∙ w.write_run.ensures.none none));
             so_far = λ k.
-                along_patch c.args.g.now c.args.area (c.loop-n.at + c.extent_size.result) c.if-not-is_dirty.from c.args.bytes.now
-                (g.D.Disk.medium c.args.disk.now) (g.D.Disk.medium w.write_run.new.disk) (g.D.Disk.medium c.if-not-is_dirty.disk) w.from-is
-                (ap (λ d. g.D.Disk.medium d) w.disk-is)
-                (patch_passed c.args.g.now c.args.area c.loop-n.n c.loop-n.at (c.loop-n.at + c.extent_size.result) c.args.bytes.now c.args.dirty.now
-                (g.D.Disk.medium c.args.disk.now) (g.D.Disk.medium w.write_run.new.disk) (c.requires.clean k) few clean
-                c.loop-n.invariant.place (omega (arith, c.extent_size.ensures.size))
-                (patched c.args.g.now c.args.area c.loop-n.from c.loop-n.at c.args.bytes.now (g.D.Disk.medium c.args.disk.now)
-                (g.D.Disk.medium c.loop-n.disk) (g.D.Disk.medium w.write_run.new.disk) c.requires.area c.requires.size c.requires.whole
-                (c.loop-n.invariant.so_far k) (w.write_run.ensures.any_moment k)
+                along_patch w.from-is (ap (λ d. g.D.Disk.medium d) w.disk-is)
+                (patch_passed c.loop-n.n c.args.dirty.now (c.requires.clean k) few clean c.loop-n.invariant.place (omega (arith, c.extent_size.ensures.size))
+                (patched (c.loop-n.invariant.so_far k) (w.write_run.ensures.any_moment k) c.requires.area c.requires.size c.requires.whole
                 c.loop-n.invariant.order (omega (arith, inside, c.loop-n.invariant.place)) (w.write_run.ensures.same k) (w.in_ok-write_run.ensures.written k)));
           }
       | else-not-is_dirty w ↦
@@ -82,15 +72,9 @@ loop-n-preserved g c =
             len = ap (λ d. length (g.D.Disk.medium d).now) w.disk-is ∙ c.loop-n.invariant.len;
             faults = ap (λ d. (g.D.Disk.medium d).faults) w.disk-is ∙ c.loop-n.invariant.faults;
             runs = λ k.
-                run_goes_on c.args.dirty.now c.loop-n.n c.loop-n.from c.loop-n.at _ _ (moment (g.D.Disk.medium c.args.disk.now))
-                (moment (g.D.Disk.medium c.loop-n.disk)) _ (omega (arith, few, c.requires.dirty)) is_dirty w.from-is
-                (omega (arith, w.at-is, c.extent_size.ensures.size, some)) c.loop-n.invariant.order
-                (ap (λ d. moment (g.D.Disk.medium d)) w.disk-is)
-                (c.loop-n.invariant.runs k);
-            so_far = λ k.
-                along_patch c.args.g.now c.args.area c.loop-n.from c.if-not-is_dirty.from c.args.bytes.now (g.D.Disk.medium c.args.disk.now)
-                (g.D.Disk.medium c.loop-n.disk) (g.D.Disk.medium c.if-not-is_dirty.disk) w.from-is (ap (λ d. g.D.Disk.medium d) w.disk-is)
-                (c.loop-n.invariant.so_far k);
+                run_goes_on (c.loop-n.invariant.runs k) (omega (arith, few, c.requires.dirty)) is_dirty w.from-is
+                (omega (arith, w.at-is, c.extent_size.ensures.size, some)) c.loop-n.invariant.order (ap (λ d. moment (g.D.Disk.medium d)) w.disk-is);
+            so_far = λ k. along_patch w.from-is (ap (λ d. g.D.Disk.medium d) w.disk-is) (c.loop-n.invariant.so_far k);
           }
     ]
 
@@ -102,37 +86,23 @@ write_run-requires-2-clause-inside g c =
 
 pub returns-in_err-write_run-2-clause-any_moment : goal.returns-in_err-write_run-2-clause-any_moment
 returns-in_err-write_run-2-clause-any_moment g c = λ k.
-    patch_moments c.args.g.now c.args.area c.loop-n.from c.loop-n.at c.args.bytes.now (g.D.Disk.medium c.args.disk.now)
-    (g.D.Disk.medium c.loop-n.disk) (g.D.Disk.medium c.write_run-2.new.disk) c.requires.area c.requires.size c.requires.whole
-    (c.loop-n.invariant.so_far k) (c.write_run-2.ensures.any_moment k)
+    patch_moments (c.loop-n.invariant.so_far k) (c.write_run-2.ensures.any_moment k)
 
 pub returns-in_err-sync_image-clause-any_moment : goal.returns-in_err-sync_image-clause-any_moment
 returns-in_err-sync_image-clause-any_moment g c = λ k.
-    after_sync _ _ _ _
-    (patch_moments c.args.g.now c.args.area c.loop-n.from c.loop-n.at c.args.bytes.now (g.D.Disk.medium c.args.disk.now)
-    (g.D.Disk.medium c.loop-n.disk) (g.D.Disk.medium c.write_run-2.new.disk) c.requires.area c.requires.size c.requires.whole
-    (c.loop-n.invariant.so_far k) (c.write_run-2.ensures.any_moment k))
-    c.sync_image.result (c.sync_image.ensures.syncs k)
+    after_sync _ _ _ _ (patch_moments (c.loop-n.invariant.so_far k) (c.write_run-2.ensures.any_moment k)) c.sync_image.result (c.sync_image.ensures.syncs k)
 
 pub returns-clause-any_moment : goal.returns-clause-any_moment
 returns-clause-any_moment g c = λ k.
-    after_sync _ _ _ _
-    (patch_moments c.args.g.now c.args.area c.loop-n.from c.loop-n.at c.args.bytes.now (g.D.Disk.medium c.args.disk.now)
-    (g.D.Disk.medium c.loop-n.disk) (g.D.Disk.medium c.write_run-2.new.disk) c.requires.area c.requires.size c.requires.whole
-    (c.loop-n.invariant.so_far k) (c.write_run-2.ensures.any_moment k))
-    c.sync_image.result (c.sync_image.ensures.syncs k)
+    after_sync _ _ _ _ (patch_moments (c.loop-n.invariant.so_far k) (c.write_run-2.ensures.any_moment k)) c.sync_image.result (c.sync_image.ensures.syncs k)
 
 pub returns-clause-written : goal.returns-clause-written
 returns-clause-written g c = λ k.
     let all : c.loop-n.n ≡ piece_count c.args.g.now = grind (arith, common_steps) in
     let end : c.loop-n.at ≡ image_size c.args.g.now = c.loop-n.invariant.place ∙ ap (extent_at c.args.g.now) all ∙ extent_end c.args.g.now in
-    patch_synced c.args.g.now c.args.area c.args.bytes.now (g.D.Disk.medium c.args.disk.now) (g.D.Disk.medium c.write_run-2.new.disk)
-    (g.D.Disk.medium c.sync_image.new.disk) c.requires.area c.requires.size c.requires.whole
-    (along_patch c.args.g.now c.args.area c.loop-n.at (image_size c.args.g.now) c.args.bytes.now (g.D.Disk.medium c.args.disk.now)
-    (g.D.Disk.medium c.write_run-2.new.disk) (g.D.Disk.medium c.write_run-2.new.disk) (sym end) refl
-    (patched c.args.g.now c.args.area c.loop-n.from c.loop-n.at c.args.bytes.now (g.D.Disk.medium c.args.disk.now) (g.D.Disk.medium c.loop-n.disk)
-    (g.D.Disk.medium c.write_run-2.new.disk) c.requires.area c.requires.size c.requires.whole (c.loop-n.invariant.so_far k)
-    (c.write_run-2.ensures.any_moment k)
+    patch_synced c.requires.area c.requires.size c.requires.whole
+    (along_patch (sym end) refl
+    (patched (c.loop-n.invariant.so_far k) (c.write_run-2.ensures.any_moment k) c.requires.area c.requires.size c.requires.whole
     c.loop-n.invariant.order (omega (arith, end)) (c.write_run-2.ensures.same k) (c.in_ok-write_run-2.ensures.written k)))
     ((c.in_ok-sync_image.ensures.syncs k).ok)
 
@@ -141,8 +111,7 @@ returns-in_err-write_run-clause-takes g c =
     let p = err_from_is_err_and c.from_residual.result c.from_residual.ensures.1 in
     rw p.1
     (λ k.
-    run_failed c.args.dirty.now c.loop-n.n c.loop-n.from c.loop-n.at (moment (g.D.Disk.medium c.args.disk.now)) (moment (g.D.Disk.medium c.loop-n.disk)) _ (c.loop-n.invariant.runs k)
-    (λ some. c.in_err-write_run.ensures.takes some k)
+    run_failed _ (c.loop-n.invariant.runs k) (λ some. c.in_err-write_run.ensures.takes some k)
     (λ none. ap (λ d. moment (g.D.Disk.medium d)) (c.write_run.ensures.none none)))
 
 pub returns-in_err-write_run-2-clause-takes : goal.returns-in_err-write_run-2-clause-takes
@@ -150,8 +119,7 @@ returns-in_err-write_run-2-clause-takes g c =
     let p = err_from_is_err_and c.from_residual-in_err-write_run-2.result c.from_residual-in_err-write_run-2.ensures.1 in
     rw p.1
     (λ k.
-    run_failed c.args.dirty.now c.loop-n.n c.loop-n.from c.loop-n.at (moment (g.D.Disk.medium c.args.disk.now)) (moment (g.D.Disk.medium c.loop-n.disk)) _ (c.loop-n.invariant.runs k)
-    (λ some. c.in_err-write_run-2.ensures.takes some k)
+    run_failed _ (c.loop-n.invariant.runs k) (λ some. c.in_err-write_run-2.ensures.takes some k)
     (λ none. ap (λ d. moment (g.D.Disk.medium d)) (c.write_run-2.ensures.none none)))
 
 pub returns-in_err-sync_image-clause-takes : goal.returns-in_err-sync_image-clause-takes
@@ -161,10 +129,7 @@ returns-in_err-sync_image-clause-takes g c =
     (λ k.
     let all : c.loop-n.n ≡ piece_count c.args.g.now = grind (arith, common_steps) in
     let ended =
-    run_ended c.args.dirty.now c.loop-n.n c.loop-n.from c.loop-n.at (moment (g.D.Disk.medium c.args.disk.now))
-    (moment (g.D.Disk.medium c.loop-n.disk)) (moment (g.D.Disk.medium c.write_run-2.new.disk)) (omega (arith, all, c.requires.dirty))
-    (c.loop-n.invariant.runs k)
-    (λ some. c.in_ok-write_run-2.ensures.takes some k)
+    run_ended (c.loop-n.invariant.runs k) (omega (arith, all, c.requires.dirty)) (λ some. c.in_ok-write_run-2.ensures.takes some k)
     (λ none. ap (λ d. moment (g.D.Disk.medium d)) (c.write_run-2.ensures.none none)) in
     omega (arith, ended, c.in_err-sync_image.ensures.takes k))
 
@@ -172,9 +137,6 @@ pub returns-clause-takes : goal.returns-clause-takes
 returns-clause-takes g c = λ k.
     let all : c.loop-n.n ≡ piece_count c.args.g.now = grind (arith, common_steps) in
     let ended =
-    run_ended c.args.dirty.now c.loop-n.n c.loop-n.from c.loop-n.at (moment (g.D.Disk.medium c.args.disk.now))
-    (moment (g.D.Disk.medium c.loop-n.disk)) (moment (g.D.Disk.medium c.write_run-2.new.disk)) (omega (arith, all, c.requires.dirty))
-    (c.loop-n.invariant.runs k)
-    (λ some. c.in_ok-write_run-2.ensures.takes some k)
+    run_ended (c.loop-n.invariant.runs k) (omega (arith, all, c.requires.dirty)) (λ some. c.in_ok-write_run-2.ensures.takes some k)
     (λ none. ap (λ d. moment (g.D.Disk.medium d)) (c.write_run-2.ensures.none none)) in
     omega (arith, ended, c.in_ok-sync_image.ensures.takes k)

@@ -7,38 +7,38 @@ use Rattle.journal.proofs.extents.write_run.Goals as goal
 
 pub returns-in_err-write-clause-any_moment : goal.returns-in_err-write-clause-any_moment
 returns-in_err-write-clause-any_moment g c = λ k.
-    run_moments c.args.g.now c.args.area c.image_at.result c.args.from _ c.requires.area c.image_at.ensures
+    run_moments c.args.g.now c.args.area c.requires.area c.image_at.ensures c.args.from _
     (run_inside c.args.bytes.now c.args.from c.args.end _ c.requires.order c.requires.inside c.requires.size) _ _ (c.write.ensures.any_moment k)
 
 pub returns-in_err-write-clause-same : goal.returns-in_err-write-clause-same
 returns-in_err-write-clause-same g c = λ k.
-    run_same c.args.g.now c.args.area c.image_at.result c.args.from _ c.requires.area c.image_at.ensures
-    (run_inside c.args.bytes.now c.args.from c.args.end _ c.requires.order c.requires.inside c.requires.size) _ _ (c.write.ensures.touched k)
+    run_same c.args.g.now c.args.area c.requires.area c.image_at.ensures c.args.from _
+    (run_inside c.args.bytes.now c.args.from c.args.end _ c.requires.order c.requires.inside c.requires.size) (c.write.ensures.touched k)
 
 pub returns-in_err-write-clause-ready : goal.returns-in_err-write-clause-ready
 returns-in_err-write-clause-ready g c = λ k.
-    run_ready c.args.g.now c.args.area c.image_at.result c.args.from _ c.requires.area c.image_at.ensures
-    (run_inside c.args.bytes.now c.args.from c.args.end _ c.requires.order c.requires.inside c.requires.size) _ _ (c.write.ensures.touched k)
+    run_ready c.args.g.now c.args.area c.requires.area c.image_at.ensures c.args.from _
+    (run_inside c.args.bytes.now c.args.from c.args.end _ c.requires.order c.requires.inside c.requires.size) (c.write.ensures.touched k)
 
 pub returns-in_ok-write-clause-any_moment : goal.returns-in_ok-write-clause-any_moment
 returns-in_ok-write-clause-any_moment g c = λ k.
-    run_moments c.args.g.now c.args.area c.image_at.result c.args.from _ c.requires.area c.image_at.ensures
+    run_moments c.args.g.now c.args.area c.requires.area c.image_at.ensures c.args.from _
     (run_inside c.args.bytes.now c.args.from c.args.end _ c.requires.order c.requires.inside c.requires.size) _ _ (c.write.ensures.any_moment k)
 
 pub returns-in_ok-write-clause-same : goal.returns-in_ok-write-clause-same
 returns-in_ok-write-clause-same g c = λ k.
-    run_same c.args.g.now c.args.area c.image_at.result c.args.from _ c.requires.area c.image_at.ensures
-    (run_inside c.args.bytes.now c.args.from c.args.end _ c.requires.order c.requires.inside c.requires.size) _ _ (c.write.ensures.touched k)
+    run_same c.args.g.now c.args.area c.requires.area c.image_at.ensures c.args.from _
+    (run_inside c.args.bytes.now c.args.from c.args.end _ c.requires.order c.requires.inside c.requires.size) (c.write.ensures.touched k)
 
 pub returns-in_ok-write-clause-ready : goal.returns-in_ok-write-clause-ready
 returns-in_ok-write-clause-ready g c = λ k.
-    run_ready c.args.g.now c.args.area c.image_at.result c.args.from _ c.requires.area c.image_at.ensures
-    (run_inside c.args.bytes.now c.args.from c.args.end _ c.requires.order c.requires.inside c.requires.size) _ _ (c.write.ensures.touched k)
+    run_ready c.args.g.now c.args.area c.requires.area c.image_at.ensures c.args.from _
+    (run_inside c.args.bytes.now c.args.from c.args.end _ c.requires.order c.requires.inside c.requires.size) (c.write.ensures.touched k)
 
 pub returns-in_ok-write-clause-written : goal.returns-in_ok-write-clause-written
 returns-in_ok-write-clause-written g c = λ k.
-    run_written c.args.g.now c.args.area c.image_at.result c.args.from _ (g.D.Disk.medium c.args.disk.now) (g.D.Disk.medium c.write.new.disk)
-    c.requires.area c.image_at.ensures (run_inside c.args.bytes.now c.args.from c.args.end _ c.requires.order c.requires.inside c.requires.size)
+    run_written c.args.g.now c.args.area c.requires.area c.image_at.ensures c.args.from _ (g.D.Disk.medium c.args.disk.now) (g.D.Disk.medium c.write.new.disk)
+    (run_inside c.args.bytes.now c.args.from c.args.end _ c.requires.order c.requires.inside c.requires.size)
     c.requires.whole (c.in_ok-write.ensures.written k)
 
 pub returns-else-from-end-clause-any_moment : goal.returns-else-from-end-clause-any_moment

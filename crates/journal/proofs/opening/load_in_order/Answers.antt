@@ -15,7 +15,7 @@ use Rattle.journal.proofs.Opened.{alike_after, alike_read, all_unwritten, bad_be
 use Rattle.oplog.specs.Beyond.{KeepsBeyond}
 use Rattle.device_map.specs.Layout.{layout_of, other}
 use Rattle.oplog.proofs.Beyond.{beyond_read, beyond_then}
-use Rattle.oplog.specs.Log.{Log, new_log, renamed}
+use Rattle.oplog.specs.Log.{Log}
 use Rattle.parcel.specs.Tree.{state_in}
 use Rattle.journal.proofs.opening.load_in_order.Goals as goal
 
@@ -42,8 +42,7 @@ returns-then-not-named-clause-alone g c = λ k.
     let w1 = g.D.Disk.medium c.load_named.new.disk in
     let only = c.load_named.ensures.untouched k in
     alone_recovers c.load_named.new.log w1 (state_in c.load_named.new.tree)
-    (held_after c.args.parts.now.tree.geometry c.load_named.new.log c.in_ok-named.named.area c.in_ok-named.named.chained false
-    (state_in c.load_named.new.tree) w0 w1 c.in_ok-named.ensures.log (not_on c.in_ok-named.named.chained c.if-not-named.true) only
+    (held_after w0 w1 c.in_ok-named.ensures.log (not_on c.in_ok-named.named.chained c.if-not-named.true) only
     (c.in_ok-named.ensures.loaded k))
     (still_synced w0 w1 only (c.requires.calm k))
 
@@ -65,8 +64,7 @@ returns-then-not-named-clause-sound g c = λ k.
 
 pub replay_behind-requires-clause-holds : goal.replay_behind-requires-clause-holds
 replay_behind-requires-clause-holds g c = λ k.
-    held_after c.args.parts.now.tree.geometry c.load_named.new.log c.in_ok-named.named.area c.in_ok-named.named.chained true
-    (state_in c.load_named.new.tree) (g.D.Disk.medium c.args.disk.now) (g.D.Disk.medium c.load_named.new.disk) c.in_ok-named.ensures.log
+    held_after (g.D.Disk.medium c.args.disk.now) (g.D.Disk.medium c.load_named.new.disk) c.in_ok-named.ensures.log
     (not_off c.in_ok-named.named.chained c.if-not-named.false) (c.load_named.ensures.untouched k) (c.in_ok-named.ensures.loaded k)
 
 pub returns-in_err-replay_behind-clause-any_moment : goal.returns-in_err-replay_behind-clause-any_moment
@@ -94,7 +92,7 @@ returns-in_err-replay_behind-clause-unwritten g c =
     let w0 = g.D.Disk.medium c.args.disk.now in
     let w1 = g.D.Disk.medium c.load_named.new.disk in
     let bad = subst (λ (l : Log). IsBad l.geometry (other l.named) w1 w2 c.in_err-replay_behind.field-0.0) c.in_ok-named.ensures.log (c.in_err-replay_behind.ensures.behind k) in
-    bad_behind _ c.in_ok-named.named.area (g.D.Disk.medium c.args.disk.now) w2 c.args.parts.now.tree.geometry c.in_ok-named.ensures.area (c.in_ok-named.ensures.loaded k).named (c.requires.header k)
+    bad_behind _ (g.D.Disk.medium c.args.disk.now) w2 c.args.parts.now.tree.geometry c.in_ok-named.ensures.area (c.in_ok-named.ensures.loaded k).named (c.requires.header k)
     (bad_from _ _ _ w0 w1 w2 (same_bytes w0 w1 (c.load_named.ensures.untouched k)) bad))
 
 pub returns-clause-any_moment : goal.returns-clause-any_moment
@@ -127,20 +125,18 @@ returns-clause-sound g c = λ k.
 
 pub replay_behind-requires-clause-loaded : goal.replay_behind-requires-clause-loaded
 replay_behind-requires-clause-loaded g c =
-    let p = c.args.parts.now in
     let taken = c.requires.taken in
-    are_loaded p _ p.tree.geometry (renamed c.in_ok-named.named.area (new_log p.tree.geometry)) (g.D.Disk.medium c.load_named.new.disk)
-    c.in_ok-named.ensures.log refl refl refl c.in_ok-named.ensures.whole c.in_ok-named.ensures.geometry
-    (record { frozen = refl; named_dirty = refl; other_dirty = refl; due = refl }) taken.frozen taken.named_dirty taken.other_dirty taken.all
+    are_loaded {p = c.args.parts.now} c.in_ok-named.ensures.log refl refl c.in_ok-named.ensures.whole c.in_ok-named.ensures.geometry
+    (record { frozen = refl; named_dirty = refl; other_dirty = refl; due = refl })
+    (record { frozen = taken.frozen; named_dirty = taken.named_dirty; other_dirty = taken.other_dirty; all = taken.all })
     (omega (arith, c.requires.whole, c.load_named.ensures.call.1))
 
 pub returns-then-not-named-clause-loaded : goal.returns-then-not-named-clause-loaded
 returns-then-not-named-clause-loaded g c =
-    let p = c.args.parts.now in
     let taken = c.requires.taken in
-    are_loaded p _ p.tree.geometry (renamed c.in_ok-named.named.area (new_log p.tree.geometry)) (g.D.Disk.medium c.load_named.new.disk)
-    c.in_ok-named.ensures.log refl refl refl c.in_ok-named.ensures.whole c.in_ok-named.ensures.geometry
-    (record { frozen = refl; named_dirty = refl; other_dirty = refl; due = refl }) taken.frozen taken.named_dirty taken.other_dirty taken.all
+    are_loaded {p = c.args.parts.now} c.in_ok-named.ensures.log refl refl c.in_ok-named.ensures.whole c.in_ok-named.ensures.geometry
+    (record { frozen = refl; named_dirty = refl; other_dirty = refl; due = refl })
+    (record { frozen = taken.frozen; named_dirty = taken.named_dirty; other_dirty = taken.other_dirty; all = taken.all })
     (omega (arith, c.requires.whole, c.load_named.ensures.call.1))
 
 pub returns-then-not-named-clause-room : goal.returns-then-not-named-clause-room

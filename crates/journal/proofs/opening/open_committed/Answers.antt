@@ -1,5 +1,5 @@
 -- Header, memory, load and last point, one after the other: a refusal is that of the bytes, a crash recovers to the same.
-use Rattle.std.proofs.Common.{◌≡◌, ◌≤◌, Bool, List, ℕ, length, refl, sym, ◌∙◌, ap, subst, arith}
+use Rattle.std.proofs.Common.{◌≡◌, ◌≤◌, Bool, List, ℕ, length, sym, ◌∙◌, ap, subst, arith}
 use Rattle.std.proofs.lemmas.Result.{err_from_is_err_and}
 use Rattle.affinity.specs.declared.geometry.Geometry.{Geometry}
 use Rattle.checkpoint.specs.declared.fault.OpenFault.{OpenFault}
@@ -22,7 +22,8 @@ use Rattle.device_map.specs.Layout.{device_size, layout_of}
 use Rattle.oplog.specs.Log.{Log}
 use Rattle.oplog.proofs.Beyond.{beyond_read, beyond_then}
 use Rattle.oplog.specs.Recovery.{named_area}
-use Rattle.parcel.specs.Tree.{TreeView}
+use Rattle.parcel.specs.Tree.{TreeView, state_in}
+use Rattle.meaning.specs.State.{IsState}
 use Rattle.journal.proofs.opening.open_committed.Goals as goal
 
 pub returns-in_err-g-clause-any_moment : goal.returns-in_err-g-clause-any_moment
@@ -71,11 +72,9 @@ returns-in_err-load_in_order-clause-unwritten g c =
 
 pub last_point-requires-clause-holds : goal.last_point-requires-clause-holds
 last_point-requires-clause-holds g c = λ k.
-    let w0 = g.D.Disk.medium c.args.disk.now in
     let w1 = g.D.Disk.medium c.read_header.new.disk in
     let w2 = g.D.Disk.medium c.load_in_order.new.disk in
     let t = c.in_ok-parts.parts.tree.geometry in
-    let only = c.read_header.ensures.untouched k in
     ap (λ (h : Geometry). holds h w2.now) c.in_ok-load_in_order.ensures.geometry
     ∙ still_now t w1 w2 (g.met.D.Disk.bytes c.load_in_order.new.disk) (c.load_in_order.ensures.any_moment k) ∙ c.in_ok-load_in_order.ensures.was k
 
@@ -109,8 +108,7 @@ returns-clause-any_moment g c = λ k.
 
 pub returns-clause-made : goal.returns-clause-made
 returns-clause-made g c =
-    made c.in_ok-parts.parts c.load_in_order.new.parts c.last_point.new.parts (g.D.Disk.medium c.load_in_order.new.disk) (g.D.Disk.medium c.last_point.new.disk) c.in_ok-parts.ensures.taken
-    c.in_ok-load_in_order.ensures.geometry c.in_ok-load_in_order.ensures.room c.in_ok-load_in_order.ensures.loaded c.last_point.ensures.room
+    made c.in_ok-parts.ensures.taken c.in_ok-load_in_order.ensures.geometry c.in_ok-load_in_order.ensures.room c.in_ok-load_in_order.ensures.loaded c.last_point.ensures.room
     c.last_point.ensures.tree c.in_ok-last_point.ensures.log c.last_point.ensures.call.1
 
 pub returns-clause-made_of : goal.returns-clause-made_of
@@ -130,11 +128,12 @@ returns-clause-made_of g c = λ k.
     let was = ap (λ (h : Geometry). holds h w0.now) geometry ∙ sym (ap (λ (l : List ℕ). holds t l) (same_bytes w0 w1 only)) ∙ c.in_ok-load_in_order.ensures.was k in
     let held = ap (λ (h : Geometry). holds h w2.now) log
     ∙ still_now t w1 w2 (g.met.D.Disk.bytes c.load_in_order.new.disk) (c.load_in_order.ensures.any_moment k) ∙ c.in_ok-load_in_order.ensures.was k in
+    let is_state = subst (λ (h : Geometry). IsState h (state_in loaded.tree)) c.in_ok-load_in_order.ensures.loaded.geometry c.in_ok-load_in_order.ensures.loaded.tree.state in
     let all = subst (λ (row : List Bool). AreAllDirty loaded.halves.geometry row) (sym (λ i. (c.last_point.ensures.room.other_dirty i).items)) c.in_ok-load_in_order.ensures.loaded.all in
     subst (λ (tree : TreeView). IsMadeOf w0.now (record last { tree = tree }) w3) (sym c.last_point.ensures.tree)
-    (made_of (record last { tree = loaded.tree }) loaded.halves w0 w2 w3 last.frozen.items (g.met.D.Disk.bytes c.last_point.new.disk) head fine was
-    c.in_ok-last_point.ensures.log c.in_ok-load_in_order.ensures.loaded.geometry refl c.last_point.ensures.frozen
-    c.in_ok-load_in_order.ensures.loaded.tree all (c.in_ok-load_in_order.ensures.alone k) held (c.in_ok-last_point.ensures.pointed k))
+    (made_of (g.met.D.Disk.bytes c.last_point.new.disk) (record { header = head; fine = fine; was = was }) c.in_ok-last_point.ensures.log
+    c.in_ok-load_in_order.ensures.loaded.geometry c.last_point.ensures.frozen all
+    (record { alone = c.in_ok-load_in_order.ensures.alone k; is = held; state = is_state }) (c.in_ok-last_point.ensures.pointed k))
 
 pub returns-in_err-g-clause-memory : goal.returns-in_err-g-clause-memory
 returns-in_err-g-clause-memory g c =

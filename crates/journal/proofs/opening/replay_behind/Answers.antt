@@ -10,7 +10,7 @@ use Rattle.disk.proofs.Leaves.{itself}
 use Rattle.disk.proofs.Moments.{leaves_now, same}
 use Rattle.image.specs.Image.{read}
 use Rattle.journal.specs.Opening.{area_state}
-use Rattle.journal.specs.Steps.{IsAlone, finished_now}
+use Rattle.journal.specs.Steps.{IsAlone}
 use Rattle.journal.proofs.Costs.{no_call}
 use Rattle.journal.proofs.Loaded.{are_loaded, behind_fine, behind_holds, behind_refused}
 use Rattle.journal.proofs.Opened.{alone_finished, bad_half, still_synced}
@@ -61,19 +61,22 @@ returns-in_err-replay-clause-behind g c =
     let rs = front (layout_of c.finish_cut.new.parts.halves.geometry) (other c.named-behind.result) w1 in
     let finished = c.in_ok-finish_cut.ensures.finished k in
     let only = c.replay.ensures.untouched k in
+    let bytes = same_bytes (g.D.Disk.medium c.finish_cut.new.disk) w2 only in
     let fault = c.in_err-replay.ensures.refused k in
     let why = behind_refused c.args.parts.now.halves.geometry w0.now c.args.parts.now.halves.named x (c.requires.holds k) c.in_err-replay.field-0.0
     (subst (λ (rs : List (List ℕ)). IsFaultOfBytes (records_fault c.args.parts.now.halves.geometry x (other c.args.parts.now.halves.named) rs) c.in_err-replay.field-0.0) finished.front
     (subst (λ (o : Option OpenFault). IsFaultOfBytes o c.in_err-replay.field-0.0) (λ i. records_fault (geometry i) (held' i) (half i) (front (layout_of (log i)) (half i) w1)) fault)) in
     let alike = leaves_now w0 w2 _ (same _ _ _ _ (c.finish_cut.ensures.alike k) only) w2.now (itself w2.now w2.unsynced (g.met.D.Disk.bytes c.replay.new.disk)) in
-    bad_half c.args.parts.now.halves.geometry (other c.args.parts.now.halves.named) (first_bad_record c.args.parts.now.tree.geometry 0 (Some x) rs) w0 w2 _ c.in_err-replay.ensures.took_none
+    bad_half (first_bad_record c.args.parts.now.tree.geometry 0 (Some x) rs) _ c.in_err-replay.ensures.took_none
     (subst (λ (o : Option OpenFault). IsFaultOfBytes o c.in_err-replay.field-0.0) (λ i. records_fault (c.finish_cut.ensures.tree i).geometry (held' i) (half i) rs) fault)
-    (c.requires.holds k).header why alike
-    (ap (λ (l : List ℕ). named_area (layout_of c.args.parts.now.halves.geometry) l) (same_bytes (g.D.Disk.medium c.finish_cut.new.disk) w2 only) ∙ finished.named)
-    (ap (λ (l : List ℕ). read c.args.parts.now.halves.geometry (part_bytes (layout_of c.args.parts.now.halves.geometry)
-    (image (other c.args.parts.now.halves.named)) l)) (same_bytes (g.D.Disk.medium c.finish_cut.new.disk) w2 only)
-    ∙ finished.reads ∙ ap (λ (n : ℕ). area_state c.args.parts.now.halves.geometry n w0.now) (c.requires.holds k).named)
-    (still_synced (g.D.Disk.medium c.finish_cut.new.disk) w2 only finished.calm))
+    (c.requires.holds k).header why
+    (record {
+      alike = alike;
+      named = ap (λ (l : List ℕ). named_area (layout_of c.args.parts.now.halves.geometry) l) bytes ∙ finished.named;
+      image = ap (λ (l : List ℕ). read c.args.parts.now.halves.geometry (part_bytes (layout_of c.args.parts.now.halves.geometry) (image (other c.args.parts.now.halves.named)) l)) bytes
+          ∙ finished.reads ∙ ap (λ (n : ℕ). area_state c.args.parts.now.halves.geometry n w0.now) (c.requires.holds k).named;
+      calm = still_synced (g.D.Disk.medium c.finish_cut.new.disk) w2 only finished.calm;
+    }))
 
 pub returns-clause-any_moment : goal.returns-clause-any_moment
 returns-clause-any_moment g c = λ k. same _ _ _ _ (c.finish_cut.ensures.any_moment k) (c.replay.ensures.untouched k)
@@ -93,8 +96,7 @@ returns-clause-alone g c = λ k.
     ∙ sym (λ i. run (means (geometry i)) (Some (held' i)) (front (layout_of (log i)) (half i) w1)) ∙ c.in_ok-replay.ensures.done k in
     let held = behind_holds c.args.parts.now.halves.geometry (g.D.Disk.medium c.args.disk.now).now c.args.parts.now.halves.named x (c.requires.holds k) (state_in c.replay.new.tree) more in
     subst (λ (l : Log). IsAlone l (g.D.Disk.medium c.replay.new.disk)) (sym (c.in_ok-replay.ensures.log ∙ c.in_ok-finish_cut.ensures.log))
-    (alone_finished c.args.parts.now.halves (g.D.Disk.medium c.args.disk.now) (g.D.Disk.medium c.finish_cut.new.disk)
-    (g.D.Disk.medium c.replay.new.disk) (state_in c.replay.new.tree) (g.met.D.Disk.bytes c.replay.new.disk)
+    (alone_finished (g.met.D.Disk.bytes c.replay.new.disk)
     (same _ _ _ _ (c.finish_cut.ensures.any_moment k) (c.replay.ensures.untouched k)) held (c.in_ok-finish_cut.ensures.finished k) (c.replay.ensures.untouched k))
 
 pub returns-clause-was : goal.returns-clause-was
@@ -123,14 +125,14 @@ returns-clause-sound g c = λ k.
 
 pub returns-clause-loaded : goal.returns-clause-loaded
 returns-clause-loaded g c =
-    let p = c.args.parts.now in
     let before = c.requires.loaded in
     let log = c.in_ok-replay.ensures.log ∙ c.in_ok-finish_cut.ensures.log in
     let geometry = c.in_ok-replay.ensures.geometry ∙ (λ i. (c.finish_cut.ensures.tree i).geometry) ∙ before.geometry in
     let room = c.finish_cut.ensures.room in
-    are_loaded p _ p.halves.geometry (finished_now p.halves) (g.D.Disk.medium c.replay.new.disk) log refl before.fine refl c.in_ok-replay.ensures.whole geometry
+    are_loaded {p = c.args.parts.now} log before.fine refl c.in_ok-replay.ensures.whole geometry
     (record { frozen = room.frozen; named_dirty = room.named_dirty; other_dirty = room.other_dirty; due = room.due })
-    before.frozen before.named_dirty before.other_dirty before.all (omega (arith, before.whole, c.finish_cut.ensures.call.1, c.replay.ensures.call.1))
+    (record { frozen = before.frozen; named_dirty = before.named_dirty; other_dirty = before.other_dirty; all = before.all })
+    (omega (arith, before.whole, c.finish_cut.ensures.call.1, c.replay.ensures.call.1))
 
 pub returns-clause-room : goal.returns-clause-room
 returns-clause-room g c =

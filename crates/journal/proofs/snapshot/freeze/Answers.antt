@@ -88,5 +88,5 @@ returns-clause-image c = λ right.
     let size : length c.loop-n.bytes ≡ image_size c.geometry-g.result = c.loop-n.invariant.size ∙ c.write_head.ensures.size ∙ c.requires.size ∙ sym (ap image_size same) in
     let right' = headed c.geometry-g.result x c.args.dirty.now c.args.bytes.now c.write_head.new.bytes c.write_head.ensures.head c.write_head.ensures.rest
     (subst (λ (g : Geometry). AreSpelled g x c.args.dirty.now c.args.bytes.now) (sym same) right) in
-    all_put c.geometry-g.result x c.loop-n.n c.loop-n.at c.loop-n.bytes all c.loop-n.invariant.place size (c.loop-n.invariant.so_far right')
+    all_put c.geometry-g.result x all c.loop-n.invariant.place size (c.loop-n.invariant.so_far right')
     ∙ ap (λ (g : Geometry). image_of 2 g x) same

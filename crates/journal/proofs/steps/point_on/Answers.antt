@@ -25,9 +25,8 @@ pub write_image-requires-clause-clean : goal.write_image-requires-clause-clean
 write_image-requires-clause-clean g c = λ k.
     along (λ (x : Geometry) (n : ℕ). AgreeOnClean x c.args.dirty.now (image_in x (other n) (g.D.Disk.medium c.clear_other.new.disk))
     c.args.bytes.now) (sym c.geometry-g.ensures) (sym c.named-area.ensures.named)
-    (still_clean c.args.halves.now.geometry (other c.args.halves.now.named) (other c.args.halves.now.named) c.args.dirty.now c.args.bytes.now
-    (g.D.Disk.medium c.args.disk.now) (g.D.Disk.medium c.clear_other.new.disk) (omega arith) (c.in_ok-clear_other.ensures.cleared k)
-    (c.requires.clean k))
+    (still_clean c.args.halves.now.geometry (other c.args.halves.now.named) c.args.dirty.now c.args.bytes.now (omega arith)
+    (c.in_ok-clear_other.ensures.cleared k) (c.requires.clean k))
 
 pub returns-then-is_err-clause-any_moment : goal.returns-then-is_err-clause-any_moment
 returns-then-is_err-clause-any_moment g c = λ k.

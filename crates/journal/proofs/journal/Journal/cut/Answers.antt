@@ -1,5 +1,5 @@
 -- A snapshot of the committed state is made, the log goes on in the other half, and the other image's dirty pieces are left.
-use Rattle.std.proofs.Common.{◌≡◌, ◌-◌, Bool, false, Option, Some, None, ℕ, List, length, replicate, sym, ◌∙◌, ap, subst, arith}
+use Rattle.std.proofs.Common.{◌≡◌, ◌-◌, Bool, false, Option, Some, None, ℕ, List, length, replicate, refl, sym, ◌∙◌, ap, subst, arith}
 use Rattle.std.proofs.lemmas.List.{length-replicate}
 use Rattle.affinity.specs.declared.geometry.Geometry.{Geometry}
 use Rattle.checkpoint.specs.Recovery.{holds}
@@ -8,10 +8,10 @@ use Rattle.image.specs.Image.{image_of}
 use Rattle.image.specs.Pieces.{piece_count}
 use Rattle.journal.specs.Journal.{JournalView, records, records_in, committed}
 use Rattle.journal.specs.Images.{KeepsImages}
-use Rattle.journal.specs.Keeping.{IsCutState, IsSoundJournal, held_of}
+use Rattle.journal.specs.Keeping.{IsCutState, held_of}
 use Rattle.journal.specs.DirtyPieces.{all_clean, count_dirty, cut_dirty}
 use Rattle.journal.specs.Steps.{cut_now}
-use Rattle.journal.proofs.Logging.{committed_of}
+use Rattle.journal.proofs.Logging.{committed_of, sound_along}
 use Rattle.journal.proofs.Rows.{count_most, whole_items, whole_put}
 use Rattle.journal.proofs.Saving.{frozen_right, cut_committed, cut_sound}
 use Rattle.oplog.specs.Beyond.{KeepsBeyond}
@@ -35,21 +35,16 @@ returns-clause-committed g c = λ k.
     let alone : c.self.inside.left ≡ None = ap (λ (h : JournalView). h.left) c.self.view_is ∙ c.requires.alone in
     let geometry : c.args.tree.now.geometry ≡ c.self.inside.halves.geometry = c.requires.geometry ∙ sym (ap (λ (h : JournalView). h.geometry) c.self.view_is) in
     let is_state = subst (λ (x : Geometry). IsState x (state_in c.args.tree.now)) geometry c.requires.whole.state in
-    let frozen = whole_put c.self.inside.frozen.len c.freeze.new.bytes c.self.inside.frozen.items
-    (c.freeze.ensures.size ∙ ap length c.deref_mut.ensures.value) (c.freeze.ensures.size ∙ c.deref_mut.ensures.len) in
     let w0 = g.D.Disk.medium c.self.inside.disk in
     let is : holds c.self.inside.halves.geometry w0.now ≡ Some (state_in c.args.tree.now) = ap committed c.self.view_is ∙ c.requires.state k in
-    let right = frozen_right c.self.inside.halves c.self.inside.frozen.items c.self.inside.named_dirty.items c.self.inside.other_dirty.items
-    c.self.inside.due.items c.self.inside.left w0 (state_in c.args.tree.now) alone (c.self.invariant.7 fine k) is c.args.tree.now.geometry
-    c.deref.result.now c.deref_mut.result.now geometry c.deref.ensures.value c.deref_mut.ensures.value in
+    let right = frozen_right alone (c.self.invariant.7 fine k) is geometry c.deref.ensures.value c.deref_mut.ensures.value in
     let spelled : c.freeze.new.bytes ≡ image_of 2 c.self.inside.halves.geometry (state_in c.args.tree.now) = c.freeze.ensures.image right
     ∙ ap (λ (x : Geometry). image_of 2 x (state_in c.args.tree.now)) geometry in
     let w1 = g.D.Disk.medium c.cut_on.new.disk in
     let begun = c.in_default.ensures.begun k in
-    ap (λ (x : Geometry). holds x w1.now) c.cut_on.ensures.geometry ∙ cut_committed c.self.inside.halves c.self.inside.frozen.items
-    c.freeze.new.bytes c.self.inside.named_dirty.items c.self.inside.other_dirty.items c.self.inside.due.items c.self.inside.left w0
-    (state_in c.args.tree.now) alone (c.self.invariant.6 fine).1 (c.self.invariant.7 fine k) is is_state spelled
-    (g.met.D.Disk.bytes c.self.inside.disk) w1 (g.met.D.Disk.bytes c.cut_on.new.disk) begun ∙ ap committed c.self.view_is
+    ap (λ (x : Geometry). holds x w1.now) c.cut_on.ensures.geometry
+    ∙ cut_committed alone (c.self.invariant.6 fine).1 (c.self.invariant.7 fine k) is is_state spelled (g.met.D.Disk.bytes c.self.inside.disk)
+    (g.met.D.Disk.bytes c.cut_on.new.disk) begun ∙ ap committed c.self.view_is
 
 pub returns-clause-sound : goal.returns-clause-sound
 returns-clause-sound g c = λ k.
@@ -61,26 +56,14 @@ returns-clause-sound g c = λ k.
     (c.freeze.ensures.size ∙ ap length c.deref_mut.ensures.value) (c.freeze.ensures.size ∙ c.deref_mut.ensures.len) in
     let w0 = g.D.Disk.medium c.self.inside.disk in
     let is : holds c.self.inside.halves.geometry w0.now ≡ Some (state_in c.args.tree.now) = ap committed c.self.view_is ∙ c.requires.state k in
-    let right = frozen_right c.self.inside.halves c.self.inside.frozen.items c.self.inside.named_dirty.items c.self.inside.other_dirty.items
-    c.self.inside.due.items c.self.inside.left w0 (state_in c.args.tree.now) alone (c.self.invariant.7 fine k) is c.args.tree.now.geometry
-    c.deref.result.now c.deref_mut.result.now geometry c.deref.ensures.value c.deref_mut.ensures.value in
+    let right = frozen_right alone (c.self.invariant.7 fine k) is geometry c.deref.ensures.value c.deref_mut.ensures.value in
     let spelled : c.freeze.new.bytes ≡ image_of 2 c.self.inside.halves.geometry (state_in c.args.tree.now) = c.freeze.ensures.image right
     ∙ ap (λ (x : Geometry). image_of 2 x (state_in c.args.tree.now)) geometry in
-    let w1 = g.D.Disk.medium c.cut_on.new.disk in
     let begun = c.in_default.ensures.begun k in
-    committed_of c.cut_on.new.halves (whole_items c.self.inside.frozen.len c.freeze.new.bytes c.self.inside.frozen.items)
-    c.self.inside.named_dirty.items (whole_items c.swap.new.y.len c.clear_dirty.new.dirty c.swap.new.y.items) c.swap.new.x.items
-    (Some c.count_dirty.result) c.self.inside.failed w1
-    (subst (λ (l : List ℕ). IsSoundJournal c.cut_on.new.halves l c.self.inside.named_dirty.items
-    (whole_items c.swap.new.y.len c.clear_dirty.new.dirty c.swap.new.y.items) c.swap.new.x.items (Some c.count_dirty.result) w1) (sym frozen)
-    (subst (λ (l : Log). IsSoundJournal l c.freeze.new.bytes c.self.inside.named_dirty.items
-    (whole_items c.swap.new.y.len c.clear_dirty.new.dirty c.swap.new.y.items) c.swap.new.x.items (Some c.count_dirty.result) w1)
-    (sym c.in_default.ensures.log)
-    (cut_sound c.self.inside.halves c.self.inside.frozen.items c.freeze.new.bytes c.self.inside.named_dirty.items c.self.inside.other_dirty.items
-    c.self.inside.due.items c.self.inside.left w0 (state_in c.args.tree.now) alone (c.self.invariant.6 fine).1 (c.self.invariant.7 fine k) is
-    is_state spelled (g.met.D.Disk.bytes c.self.inside.disk) w1 (g.met.D.Disk.bytes c.cut_on.new.disk)
-    (whole_items c.swap.new.y.len c.clear_dirty.new.dirty c.swap.new.y.items) c.swap.new.x.items c.count_dirty.result
-    (ap (λ v. v.items) c.swap.ensures.x_after) begun)))
+    committed_of
+    (sound_along c.in_default.ensures.log frozen refl refl refl
+    (cut_sound alone (c.self.invariant.6 fine).1 (c.self.invariant.7 fine k) is is_state spelled (g.met.D.Disk.bytes c.self.inside.disk) (g.met.D.Disk.bytes c.cut_on.new.disk)
+    {others' = whole_items c.swap.new.y.len c.clear_dirty.new.dirty c.swap.new.y.items} (ap (λ v. v.items) c.swap.ensures.x_after) begun))
 
 pub returns-clause-begun : goal.returns-clause-begun
 returns-clause-begun g c =
@@ -144,24 +127,13 @@ invariant_of-self-2 g c =
       (λ fine k.
           let w0 = g.D.Disk.medium c.self.inside.disk in
           let is : holds c.self.inside.halves.geometry w0.now ≡ Some (state_in c.args.tree.now) = ap committed c.self.view_is ∙ c.requires.state k in
-          let right = frozen_right c.self.inside.halves c.self.inside.frozen.items c.self.inside.named_dirty.items c.self.inside.other_dirty.items
-          c.self.inside.due.items c.self.inside.left w0 (state_in c.args.tree.now) alone (c.self.invariant.7 fine k) is c.args.tree.now.geometry
-          c.deref.result.now c.deref_mut.result.now geometry c.deref.ensures.value c.deref_mut.ensures.value in
+          let right = frozen_right alone (c.self.invariant.7 fine k) is geometry c.deref.ensures.value c.deref_mut.ensures.value in
           let spelled : c.freeze.new.bytes ≡ image_of 2 c.self.inside.halves.geometry (state_in c.args.tree.now) = c.freeze.ensures.image right
           ∙ ap (λ (x : Geometry). image_of 2 x (state_in c.args.tree.now)) geometry in
-          let w1 = g.D.Disk.medium c.cut_on.new.disk in
           let begun = c.in_default.ensures.begun k in
-          subst (λ (l : List ℕ). IsSoundJournal c.cut_on.new.halves l c.self.inside.named_dirty.items
-          (whole_items c.swap.new.y.len c.clear_dirty.new.dirty c.swap.new.y.items) c.swap.new.x.items (Some c.count_dirty.result) w1)
-          (sym frozen)
-          (subst (λ (l : Log). IsSoundJournal l c.freeze.new.bytes c.self.inside.named_dirty.items
-          (whole_items c.swap.new.y.len c.clear_dirty.new.dirty c.swap.new.y.items) c.swap.new.x.items (Some c.count_dirty.result) w1)
-          (sym c.in_default.ensures.log)
-          (cut_sound c.self.inside.halves c.self.inside.frozen.items c.freeze.new.bytes c.self.inside.named_dirty.items
-          c.self.inside.other_dirty.items c.self.inside.due.items c.self.inside.left w0 (state_in c.args.tree.now) alone
-          (c.self.invariant.6 fine).1 (c.self.invariant.7 fine k) is is_state spelled (g.met.D.Disk.bytes c.self.inside.disk) w1
-          (g.met.D.Disk.bytes c.cut_on.new.disk) (whole_items c.swap.new.y.len c.clear_dirty.new.dirty c.swap.new.y.items) c.swap.new.x.items
-          c.count_dirty.result (ap (λ v. v.items) c.swap.ensures.x_after) begun))),
+          sound_along c.in_default.ensures.log frozen refl refl refl
+          (cut_sound alone (c.self.invariant.6 fine).1 (c.self.invariant.7 fine k) is is_state spelled (g.met.D.Disk.bytes c.self.inside.disk)
+          (g.met.D.Disk.bytes c.cut_on.new.disk) (ap (λ v. v.items) c.swap.ensures.x_after) begun)),
       omega arith,
       (λ i few. absurd (omega (arith, few))),
     )

@@ -1,5 +1,5 @@
 -- Up to the root byte a crash reads the old area and then the new one, and both recover to the committed state.
-use Rattle.std.proofs.Common.{◌≡◌, false, Option, Some, None, ℕ, List, ◌++◌, length, sym, ◌∙◌, ap, subst, arith}
+use Rattle.std.proofs.Common.{◌≡◌, false, Option, Some, ℕ, List, ◌++◌, length, refl, sym, ◌∙◌, ap, subst, arith}
 use Rattle.affinity.specs.declared.geometry.Geometry.{Geometry}
 use Rattle.checkpoint.specs.Recovery.{holds}
 use Rattle.disk.specs.Moments.{CrashImagesAre}
@@ -8,8 +8,8 @@ use Rattle.journal.specs.Images.{KeepsImages}
 use Rattle.journal.specs.Keeping.{IsCutState}
 use Rattle.journal.specs.Steps.{IsWritten}
 use Rattle.checkpoint.specs.Version.{named_version}
-use Rattle.journal.proofs.Flipping.{flip_asks, flip_kept, flip_version}
-use Rattle.journal.proofs.Logging.{committed_of}
+use Rattle.journal.proofs.Flipping.{flip_asks, flip_sound, flip_version}
+use Rattle.journal.proofs.Logging.{committed_of, sound_along}
 use Rattle.journal.proofs.Recovering.{holds_now}
 use Rattle.image.specs.Pieces.{piece_count}
 use Rattle.oplog.specs.Front.{front}
@@ -23,9 +23,7 @@ flip_on-requires-clause-written g c = λ k.
     let fine : c.self.inside.failed ≡ false = ap (λ (h : JournalView). h.failed) c.self.view_is ∙ c.requires.sound in
     let none : c.self.inside.left ≡ Some 0 = ap (λ (h : JournalView). h.left) c.self.view_is ∙ c.requires.written in
     subst (λ (l : List ℕ). IsWritten c.self.inside.halves l (g.D.Disk.medium c.self.inside.disk)) (sym c.deref.ensures.value)
-    (flip_asks c.self.inside.halves c.self.inside.frozen.items c.self.inside.named_dirty.items c.self.inside.other_dirty.items
-    c.self.inside.due.items c.self.inside.left (g.D.Disk.medium c.self.inside.disk) none
-    c.self.invariant.0 c.self.invariant.2 c.self.invariant.5 (g.met.D.Disk.bytes c.self.inside.disk) (c.self.invariant.6 fine).1 (c.self.invariant.7 fine k))
+    (flip_asks none c.self.invariant.0 c.self.invariant.2 c.self.invariant.5 (g.met.D.Disk.bytes c.self.inside.disk) (c.self.invariant.6 fine).1 (c.self.invariant.7 fine k))
 
 pub returns-in-Err-clause-any_moment : goal.returns-in-Err-clause-any_moment
 returns-in-Err-clause-any_moment g c = λ k.
@@ -48,15 +46,10 @@ returns-clause-sound g c = λ k.
     let none : c.self.inside.left ≡ Some 0 = ap (λ (h : JournalView). h.left) c.self.view_is ∙ c.requires.written in
     let sound = c.self.invariant.7 fine k in
     let placed = (c.self.invariant.6 fine).1 in
-    let written = flip_asks c.self.inside.halves c.self.inside.frozen.items c.self.inside.named_dirty.items c.self.inside.other_dirty.items
-    c.self.inside.due.items c.self.inside.left (g.D.Disk.medium c.self.inside.disk) none
-    c.self.invariant.0 c.self.invariant.2 c.self.invariant.5 (g.met.D.Disk.bytes c.self.inside.disk) placed sound in
-    committed_of c.flip_on.new.halves c.self.inside.frozen.items c.swap.new.x.items c.swap.new.y.items c.self.inside.due.items None c.self.inside.failed (g.D.Disk.medium c.flip_on.new.disk)
-    (flip_kept c.self.inside.halves c.flip_on.new.halves c.self.inside.frozen.items c.self.inside.named_dirty.items c.self.inside.other_dirty.items
-    c.self.inside.due.items c.swap.new.x.items c.swap.new.y.items c.self.inside.left (g.D.Disk.medium c.self.inside.disk)
-    (g.D.Disk.medium c.flip_on.new.disk) none
-    c.in_default.ensures.log (ap (λ v. v.items) c.swap.ensures.x_after) (ap (λ v. v.items) c.swap.ensures.y_after)
-    (g.met.D.Disk.bytes c.self.inside.disk) (g.met.D.Disk.bytes c.flip_on.new.disk) placed written sound (c.in_default.ensures.flipped k))
+    let written = flip_asks none c.self.invariant.0 c.self.invariant.2 c.self.invariant.5 (g.met.D.Disk.bytes c.self.inside.disk) placed sound in
+    committed_of
+    (sound_along c.in_default.ensures.log refl (ap (λ v. v.items) c.swap.ensures.x_after) (ap (λ v. v.items) c.swap.ensures.y_after) refl
+    (flip_sound none (g.met.D.Disk.bytes c.self.inside.disk) (g.met.D.Disk.bytes c.flip_on.new.disk) placed written sound (c.in_default.ensures.flipped k)))
 
 pub returns-clause-records : goal.returns-clause-records
 returns-clause-records g c = λ k.
@@ -73,13 +66,10 @@ returns-clause-version g c = λ k.
     let none : c.self.inside.left ≡ Some 0 = ap (λ (h : JournalView). h.left) c.self.view_is ∙ c.requires.written in
     let sound = c.self.invariant.7 fine k in
     let placed = (c.self.invariant.6 fine).1 in
-    let w0 = g.D.Disk.medium c.self.inside.disk in
     let w1 = g.D.Disk.medium c.flip_on.new.disk in
-    let written = flip_asks c.self.inside.halves c.self.inside.frozen.items c.self.inside.named_dirty.items c.self.inside.other_dirty.items c.self.inside.due.items c.self.inside.left w0 none
-    c.self.invariant.0 c.self.invariant.2 c.self.invariant.5 (g.met.D.Disk.bytes c.self.inside.disk) placed sound in
+    let written = flip_asks none c.self.invariant.0 c.self.invariant.2 c.self.invariant.5 (g.met.D.Disk.bytes c.self.inside.disk) placed sound in
     ap (λ (x : Geometry). named_version x w1.now) c.flip_on.ensures.geometry
-    ∙ flip_version c.self.inside.halves c.self.inside.frozen.items c.self.inside.named_dirty.items c.self.inside.other_dirty.items
-    c.self.inside.due.items c.self.inside.left w0 none w1 (g.met.D.Disk.bytes c.flip_on.new.disk) written sound (c.in_default.ensures.flipped k)
+    ∙ flip_version none (g.met.D.Disk.bytes c.flip_on.new.disk) written sound (c.in_default.ensures.flipped k)
 
 pub returns-clause-images : goal.returns-clause-images
 returns-clause-images g c = λ k.
@@ -101,14 +91,9 @@ invariant_of-self-2 g c =
       (λ fine k.
           let sound = c.self.invariant.7 fine k in
           let placed = (c.self.invariant.6 fine).1 in
-          let written = flip_asks c.self.inside.halves c.self.inside.frozen.items c.self.inside.named_dirty.items c.self.inside.other_dirty.items
-          c.self.inside.due.items c.self.inside.left (g.D.Disk.medium c.self.inside.disk) none
-          c.self.invariant.0 c.self.invariant.2 c.self.invariant.5 (g.met.D.Disk.bytes c.self.inside.disk) placed sound in
-          flip_kept c.self.inside.halves c.flip_on.new.halves c.self.inside.frozen.items c.self.inside.named_dirty.items
-          c.self.inside.other_dirty.items c.self.inside.due.items c.swap.new.x.items c.swap.new.y.items c.self.inside.left
-          (g.D.Disk.medium c.self.inside.disk) (g.D.Disk.medium c.flip_on.new.disk) none
-          log (ap (λ v. v.items) c.swap.ensures.x_after) (ap (λ v. v.items) c.swap.ensures.y_after)
-          (g.met.D.Disk.bytes c.self.inside.disk) (g.met.D.Disk.bytes c.flip_on.new.disk) placed written sound (c.in_default.ensures.flipped k)),
+          let written = flip_asks none c.self.invariant.0 c.self.invariant.2 c.self.invariant.5 (g.met.D.Disk.bytes c.self.inside.disk) placed sound in
+          sound_along log refl (ap (λ v. v.items) c.swap.ensures.x_after) (ap (λ v. v.items) c.swap.ensures.y_after) refl
+          (flip_sound none (g.met.D.Disk.bytes c.self.inside.disk) (g.met.D.Disk.bytes c.flip_on.new.disk) placed written sound (c.in_default.ensures.flipped k))),
       c.self.invariant.8,
       c.self.invariant.9,
     )

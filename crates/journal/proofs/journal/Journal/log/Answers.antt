@@ -7,7 +7,7 @@ use Rattle.image.specs.Pieces.{piece_count}
 use Rattle.journal.specs.Journal.{AreCarriedOut, JournalView, HoldsSome, records, records_in, committed}
 use Rattle.journal.specs.Keeping.{IsCutState, held_of}
 use Rattle.journal.specs.DirtyPieces.{AreBothTouched}
-use Rattle.journal.proofs.Logging.{log_kept, log_moments, log_records, log_told, placed_used, committed_of, touched_along}
+use Rattle.journal.proofs.Logging.{log_kept, log_moments, log_records, log_told, placed_used, committed_of, sound_along, touched_along}
 use Rattle.journal.proofs.Rows.{same_dirty, whole_items, whole_put}
 use Rattle.disk.proofs.Moments.{weaker}
 use Rattle.oplog.specs.Beyond.{KeepsBeyond}
@@ -23,8 +23,7 @@ returns-in-Err-clause-any_moment g c = λ k x is.
     let fine : c.self.inside.failed ≡ false = ap (λ (h : JournalView). h.failed) c.self.view_is ∙ c.requires.sound in
     let out = subst (λ (h : JournalView). AreCarriedOut h.geometry x c.args.messages.now) (sym c.self.view_is) (c.requires.carried_out k x is) in
     subst (λ (h : JournalView). CrashImagesAre h.medium (g.D.Disk.medium c.append.new.disk) (HoldsSome h.geometry x c.args.messages.now)) c.self.view_is
-    (log_moments c.self.inside.halves c.self.inside.frozen.items c.self.inside.named_dirty.items c.self.inside.other_dirty.items c.self.inside.due.items c.self.inside.left c.args.messages.now
-    (g.D.Disk.medium c.self.inside.disk) (g.D.Disk.medium c.append.new.disk) (g.met.D.Disk.bytes c.self.inside.disk) (c.self.invariant.7 fine k)
+    (log_moments c.args.messages.now (g.D.Disk.medium c.append.new.disk) (g.met.D.Disk.bytes c.self.inside.disk) (c.self.invariant.7 fine k)
     (c.append.ensures.any_moment k) x (ap committed c.self.view_is ∙ is) out)
 
 pub returns-clause-any_moment : goal.returns-clause-any_moment
@@ -32,8 +31,7 @@ returns-clause-any_moment g c = λ k x is.
     let fine : c.self.inside.failed ≡ false = ap (λ (h : JournalView). h.failed) c.self.view_is ∙ c.requires.sound in
     let out = subst (λ (h : JournalView). AreCarriedOut h.geometry x c.args.messages.now) (sym c.self.view_is) (c.requires.carried_out k x is) in
     subst (λ (h : JournalView). CrashImagesAre h.medium (g.D.Disk.medium c.append.new.disk) (HoldsSome h.geometry x c.args.messages.now)) c.self.view_is
-    (log_moments c.self.inside.halves c.self.inside.frozen.items c.self.inside.named_dirty.items c.self.inside.other_dirty.items c.self.inside.due.items c.self.inside.left c.args.messages.now
-    (g.D.Disk.medium c.self.inside.disk) (g.D.Disk.medium c.append.new.disk) (g.met.D.Disk.bytes c.self.inside.disk) (c.self.invariant.7 fine k)
+    (log_moments c.args.messages.now (g.D.Disk.medium c.append.new.disk) (g.met.D.Disk.bytes c.self.inside.disk) (c.self.invariant.7 fine k)
     (c.append.ensures.any_moment k) x (ap committed c.self.view_is ∙ is) out)
 
 pub returns-clause-committed : goal.returns-clause-committed
@@ -43,8 +41,7 @@ returns-clause-committed g c = λ k.
     λ x is. subst (λ (h : JournalView). AreCarriedOut h.geometry x c.args.messages.now) (sym c.self.view_is) (c.requires.carried_out k x (sym (ap committed c.self.view_is) ∙ is)) in
     subst (λ (h : JournalView). holds c.append.new.self.geometry (g.D.Disk.medium c.append.new.disk).now ≡ option_map (λ x. fold h.geometry x c.args.messages.now) (committed h)) c.self.view_is
     (ap (λ (l : Log). holds l.geometry (g.D.Disk.medium c.append.new.disk).now) c.in_default.ensures.log
-    ∙ log_told c.self.inside.halves c.self.inside.frozen.items c.self.inside.named_dirty.items c.self.inside.other_dirty.items c.self.inside.due.items c.self.inside.left c.args.messages.now
-    (g.D.Disk.medium c.self.inside.disk) (g.D.Disk.medium c.append.new.disk) (g.met.D.Disk.bytes c.self.inside.disk)
+    ∙ log_told c.args.messages.now (g.met.D.Disk.bytes c.self.inside.disk)
     (g.met.D.Disk.bytes c.append.new.disk) (c.self.invariant.7 fine k) out (c.in_default.ensures.added k))
 
 pub returns-clause-sound : goal.returns-clause-sound
@@ -53,21 +50,21 @@ returns-clause-sound g c = λ k.
     let out : (x : State) → holds c.self.inside.halves.geometry (g.D.Disk.medium c.self.inside.disk).now ≡ Some x → AreCarriedOut c.self.inside.halves.geometry x c.args.messages.now =
     λ x is. subst (λ (h : JournalView). AreCarriedOut h.geometry x c.args.messages.now) (sym c.self.view_is) (c.requires.carried_out k x (sym (ap committed c.self.view_is) ∙ is)) in
     let same : c.geometry-g.result ≡ c.self.inside.halves.geometry = c.geometry-g.ensures ∙ ap (λ (l : Log). l.geometry) c.in_default.ensures.log in
-    committed_of c.append.new.self c.self.inside.frozen.items _ _ c.self.inside.due.items c.self.inside.left c.self.inside.failed (g.D.Disk.medium c.append.new.disk)
-    (log_kept c.self.inside.halves c.append.new.self c.self.inside.frozen.items c.self.inside.named_dirty.items c.self.inside.other_dirty.items
-    c.self.inside.due.items c.dirty_touched.new.dirty c.dirty_touched-2.new.dirty c.self.inside.left c.args.messages.now
-    (g.D.Disk.medium c.self.inside.disk) (g.D.Disk.medium c.append.new.disk) c.in_default.ensures.log (g.met.D.Disk.bytes c.self.inside.disk)
+    committed_of
+    (sound_along c.in_default.ensures.log refl refl refl refl
+    (log_kept {named' = c.dirty_touched.new.dirty} {others' = c.dirty_touched-2.new.dirty} c.args.messages.now (g.met.D.Disk.bytes c.self.inside.disk)
     (g.met.D.Disk.bytes c.append.new.disk) (c.self.invariant.7 fine k) out (c.in_default.ensures.added k) (c.self.invariant.6 fine).1
-    (touched_along _ _ c.args.messages.now _ _ _ _ same c.deref_mut.ensures.value refl c.dirty_touched.ensures.touched)
-    (touched_along _ _ c.args.messages.now _ _ _ _ same c.deref_mut-2.ensures.value refl c.dirty_touched-2.ensures.touched))
+    (record {
+      named = touched_along c.args.messages.now same c.deref_mut.ensures.value refl c.dirty_touched.ensures.touched;
+      others = touched_along c.args.messages.now same c.deref_mut-2.ensures.value refl c.dirty_touched-2.ensures.touched;
+    })))
 
 pub returns-clause-records : goal.returns-clause-records
 returns-clause-records g c = λ k.
     let fine : c.self.inside.failed ≡ false = ap (λ (h : JournalView). h.failed) c.self.view_is ∙ c.requires.sound in
     subst (λ (h : JournalView). records_in c.append.new.self.geometry (g.D.Disk.medium c.append.new.disk).now ≡ records h ++ records_of c.args.messages.now) c.self.view_is
     (ap (λ (l : Log). records_in l.geometry (g.D.Disk.medium c.append.new.disk).now) c.in_default.ensures.log
-    ∙ log_records c.self.inside.halves c.self.inside.frozen.items c.self.inside.named_dirty.items c.self.inside.other_dirty.items c.self.inside.due.items c.self.inside.left c.args.messages.now
-    (g.D.Disk.medium c.self.inside.disk) (g.D.Disk.medium c.append.new.disk) (g.met.D.Disk.bytes c.self.inside.disk) (c.self.invariant.7 fine k) (c.in_default.ensures.added k))
+    ∙ log_records c.args.messages.now (g.D.Disk.medium c.append.new.disk) (g.met.D.Disk.bytes c.self.inside.disk) (c.self.invariant.7 fine k) (c.in_default.ensures.added k))
 
 pub returns-clause-dirties : goal.returns-clause-dirties
 returns-clause-dirties g c =
@@ -81,8 +78,8 @@ returns-clause-dirties g c =
       others = whole_items c.self.inside.other_dirty.len c.dirty_touched-2.new.dirty c.self.inside.other_dirty.items;
     })) c.self.view_is
     (record {
-      named = touched_along _ _ c.args.messages.now _ _ _ _ same c.deref_mut.ensures.value first c.dirty_touched.ensures.touched;
-      others = touched_along _ _ c.args.messages.now _ _ _ _ same c.deref_mut-2.ensures.value second c.dirty_touched-2.ensures.touched;
+      named = touched_along c.args.messages.now same c.deref_mut.ensures.value first c.dirty_touched.ensures.touched;
+      others = touched_along c.args.messages.now same c.deref_mut-2.ensures.value second c.dirty_touched-2.ensures.touched;
     })
 
 pub returns-clause-none : goal.returns-clause-none
@@ -95,9 +92,9 @@ returns-clause-none g c = λ none.
     let second = whole_put c.self.inside.other_dirty.len c.dirty_touched-2.new.dirty c.self.inside.other_dirty.items
     (c.dirty_touched-2.ensures.size ∙ ap length c.deref_mut-2.ensures.value) (c.dirty_touched-2.ensures.size ∙ c.deref_mut-2.ensures.len) in
     let named = same_dirty c.self.inside.halves.geometry c.args.messages.now _ _ none c.self.invariant.3 (ap length first ∙ c.dirty_touched.ensures.size ∙ ap length c.deref_mut.ensures.value)
-    (touched_along _ _ c.args.messages.now _ _ _ _ same c.deref_mut.ensures.value first c.dirty_touched.ensures.touched) in
+    (touched_along c.args.messages.now same c.deref_mut.ensures.value first c.dirty_touched.ensures.touched) in
     let others = same_dirty c.self.inside.halves.geometry c.args.messages.now _ _ none c.self.invariant.4 (ap length second ∙ c.dirty_touched-2.ensures.size ∙ ap length c.deref_mut-2.ensures.value)
-    (touched_along _ _ c.args.messages.now _ _ _ _ same c.deref_mut-2.ensures.value second c.dirty_touched-2.ensures.touched) in
+    (touched_along c.args.messages.now same c.deref_mut-2.ensures.value second c.dirty_touched-2.ensures.touched) in
     (λ i. held_of (log i) (named i) (others i) c.self.inside.left c.self.inside.failed (g.D.Disk.medium (c.append.ensures.none none i)))
     ∙ ap (λ (n : ℕ). held_of (record c.self.inside.halves { used = n }) c.self.inside.named_dirty.items c.self.inside.other_dirty.items
     c.self.inside.left c.self.inside.failed (g.D.Disk.medium c.self.inside.disk)) used
@@ -127,19 +124,19 @@ invariant_of-self-2 g c =
       (λ fine k.
           let out : (x : State) → holds c.self.inside.halves.geometry (g.D.Disk.medium c.self.inside.disk).now ≡ Some x → AreCarriedOut c.self.inside.halves.geometry x c.args.messages.now =
           λ x is. subst (λ (h : JournalView). AreCarriedOut h.geometry x c.args.messages.now) (sym c.self.view_is) (c.requires.carried_out k x (sym (ap committed c.self.view_is) ∙ is)) in
-          log_kept c.self.inside.halves c.append.new.self c.self.inside.frozen.items c.self.inside.named_dirty.items c.self.inside.other_dirty.items
-          c.self.inside.due.items _ _ c.self.inside.left c.args.messages.now
-          (g.D.Disk.medium c.self.inside.disk) (g.D.Disk.medium c.append.new.disk) log (g.met.D.Disk.bytes c.self.inside.disk)
-          (g.met.D.Disk.bytes c.append.new.disk) (c.self.invariant.7 fine k) out (c.in_default.ensures.added k) (c.self.invariant.6 fine).1
-          (touched_along _ _ c.args.messages.now _ _ _ _ same c.deref_mut.ensures.value first c.dirty_touched.ensures.touched)
-          (touched_along _ _ c.args.messages.now _ _ _ _ same c.deref_mut-2.ensures.value second c.dirty_touched-2.ensures.touched)),
+          sound_along log refl refl refl refl
+          (log_kept c.args.messages.now (g.met.D.Disk.bytes c.self.inside.disk) (g.met.D.Disk.bytes c.append.new.disk) (c.self.invariant.7 fine k)
+          out (c.in_default.ensures.added k) (c.self.invariant.6 fine).1
+          (record {
+            named = touched_along c.args.messages.now same c.deref_mut.ensures.value first c.dirty_touched.ensures.touched;
+            others = touched_along c.args.messages.now same c.deref_mut-2.ensures.value second c.dirty_touched-2.ensures.touched;
+          }))),
       c.self.invariant.8,
       c.self.invariant.9,
     )
 
 pub returns-in-Err-clause-beyond : goal.returns-in-Err-clause-beyond
 returns-in-Err-clause-beyond g c = λ k.
-    let l = layout_of c.self.inside.halves.geometry in
     let w0 = g.D.Disk.medium c.self.inside.disk in
     let w1 = g.D.Disk.medium c.append.new.disk in
     subst (λ (h : JournalView). KeepsBeyond (layout_of h.geometry) h.medium w1) c.self.view_is
@@ -147,7 +144,6 @@ returns-in-Err-clause-beyond g c = λ k.
 
 pub returns-clause-beyond : goal.returns-clause-beyond
 returns-clause-beyond g c = λ k.
-    let l = layout_of c.self.inside.halves.geometry in
     let w0 = g.D.Disk.medium c.self.inside.disk in
     let w1 = g.D.Disk.medium c.append.new.disk in
     subst (λ (h : JournalView). KeepsBeyond (layout_of h.geometry) h.medium w1) c.self.view_is

@@ -1,5 +1,5 @@
 -- A piece is written into the image that isn't named, so a crash recovers to the same; one fewer is left.
-use Rattle.std.proofs.Common.{◌≡◌, ◌<◌, ◌-◌, ℕ, Bool, true, false, List, length, get_or, set, Option, Some, is_some, option_map, refl, sym, ◌∙◌, ap, subst, arith}
+use Rattle.std.proofs.Common.{◌≡◌, ◌<◌, ◌-◌, ℕ, Bool, true, false, List, length, get_or, Option, Some, is_some, option_map, refl, sym, ◌∙◌, ap, subst, arith}
 use Rattle.std.proofs.lemmas.List.{length-set}
 use Rattle.affinity.specs.declared.geometry.Geometry.{Geometry}
 use Rattle.checkpoint.specs.Recovery.{holds}
@@ -24,15 +24,13 @@ pub returns-in_default-clause-sound : goal.returns-in_default-clause-sound
 returns-in_default-clause-sound g c = λ k.
     let fine : c.self.inside.failed ≡ false = ap (λ (h : JournalView). h.failed) c.self.view_is ∙ c.requires.sound in
     subst (λ (h : JournalView). IsCommitted h) c.self.view_is
-    (committed_of c.self.inside.halves c.self.inside.frozen.items c.self.inside.named_dirty.items c.self.inside.other_dirty.items
-    c.self.inside.due.items c.self.inside.left c.self.inside.failed (g.D.Disk.medium c.self.inside.disk) (c.self.invariant.7 fine k))
+    (committed_of (c.self.invariant.7 fine k))
 
 pub returns-in_default-clause-any_moment : goal.returns-in_default-clause-any_moment
 returns-in_default-clause-any_moment g c = λ k.
     let fine : c.self.inside.failed ≡ false = ap (λ (h : JournalView). h.failed) c.self.view_is ∙ c.requires.sound in
     let still : IsCommitted c.args.self.now = subst (λ (h : JournalView). IsCommitted h) c.self.view_is
-    (committed_of c.self.inside.halves c.self.inside.frozen.items c.self.inside.named_dirty.items c.self.inside.other_dirty.items
-    c.self.inside.due.items c.self.inside.left c.self.inside.failed (g.D.Disk.medium c.self.inside.disk) (c.self.invariant.7 fine k)) in
+    (committed_of (c.self.invariant.7 fine k)) in
     started c.args.self.now.medium _ still.each
 
 pub returns-then-is_err-clause-any_moment : goal.returns-then-is_err-clause-any_moment
@@ -43,22 +41,19 @@ returns-then-is_err-clause-any_moment g c = λ k.
     let moments = subst (λ (n : ℕ). ChangesOnly w0 w1 (IsSameBut (layout_of c.self.inside.halves.geometry) (image (other n)))) c.named-area.ensures.named
     (subst (λ (x : Geometry). ChangesOnly w0 w1 (IsSameBut (layout_of x) (image (other c.named-area.result)))) c.geometry-g.ensures (c.write_extent.ensures.any_moment k)) in
     subst (λ (h : JournalView). CrashImagesAre h.medium w1 (λ c'. holds h.geometry c' ≡ committed h)) c.self.view_is
-    (piece_moments c.self.inside.halves c.self.inside.frozen.items c.self.inside.named_dirty.items c.self.inside.other_dirty.items
-    c.self.inside.due.items c.self.inside.left w0 w1 (g.met.D.Disk.bytes c.self.inside.disk) (c.self.invariant.7 fine k) moments)
+    (piece_moments w1 (g.met.D.Disk.bytes c.self.inside.disk) (c.self.invariant.7 fine k) moments)
 
 pub returns-then-is_err-clause-none : goal.returns-then-is_err-clause-none
 returns-then-is_err-clause-none g c = λ none.
     let fine : c.self.inside.failed ≡ false = ap (λ (h : JournalView). h.failed) c.self.view_is ∙ c.requires.sound in
-    let few = subst (λ (l : List Bool). c.in-Some.n < length l) c.deref.ensures.value c.in-Some.ensures.inside in
     let dirty_at = subst (λ (l : List Bool). get_or l c.in-Some.n false ≡ true) c.deref.ensures.value c.in-Some.ensures.dirty_at in
-    absurd (piece_some c.self.inside.halves c.self.inside.due.items c.self.inside.left c.in-Some.n (c.self.invariant.6 fine).1 few dirty_at (ap (λ (h : JournalView). h.left) c.self.view_is ∙ none))
+    absurd (piece_some c.self.inside.halves c.self.inside.due.items c.self.inside.left c.in-Some.n (c.self.invariant.6 fine).1 dirty_at (ap (λ (h : JournalView). h.left) c.self.view_is ∙ none))
 
 pub returns-clause-none : goal.returns-clause-none
 returns-clause-none g c = λ none.
     let fine : c.self.inside.failed ≡ false = ap (λ (h : JournalView). h.failed) c.self.view_is ∙ c.requires.sound in
-    let few = subst (λ (l : List Bool). c.in-Some.n < length l) c.deref.ensures.value c.in-Some.ensures.inside in
     let dirty_at = subst (λ (l : List Bool). get_or l c.in-Some.n false ≡ true) c.deref.ensures.value c.in-Some.ensures.dirty_at in
-    absurd (piece_some c.self.inside.halves c.self.inside.due.items c.self.inside.left c.in-Some.n (c.self.invariant.6 fine).1 few dirty_at (ap (λ (h : JournalView). h.left) c.self.view_is ∙ none))
+    absurd (piece_some c.self.inside.halves c.self.inside.due.items c.self.inside.left c.in-Some.n (c.self.invariant.6 fine).1 dirty_at (ap (λ (h : JournalView). h.left) c.self.view_is ∙ none))
 
 pub returns-clause-any_moment : goal.returns-clause-any_moment
 returns-clause-any_moment g c = λ k.
@@ -68,8 +63,7 @@ returns-clause-any_moment g c = λ k.
     let moments = subst (λ (n : ℕ). ChangesOnly w0 w1 (IsSameBut (layout_of c.self.inside.halves.geometry) (image (other n)))) c.named-area.ensures.named
     (subst (λ (x : Geometry). ChangesOnly w0 w1 (IsSameBut (layout_of x) (image (other c.named-area.result)))) c.geometry-g.ensures (c.write_extent.ensures.any_moment k)) in
     subst (λ (h : JournalView). CrashImagesAre h.medium w1 (λ c'. holds h.geometry c' ≡ committed h)) c.self.view_is
-    (piece_moments c.self.inside.halves c.self.inside.frozen.items c.self.inside.named_dirty.items c.self.inside.other_dirty.items
-    c.self.inside.due.items c.self.inside.left w0 w1 (g.met.D.Disk.bytes c.self.inside.disk) (c.self.invariant.7 fine k) moments)
+    (piece_moments w1 (g.met.D.Disk.bytes c.self.inside.disk) (c.self.invariant.7 fine k) moments)
 
 pub returns-clause-committed : goal.returns-clause-committed
 returns-clause-committed g c = λ k.
@@ -78,50 +72,38 @@ returns-clause-committed g c = λ k.
     let w1 = g.D.Disk.medium c.write_extent.new.disk in
     let moments = subst (λ (n : ℕ). ChangesOnly w0 w1 (IsSameBut (layout_of c.self.inside.halves.geometry) (image (other n)))) c.named-area.ensures.named
     (subst (λ (x : Geometry). ChangesOnly w0 w1 (IsSameBut (layout_of x) (image (other c.named-area.result)))) c.geometry-g.ensures (c.write_extent.ensures.any_moment k)) in
-    piece_same c.self.inside.halves c.self.inside.frozen.items c.self.inside.named_dirty.items c.self.inside.other_dirty.items
-    c.self.inside.due.items c.self.inside.left w0 w1 (g.met.D.Disk.bytes c.self.inside.disk) (c.self.invariant.7 fine k)
-    (g.met.D.Disk.bytes c.write_extent.new.disk) moments
-    ∙ ap committed c.self.view_is
+    piece_same w1 (g.met.D.Disk.bytes c.self.inside.disk) (c.self.invariant.7 fine k) (g.met.D.Disk.bytes c.write_extent.new.disk) moments ∙ ap committed c.self.view_is
 
 pub returns-clause-sound : goal.returns-clause-sound
 returns-clause-sound g c = λ k.
     let fine : c.self.inside.failed ≡ false = ap (λ (h : JournalView). h.failed) c.self.view_is ∙ c.requires.sound in
-    let w0 = g.D.Disk.medium c.self.inside.disk in
     let w1 = g.D.Disk.medium c.write_extent.new.disk in
     let few = subst (λ (l : List Bool). c.in-Some.n < length l) c.deref.ensures.value c.in-Some.ensures.inside in
     let left = some_left c.self.inside.left (ap (λ (h : JournalView). is_some h.left) c.self.view_is ∙ c.requires.running) in
     let written = on_ok c.write_extent.result _ (sym c.is_err.ensures.value ∙ c.if-is_err.false) c.write_extent.ensures.written k in
-    let pieced = pieced_along c.geometry-g.result c.self.inside.halves.geometry c.named-area.result c.self.inside.halves.named c.in-Some.n
-    c.deref-2.result.now c.self.inside.frozen.items w0 w1 c.geometry-g.ensures c.named-area.ensures.named c.deref-2.ensures.value
+    let pieced = pieced_along c.geometry-g.ensures c.named-area.ensures.named c.deref-2.ensures.value
     (record { moments = c.write_extent.ensures.any_moment k; same = c.write_extent.ensures.same k; is = written; ready = c.write_extent.ensures.ready k }) in
-    committed_of c.self.inside.halves c.self.inside.frozen.items c.self.inside.named_dirty.items c.self.inside.other_dirty.items
-    (set c.self.inside.due.items c.in-Some.n false) (Some c.saturating_sub-left.result) c.self.inside.failed w1
-    (piece_sound c.self.inside.halves c.self.inside.frozen.items c.self.inside.named_dirty.items c.self.inside.other_dirty.items
-    c.self.inside.due.items c.self.inside.left w0 w1 (g.met.D.Disk.bytes c.self.inside.disk) (c.self.invariant.7 fine k)
-    (g.met.D.Disk.bytes c.write_extent.new.disk)
+    committed_of
+    (piece_sound w1 (g.met.D.Disk.bytes c.self.inside.disk) (c.self.invariant.7 fine k) (g.met.D.Disk.bytes c.write_extent.new.disk)
     c.in-Some.n left.0 c.saturating_sub-left.result left.1 few pieced)
 
 pub returns-clause-left : goal.returns-clause-left
 returns-clause-left g c =
     let fine : c.self.inside.failed ≡ false = ap (λ (h : JournalView). h.failed) c.self.view_is ∙ c.requires.sound in
-    let few = subst (λ (l : List Bool). c.in-Some.n < length l) c.deref.ensures.value c.in-Some.ensures.inside in
     let dirty_at = subst (λ (l : List Bool). get_or l c.in-Some.n false ≡ true) c.deref.ensures.value c.in-Some.ensures.dirty_at in
+    let running = ap (λ (h : JournalView). is_some h.left) c.self.view_is ∙ c.requires.running in
     sym (ap (λ (h : JournalView). option_map (λ (l : ℕ). l - 1) h.left) c.self.view_is)
-    ∙ piece_left c.self.inside.halves c.self.inside.due.items c.self.inside.left c.in-Some.n c.saturating_sub-left.result
-    (ap (λ (h : JournalView). is_some h.left) c.self.view_is ∙ c.requires.running) (c.self.invariant.6 fine).1 few dirty_at
-    (piece_counted c.self.inside.halves c.self.inside.due.items c.self.inside.left c.in-Some.n c.saturating_sub-left.result
-    (ap (λ (h : JournalView). is_some h.left) c.self.view_is ∙ c.requires.running) (c.self.invariant.6 fine).1 few dirty_at
+    ∙ piece_left c.self.inside.halves c.self.inside.due.items c.self.inside.left c.in-Some.n running (c.self.invariant.6 fine).1 dirty_at
+    (piece_counted c.self.inside.halves c.self.inside.due.items c.self.inside.left c.in-Some.n running (c.self.invariant.6 fine).1 dirty_at
     (c.saturating_sub-left.ensures ∙ ap (λ (n : ℕ). n - 1) c.unwrap_or.ensures))
 
 pub returns-clause-after : goal.returns-clause-after
 returns-clause-after g c =
     let fine : c.self.inside.failed ≡ false = ap (λ (h : JournalView). h.failed) c.self.view_is ∙ c.requires.sound in
-    let few = subst (λ (l : List Bool). c.in-Some.n < length l) c.deref.ensures.value c.in-Some.ensures.inside in
     let dirty_at = subst (λ (l : List Bool). get_or l c.in-Some.n false ≡ true) c.deref.ensures.value c.in-Some.ensures.dirty_at in
-    let left = piece_left c.self.inside.halves c.self.inside.due.items c.self.inside.left c.in-Some.n c.saturating_sub-left.result
-    (ap (λ (h : JournalView). is_some h.left) c.self.view_is ∙ c.requires.running) (c.self.invariant.6 fine).1 few dirty_at
-    (piece_counted c.self.inside.halves c.self.inside.due.items c.self.inside.left c.in-Some.n c.saturating_sub-left.result
-    (ap (λ (h : JournalView). is_some h.left) c.self.view_is ∙ c.requires.running) (c.self.invariant.6 fine).1 few dirty_at
+    let running = ap (λ (h : JournalView). is_some h.left) c.self.view_is ∙ c.requires.running in
+    let left = piece_left c.self.inside.halves c.self.inside.due.items c.self.inside.left c.in-Some.n running (c.self.invariant.6 fine).1 dirty_at
+    (piece_counted c.self.inside.halves c.self.inside.due.items c.self.inside.left c.in-Some.n running (c.self.invariant.6 fine).1 dirty_at
     (c.saturating_sub-left.ensures ∙ ap (λ (n : ℕ). n - 1) c.unwrap_or.ensures)) in
     ap (λ (h : JournalView). record h { left = Some c.saturating_sub-left.result; medium = g.D.Disk.medium c.write_extent.new.disk }) c.self.view_is
     ∙ ap (λ (l : Option ℕ). record c.args.self.now { left = l; medium = g.D.Disk.medium c.write_extent.new.disk })
@@ -134,10 +116,7 @@ returns-clause-records g c = λ k.
     let w1 = g.D.Disk.medium c.write_extent.new.disk in
     let moments = subst (λ (n : ℕ). ChangesOnly w0 w1 (IsSameBut (layout_of c.self.inside.halves.geometry) (image (other n)))) c.named-area.ensures.named
     (subst (λ (x : Geometry). ChangesOnly w0 w1 (IsSameBut (layout_of x) (image (other c.named-area.result)))) c.geometry-g.ensures (c.write_extent.ensures.any_moment k)) in
-    piece_records c.self.inside.halves c.self.inside.frozen.items c.self.inside.named_dirty.items c.self.inside.other_dirty.items
-    c.self.inside.due.items c.self.inside.left w0 w1 (g.met.D.Disk.bytes c.self.inside.disk) (c.self.invariant.7 fine k)
-    (g.met.D.Disk.bytes c.write_extent.new.disk) moments
-    ∙ ap records c.self.view_is
+    piece_records w1 (g.met.D.Disk.bytes c.self.inside.disk) (c.self.invariant.7 fine k) (g.met.D.Disk.bytes c.write_extent.new.disk) moments ∙ ap records c.self.view_is
 
 pub returns-in_default-clause-one : goal.returns-in_default-clause-one
 returns-in_default-clause-one g c = λ some.
@@ -159,13 +138,11 @@ returns-clause-one g c = λ some k.
     let w0 = g.D.Disk.medium c.self.inside.disk in
     let w1 = g.D.Disk.medium c.write_extent.new.disk in
     let written = on_ok c.write_extent.result _ (sym c.is_err.ensures.value ∙ c.if-is_err.false) c.write_extent.ensures.written k in
-    let pieced = pieced_along c.geometry-g.result c.self.inside.halves.geometry c.named-area.result c.self.inside.halves.named c.in-Some.n
-    c.deref-2.result.now c.self.inside.frozen.items w0 w1 c.geometry-g.ensures c.named-area.ensures.named c.deref-2.ensures.value
+    let pieced = pieced_along c.geometry-g.ensures c.named-area.ensures.named c.deref-2.ensures.value
     (record { moments = c.write_extent.ensures.any_moment k; same = c.write_extent.ensures.same k; is = written; ready = c.write_extent.ensures.ready k }) in
     let sound = c.self.invariant.7 fine k in
     let named = (sound.recovers w0.now (itself w0.now w0.unsynced (g.met.D.Disk.bytes c.self.inside.disk))).named in
-    subst (λ (h : JournalView). PatchesOne h.geometry h.medium.now w1.now) c.self.view_is
-    (patches_one c.self.inside.halves.geometry c.self.inside.halves.named c.in-Some.n c.self.inside.frozen.items w0 w1 named pieced)
+    subst (λ (h : JournalView). PatchesOne h.geometry h.medium.now w1.now) c.self.view_is (patches_one named pieced)
 
 pub invariant_of-self-2 : goal.invariant_of-self-2
 invariant_of-self-2 g c =
@@ -183,22 +160,17 @@ invariant_of-self-2 g c =
             (c.self.invariant.6 fine).0,
             (
               placed.0,
-              sym (piece_counted c.self.inside.halves c.self.inside.due.items c.self.inside.left c.in-Some.n
-                  c.saturating_sub-left.result (ap (λ (h : JournalView). is_some h.left) c.self.view_is ∙ c.requires.running)
-                  (c.self.invariant.6 fine).1 few dirty_at (c.saturating_sub-left.ensures ∙ ap (λ (n : ℕ). n - 1) c.unwrap_or.ensures)),
+              sym (piece_counted c.self.inside.halves c.self.inside.due.items c.self.inside.left c.in-Some.n (ap (λ (h : JournalView). is_some h.left) c.self.view_is ∙ c.requires.running)
+                  (c.self.invariant.6 fine).1 dirty_at (c.saturating_sub-left.ensures ∙ ap (λ (n : ℕ). n - 1) c.unwrap_or.ensures)),
             ),
           )),
       (λ fine k.
-          let w0 = g.D.Disk.medium c.self.inside.disk in
           let w1 = g.D.Disk.medium c.write_extent.new.disk in
           let left = some_left c.self.inside.left (ap (λ (h : JournalView). is_some h.left) c.self.view_is ∙ c.requires.running) in
           let written = on_ok c.write_extent.result _ (sym c.is_err.ensures.value ∙ c.if-is_err.false) c.write_extent.ensures.written k in
-          let pieced = pieced_along c.geometry-g.result c.self.inside.halves.geometry c.named-area.result c.self.inside.halves.named c.in-Some.n
-          c.deref-2.result.now c.self.inside.frozen.items w0 w1 c.geometry-g.ensures c.named-area.ensures.named c.deref-2.ensures.value
+          let pieced = pieced_along c.geometry-g.ensures c.named-area.ensures.named c.deref-2.ensures.value
           (record { moments = c.write_extent.ensures.any_moment k; same = c.write_extent.ensures.same k; is = written; ready = c.write_extent.ensures.ready k }) in
-          piece_sound c.self.inside.halves c.self.inside.frozen.items c.self.inside.named_dirty.items c.self.inside.other_dirty.items
-          c.self.inside.due.items c.self.inside.left w0 w1 (g.met.D.Disk.bytes c.self.inside.disk) (c.self.invariant.7 fine k)
-          (g.met.D.Disk.bytes c.write_extent.new.disk)
+          piece_sound w1 (g.met.D.Disk.bytes c.self.inside.disk) (c.self.invariant.7 fine k) (g.met.D.Disk.bytes c.write_extent.new.disk)
           c.in-Some.n left.0 c.saturating_sub-left.result left.1 few pieced),
       let long = length-set c.self.inside.due.items c.in-Some.n false in omega (arith, few, long),
       clear_set c.in-Some.n c.self.inside.due.items few (subst (λ (l : List Bool). AreCleanBefore c.in-Some.n l) c.deref.ensures.value c.in-Some.ensures.clear),

@@ -1,5 +1,5 @@
 -- The snapshot is the image of the committed state, and the clean pieces are on the device: a crash recovers to it.
-use Rattle.std.proofs.Common.{◌≡◌, false, Option, Some, None, ℕ, Bool, List, length, sym, ◌∙◌, ap, subst, arith}
+use Rattle.std.proofs.Common.{◌≡◌, false, Option, Some, None, ℕ, Bool, List, length, refl, sym, ◌∙◌, ap, subst, arith}
 use Rattle.std.proofs.lemmas.List.{length-replicate}
 use Rattle.affinity.specs.declared.geometry.Geometry.{Geometry}
 use Rattle.checkpoint.specs.Recovery.{holds}
@@ -8,12 +8,12 @@ use Rattle.image.specs.Image.{image_of, read}
 use Rattle.image.specs.Pieces.{piece_count}
 use Rattle.journal.specs.Costs.{point_takes}
 use Rattle.journal.specs.Journal.{JournalView, committed}
-use Rattle.journal.specs.Keeping.{IsCutState, IsSoundJournal}
+use Rattle.journal.specs.Keeping.{IsCutState}
 use Rattle.journal.specs.Steps.{IsPointed}
 use Rattle.journal.specs.Extents.{AgreeOnClean, image_in}
 use Rattle.journal.proofs.Costs.{few_runs}
-use Rattle.journal.proofs.Logging.{committed_of}
-use Rattle.journal.proofs.Rows.{whole_items, whole_put}
+use Rattle.journal.proofs.Logging.{committed_of, sound_along}
+use Rattle.journal.proofs.Rows.{whole_put}
 use Rattle.checkpoint.specs.Version.{named_version}
 use Rattle.journal.proofs.Saving.{frozen_right, agrees, is_alone, point_committed, point_sound, pointed_version, reads}
 use Rattle.oplog.specs.Beyond.{KeepsBeyond}
@@ -30,17 +30,12 @@ point_on-requires-clause-alone g c = λ k.
     let alone : c.self.inside.left ≡ None = ap (λ (h : JournalView). h.left) c.self.view_is ∙ c.requires.alone in
     let geometry : c.args.tree.now.geometry ≡ c.self.inside.halves.geometry = c.requires.geometry ∙ sym (ap (λ (h : JournalView). h.geometry) c.self.view_is) in
     let is_state = subst (λ (x : Geometry). IsState x (state_in c.args.tree.now)) geometry c.requires.whole.state in
-    let frozen = whole_put c.self.inside.frozen.len c.freeze.new.bytes c.self.inside.frozen.items
-    (c.freeze.ensures.size ∙ ap length c.deref_mut.ensures.value) (c.freeze.ensures.size ∙ c.deref_mut.ensures.len) in
     let w0 = g.D.Disk.medium c.self.inside.disk in
     let is : holds c.self.inside.halves.geometry w0.now ≡ Some (state_in c.args.tree.now) = ap committed c.self.view_is ∙ c.requires.state k in
-    let right = frozen_right c.self.inside.halves c.self.inside.frozen.items c.self.inside.named_dirty.items c.self.inside.other_dirty.items
-    c.self.inside.due.items c.self.inside.left w0 (state_in c.args.tree.now) alone (c.self.invariant.7 fine k) is c.args.tree.now.geometry
-    c.deref.result.now c.deref_mut.result.now geometry c.deref.ensures.value c.deref_mut.ensures.value in
+    let right = frozen_right alone (c.self.invariant.7 fine k) is geometry c.deref.ensures.value c.deref_mut.ensures.value in
     let spelled : c.freeze.new.bytes ≡ image_of 2 c.self.inside.halves.geometry (state_in c.args.tree.now) = c.freeze.ensures.image right
     ∙ ap (λ (x : Geometry). image_of 2 x (state_in c.args.tree.now)) geometry in
-    is_alone c.self.inside.halves c.self.inside.frozen.items c.freeze.new.bytes c.self.inside.named_dirty.items c.self.inside.other_dirty.items
-    c.self.inside.due.items c.self.inside.left w0 (state_in c.args.tree.now) alone (c.self.invariant.6 fine).1 (c.self.invariant.7 fine k) is
+    is_alone alone (c.self.invariant.6 fine).1 (c.self.invariant.7 fine k) is
     is_state spelled (g.met.D.Disk.bytes c.self.inside.disk)
 
 pub point_on-requires-clause-image : goal.point_on-requires-clause-image
@@ -53,14 +48,11 @@ point_on-requires-clause-image g c = λ k.
     (c.freeze.ensures.size ∙ ap length c.deref_mut.ensures.value) (c.freeze.ensures.size ∙ c.deref_mut.ensures.len) in
     let w0 = g.D.Disk.medium c.self.inside.disk in
     let is : holds c.self.inside.halves.geometry w0.now ≡ Some (state_in c.args.tree.now) = ap committed c.self.view_is ∙ c.requires.state k in
-    let right = frozen_right c.self.inside.halves c.self.inside.frozen.items c.self.inside.named_dirty.items c.self.inside.other_dirty.items
-    c.self.inside.due.items c.self.inside.left w0 (state_in c.args.tree.now) alone (c.self.invariant.7 fine k) is c.args.tree.now.geometry
-    c.deref.result.now c.deref_mut.result.now geometry c.deref.ensures.value c.deref_mut.ensures.value in
+    let right = frozen_right alone (c.self.invariant.7 fine k) is geometry c.deref.ensures.value c.deref_mut.ensures.value in
     let spelled : c.freeze.new.bytes ≡ image_of 2 c.self.inside.halves.geometry (state_in c.args.tree.now) = c.freeze.ensures.image right
     ∙ ap (λ (x : Geometry). image_of 2 x (state_in c.args.tree.now)) geometry in
     ap (read c.self.inside.halves.geometry) (c.deref-2.ensures.value ∙ frozen)
-    ∙ reads c.self.inside.halves c.self.inside.frozen.items c.freeze.new.bytes c.self.inside.named_dirty.items c.self.inside.other_dirty.items
-    c.self.inside.due.items c.self.inside.left w0 (state_in c.args.tree.now) alone (c.self.invariant.6 fine).1 (c.self.invariant.7 fine k) is
+    ∙ reads alone (c.self.invariant.6 fine).1 (c.self.invariant.7 fine k) is
     is_state spelled (g.met.D.Disk.bytes c.self.inside.disk)
 
 pub point_on-requires-clause-clean : goal.point_on-requires-clause-clean
@@ -73,17 +65,14 @@ point_on-requires-clause-clean g c = λ k.
     (c.freeze.ensures.size ∙ ap length c.deref_mut.ensures.value) (c.freeze.ensures.size ∙ c.deref_mut.ensures.len) in
     let w0 = g.D.Disk.medium c.self.inside.disk in
     let is : holds c.self.inside.halves.geometry w0.now ≡ Some (state_in c.args.tree.now) = ap committed c.self.view_is ∙ c.requires.state k in
-    let right = frozen_right c.self.inside.halves c.self.inside.frozen.items c.self.inside.named_dirty.items c.self.inside.other_dirty.items
-    c.self.inside.due.items c.self.inside.left w0 (state_in c.args.tree.now) alone (c.self.invariant.7 fine k) is c.args.tree.now.geometry
-    c.deref.result.now c.deref_mut.result.now geometry c.deref.ensures.value c.deref_mut.ensures.value in
+    let right = frozen_right alone (c.self.invariant.7 fine k) is geometry c.deref.ensures.value c.deref_mut.ensures.value in
     let spelled : c.freeze.new.bytes ≡ image_of 2 c.self.inside.halves.geometry (state_in c.args.tree.now) = c.freeze.ensures.image right
     ∙ ap (λ (x : Geometry). image_of 2 x (state_in c.args.tree.now)) geometry in
     subst (λ (l : List ℕ). AgreeOnClean c.self.inside.halves.geometry c.deref-3.result.now
     (image_in c.self.inside.halves.geometry (other c.self.inside.halves.named) w0) l) (sym (c.deref-2.ensures.value ∙ frozen))
     (subst (λ (l : List Bool). AgreeOnClean c.self.inside.halves.geometry l
     (image_in c.self.inside.halves.geometry (other c.self.inside.halves.named) w0) c.freeze.new.bytes) (sym c.deref-3.ensures.value)
-    (agrees c.self.inside.halves c.self.inside.frozen.items c.freeze.new.bytes c.self.inside.named_dirty.items c.self.inside.other_dirty.items
-    c.self.inside.due.items c.self.inside.left w0 (state_in c.args.tree.now) alone (c.self.invariant.6 fine).1 (c.self.invariant.7 fine k) is
+    (agrees alone (c.self.invariant.6 fine).1 (c.self.invariant.7 fine k) is
     is_state spelled (g.met.D.Disk.bytes c.self.inside.disk)))
 
 pub returns-in-Err-clause-any_moment : goal.returns-in-Err-clause-any_moment
@@ -104,33 +93,20 @@ returns-clause-committed g c = λ k.
     (c.freeze.ensures.size ∙ ap length c.deref_mut.ensures.value) (c.freeze.ensures.size ∙ c.deref_mut.ensures.len) in
     let w0 = g.D.Disk.medium c.self.inside.disk in
     let is : holds c.self.inside.halves.geometry w0.now ≡ Some (state_in c.args.tree.now) = ap committed c.self.view_is ∙ c.requires.state k in
-    let right = frozen_right c.self.inside.halves c.self.inside.frozen.items c.self.inside.named_dirty.items c.self.inside.other_dirty.items
-    c.self.inside.due.items c.self.inside.left w0 (state_in c.args.tree.now) alone (c.self.invariant.7 fine k) is c.args.tree.now.geometry
-    c.deref.result.now c.deref_mut.result.now geometry c.deref.ensures.value c.deref_mut.ensures.value in
+    let right = frozen_right alone (c.self.invariant.7 fine k) is geometry c.deref.ensures.value c.deref_mut.ensures.value in
     let spelled : c.freeze.new.bytes ≡ image_of 2 c.self.inside.halves.geometry (state_in c.args.tree.now) = c.freeze.ensures.image right
     ∙ ap (λ (x : Geometry). image_of 2 x (state_in c.args.tree.now)) geometry in
     let w1 = g.D.Disk.medium c.point_on.new.disk in
     let made = subst (λ (l : List ℕ). IsPointed c.self.inside.halves l w0 w1) (c.deref-2.ensures.value ∙ frozen) (c.in_default.ensures.pointed k) in
-    ap (λ (x : Geometry). holds x w1.now) c.point_on.ensures.geometry ∙ point_committed c.self.inside.halves c.self.inside.frozen.items
-    c.freeze.new.bytes c.self.inside.named_dirty.items c.self.inside.other_dirty.items c.self.inside.due.items c.self.inside.left w0
-    (state_in c.args.tree.now) alone (c.self.invariant.6 fine).1 (c.self.invariant.7 fine k) is is_state spelled
-    (g.met.D.Disk.bytes c.self.inside.disk) w1 (g.met.D.Disk.bytes c.point_on.new.disk) made ∙ ap committed c.self.view_is
+    ap (λ (x : Geometry). holds x w1.now) c.point_on.ensures.geometry
+    ∙ point_committed alone (c.self.invariant.6 fine).1 (c.self.invariant.7 fine k) is is_state spelled (g.met.D.Disk.bytes c.self.inside.disk)
+    (g.met.D.Disk.bytes c.point_on.new.disk) made ∙ ap committed c.self.view_is
 
 pub returns-clause-emptied : goal.returns-clause-emptied
 returns-clause-emptied g c = λ k.
-    let fine : c.self.inside.failed ≡ false = ap (λ (h : JournalView). h.failed) c.self.view_is ∙ c.requires.sound in
-    let alone : c.self.inside.left ≡ None = ap (λ (h : JournalView). h.left) c.self.view_is ∙ c.requires.alone in
-    let geometry : c.args.tree.now.geometry ≡ c.self.inside.halves.geometry = c.requires.geometry ∙ sym (ap (λ (h : JournalView). h.geometry) c.self.view_is) in
-    let is_state = subst (λ (x : Geometry). IsState x (state_in c.args.tree.now)) geometry c.requires.whole.state in
     let frozen = whole_put c.self.inside.frozen.len c.freeze.new.bytes c.self.inside.frozen.items
     (c.freeze.ensures.size ∙ ap length c.deref_mut.ensures.value) (c.freeze.ensures.size ∙ c.deref_mut.ensures.len) in
     let w0 = g.D.Disk.medium c.self.inside.disk in
-    let is : holds c.self.inside.halves.geometry w0.now ≡ Some (state_in c.args.tree.now) = ap committed c.self.view_is ∙ c.requires.state k in
-    let right = frozen_right c.self.inside.halves c.self.inside.frozen.items c.self.inside.named_dirty.items c.self.inside.other_dirty.items
-    c.self.inside.due.items c.self.inside.left w0 (state_in c.args.tree.now) alone (c.self.invariant.7 fine k) is c.args.tree.now.geometry
-    c.deref.result.now c.deref_mut.result.now geometry c.deref.ensures.value c.deref_mut.ensures.value in
-    let spelled : c.freeze.new.bytes ≡ image_of 2 c.self.inside.halves.geometry (state_in c.args.tree.now) = c.freeze.ensures.image right
-    ∙ ap (λ (x : Geometry). image_of 2 x (state_in c.args.tree.now)) geometry in
     let w1 = g.D.Disk.medium c.point_on.new.disk in
     let made = subst (λ (l : List ℕ). IsPointed c.self.inside.halves l w0 w1) (c.deref-2.ensures.value ∙ frozen) (c.in_default.ensures.pointed k) in
     ap (λ (x : Geometry). in_force (layout_of x) (named_area (layout_of x) w1.now) w1.now) c.point_on.ensures.geometry ∙ made.emptied
@@ -140,14 +116,11 @@ returns-clause-version g c = λ k.
     let fine : c.self.inside.failed ≡ false = ap (λ (h : JournalView). h.failed) c.self.view_is ∙ c.requires.sound in
     let alone : c.self.inside.left ≡ None = ap (λ (h : JournalView). h.left) c.self.view_is ∙ c.requires.alone in
     let geometry : c.args.tree.now.geometry ≡ c.self.inside.halves.geometry = c.requires.geometry ∙ sym (ap (λ (h : JournalView). h.geometry) c.self.view_is) in
-    let is_state = subst (λ (x : Geometry). IsState x (state_in c.args.tree.now)) geometry c.requires.whole.state in
     let frozen = whole_put c.self.inside.frozen.len c.freeze.new.bytes c.self.inside.frozen.items
     (c.freeze.ensures.size ∙ ap length c.deref_mut.ensures.value) (c.freeze.ensures.size ∙ c.deref_mut.ensures.len) in
     let w0 = g.D.Disk.medium c.self.inside.disk in
     let is : holds c.self.inside.halves.geometry w0.now ≡ Some (state_in c.args.tree.now) = ap committed c.self.view_is ∙ c.requires.state k in
-    let right = frozen_right c.self.inside.halves c.self.inside.frozen.items c.self.inside.named_dirty.items c.self.inside.other_dirty.items
-    c.self.inside.due.items c.self.inside.left w0 (state_in c.args.tree.now) alone (c.self.invariant.7 fine k) is c.args.tree.now.geometry
-    c.deref.result.now c.deref_mut.result.now geometry c.deref.ensures.value c.deref_mut.ensures.value in
+    let right = frozen_right alone (c.self.invariant.7 fine k) is geometry c.deref.ensures.value c.deref_mut.ensures.value in
     let spelled : c.freeze.new.bytes ≡ image_of 2 c.self.inside.halves.geometry (state_in c.args.tree.now) = c.freeze.ensures.image right
     ∙ ap (λ (x : Geometry). image_of 2 x (state_in c.args.tree.now)) geometry in
     let w1 = g.D.Disk.medium c.point_on.new.disk in
@@ -166,23 +139,15 @@ returns-clause-sound g c = λ k.
     (c.freeze.ensures.size ∙ ap length c.deref_mut.ensures.value) (c.freeze.ensures.size ∙ c.deref_mut.ensures.len) in
     let w0 = g.D.Disk.medium c.self.inside.disk in
     let is : holds c.self.inside.halves.geometry w0.now ≡ Some (state_in c.args.tree.now) = ap committed c.self.view_is ∙ c.requires.state k in
-    let right = frozen_right c.self.inside.halves c.self.inside.frozen.items c.self.inside.named_dirty.items c.self.inside.other_dirty.items
-    c.self.inside.due.items c.self.inside.left w0 (state_in c.args.tree.now) alone (c.self.invariant.7 fine k) is c.args.tree.now.geometry
-    c.deref.result.now c.deref_mut.result.now geometry c.deref.ensures.value c.deref_mut.ensures.value in
+    let right = frozen_right alone (c.self.invariant.7 fine k) is geometry c.deref.ensures.value c.deref_mut.ensures.value in
     let spelled : c.freeze.new.bytes ≡ image_of 2 c.self.inside.halves.geometry (state_in c.args.tree.now) = c.freeze.ensures.image right
     ∙ ap (λ (x : Geometry). image_of 2 x (state_in c.args.tree.now)) geometry in
     let w1 = g.D.Disk.medium c.point_on.new.disk in
     let made = subst (λ (l : List ℕ). IsPointed c.self.inside.halves l w0 w1) (c.deref-2.ensures.value ∙ frozen) (c.in_default.ensures.pointed k) in
-    committed_of c.point_on.new.halves (whole_items c.self.inside.frozen.len c.freeze.new.bytes c.self.inside.frozen.items)
-    c.swap_dirty.new.named.items c.swap_dirty.new.other.items c.self.inside.due.items c.self.inside.left c.self.inside.failed w1
-    (subst (λ (o : Option ℕ). IsSoundJournal c.point_on.new.halves (whole_items c.self.inside.frozen.len c.freeze.new.bytes
-    c.self.inside.frozen.items) c.swap_dirty.new.named.items c.swap_dirty.new.other.items c.self.inside.due.items o w1) (sym alone)
-    (subst (λ (l : List ℕ). IsSoundJournal c.point_on.new.halves l c.swap_dirty.new.named.items c.swap_dirty.new.other.items c.self.inside.due.items None w1) (sym frozen)
-    (subst (λ (l : Log). IsSoundJournal l c.freeze.new.bytes c.swap_dirty.new.named.items c.swap_dirty.new.other.items c.self.inside.due.items None w1) (sym c.in_default.ensures.log)
-    (point_sound c.self.inside.halves c.self.inside.frozen.items c.freeze.new.bytes c.self.inside.named_dirty.items c.self.inside.other_dirty.items
-    c.self.inside.due.items c.self.inside.left w0 (state_in c.args.tree.now) alone (c.self.invariant.6 fine).1 (c.self.invariant.7 fine k) is
-    is_state spelled (g.met.D.Disk.bytes c.self.inside.disk) w1 (g.met.D.Disk.bytes c.point_on.new.disk) c.swap_dirty.new.named.items
-    c.swap_dirty.new.other.items (ap (λ v. v.items) c.swap_dirty.ensures.kept) made))))
+    committed_of
+    (sound_along c.in_default.ensures.log frozen refl refl alone
+    (point_sound alone (c.self.invariant.6 fine).1 (c.self.invariant.7 fine k) is is_state spelled (g.met.D.Disk.bytes c.self.inside.disk)
+    (g.met.D.Disk.bytes c.point_on.new.disk) {named' = c.swap_dirty.new.named.items} (ap (λ v. v.items) c.swap_dirty.ensures.kept) made))
 
 pub invariant_of-self-2 : goal.invariant_of-self-2
 invariant_of-self-2 g c =
@@ -207,23 +172,14 @@ invariant_of-self-2 g c =
       (λ fine k.
           let w0 = g.D.Disk.medium c.self.inside.disk in
           let is : holds c.self.inside.halves.geometry w0.now ≡ Some (state_in c.args.tree.now) = ap committed c.self.view_is ∙ c.requires.state k in
-          let right = frozen_right c.self.inside.halves c.self.inside.frozen.items c.self.inside.named_dirty.items c.self.inside.other_dirty.items
-          c.self.inside.due.items c.self.inside.left w0 (state_in c.args.tree.now) alone (c.self.invariant.7 fine k) is c.args.tree.now.geometry
-          c.deref.result.now c.deref_mut.result.now geometry c.deref.ensures.value c.deref_mut.ensures.value in
+          let right = frozen_right alone (c.self.invariant.7 fine k) is geometry c.deref.ensures.value c.deref_mut.ensures.value in
           let spelled : c.freeze.new.bytes ≡ image_of 2 c.self.inside.halves.geometry (state_in c.args.tree.now) = c.freeze.ensures.image right
           ∙ ap (λ (x : Geometry). image_of 2 x (state_in c.args.tree.now)) geometry in
           let w1 = g.D.Disk.medium c.point_on.new.disk in
           let made = subst (λ (l : List ℕ). IsPointed c.self.inside.halves l w0 w1) (c.deref-2.ensures.value ∙ frozen) (c.in_default.ensures.pointed k) in
-          subst (λ (o : Option ℕ). IsSoundJournal c.point_on.new.halves
-          (whole_items c.self.inside.frozen.len c.freeze.new.bytes c.self.inside.frozen.items) c.swap_dirty.new.named.items
-          c.swap_dirty.new.other.items c.self.inside.due.items o w1) (sym alone)
-          (subst (λ (l : List ℕ). IsSoundJournal c.point_on.new.halves l c.swap_dirty.new.named.items c.swap_dirty.new.other.items c.self.inside.due.items None w1) (sym frozen)
-          (subst (λ (l : Log). IsSoundJournal l c.freeze.new.bytes c.swap_dirty.new.named.items c.swap_dirty.new.other.items c.self.inside.due.items None w1) (sym c.in_default.ensures.log)
-          (point_sound c.self.inside.halves c.self.inside.frozen.items c.freeze.new.bytes c.self.inside.named_dirty.items
-          c.self.inside.other_dirty.items c.self.inside.due.items c.self.inside.left w0 (state_in c.args.tree.now) alone
-          (c.self.invariant.6 fine).1 (c.self.invariant.7 fine k) is is_state spelled (g.met.D.Disk.bytes c.self.inside.disk) w1
-          (g.met.D.Disk.bytes c.point_on.new.disk) c.swap_dirty.new.named.items c.swap_dirty.new.other.items
-          (ap (λ v. v.items) c.swap_dirty.ensures.kept) made)))),
+          sound_along c.in_default.ensures.log frozen refl refl alone
+          (point_sound alone (c.self.invariant.6 fine).1 (c.self.invariant.7 fine k) is is_state spelled (g.met.D.Disk.bytes c.self.inside.disk)
+          (g.met.D.Disk.bytes c.point_on.new.disk) (ap (λ v. v.items) c.swap_dirty.ensures.kept) made)),
       c.self.invariant.8,
       c.self.invariant.9,
     )

@@ -7,6 +7,4 @@ use Rattle.journal.proofs.journal.Journal.room.Goals as goal
 pub returns-clause-sound : goal.returns-clause-sound
 returns-clause-sound g c = λ fine k.
     subst (λ (h : JournalView). IsCommitted h) c.self.view_is
-    (committed_of c.self.inside.halves c.self.inside.frozen.items c.self.inside.named_dirty.items c.self.inside.other_dirty.items
-    c.self.inside.due.items c.self.inside.left c.self.inside.failed (g.D.Disk.medium c.self.inside.disk)
-    (c.self.invariant.7 (ap (λ (h : JournalView). h.failed) c.self.view_is ∙ fine) k))
+    (committed_of (c.self.invariant.7 (ap (λ (h : JournalView). h.failed) c.self.view_is ∙ fine) k))
