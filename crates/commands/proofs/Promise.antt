@@ -93,7 +93,7 @@ recovered old input before written c h = record {
   geometry = h.geometry;
   start = h.start;
   recovered_before = h.recovered_before;
-  recovered = bytes_recover h.geometry h.start 0 input before written h.taken h.sent h.log c h.first h.output h.kept h.holds;
+  recovered = bytes_recover 0 h.taken h.sent h.first h.output h.kept h.holds;
 }
 
 pub leaves_recovered : (keeps : Type 0) (s : Service) (old new : Medium) (end : Result (Unit {0}) ServeFault)

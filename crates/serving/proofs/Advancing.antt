@@ -26,33 +26,30 @@ pub record Sends (old new : List Line) (before written : Option (List ℕ)) : Ty
   pub are_completed : AllByRecursion (λ line. is_completed line ≡ true) sent_lines
   pub output : Appends before written (joined (map text sent_lines))
 
-pub forgets : (keeps : Type 0) (start now : MachineView) (row : List Line) (input left : Option (List ℕ)) (ended : Bool) (before written : Option (List ℕ))
+pub forgets : {keeps : Type 0} {start now : MachineView} {row : List Line} {input left : Option (List ℕ)} {ended : Bool} {before written : Option (List ℕ)}
     → ServingProgress keeps start now row input left ended before written → ServingProgress keeps start now row input left ended None None
-forgets keeps start now row input left ended before written h =
-    record { taken = h.taken; sent_lines = h.sent_lines; takes = h.takes; serving = h.serving; output = tt }
+forgets h = record { taken = h.taken; sent_lines = h.sent_lines; takes = h.takes; serving = h.serving; output = tt }
 
-module _ (keeps : Type 0) where
-  -- Lines at the front of the row were written.
-  pub sends_on : (start m : MachineView) (row rest : List Line) (old now : Option (List ℕ)) → Sends row rest old now
-      → (input left : Option (List ℕ)) (ended : Bool) (before : Option (List ℕ)) → ServingProgress keeps start m row input left ended before old
-      → ServingProgress keeps start m rest input left ended before now
-  sends_on start m row rest old now sends input left ended before h =
-      let g = start.core.geometry in
-      let s = h.serving in
-      record {
-        taken = h.taken;
-        sent_lines = h.sent_lines ++ sends.sent_lines;
-        takes = h.takes;
-        serving = record {
-          reply_pairs = s.reply_pairs;
-          passes = s.passes;
-          known = subst (λ (l : List Line). AreKnown g s.reply_pairs start.core.next h.taken l) (sym (append_assoc h.sent_lines sends.sent_lines rest))
-              (subst (λ (l : List Line). AreKnown g s.reply_pairs start.core.next h.taken (h.sent_lines ++ l)) sends.were s.known);
-          answered = all_join (λ line. is_completed line ≡ true) h.sent_lines sends.sent_lines s.answered sends.are_completed;
-        };
-        output = subst (λ (z : List ℕ). Appends before now z) (sym (texts_both h.sent_lines sends.sent_lines))
-            (Appends-trans before old now (joined (map text h.sent_lines)) (joined (map text sends.sent_lines)) h.output sends.output);
-      }
+-- Lines at the front of the row were written.
+pub sends_on : {keeps : Type 0} {start m : MachineView} {row rest : List Line} {input left : Option (List ℕ)} {ended : Bool} {before old now : Option (List ℕ)}
+    → Sends row rest old now → ServingProgress keeps start m row input left ended before old → ServingProgress keeps start m rest input left ended before now
+sends_on {start} {rest} {before} {old} {now} sends h =
+    let g = start.core.geometry in
+    let s = h.serving in
+    record {
+      taken = h.taken;
+      sent_lines = h.sent_lines ++ sends.sent_lines;
+      takes = h.takes;
+      serving = record {
+        reply_pairs = s.reply_pairs;
+        passes = s.passes;
+        known = subst (λ (l : List Line). AreKnown g s.reply_pairs start.core.next h.taken l) (sym (append_assoc h.sent_lines sends.sent_lines rest))
+            (subst (λ (l : List Line). AreKnown g s.reply_pairs start.core.next h.taken (h.sent_lines ++ l)) sends.were s.known);
+        answered = all_join (λ line. is_completed line ≡ true) h.sent_lines sends.sent_lines s.answered sends.are_completed;
+      };
+      output = subst (λ (z : List ℕ). Appends before now z) (sym (texts_both h.sent_lines sends.sent_lines))
+          (Appends-trans before old now (joined (map text h.sent_lines)) (joined (map text sends.sent_lines)) h.output sends.output);
+    }
 
 -- Where the device works, all is logged.
 pub logged_or_failed : {A E P : Type 0} (failed : Bool) (result : Result A E) → OnOk result P → OnErr result (failed ≡ true) → failed ≡ false → P

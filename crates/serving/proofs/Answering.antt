@@ -89,11 +89,11 @@ module _ (g : Geometry) (reply_pairs : List (ℕ × Reply)) (ticket : ℕ) (repl
   )
 
 -- A message was answered, and its line in the reorder buffer is completed.
-pub answered_goes_on : (keeps : Type 0) (old new : MachineView) (ticket : ℕ) (reply : Reply) → RunsBetween keeps old new [] ((ticket, reply) ∷ [])
-    → (row : List Line) (start : MachineView) (input left : Option (List ℕ)) (ended : Bool) (before written : Option (List ℕ))
+pub answered_goes_on : {keeps : Type 0} {start old new : MachineView} {ticket : ℕ} {reply : Reply} {row : List Line}
+    {input left : Option (List ℕ)} {ended : Bool} {before written : Option (List ℕ)} → RunsBetween keeps old new [] ((ticket, reply) ∷ [])
     → ServingProgress keeps start old row input left ended before written
     → ServingProgress keeps start new (map (complete_one ticket reply) row) input left ended before written
-answered_goes_on keeps old new ticket reply p row start input left ended before written h =
+answered_goes_on {keeps} {start} {new} {ticket} {reply} {row} p h =
     let g = start.core.geometry in
     let come = ticketed start.core.next (admitted g h.taken) in
     let s = h.serving in
@@ -104,8 +104,7 @@ answered_goes_on keeps old new ticket reply p row start input left ended before 
       takes = h.takes;
       serving = record {
         reply_pairs = reply_pairs;
-        passes = subst (λ (es : List Entry). RunsBetween keeps start new es reply_pairs) (append-nil come)
-            (passes_on keeps start old new come [] s.reply_pairs ((ticket, reply) ∷ []) s.passes p);
+        passes = subst (λ (es : List Entry). RunsBetween keeps start new es reply_pairs) (append-nil come) (passes_on s.passes p);
         known = lines_answered g s.reply_pairs ticket reply start.core.next h.taken h.sent_lines row s.answered s.known;
         answered = s.answered;
       };
@@ -120,14 +119,10 @@ IsAnswered keeps old new (Some reply_pairs) = Holds new × RunsBetween keeps old
 pub is_answered_so : (keeps : Type 0) (old new : CoreView) (r : Option (ℕ × Reply)) → IsCoreStep keeps old new steps.Answer (answer_outcome r)
     → (hands : List Holding) → Holds (record { core = old; hands = hands })
     → IsAnswered keeps (record { core = old; hands = hands }) (record { core = new; hands = hands }) r
-is_answered_so keeps old new None k hands h = core_is_quiet keeps old new steps.Answer outcomes.Idle k refl refl refl hands h
+is_answered_so keeps old new None k hands h = core_is_quiet steps.Answer outcomes.Idle k refl refl refl h
 is_answered_so keeps old new (Some a) k hands h =
-    let was : MachineView = record { core = old; hands = hands } in
-    let now : MachineView = record { core = new; hands = hands } in
-    let outcome = outcomes.Answered a.0 a.1 in (
-      core_holds keeps old new hands steps.Answer outcome h k refl,
-      step_passes keeps was now steps.Answer outcome (core_step keeps old new hands steps.Answer outcome h k),
-    )
+    let outcome = outcomes.Answered a.0 a.1 in
+    (core_holds keeps old new hands steps.Answer outcome h k refl, step_passes (core_step keeps old new hands steps.Answer outcome h k))
 
 -- ---- what is logged
 

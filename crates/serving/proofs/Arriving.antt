@@ -35,20 +35,20 @@ use Rattle.serving.proofs.Tickets.{next-append, run_next, ticketed-append}
 
 -- ---- one line more
 
-pub known_push : (g : Geometry) (reply_pairs : List (ℕ × Reply)) (n : ℕ) (ls : List (List ℕ)) (l : List ℕ) (row : List Line) (known : Line)
-    → AreKnown g reply_pairs n ls row → IsKnown g reply_pairs (next_ticket n (admitted g ls)) (message_of l) known
-    → AreKnown g reply_pairs n (ls ++ l ∷ []) (row ++ known ∷ [])
-known_push g reply_pairs n [] l [] known k one = (one, tt)
-known_push g reply_pairs n [] l (x ∷ row) known k one = absurd k
-known_push g reply_pairs n (y ∷ ls) l [] known k one = absurd k
-known_push g reply_pairs n (y ∷ ls) l (x ∷ row) known k one =
-    let m = next_ticket n (admitted_in g (message_of y)) in (
-      k.0,
-      known_push g reply_pairs m ls l row known k.1
-          (subst (λ (t : ℕ). IsKnown g reply_pairs t (message_of l) known) (next-append n (admitted_in g (message_of y)) (admitted g ls)) one),
-    )
+module _ (g : Geometry) (reply_pairs : List (ℕ × Reply)) (l : List ℕ) (known : Line) where
+  known_push : (n : ℕ) (ls : List (List ℕ)) (row : List Line) → AreKnown g reply_pairs n ls row
+      → IsKnown g reply_pairs (next_ticket n (admitted g ls)) (message_of l) known → AreKnown g reply_pairs n (ls ++ l ∷ []) (row ++ known ∷ [])
+  known_push n [] [] k one = (one, tt)
+  known_push n [] (x ∷ row) k one = absurd k
+  known_push n (y ∷ ls) [] k one = absurd k
+  known_push n (y ∷ ls) (x ∷ row) k one =
+      let m = next_ticket n (admitted_in g (message_of y)) in (
+        k.0,
+        known_push m ls row k.1
+            (subst (λ (t : ℕ). IsKnown g reply_pairs t (message_of l) known) (next-append n (admitted_in g (message_of y)) (admitted g ls)) one),
+      )
 
-module _ (keeps : Type 0) (start old : MachineView) (taken : List (List ℕ)) (sent_lines row : List Line) (s : IsServing keeps start old taken sent_lines row) where
+module _ {keeps : Type 0} {start old : MachineView} {taken : List (List ℕ)} {sent_lines row : List Line} (s : IsServing keeps start old taken sent_lines row) where
   abbrev g : Geometry
   g = start.core.geometry
 
@@ -72,9 +72,9 @@ module _ (keeps : Type 0) (start old : MachineView) (taken : List (List ℕ)) (s
         reply_pairs = s.reply_pairs;
         passes = subst (λ (es : List Entry). RunsBetween keeps start new es s.reply_pairs) all
             (subst (λ (l : List (ℕ × Reply)). RunsBetween keeps start new (come ++ ticketed old.core.next one) l) (append-nil s.reply_pairs)
-            (passes_on keeps start old new come (ticketed old.core.next one) s.reply_pairs [] s.passes p));
+            (passes_on s.passes p));
         known = subst (λ (l : List Line). AreKnown g s.reply_pairs start.core.next (taken ++ line ∷ []) l) (append_assoc sent_lines row (known ∷ []))
-            (known_push g s.reply_pairs start.core.next taken line (sent_lines ++ row) known s.known
+            (known_push g s.reply_pairs line known start.core.next taken (sent_lines ++ row) s.known
             (subst (λ (n : ℕ). IsKnown g s.reply_pairs n (message_of line) known) next_is k));
         answered = s.answered;
       }
@@ -92,16 +92,16 @@ known_anyway g reply_pairs n (Some m) (Pending t) fresh k = (k.0, k.1, subst (No
 known_anyway g reply_pairs n (Some m) (Completed t r) fresh k = let none = k.2.1 in absurd (omega (arith, none))
 
 -- A line is consumed.
-pub serves_taken : (keeps : Type 0) (start old new : MachineView) (taken : List (List ℕ)) (sent_lines row : List Line) (line : List ℕ) (known : Line)
+pub serves_taken : {keeps : Type 0} {start old new : MachineView} {taken : List (List ℕ)} {sent_lines row : List Line} {known : Line} (line : List ℕ)
     → IsIdle (core_state_of start.core) → IsTaken keeps old new (message_of line) known → IsServing keeps start old taken sent_lines row
     → IsServing keeps start new (taken ++ line ∷ []) sent_lines (row ++ known ∷ [])
-serves_taken keeps start old new taken sent_lines row line known idle t s =
+serves_taken {keeps} {start} {old} {new} {known} line idle t s =
     let o = message_of line in
-    let is = next_is keeps start old taken sent_lines row s in
+    let is = next_is s in
     let fresh : NoneIsTo s.reply_pairs old.core.next = λ reply there.
-    let before = told_before keeps start old idle taken sent_lines row s (old.core.next, reply) (in_contained s.reply_pairs (old.core.next, reply) there) in
+    let before = told_before keeps start old idle s (old.core.next, reply) (in_contained s.reply_pairs (old.core.next, reply) there) in
     absurd (omega (arith, before, is)) in
-    takes_in keeps start old taken sent_lines row s new line known
+    takes_in s new line known
     (subst (λ (y : Geometry). RunsBetween keeps old new (ticketed old.core.next (admitted_in y o)) []) s.passes.geometry t.passes)
     (known_anyway start.core.geometry s.reply_pairs old.core.next o known fresh
     (subst (λ (y : Geometry). IsKnown y [] old.core.next o known) s.passes.geometry t.is_known))
@@ -152,8 +152,7 @@ module _ (keeps : Type 0) (old new : CoreView) (m : Msg) (hands : List Holding) 
       record {
         holds = core_holds keeps old new hands (steps.Arrive m) (outcomes.Ticket t) h step refl;
         passes = subst (λ (es : List Entry). RunsBetween keeps was now es []) come
-            (step_passes keeps was now (steps.Arrive m) (outcomes.Ticket t)
-            (core_step keeps old new hands (steps.Arrive m) (outcomes.Ticket t) h step));
+            (step_passes (core_step keeps old new hands (steps.Arrive m) (outcomes.Ticket t) h step));
         is_known = (fits, is_next, λ reply there. absurd (in_contained [] (t, reply) there));
       }
 
@@ -165,14 +164,14 @@ module _ (keeps : Type 0) (old new : CoreView) (m : Msg) (hands : List Holding) 
       record {
         holds = core_holds keeps old new hands (steps.Arrive m) outcome h step refl;
         passes = subst (λ (es : List Entry). RunsBetween keeps was now es []) (ap (ticketed old.next) (sym none))
-            (step_passes keeps was now (steps.Arrive m) outcome (core_step keeps old new hands (steps.Arrive m) outcome h step));
+            (step_passes (core_step keeps old new hands (steps.Arrive m) outcome h step));
         is_known = out;
       }
 
   refused : (why : ArriveRefusal) → why ≢ arrivals.Range → IsCoreStep keeps old new (steps.Arrive m) (outcomes.ArriveRefused why)
       → (outcomes.ArriveRefused why, core_state_of new) ≡ arrive old.geometry (core_state_of old) m → IsRefusedLine keeps was now m why
   refused why not_range step e = record {
-    quiet = core_is_quiet keeps old new (steps.Arrive m) (outcomes.ArriveRefused why) step refl refl refl hands h;
+    quiet = core_is_quiet (steps.Arrive m) (outcomes.ArriveRefused why) step refl refl refl h;
     refused = sym (ap (λ (x : Outcome × CoreState). x.0) e);
     not_range = not_range;
   }

@@ -22,9 +22,9 @@ rises events = count_by (λ e. e.rose) events
 rises-append : (es fs : List Event) → rises (es ++ fs) ≡ rises es + rises fs
 rises-append es fs = sum_by-append (λ (e : Event). if e.rose then 1 else 0) es fs
 
-pub passes_on : (keeps : Type 0) (old mid new : MachineView) (come more : List Entry) (reply_pairs others : List (ℕ × Reply))
+pub passes_on : {keeps : Type 0} {old mid new : MachineView} {come more : List Entry} {reply_pairs others : List (ℕ × Reply)}
     → RunsBetween keeps old mid come reply_pairs → RunsBetween keeps mid new more others → RunsBetween keeps old new (come ++ more) (reply_pairs ++ others)
-passes_on keeps old mid new come more reply_pairs others h k =
+passes_on {old} {mid} h k =
     let g = old.core.geometry in
     let w = machine_of old in
     let same : mid.core.geometry ≡ g = h.geometry in

@@ -1,5 +1,5 @@
 -- A session that reads no more, and what it promises in the end.
-use Rattle.std.proofs.Common.{arith, ◌≡◌, ◌≢◌, ℕ, zero, suc, ◌≤◌, ◌-◌, ◌^◌, ◌++◌, Bool, true, false, List, [], Option, Some, None, refl, ap, sym, ◌∙◌, subst, length, map, replicate, append-nil}
+use Rattle.std.proofs.Common.{arith, ◌≡◌, ◌≢◌, ℕ, zero, suc, Bool, true, false, List, [], Option, Some, None, refl, ap, sym, ◌∙◌, subst, length, map, replicate, append-nil}
 use Rattle.std.specs.Prelude.{Result, Ok, Err, IfOk, IfSome, MatchResult, OnErr, OnOk, ◌&&◌}
 use Rattle.message.specs.Waiting.{so_far}
 use Rattle.std.proofs.lemmas.Bool.{true≢false}
@@ -10,10 +10,6 @@ use Rattle.legal_runs.specs.Events.{Hands}
 use Rattle.legal_runs.specs.Laws.{IsIdle, full}
 use Rattle.runs.specs.Machine.{MachineView, hand_of as hand_in, machine_of}
 use Rattle.runs.specs.Stages.{events_of}
-use Rattle.messages.specs.Grammar.{message_of}
-use Rattle.messages.specs.Messages.{is_in_range}
-use Rattle.messages.specs.FirstLine.{GivesLine}
-use Rattle.messages.specs.declared.Msg.{Msg}
 use Rattle.parcel.specs.Run.{JobView}
 use Rattle.scheduler.specs.CoreView.{CoreView, RecoversNow, core_state_of}
 use Rattle.serving.specs.Ends.{EndsSo, IsWoundUp}
@@ -34,7 +30,7 @@ use Rattle.workers.specs.Seats.{DispatchSeatView}
 use Rattle.serving.proofs.Promises.{no_memory_ran, runs_to_device, runs_to_last_ticket, runs_to_read, runs_to_write, runs_whole}
 use Rattle.serving.proofs.Starting.{holds_at_start, starts}
 use Rattle.serving.proofs.Served.{ends_at_device, ends_at_read, ends_exhausted, ends_whole}
-use Rattle.serving.proofs.Invariant.{begins_at, begun, gone, to_row}
+use Rattle.serving.proofs.Invariant.{begins_at, gone, to_row}
 
 -- ---- what it promises
 
@@ -53,60 +49,48 @@ all_empty : (n : ℕ) → full (map hand_in (map lent_hand (replicate n None))) 
 all_empty zero = refl
 all_empty (suc n) = all_empty n
 
-module _ (keeps : Type 0) (s : Start) (p : SessionView) (u : SessionInvariant keeps s p) where
+module _ {keeps : Type 0} {s : Start} {p : SessionView} (u : SessionInvariant keeps s p) where
   abbrev start : MachineView
   start = start_machine s
 
   abbrev now : MachineView
   now = machine p
 
-  by_line : (left : Option (List ℕ)) (drained : Bool) (line : List ℕ) (m : Msg) → ServingProgress keeps start now [] s.input left drained s.before p.sent
-      → now.core.failed ≡ false → now.core.next ≡ 2 ^ 64 - 1 → IfSome left (λ bs. (rest : Option (List ℕ)) × GivesLine line bs rest)
-      → message_of line ≡ Some m → is_in_range start.core.geometry m ≡ true
-      → EndsSo start.core now.core s.input p.behind s.before p.sent (Err faults.Exhausted)
-  by_line None drained line m h works next found is fits =
-      ends_exhausted keeps start now u.idle s.input None p.behind drained s.before p.sent line m h works next tt is fits
-  by_line (Some bs) drained line m h works next found is fits =
-      ends_exhausted keeps start now u.idle s.input (Some bs) found.0 drained s.before p.sent line m h works next found.1 is fits
-
   -- what was written, where the output works and no answer waits
-  written : (row : List Line) (left : Option (List ℕ)) (drained : Bool) → SessionProgress keeps s p left drained → p.row.lines ≡ row → p.output_failed ≡ false → p.out ≡ []
-      → ServingProgress keeps start now row s.input left drained s.before p.sent
-  written row left drained h is whole flushed =
+  written : {row : List Line} {left : Option (List ℕ)} {drained : Bool} → SessionProgress keeps s p left drained → p.row.lines ≡ row → p.output_failed ≡ false
+      → p.out ≡ [] → ServingProgress keeps start now row s.input left drained s.before p.sent
+  written {row} {left} {drained} h is whole flushed =
       subst (λ (w : Option (List ℕ)). ServingProgress keeps start now row s.input left drained s.before w) (so_far_none p.sent)
       (subst (λ (o : List ℕ). ServingProgress keeps start now row s.input left drained s.before (so_far p.sent o)) flushed
       (subst (λ (b : Bool). ServingProgress keeps start now row s.input left drained (known_unless b s.before) (known_unless b (so_far p.sent p.out))) whole
       (subst (λ (l : List Line). ServingProgress keeps start now l s.input left drained (known_unless p.output_failed s.before) (known_unless p.output_failed (so_far p.sent p.out)))
-      is (to_row keeps s p left drained h))))
+      is (to_row h))))
 
   module _ (k : IsServed p) where
-    all_said : (left : Option (List ℕ)) (drained : Bool) → SessionProgress keeps s p left drained → ServingProgress keeps start now [] s.input left drained s.before p.sent
-    all_said left drained h = written [] left drained h k.row k.whole k.flushed
+    all_said : {left : Option (List ℕ)} {drained : Bool} → SessionProgress keeps s p left drained → ServingProgress keeps start now [] s.input left drained s.before p.sent
+    all_said h = written h k.row k.whole k.flushed
 
     at_end : HasEndedReading keeps s p ends_of_reading.EndOfInput → PromisesAll keeps start p.core s.input p.behind s.before p.sent (Ok tt)
     at_end h =
-        let g = all_said h.left h.drained h.gone in
-        let e = ends_whole keeps start now u.idle s.input h.left h.drained s.before p.sent g k.works h.why.0 in
-        record {
-          run = λ no_doubt recovers. runs_whole keeps start now u.idle s.input h.left h.drained s.before p.sent no_doubt recovers g h.why.0;
-          ends = (e.0, e.1, h.why.1, e.3);
-        }
+        let g = all_said h.gone in
+        let e = ends_whole keeps start now u.idle g k.works h.why.0 in
+        record { run = λ no_doubt recovers. runs_whole u.idle no_doubt recovers g h.why.0; ends = (e.0, e.1, h.why.1, e.3) }
 
     at_fault : HasEndedReading keeps s p ends_of_reading.ReadFailed → PromisesAll keeps start p.core s.input p.behind s.before p.sent (Err faults.Read)
     at_fault h =
-        let g = all_said h.left h.drained h.gone in
+        let g = all_said h.gone in
         record {
-          run = λ no_doubt recovers. runs_to_read keeps start now u.idle s.input h.left h.drained s.before p.sent no_doubt recovers g;
-          ends = ends_at_read keeps start now u.idle s.input h.left p.behind s.before p.sent
+          run = λ no_doubt recovers. runs_to_read u.idle no_doubt recovers g;
+          ends = ends_at_read keeps start now u.idle p.behind
               (subst (λ (b : Bool). ServingProgress keeps start now [] s.input h.left b s.before p.sent) h.why.0 g) k.works h.why.1;
         }
 
     exhausted : HasEndedReading keeps s p ends_of_reading.TicketsExhausted → PromisesAll keeps start p.core s.input p.behind s.before p.sent (Err faults.Exhausted)
     exhausted h =
-        let g = all_said h.left h.drained h.gone in
+        let g = all_said h.gone in
         record {
-          run = λ no_doubt recovers. runs_to_last_ticket keeps start now u.idle s.input h.left h.drained s.before p.sent no_doubt recovers g;
-          ends = by_line h.left h.drained h.why.1.0 h.why.1.1 g k.works h.why.0 h.why.1.2 h.why.1.3 h.why.1.4;
+          run = λ no_doubt recovers. runs_to_last_ticket u.idle no_doubt recovers g;
+          ends = ends_exhausted keeps start now u.idle p.behind g k.works h.why;
         }
 
   -- ---- where something has failed
@@ -128,75 +112,66 @@ module _ (keeps : Type 0) (s : Start) (p : SessionView) (u : SessionInvariant ke
     device_ends : p.core.failed ≡ true → p.output_failed ≡ false → p.out ≡ [] → can_retire p.row.lines ≡ false
         → PromisesAll keeps start p.core s.input p.behind s.before p.sent (Err faults.Device)
     device_ends failed whole flushed last =
-        let at = gone keeps s p p.stop u.reads in
-        let g = written p.row.lines at.0 at.1 at.2 refl whole flushed in
+        let g = written (gone keeps s p p.stop u.reads).2 refl whole flushed in
         record {
-          run = λ no_doubt recovers. runs_to_device keeps start now u.idle s.input at.0 at.1 s.before p.sent no_doubt recovers p.row.lines g last;
-          ends = ends_at_device keeps start now u.idle p.row.lines s.input at.0 at.1 s.before p.sent g failed (wound_up g);
+          run = λ no_doubt recovers. runs_to_device u.idle no_doubt recovers g last;
+          ends = ends_at_device keeps start now u.idle g failed (wound_up g);
         }
 
     write_ends : (p.core.failed ≡ false → p.core.ran ≡ []) → PromisesAll keeps start p.core s.input p.behind s.before p.sent (Err faults.Write)
     write_ends ran =
-        let at = gone keeps s p p.stop u.reads in
-        record {
-          run = λ no_doubt recovers. runs_to_write keeps start now u.idle s.input at.0 at.1 (known_unless p.output_failed s.before)
-              (known_unless p.output_failed p.sent) no_doubt recovers (at.2.waiting ++ p.row.lines) p.sent at.2.goes;
-          ends = (wound_up at.2.goes, ran);
-        }
+        let goes = (gone keeps s p p.stop u.reads).2.goes in
+        record { run = λ no_doubt recovers. runs_to_write u.idle no_doubt recovers p.sent goes; ends = (wound_up goes, ran) }
 
-  stopped : (stop : _) → p.stop ≡ Some stop → HasEndedReading keeps s p stop
-  stopped stop is = subst (λ (o : Option _). ReadsOrHasEnded keeps s p o) is u.reads
+  stopped : {stop : ReadEnd} → p.stop ≡ Some stop → HasEndedReading keeps s p stop
+  stopped is = subst (λ (o : Option _). ReadsOrHasEnded keeps s p o) is u.reads
 
   -- By what has ended it, it promises all that a server does.
   pub promises_by : (result : Result (Unit {0}) ServeFault) → EndsBy p result
       → PromisesAll keeps start p.core s.input p.behind s.before p.sent result
-  promises_by (Ok tt) e = at_end e.0 (stopped ends_of_reading.EndOfInput e.1)
-  promises_by (Err faults.Read) e = at_fault e.0 (stopped ends_of_reading.ReadFailed e.1)
-  promises_by (Err faults.Exhausted) e = exhausted e.0 (stopped ends_of_reading.TicketsExhausted e.1)
+  promises_by (Ok tt) e = at_end e.0 (stopped e.1)
+  promises_by (Err faults.Read) e = at_fault e.0 (stopped e.1)
+  promises_by (Err faults.Exhausted) e = exhausted e.0 (stopped e.1)
   promises_by (Err faults.Device) e = device_ends e.0 e.1 e.2 e.3 e.4 e.5
   promises_by (Err faults.Write) e = write_ends e.0 e.1 e.2
   promises_by (Err faults.NoWorkers) e = absurd e
   promises_by (Err faults.OutOfMemory) e = absurd e
 
+-- A session is where its start says: nothing was read or sent since, nor has its core moved.
+pub record IsAtStart (s : Start) (p : SessionView) : Type 0 where
+  pub core : p.core ≡ s.core
+  pub input : p.behind ≡ s.input
+  pub before : p.sent ≡ s.before
+
 -- Where nothing has moved since the start, it promises what a server does that had no memory.
-declined : (keeps : Type 0) (s : Start) (core : CoreView) (behind sent : Option (List ℕ)) → IsIdle (core_state_of s.core) → core ≡ s.core → behind ≡ s.input
-    → sent ≡ s.before → PromisesAll keeps (start_machine s) core s.input behind s.before sent (Err faults.OutOfMemory)
-declined keeps s core behind sent idle same unread untold =
+declined : {keeps : Type 0} {s : Start} {p : SessionView} → IsIdle (core_state_of s.core) → IsAtStart s p
+    → PromisesAll keeps (start_machine s) p.core s.input p.behind s.before p.sent (Err faults.OutOfMemory)
+declined {keeps} {s} {p} idle at =
     let Promised : CoreView → Option (List ℕ) → Option (List ℕ) → Type 0 =
     λ c b w. PromisesAll keeps (start_machine s) c s.input b s.before w (Err faults.OutOfMemory) in
-    subst (λ (c : CoreView). Promised c behind sent) (sym same)
-    (subst (λ (b : Option (List ℕ)). Promised s.core b sent) (sym unread)
-    (subst (λ (w : Option (List ℕ)). Promised s.core s.input w) (sym untold) (record {
+    subst (λ (c : CoreView). Promised c p.behind p.sent) (sym at.core)
+    (subst (λ (b : Option (List ℕ)). Promised s.core b p.sent) (sym at.input)
+    (subst (λ (w : Option (List ℕ)). Promised s.core s.input w) (sym at.before) (record {
       run = λ no_doubt recovers. no_memory_ran keeps s.core s.places idle no_doubt recovers s.input s.before;
       ends = (refl, refl, refl);
     })))
 
 -- So it promises, whether it has ended or nothing has moved since the start.
-promises_or_declines : (keeps : Type 0) (s : Start) (old p : SessionView) → SessionInvariant keeps s p → old.core ≡ s.core → old.behind ≡ s.input
-    → old.sent ≡ s.before → (result : Result (Unit {0}) ServeFault) → EndsOrDeclines old p result
-    → PromisesAll keeps (start_machine s) p.core s.input p.behind s.before p.sent result
-promises_or_declines keeps s old p u core input before (Ok tt) e = promises_by keeps s p u (Ok tt) e
-promises_or_declines keeps s old p u core input before (Err faults.OutOfMemory) e =
-    declined keeps s p.core p.behind p.sent u.idle (ap (λ (q : SessionView). q.core) e ∙ core) (ap (λ (q : SessionView). q.behind) e ∙ input)
-    (ap (λ (q : SessionView). q.sent) e ∙ before)
-promises_or_declines keeps s old p u core input before (Err faults.Read) e = promises_by keeps s p u (Err faults.Read) e
-promises_or_declines keeps s old p u core input before (Err faults.Exhausted) e = promises_by keeps s p u (Err faults.Exhausted) e
-promises_or_declines keeps s old p u core input before (Err faults.Device) e = promises_by keeps s p u (Err faults.Device) e
-promises_or_declines keeps s old p u core input before (Err faults.Write) e = promises_by keeps s p u (Err faults.Write) e
-promises_or_declines keeps s old p u core input before (Err faults.NoWorkers) e = absurd e
+promises_or_declines : {keeps : Type 0} {s : Start} {old p : SessionView} → SessionInvariant keeps s p → IsAtStart s old → (result : Result (Unit {0}) ServeFault)
+    → EndsOrDeclines old p result → PromisesAll keeps (start_machine s) p.core s.input p.behind s.before p.sent result
+promises_or_declines u at (Ok tt) e = promises_by u (Ok tt) e
+promises_or_declines {s} u at (Err faults.OutOfMemory) e = declined u.idle (subst (IsAtStart s) (sym e) at)
+promises_or_declines u at (Err faults.Read) e = promises_by u (Err faults.Read) e
+promises_or_declines u at (Err faults.Exhausted) e = promises_by u (Err faults.Exhausted) e
+promises_or_declines u at (Err faults.Device) e = promises_by u (Err faults.Device) e
+promises_or_declines u at (Err faults.Write) e = promises_by u (Err faults.Write) e
+promises_or_declines u at (Err faults.NoWorkers) e = absurd e
 
--- Where a session has served since a start, and this has ended it or nothing has moved, so much is promised of its parts.
-pub promises_from : (keeps : Type 0) (o : Option Start) (s : Start) (old p : SessionView) → o ≡ Some s → SessionInvariantFrom keeps o p
-    → old.core ≡ s.core → old.behind ≡ s.input → old.sent ≡ s.before → (result : Result (Unit {0}) ServeFault) → EndsOrDeclines old p result
-    → (core : CoreView) (behind sent : Option (List ℕ)) → core ≡ p.core → behind ≡ p.behind → sent ≡ p.sent
-    → PromisesAll keeps (start_machine s) core s.input behind s.before sent result
-promises_from keeps o s old p is u at input before result e core behind sent same unread untold =
-    let Promised : CoreView → Option (List ℕ) → Option (List ℕ) → Type 0 =
-    λ c b w. PromisesAll keeps (start_machine s) c s.input b s.before w result in
-    subst (λ (c : CoreView). Promised c behind sent) (sym same)
-    (subst (λ (b : Option (List ℕ)). Promised p.core b sent) (sym unread)
-    (subst (λ (w : Option (List ℕ)). Promised p.core p.behind w) (sym untold)
-    (promises_or_declines keeps s old p (begun keeps o s p is u) at input before result e)))
+-- Where a session has served since a start, and this has ended it or nothing has moved, so much is promised of it.
+pub promises_from : {keeps : Type 0} {s : Start} {old p now : SessionView} → SessionInvariant keeps s p → p ≡ now → IsAtStart s old
+    → (result : Result (Unit {0}) ServeFault) → EndsOrDeclines old now result
+    → PromisesAll keeps (start_machine s) p.core s.input p.behind s.before p.sent result
+promises_from {old} u is at result e = promises_or_declines u at result (subst (λ (p : SessionView). EndsOrDeclines old p result) (sym is) e)
 
 -- Where each line that was read is answered and nothing has failed, the reason why no more was read has ended it.
 ended_for : (keeps : Type 0) (o : Option Start) (p : SessionView) → SessionInvariantFrom keeps o p → IsServed p → (stop : ReadEnd) → p.stop ≡ Some stop
@@ -205,7 +180,7 @@ ended_for keeps None p u served stop is = absurd u
 ended_for keeps (Some s) p u served ends_of_reading.EndOfInput is = (served, is)
 ended_for keeps (Some s) p u served ends_of_reading.ReadFailed is = (served, is)
 ended_for keeps (Some s) p u served ends_of_reading.TicketsExhausted is = (served, is)
-ended_for keeps (Some s) p u served ends_of_reading.DeviceFailed is = absurd (true≢false (sym (stopped keeps s p u ends_of_reading.DeviceFailed is).why ∙ served.works))
+ended_for keeps (Some s) p u served ends_of_reading.DeviceFailed is = absurd (true≢false (sym (stopped u is).why ∙ served.works))
 
 empties_for : (stop : ReadEnd) (P : Type 0) → (stop ≡ ends_of_reading.EndOfInput → P) → OnOk (end_of stop) P
 empties_for ends_of_reading.EndOfInput P emptied = emptied refl
@@ -214,19 +189,14 @@ empties_for ends_of_reading.TicketsExhausted P emptied = tt
 empties_for ends_of_reading.DeviceFailed P emptied = tt
 
 -- It has finished, or it has halted.
-pub finished : (keeps : Type 0) (p : SessionView) (stop : ReadEnd) (r : Result (Unit {0}) Halted) (same : Type 0) → p.stop ≡ Some stop
-    → OnOk r ((p.row.lines ≡ []) × (p.out ≡ []) × (p.output_failed ≡ false)) → OnOk r (p.core.failed ≡ false)
-    → OnOk r (stop ≡ ends_of_reading.EndOfInput → keeps → HasEmptyLog p.core) → MatchResult r (λ _. same) (λ _. HasHalted p)
-    → MatchResult r (λ _. (x : ReadEnd) × HasFinished keeps p x) (λ _. HasHalted p)
-finished keeps p stop (Ok x) same is all works emptied moves = (
-  stop,
-  record {
-    is = is;
-    served = record { row = all.0; flushed = all.1; works = works; whole = all.2 };
-    emptied = emptied;
-  },
-)
-finished keeps p stop (Err h) same is all works emptied moves = moves
+module _ (keeps : Type 0) (p : SessionView) (same : Type 0) where
+  pub finished : {stop : ReadEnd} (r : Result (Unit {0}) Halted) → p.stop ≡ Some stop
+      → OnOk r ((p.row.lines ≡ []) × (p.out ≡ []) × (p.output_failed ≡ false)) → OnOk r (p.core.failed ≡ false)
+      → OnOk r (stop ≡ ends_of_reading.EndOfInput → keeps → HasEmptyLog p.core) → MatchResult r (λ _. same) (λ _. HasHalted p)
+      → MatchResult r (λ _. (x : ReadEnd) × HasFinished keeps p x) (λ _. HasHalted p)
+  finished {stop} (Ok x) is all works emptied moves =
+      (stop, record { is = is; served = record { row = all.0; flushed = all.1; works = works; whole = all.2 }; emptied = emptied })
+  finished (Err h) is all works emptied moves = moves
 
 so_if : {A : Type 0} (o : Option A) (x : A) (P : A → Type 0) → o ≡ Some x → IfSome o P → P x
 so_if o x P is h = subst (λ (o : Option _). IfSome o P) is h
@@ -291,10 +261,10 @@ refuses_none workers some (Err faults.OutOfMemory) h = some
 refuses_none workers some (Err faults.Exhausted) h = some
 
 -- The same of as many workers, where as much is left.
-pub serves_as : (keeps : Type 0) (core : CoreView) (back : CoreView × Result (Unit {0}) ServeFault) (input before written : Option (List ℕ))
-    (places workers : ℕ) (left behind : Option (List ℕ)) → places ≡ workers → left ≡ behind
+pub serves_as : {keeps : Type 0} {core : CoreView} {back : CoreView × Result (Unit {0}) ServeFault} {input before written left behind : Option (List ℕ)}
+    {places workers : ℕ} → places ≡ workers → left ≡ behind
     → ServesSo keeps places core back input left before written → ServesSo keeps workers core back input behind before written
-serves_as keeps core back input before written places workers left behind as_many same h =
+serves_as {keeps} {core} {back} {input} {before} {written} {behind} {places} as_many same h =
     subst (λ (n : ℕ). ServesSo keeps n core back input behind before written) as_many
     (subst (λ (l : Option (List ℕ)). ServesSo keeps places core back input l before written) same h)
 
@@ -311,52 +281,20 @@ holds_first core lent n none idle = subst (λ (l : List (Option JobView)). Holds
 pub places_first : (lent : List (Option JobView)) (n : ℕ) → lent ≡ replicate n None → length lent ≡ n
 places_first lent n none = ap (λ (l : List (Option JobView)). length l) none ∙ length-replicate n None
 
-module _ (keeps : Type 0) (s : Start) (dispatch_seat : DispatchSeatView) (row : ReorderBufferView) (out : List ℕ) (left : Option (List ℕ)) (drained ended : Bool)
-    (behind : Option (List ℕ)) where
-  -- Before its first read a server satisfies the invariant.
-  pub first : IsIdle (core_state_of s.core) → s.core.doubt ≡ [] → row.lines ≡ [] → row.slots ≤ s.core.slots → out ≡ [] → left ≡ s.input
-      → drained ≡ false → ended ≡ false → dispatch_seat.bench.slots ≡ s.places → dispatch_seat.lent ≡ replicate s.places None
-      → SessionInvariant keeps s (record {
-        core = s.core;
-        dispatch_seat = dispatch_seat;
-        row = row;
-        out = out;
-        sent = s.before;
-        outstanding = 0;
-        output_failed = false;
-        stop = None;
-        left = left;
-        drained = drained;
-        ended = ended;
-        behind = behind;
-      })
-  first idle sure none fits none_waits all begun not_ended places lent =
-      let start = start_machine s in
-      record {
-        idle = idle;
-        sure = sure;
-        fits = fits;
-        holds = holds_first s.core dispatch_seat.lent s.places lent idle;
-        places = places_first dispatch_seat.lent s.places lent ∙ sym places;
-        knows = λ e. absurd (true≢false (sym e ∙ not_ended));
-        reads = record {
-          waiting = [];
-          are_completed = tt;
-          out_is = none_waits;
-          counted = omega (arith, ap length none);
-          bounded = omega arith;
-          goes = subst (λ (l : List (Option JobView)). ServingProgress keeps start (with_lent s.core l) row.lines s.input left drained s.before s.before) (sym lent)
-              (subst (λ (l : List Line). ServingProgress keeps start start l s.input left drained s.before s.before) (sym none)
-              (subst (λ (d : Bool). ServingProgress keeps start start [] s.input left d s.before s.before) (sym begun)
-              (subst (λ (l : Option (List ℕ)). ServingProgress keeps start start [] s.input l false s.before s.before) (sym all)
-              (starts keeps start s.input s.before))));
-        };
-      }
+-- What a call serves with has not been used: no answer waits, all of the input is left, nothing of it was read, and no job is lent.
+pub record IsUnused (places : ℕ) (input : Option (List ℕ)) (dispatch_seat : DispatchSeatView) (out : List ℕ) (left : Option (List ℕ))
+    (drained ended : Bool) : Type 0 where
+  pub none_waits : out ≡ []
+  pub all : left ≡ input
+  pub none_read : drained ≡ false
+  pub not_ended : ended ≡ false
+  pub slots : dispatch_seat.bench.slots ≡ places
+  pub none_lent : dispatch_seat.lent ≡ replicate places None
 
 -- A call that may begin satisfies the invariant.
-pub first_at : (keeps : Type 0) (o : Option Start) (core : CoreView) (dispatch_seat : DispatchSeatView) (row : ReorderBufferView) (out : List ℕ) (left input sent : Option (List ℕ))
-    (drained ended : Bool) (behind : Option (List ℕ)) (places : ℕ) → CanBegin o core places input sent row
-    → out ≡ [] → left ≡ input → drained ≡ false → ended ≡ false → dispatch_seat.bench.slots ≡ places → dispatch_seat.lent ≡ replicate places None
+pub first_at : (keeps : Type 0) {o : Option Start} {core : CoreView} {dispatch_seat : DispatchSeatView} {row : ReorderBufferView} {out : List ℕ}
+    {left input sent : Option (List ℕ)} {drained ended : Bool} {places : ℕ} (behind : Option (List ℕ)) → CanBegin o core places input sent row
+    → IsUnused places input dispatch_seat out left drained ended
     → SessionInvariantFrom keeps o (record {
       core = core;
       dispatch_seat = dispatch_seat;
@@ -371,7 +309,26 @@ pub first_at : (keeps : Type 0) (o : Option Start) (core : CoreView) (dispatch_s
       ended = ended;
       behind = behind;
     })
-first_at keeps o core dispatch_seat row out left input sent drained ended behind places r none_waits all begun not_ended slots lent =
+first_at keeps {o} {core} {dispatch_seat} {row} {left} {input} {sent} {drained} {places} behind r unused =
     let s : Start = record { core = core; places = places; input = input; before = sent } in
-    begins_at keeps o s _ r.is
-    (first keeps s dispatch_seat row out left drained ended behind r.idle r.sure r.none r.fits none_waits all begun not_ended slots lent)
+    let start = start_machine s in
+    begins_at keeps o s _ r.is (record {
+      idle = r.idle;
+      sure = r.sure;
+      fits = r.fits;
+      holds = holds_first core dispatch_seat.lent places unused.none_lent r.idle;
+      places = places_first dispatch_seat.lent places unused.none_lent ∙ sym unused.slots;
+      knows = λ e. absurd (true≢false (sym e ∙ unused.not_ended));
+      reads = record {
+        waiting = [];
+        are_completed = tt;
+        out_is = unused.none_waits;
+        counted = omega (arith, ap length r.none);
+        bounded = omega arith;
+        goes = subst (λ (l : List (Option JobView)). ServingProgress keeps start (with_lent core l) row.lines input left drained sent sent) (sym unused.none_lent)
+            (subst (λ (l : List Line). ServingProgress keeps start start l input left drained sent sent) (sym r.none)
+            (subst (λ (d : Bool). ServingProgress keeps start start [] input left d sent sent) (sym unused.none_read)
+            (subst (λ (l : Option (List ℕ)). ServingProgress keeps start start [] input l false sent sent) (sym unused.all)
+            (starts keeps start input sent))));
+      };
+    })

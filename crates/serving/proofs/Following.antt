@@ -55,8 +55,8 @@ module _ (g : Geometry) (reply_pairs : List (ℕ × Reply)) where
       (rest_follows (next_ticket n (admitted_in g o)) ls sent_lines row k.1)
 
 -- The next ticket is behind those of the reorder buffer.
-pub next_follows : (keeps : Type 0) (start now : MachineView) (taken : List (List ℕ)) (sent_lines row : List Line) → IsServing keeps start now taken sent_lines row
+pub next_follows : {keeps : Type 0} {start now : MachineView} {taken : List (List ℕ)} {sent_lines row : List Line} → IsServing keeps start now taken sent_lines row
     → AreConsecutive (with_tickets row ++ Pending now.core.next ∷ [])
-next_follows keeps start now taken sent_lines row s =
-    subst (λ (last : ℕ). AreConsecutive (with_tickets row ++ Pending last ∷ [])) (sym (next_is keeps start now taken sent_lines row s))
+next_follows {start} {taken} {sent_lines} {row} s =
+    subst (λ (last : ℕ). AreConsecutive (with_tickets row ++ Pending last ∷ [])) (sym (next_is s))
     (rest_follows start.core.geometry s.reply_pairs start.core.next taken sent_lines row s.known)

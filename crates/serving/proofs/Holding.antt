@@ -1,5 +1,5 @@
 -- What may be sent is held by whatever a crash leaves of the device.
-use Rattle.std.proofs.Common.{◌≡◌, ℕ, true, List, ◌++◌, Option, Some, sym, subst, map, append_assoc}
+use Rattle.std.proofs.Common.{◌≡◌, ℕ, true, List, ◌++◌, Option, sym, subst, map, append_assoc}
 use Rattle.std.proofs.KnownBytes.{Appends-trans}
 use Rattle.std.specs.Io.KnownBytes.{Appends}
 use Rattle.checkpoint.proofs.Fine.{fine, head}
@@ -14,11 +14,11 @@ use Rattle.meaning.specs.Serial.{fold}
 use Rattle.scheduler.specs.CoreView.{CoreView}
 use Rattle.serving.specs.Ends.{HasServed, committed_in}
 use Rattle.serving.specs.Lines.{AreKnown, Line, is_completed, text}
-use Rattle.serving.specs.Output.{HoldsSent, MaySendFrom, MaySend, Start, start_machine}
+use Rattle.serving.specs.Output.{HoldsSent, MaySendFrom, Start, start_machine}
 use Rattle.serving.proofs.Advancing.{texts_both}
 use Rattle.serving.proofs.Logged.{holds_all, written_are_kept}
 
-module _ (keeps : Type 0) (s : Start) (sent later : Option (List ℕ)) (now : CoreView) (bytes : List ℕ) (m : MaySendFrom keeps s sent now bytes)
+module _ {keeps : Type 0} {s : Start} {sent later : Option (List ℕ)} {now : CoreView} {bytes : List ℕ} (m : MaySendFrom keeps s sent now bytes)
     (appends : Appends sent later bytes) where
   -- Once it is sent, it is among the lines that were sent.
   served_on : HasServed keeps (start_machine s) now m.row s.input s.before later
@@ -37,8 +37,8 @@ module _ (keeps : Type 0) (s : Start) (sent later : Option (List ℕ)) (now : Co
             (subst (λ (z : List ℕ). Appends sent later z) m.bytes_are appends));
       }
 
-  on_device : keeps → (c : List ℕ) → IsCrashImage now.medium c → HoldsSent s later c
-  on_device kept c left =
+  pub holds_sent : keeps → (c : List ℕ) → IsCrashImage now.medium c → HoldsSent s later c
+  holds_sent kept c left =
       let h = served_on in
       let g = s.core.geometry in
       let log = went (machine_of (start_machine s)) (events_of h.stages) in
@@ -55,7 +55,3 @@ module _ (keeps : Type 0) (s : Start) (sent later : Option (List ℕ)) (now : Co
         header = head g c state left.bytes held.recovers;
         not_refused = fine g c state left.bytes held.recovers;
       }
-
-pub holds_sent : (keeps : Type 0) (s : Start) (sent later : Option (List ℕ)) (now : CoreView) (bytes : List ℕ)
-    → MaySend keeps (Some s) sent now bytes → keeps → Appends sent later bytes → (c : List ℕ) → IsCrashImage now.medium c → HoldsSent s later c
-holds_sent keeps s sent later now bytes m kept appends = on_device keeps s sent later now bytes m appends kept

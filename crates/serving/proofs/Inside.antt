@@ -135,10 +135,10 @@ none_long (x ∷ xs) h = absurd (omega (arith, h))
 none_inside : (w : CoreState) → inside w ≤ 0 → IsIdle w
 none_inside w h = record { none_waits = none_long w.waiting (omega (arith, h)); none_held = none_long (held w) (omega (arith, h)) }
 
-module _ (keeps : Type 0) (start now : MachineView) (idle : IsIdle (core_state_of start.core)) where
-  serving_inside : (taken : List (List ℕ)) (sent_lines row : List Line) → IsServing keeps start now taken sent_lines row
+module _ {keeps : Type 0} {start now : MachineView} (idle : IsIdle (core_state_of start.core)) where
+  serving_inside : {taken : List (List ℕ)} {sent_lines row : List Line} → IsServing keeps start now taken sent_lines row
       → inside (core_state_of now.core) ≤ length row
-  serving_inside taken sent_lines row s =
+  serving_inside {taken} {sent_lines} {row} s =
       let p = s.passes in
       let g = start.core.geometry in
       let n = start.core.next in
@@ -152,11 +152,11 @@ module _ (keeps : Type 0) (start now : MachineView) (idle : IsIdle (core_state_o
       omega (arith, counts, ends, come, reply_pairs, none, takes, most)
 
   -- No more messages wait or are held than there are lines that were read and aren't written.
-  pub few_inside : (row : List Line) (input left : Option (List ℕ)) (ended : Bool) (before written : Option (List ℕ))
+  pub few_inside : {row : List Line} {input left : Option (List ℕ)} {ended : Bool} {before written : Option (List ℕ)}
       → ServingProgress keeps start now row input left ended before written → inside (core_state_of now.core) ≤ length row
-  few_inside row input left ended before written h = serving_inside h.taken h.sent_lines row h.serving
+  few_inside h = serving_inside h.serving
 
   -- Where all is written, nothing waits and nothing is held.
-  pub idle_again : (input left : Option (List ℕ)) (ended : Bool) (before written : Option (List ℕ))
+  pub idle_again : {input left : Option (List ℕ)} {ended : Bool} {before written : Option (List ℕ)}
       → ServingProgress keeps start now [] input left ended before written → IsIdle (core_state_of now.core)
-  idle_again input left ended before written h = none_inside (core_state_of now.core) (few_inside [] input left ended before written h)
+  idle_again h = none_inside (core_state_of now.core) (few_inside h)

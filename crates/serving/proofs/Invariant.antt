@@ -37,19 +37,12 @@ use Rattle.serving.proofs.Segments.{quiet_goes_on, still_failed}
 use Rattle.serving.proofs.Taken.{line_goes_on, long_line_goes_on}
 use Rattle.serving.proofs.Tickets.{quiet_ticket}
 
--- ---- why no more is read stays so
-
-why_on : (g : Geometry) (old new : CoreView) (left : Option (List ℕ)) (drained : Bool) (behind : Option (List ℕ)) (stop : ReadEnd) → new.next ≡ old.next
-    → (old.failed ≡ true → new.failed ≡ true) → IsReadEnd g old left drained behind stop → IsReadEnd g new left drained behind stop
-why_on g old new left drained behind ends_of_reading.EndOfInput next failed h = h
-why_on g old new left drained behind ends_of_reading.ReadFailed next failed h = h
-why_on g old new left drained behind ends_of_reading.TicketsExhausted next failed h = (next ∙ h.0, h.1)
-why_on g old new left drained behind ends_of_reading.DeviceFailed next failed h = failed h
+-- ---- lines that are sent, completed or retired
 
 -- what was written of a row, where the output may have failed
-sends_unless : (b : Bool) (row rest : List Line) (old now : Option (List ℕ)) → Sends row rest old now → Sends row rest (known_unless b old) (known_unless b now)
-sends_unless true row rest old now sends = record { sent_lines = sends.sent_lines; were = sends.were; are_completed = sends.are_completed; output = tt }
-sends_unless false row rest old now sends = sends
+sends_unless : {row rest : List Line} {old now : Option (List ℕ)} (b : Bool) → Sends row rest old now → Sends row rest (known_unless b old) (known_unless b now)
+sends_unless true sends = record { sent_lines = sends.sent_lines; were = sends.were; are_completed = sends.are_completed; output = tt }
+sends_unless false sends = sends
 
 -- What waits is to be sent behind what was sent.
 sends_waiting : (waiting row : List Line) (out : List ℕ) (sent : Option (List ℕ)) → AreCompleted waiting → out ≡ joined (map text waiting)
@@ -83,35 +76,40 @@ fronts : (lines rest : List Line) → rest ≡ drop 1 lines → can_retire lines
 fronts [] rest is next = absurd (true≢false (sym next))
 fronts (line ∷ lines) rest is next = record { line = line; were = ap (λ (l : List Line). line ∷ l) (sym is); answered = next; retires = refl }
 
+-- All that was answered in the output leads to the reorder buffer, whether it waits or not.
+pub to_row : {keeps : Type 0} {s : Start} {p : SessionView} {left : Option (List ℕ)} {drained : Bool} → SessionProgress keeps s p left drained
+    → ServingProgress keeps (start_machine s) (machine p) p.row.lines s.input left drained (known_unless p.output_failed s.before) (known_unless p.output_failed (so_far p.sent p.out))
+to_row {p} h = sends_on (sends_unless p.output_failed (sends_waiting h.waiting p.row.lines p.out p.sent h.are_completed h.out_is)) h.goes
+
 module _ (keeps : Type 0) where
   module _ (s : Start) (p : SessionView) where
-    reads_on : (q : SessionView) → q.core.next ≡ p.core.next → (p.core.failed ≡ true → q.core.failed ≡ true) → q.left ≡ p.left → q.drained ≡ p.drained
-        → q.behind ≡ p.behind
-        → ((left : Option (List ℕ)) (drained : Bool) → SessionProgress keeps s p left drained → SessionProgress keeps s q left drained)
-        → (stop : Option ReadEnd) → ReadsOrHasEnded keeps s p stop → ReadsOrHasEnded keeps s q stop
-    reads_on q next failed left drained behind goes None h =
-        subst (λ (l : Option (List ℕ)). SessionProgress keeps s q l q.drained) (sym left)
-        (subst (λ (d : Bool). SessionProgress keeps s q p.left d) (sym drained) (goes p.left p.drained h))
-    reads_on q next failed left drained behind goes (Some stop) h = record {
+    -- Why no more is read stays so.
+    why_on : (core : CoreView) (left : Option (List ℕ)) (drained : Bool) (stop : ReadEnd) → core.next ≡ p.core.next → (p.core.failed ≡ true → core.failed ≡ true)
+        → IsReadEnd s.core.geometry p.core left drained p.behind stop → IsReadEnd s.core.geometry core left drained p.behind stop
+    why_on core left drained ends_of_reading.EndOfInput next failed h = h
+    why_on core left drained ends_of_reading.ReadFailed next failed h = h
+    why_on core left drained ends_of_reading.TicketsExhausted next failed h = (next ∙ h.0, h.1)
+    why_on core left drained ends_of_reading.DeviceFailed next failed h = failed h
+
+    -- the other place, where as much of the input is left as at this one
+    abbrev reading_at : SessionView → SessionView
+    reading_at q = record q { left = p.left; drained = p.drained; behind = p.behind }
+
+    reads_on : (q : SessionView) → q.core.next ≡ p.core.next → (p.core.failed ≡ true → q.core.failed ≡ true)
+        → ((left : Option (List ℕ)) (drained : Bool) → SessionProgress keeps s p left drained → SessionProgress keeps s (reading_at q) left drained)
+        → (stop : Option ReadEnd) → ReadsOrHasEnded keeps s p stop → ReadsOrHasEnded keeps s (reading_at q) stop
+    reads_on q next failed goes None h = goes p.left p.drained h
+    reads_on q next failed goes (Some stop) h = record {
       left = h.left;
       drained = h.drained;
       gone = goes h.left h.drained h.gone;
-      why = subst (λ (b : Option (List ℕ)). IsReadEnd s.core.geometry q.core h.left h.drained b stop) (sym behind)
-          (why_on s.core.geometry p.core q.core h.left h.drained p.behind stop next failed h.why);
+      why = why_on q.core h.left h.drained stop next failed h.why;
     }
 
     -- so much of the input is left, wherever it is
     pub gone : (stop : Option ReadEnd) → ReadsOrHasEnded keeps s p stop → (left : Option (List ℕ)) × (drained : Bool) × SessionProgress keeps s p left drained
     gone None h = (p.left, p.drained, h)
     gone (Some stop) h = (h.left, h.drained, h.gone)
-
-    -- All that was answered in the output leads to the reorder buffer, whether it waits or not.
-    pub to_row : (left : Option (List ℕ)) (drained : Bool) → SessionProgress keeps s p left drained
-        → ServingProgress keeps (start_machine s) (machine p) p.row.lines s.input left drained (known_unless p.output_failed s.before) (known_unless p.output_failed (so_far p.sent p.out))
-    to_row left drained h =
-        sends_on keeps (start_machine s) (machine p) (h.waiting ++ p.row.lines) p.row.lines (known_unless p.output_failed p.sent) (known_unless p.output_failed (so_far p.sent p.out))
-        (sends_unless p.output_failed (h.waiting ++ p.row.lines) p.row.lines p.sent (so_far p.sent p.out)
-        (sends_waiting h.waiting p.row.lines p.out p.sent h.are_completed h.out_is)) s.input left drained (known_unless p.output_failed s.before) h.goes
 
   -- ---- what follows from the invariant
 
@@ -131,164 +129,161 @@ module _ (keeps : Type 0) where
   idle_of None p u none = absurd u
   idle_of (Some s) p u none =
       let k = gone s p p.stop u.reads in
-      idle_again keeps (start_machine s) (machine p) u.idle s.input k.0 k.1 (known_unless p.output_failed s.before) (known_unless p.output_failed (so_far p.sent p.out))
-      (subst (λ (l : List Line). ServingProgress keeps (start_machine s) (machine p) l s.input k.0 k.1 (known_unless p.output_failed s.before)
-      (known_unless p.output_failed (so_far p.sent p.out))) none (to_row s p k.0 k.1 k.2))
+      idle_again u.idle (subst (λ (l : List Line). ServingProgress keeps (start_machine s) (machine p) l s.input k.0 k.1 (known_unless p.output_failed s.before)
+      (known_unless p.output_failed (so_far p.sent p.out))) none (to_row k.2))
 
   -- ---- steps
 
-  -- The machine goes on.
-  pub on_machine : (o : Option Start) (p : SessionView) (core : CoreView) (dispatch_seat : DispatchSeatView) → SessionInvariantFrom keeps o p
-      → IsInternal keeps (machine p) (with_lent core dispatch_seat.lent) → dispatch_seat.bench ≡ p.dispatch_seat.bench → length dispatch_seat.lent ≡ length p.dispatch_seat.lent
-      → SessionInvariantFrom keeps o (record p { core = core; dispatch_seat = dispatch_seat })
-  on_machine None p core dispatch_seat u k bench places = absurd u
-  on_machine (Some s) p core dispatch_seat u k bench places =
-      let q : SessionView = record p { core = core; dispatch_seat = dispatch_seat } in
-      record {
-        idle = u.idle;
-        sure = u.sure;
-        fits = u.fits;
-        holds = k.holds;
-        places = places ∙ u.places ∙ ap (λ (z : _). z.slots) (sym bench);
-        knows = u.knows;
-        reads = reads_on s p q (quiet_ticket keeps (machine p) (machine q) [] k.passes) (still_failed keeps (machine p) (machine q) [] [] k.passes)
-            refl refl refl
-            (λ left drained h. record {
-              waiting = h.waiting;
-              are_completed = h.are_completed;
-              out_is = h.out_is;
-              counted = h.counted;
-              bounded = h.bounded;
-              goes = quiet_goes_on keeps (machine p) (machine q) k.passes (h.waiting ++ p.row.lines) (start_machine s) s.input left drained
-                  (known_unless p.output_failed s.before) (known_unless p.output_failed p.sent) h.goes;
-            }) p.stop u.reads;
-      }
+  -- from a place at which a session keeps its invariant, whatever its start
+  module _ (o : Option Start) (p : SessionView) (u : SessionInvariantFrom keeps o p) where
+    -- To another it goes on, if it does from each start.
+    goes_to : (q : SessionView) → ((s : Start) → SessionInvariant keeps s p → SessionInvariant keeps s q) → SessionInvariantFrom keeps o q
+    goes_to q goes = from o u
+      where
+        from : (o : Option Start) → SessionInvariantFrom keeps o p → SessionInvariantFrom keeps o q
+        from None u = absurd u
+        from (Some s) u = goes s u
 
-  -- A message is answered, and its line in the reorder buffer is completed.
-  pub on_answer : (o : Option Start) (p : SessionView) (core : CoreView) (row : ReorderBufferView) (ticket : ℕ) (reply : Reply) → SessionInvariantFrom keeps o p
-      → Holds (with_lent core p.dispatch_seat.lent) × RunsBetween keeps (machine p) (with_lent core p.dispatch_seat.lent) [] ((ticket, reply) ∷ [])
-      → row.lines ≡ map (complete_one ticket reply) p.row.lines → row.slots ≡ p.row.slots
-      → SessionInvariantFrom keeps o (record p { core = core; row = row })
-  on_answer None p core row ticket reply u k is slots = absurd u
-  on_answer (Some s) p core row ticket reply u k is slots =
-      let q : SessionView = record p { core = core; row = row } in
-      let replies = (ticket, reply) ∷ [] in
-      record {
-        idle = u.idle;
-        sure = u.sure;
-        fits = subst (λ (n : ℕ). n ≤ s.core.slots) (sym slots) u.fits;
-        holds = k.0;
-        places = u.places;
-        knows = u.knows;
-        reads = reads_on s p q (quiet_ticket keeps (machine p) (machine q) replies k.1) (still_failed keeps (machine p) (machine q) [] replies k.1)
-            refl refl refl
-            (λ left drained h. record {
-              waiting = h.waiting;
-              are_completed = h.are_completed;
-              out_is = h.out_is;
-              counted = let counted = h.counted in omega (arith, counted, ap length is, length-map p.row.lines (complete_one ticket reply));
-              bounded = let bounded = h.bounded in omega (arith, bounded, slots);
-              goes = subst (λ (l : List Line). ServingProgress keeps (start_machine s) (machine q) l s.input left drained (known_unless p.output_failed s.before)
-                  (known_unless p.output_failed p.sent))
-                  (are_left ticket reply h.waiting p.row.lines h.are_completed ∙ ap (λ (l : List Line). h.waiting ++ l) (sym is))
-                  (answered_goes_on keeps (machine p) (machine q) ticket reply k.1 (h.waiting ++ p.row.lines) (start_machine s) s.input left drained
-                  (known_unless p.output_failed s.before) (known_unless p.output_failed p.sent) h.goes);
-            }) p.stop u.reads;
-      }
-
-  -- The oldest line of the reorder buffer waits to be sent.
-  on_add_text : (o : Option Start) (p : SessionView) (row : ReorderBufferView) (out : List ℕ) → SessionInvariantFrom keeps o p
-      → row.lines ≡ drop 1 p.row.lines → can_retire p.row.lines ≡ true → out ≡ p.out ++ retired_text p.row.lines → row.slots ≡ p.row.slots
-      → SessionInvariantFrom keeps o (record p { row = row; out = out })
-  on_add_text None p row out u is next added slots = absurd u
-  on_add_text (Some s) p row out u is next added slots =
-      let f = fronts p.row.lines row.lines is next in
-      let one = f.line ∷ [] in
-      record {
-        idle = u.idle;
-        sure = u.sure;
-        fits = subst (λ (n : ℕ). n ≤ s.core.slots) (sym slots) u.fits;
-        holds = u.holds;
-        places = u.places;
-        knows = u.knows;
-        reads = reads_on s p (record p { row = row; out = out }) refl (λ x. x) refl refl refl
-            (λ left drained h. record {
-              waiting = h.waiting ++ one;
-              are_completed = all_join (λ line. is_completed line ≡ true) h.waiting one h.are_completed (f.answered, tt);
-              out_is = added ∙ ap (λ (l : List ℕ). l ++ retired_text p.row.lines) h.out_is
-                  ∙ ap (λ (l : List ℕ). joined (map text h.waiting) ++ l) (f.retires ∙ sym (append-nil (text f.line))) ∙ sym (texts_both h.waiting one);
-              counted = let counted = h.counted in omega (arith, counted, ap length f.were, length-append h.waiting one);
-              bounded = let bounded = h.bounded in omega (arith, bounded, slots);
-              goes = subst (λ (l : List Line). ServingProgress keeps (start_machine s) (machine p) l s.input left drained (known_unless p.output_failed s.before)
-                  (known_unless p.output_failed p.sent))
-                  (ap (λ (l : List Line). h.waiting ++ l) f.were ∙ sym (append_assoc h.waiting one row.lines)) h.goes;
-            }) p.stop u.reads;
-      }
-
-  -- So it does where it is completed, and else nothing moves.
-  pub on_retire_front : (o : Option Start) (p : SessionView) (row : ReorderBufferView) (out : List ℕ) (retired : Bool) → SessionInvariantFrom keeps o p
-      → retired ≡ can_retire p.row.lines → MatchBool retired (out ≡ p.out ++ retired_text p.row.lines) (out ≡ p.out)
-      → MatchBool retired (row.lines ≡ drop 1 p.row.lines) (row ≡ p.row) → row.slots ≡ p.row.slots
-      → SessionInvariantFrom keeps o (record p { row = row; out = out })
-  on_retire_front o p row out true u next added left slots = on_add_text o p row out u left (sym next) added slots
-  on_retire_front o p row out false u next added left slots =
-      subst (λ (r : ReorderBufferView). SessionInvariantFrom keeps o (record p { row = r; out = out })) (sym left)
-      (subst (λ (l : List ℕ). SessionInvariantFrom keeps o (record p { out = l })) (sym added) u)
-
-  -- All that waits is sent.
-  pub on_send : (o : Option Start) (p : SessionView) (out : List ℕ) (sent : Option (List ℕ)) (n : ℕ) → SessionInvariantFrom keeps o p
-      → out ≡ [] → Appends p.sent sent p.out → n ≡ length p.row.lines
-      → SessionInvariantFrom keeps o (record p { out = out; sent = sent; outstanding = n })
-  on_send None p out sent n u none appends are = absurd u
-  on_send (Some s) p out sent n u none appends are = record {
-    idle = u.idle;
-    sure = u.sure;
-    fits = u.fits;
-    holds = u.holds;
-    places = u.places;
-    knows = u.knows;
-    reads = reads_on s p (record p { out = out; sent = sent; outstanding = n }) refl (λ x. x) refl refl refl
-        (λ left drained h. record {
-          waiting = [];
-          are_completed = tt;
-          out_is = none;
-          counted = omega (arith, are);
-          bounded = let counted = h.counted in
-              let bounded = h.bounded in
-              omega (arith, are, counted, bounded);
-          goes = sends_on keeps (start_machine s) (machine p) (h.waiting ++ p.row.lines) p.row.lines (known_unless p.output_failed p.sent)
-              (known_unless p.output_failed sent)
-              (sends_unless p.output_failed (h.waiting ++ p.row.lines) p.row.lines p.sent sent (record {
-                sent_lines = h.waiting;
-                were = refl;
+    -- The machine goes on.
+    pub on_machine : (core : CoreView) (dispatch_seat : DispatchSeatView) → IsInternal keeps (machine p) (with_lent core dispatch_seat.lent)
+        → dispatch_seat.bench ≡ p.dispatch_seat.bench → length dispatch_seat.lent ≡ length p.dispatch_seat.lent
+        → SessionInvariantFrom keeps o (record p { core = core; dispatch_seat = dispatch_seat })
+    on_machine core dispatch_seat k bench places =
+        let q : SessionView = record p { core = core; dispatch_seat = dispatch_seat } in
+        goes_to q (λ s u. record {
+          idle = u.idle;
+          sure = u.sure;
+          fits = u.fits;
+          holds = k.holds;
+          places = places ∙ u.places ∙ ap (λ (z : _). z.slots) (sym bench);
+          knows = u.knows;
+          reads = reads_on s p q (quiet_ticket k.passes) (still_failed k.passes)
+              (λ left drained h. record {
+                waiting = h.waiting;
                 are_completed = h.are_completed;
-                output = subst (λ (l : List ℕ). Appends p.sent sent l) h.out_is appends;
-              })) s.input left drained (known_unless p.output_failed s.before) h.goes;
-        }) p.stop u.reads;
-  }
+                out_is = h.out_is;
+                counted = h.counted;
+                bounded = h.bounded;
+                goes = quiet_goes_on k.passes h.goes;
+              }) p.stop u.reads;
+        })
 
-  -- It could not be sent.
-  pub on_break : (o : Option Start) (p : SessionView) (sent : Option (List ℕ)) → SessionInvariantFrom keeps o p
-      → SessionInvariantFrom keeps o (record p { sent = sent; output_failed = true })
-  on_break None p sent u = absurd u
-  on_break (Some s) p sent u = record {
-    idle = u.idle;
-    sure = u.sure;
-    fits = u.fits;
-    holds = u.holds;
-    places = u.places;
-    knows = u.knows;
-    reads = reads_on s p (record p { sent = sent; output_failed = true }) refl (λ x. x) refl refl refl
-        (λ left drained h. record {
-          waiting = h.waiting;
-          are_completed = h.are_completed;
-          out_is = h.out_is;
-          counted = h.counted;
-          bounded = h.bounded;
-          goes = forgets keeps (start_machine s) (machine p) (h.waiting ++ p.row.lines) s.input left drained (known_unless p.output_failed s.before)
-              (known_unless p.output_failed p.sent) h.goes;
-        }) p.stop u.reads;
-  }
+    -- A message is answered, and its line in the reorder buffer is completed.
+    pub on_answer : (core : CoreView) (row : ReorderBufferView) (ticket : ℕ) (reply : Reply)
+        → Holds (with_lent core p.dispatch_seat.lent) × RunsBetween keeps (machine p) (with_lent core p.dispatch_seat.lent) [] ((ticket, reply) ∷ [])
+        → row.lines ≡ map (complete_one ticket reply) p.row.lines → row.slots ≡ p.row.slots
+        → SessionInvariantFrom keeps o (record p { core = core; row = row })
+    on_answer core row ticket reply k is slots =
+        let q : SessionView = record p { core = core; row = row } in
+        goes_to q (λ s u. record {
+          idle = u.idle;
+          sure = u.sure;
+          fits = subst (λ (n : ℕ). n ≤ s.core.slots) (sym slots) u.fits;
+          holds = k.0;
+          places = u.places;
+          knows = u.knows;
+          reads = reads_on s p q (quiet_ticket k.1) (still_failed k.1)
+              (λ left drained h. record {
+                waiting = h.waiting;
+                are_completed = h.are_completed;
+                out_is = h.out_is;
+                counted = let counted = h.counted in omega (arith, counted, ap length is, length-map p.row.lines (complete_one ticket reply));
+                bounded = let bounded = h.bounded in omega (arith, bounded, slots);
+                goes = subst (λ (l : List Line). ServingProgress keeps (start_machine s) (machine q) l s.input left drained (known_unless p.output_failed s.before)
+                    (known_unless p.output_failed p.sent))
+                    (are_left ticket reply h.waiting p.row.lines h.are_completed ∙ ap (λ (l : List Line). h.waiting ++ l) (sym is))
+                    (answered_goes_on k.1 h.goes);
+              }) p.stop u.reads;
+        })
+
+    -- The oldest line of the reorder buffer waits to be sent.
+    on_add_text : (row : ReorderBufferView) (out : List ℕ) → row.lines ≡ drop 1 p.row.lines → can_retire p.row.lines ≡ true
+        → out ≡ p.out ++ retired_text p.row.lines → row.slots ≡ p.row.slots → SessionInvariantFrom keeps o (record p { row = row; out = out })
+    on_add_text row out is next added slots =
+        let f = fronts p.row.lines row.lines is next in
+        let one = f.line ∷ [] in
+        let q : SessionView = record p { row = row; out = out } in
+        goes_to q (λ s u. record {
+          idle = u.idle;
+          sure = u.sure;
+          fits = subst (λ (n : ℕ). n ≤ s.core.slots) (sym slots) u.fits;
+          holds = u.holds;
+          places = u.places;
+          knows = u.knows;
+          reads = reads_on s p q refl (λ x. x)
+              (λ left drained h. record {
+                waiting = h.waiting ++ one;
+                are_completed = all_join (λ line. is_completed line ≡ true) h.waiting one h.are_completed (f.answered, tt);
+                out_is = added ∙ ap (λ (l : List ℕ). l ++ retired_text p.row.lines) h.out_is
+                    ∙ ap (λ (l : List ℕ). joined (map text h.waiting) ++ l) (f.retires ∙ sym (append-nil (text f.line))) ∙ sym (texts_both h.waiting one);
+                counted = let counted = h.counted in omega (arith, counted, ap length f.were, length-append h.waiting one);
+                bounded = let bounded = h.bounded in omega (arith, bounded, slots);
+                goes = subst (λ (l : List Line). ServingProgress keeps (start_machine s) (machine p) l s.input left drained (known_unless p.output_failed s.before)
+                    (known_unless p.output_failed p.sent))
+                    (ap (λ (l : List Line). h.waiting ++ l) f.were ∙ sym (append_assoc h.waiting one row.lines)) h.goes;
+              }) p.stop u.reads;
+        })
+
+    -- So it does where it is completed, and else nothing moves.
+    pub on_retire_front : (row : ReorderBufferView) (out : List ℕ) (retired : Bool) → retired ≡ can_retire p.row.lines
+        → MatchBool retired (out ≡ p.out ++ retired_text p.row.lines) (out ≡ p.out) → MatchBool retired (row.lines ≡ drop 1 p.row.lines) (row ≡ p.row)
+        → row.slots ≡ p.row.slots → SessionInvariantFrom keeps o (record p { row = row; out = out })
+    on_retire_front row out true next added left slots = on_add_text row out left (sym next) added slots
+    on_retire_front row out false next added left slots =
+        subst (λ (r : ReorderBufferView). SessionInvariantFrom keeps o (record p { row = r; out = out })) (sym left)
+        (subst (λ (l : List ℕ). SessionInvariantFrom keeps o (record p { out = l })) (sym added) u)
+
+    -- All that waits is sent.
+    pub on_send : (out : List ℕ) (sent : Option (List ℕ)) (n : ℕ) → out ≡ [] → Appends p.sent sent p.out → n ≡ length p.row.lines
+        → SessionInvariantFrom keeps o (record p { out = out; sent = sent; outstanding = n })
+    on_send out sent n none appends are =
+        let q : SessionView = record p { out = out; sent = sent; outstanding = n } in
+        goes_to q (λ s u. record {
+          idle = u.idle;
+          sure = u.sure;
+          fits = u.fits;
+          holds = u.holds;
+          places = u.places;
+          knows = u.knows;
+          reads = reads_on s p q refl (λ x. x)
+              (λ left drained h. record {
+                waiting = [];
+                are_completed = tt;
+                out_is = none;
+                counted = omega (arith, are);
+                bounded = let counted = h.counted in
+                    let bounded = h.bounded in
+                    omega (arith, are, counted, bounded);
+                goes = sends_on (sends_unless p.output_failed (record {
+                  sent_lines = h.waiting;
+                  were = refl;
+                  are_completed = h.are_completed;
+                  output = subst (λ (l : List ℕ). Appends p.sent sent l) h.out_is appends;
+                })) h.goes;
+              }) p.stop u.reads;
+        })
+
+    -- It could not be sent.
+    pub on_break : (sent : Option (List ℕ)) → SessionInvariantFrom keeps o (record p { sent = sent; output_failed = true })
+    on_break sent =
+        let q : SessionView = record p { sent = sent; output_failed = true } in
+        goes_to q (λ s u. record {
+          idle = u.idle;
+          sure = u.sure;
+          fits = u.fits;
+          holds = u.holds;
+          places = u.places;
+          knows = u.knows;
+          reads = reads_on s p q refl (λ x. x)
+              (λ left drained h. record {
+                waiting = h.waiting;
+                are_completed = h.are_completed;
+                out_is = h.out_is;
+                counted = h.counted;
+                bounded = h.bounded;
+                goes = forgets h.goes;
+              }) p.stop u.reads;
+        })
 
   -- What waits may be sent, where the core is as it always is.
   pub may_send : (o : Option Start) (p : SessionView) → SessionInvariantFrom keeps o p → p.output_failed ≡ false → (p.core.failed ≡ false → p.core.doubt ≡ [])
@@ -302,9 +297,9 @@ module _ (keeps : Type 0) where
         sure = u.sure;
         next = h.waiting;
         row = p.row.lines;
-        served = has_served keeps (start_machine s) (machine p) u.idle (h.waiting ++ p.row.lines) s.input k.0 k.1 s.before p.sent
+        served = has_served keeps (start_machine s) (machine p) u.idle none recovers
             (subst (λ (b : Bool). ServingProgress keeps (start_machine s) (machine p) (h.waiting ++ p.row.lines) s.input k.0 k.1 (known_unless b s.before)
-            (known_unless b p.sent)) whole h.goes) none recovers;
+            (known_unless b p.sent)) whole h.goes);
         are_completed = h.are_completed;
         bytes_are = h.out_is;
       }
@@ -357,8 +352,7 @@ module _ (keeps : Type 0) where
             bounded = bounded_next;
             goes = subst (λ (l : List Line). ServingProgress keeps (start_machine s) (machine next) l s.input left drained (known_unless p.output_failed s.before) sent)
                 (at_end h.waiting)
-                (line_goes_on keeps (start_machine s) (machine p) (machine next) (h.waiting ++ p.row.lines) known s.input p.left left p.drained drained
-                (known_unless p.output_failed s.before) sent u.idle going closes line t found h.goes);
+                (line_goes_on u.idle going closes line t found h.goes);
           })
 
       -- One that is too long is read.
@@ -376,8 +370,7 @@ module _ (keeps : Type 0) where
             bounded = bounded_next;
             goes = subst (λ (l : List Line). ServingProgress keeps (start_machine s) (machine next) l s.input left drained (known_unless p.output_failed s.before) sent)
                 (at_end h.waiting)
-                (long_line_goes_on keeps (start_machine s) (machine p) (machine next) (h.waiting ++ p.row.lines) known s.input p.left left p.drained drained
-                (known_unless p.output_failed s.before) sent u.idle going closes t found h.goes);
+                (long_line_goes_on u.idle going closes t found h.goes);
           })
 
     -- No more is read for this reason.
@@ -404,9 +397,7 @@ module _ (keeps : Type 0) where
               counted = counted_next h.waiting h.counted;
               bounded = bounded_next;
               goes = subst (λ (l : List Line). ServingProgress keeps (start_machine s) (machine next) l s.input p.left p.drained (known_unless p.output_failed s.before) sent)
-                  (ap (λ (l : List Line). h.waiting ++ l) (sym same))
-                  (quiet_goes_on keeps (machine p) (machine next) k.passes (h.waiting ++ p.row.lines) (start_machine s) s.input p.left p.drained
-                  (known_unless p.output_failed s.before) sent h.goes);
+                  (ap (λ (l : List Line). h.waiting ++ l) (sym same)) (quiet_goes_on k.passes h.goes);
             };
             why = subst (λ (y : Geometry). IsReadEnd y core p.left p.drained behind stop) h.goes.serving.passes.geometry why;
           };
@@ -416,9 +407,7 @@ module _ (keeps : Type 0) where
   pub follows : (o : Option Start) (p : SessionView) → p.stop ≡ None → SessionInvariantFrom keeps o p
       → AreConsecutive (with_tickets p.row.lines ++ Pending p.core.next ∷ [])
   follows None p none u = absurd u
-  follows (Some s) p none u =
-      let h = to_row s p p.left p.drained (reading s p none u) in
-      next_follows keeps (start_machine s) (machine p) h.taken h.sent_lines p.row.lines h.serving
+  follows (Some s) p none u = next_follows (to_row (reading s p none u)).serving
 
   -- Where fewer lines are outstanding than there are slots, the reorder buffer has room for a further one.
   pub has_place : (o : Option Start) (p : SessionView) → SessionInvariantFrom keeps o p → p.outstanding < p.row.slots → length p.row.lines < p.row.slots
@@ -434,13 +423,12 @@ module _ (keeps : Type 0) where
   has_slot None p m none u room = absurd u
   has_slot (Some s) p m none u room =
       let fits = u.fits in
-      finds_a_slot keeps (start_machine s) (machine p) u.idle p.row.lines s.input p.left p.drained (known_unless p.output_failed s.before)
-      (known_unless p.output_failed (so_far p.sent p.out)) m (to_row s p p.left p.drained (reading s p none u)) (omega (arith, room, fits))
+      finds_a_slot m u.idle (to_row (reading s p none u)) (omega (arith, room, fits))
 
 -- ---- where it begins
 
 pub begins_at : (keeps : Type 0) (o : Option Start) (s : Start) (p : SessionView) → o ≡ Some s → SessionInvariant keeps s p → SessionInvariantFrom keeps o p
 begins_at keeps o s p is u = subst (λ (o : Option Start). SessionInvariantFrom keeps o p) (sym is) u
 
-pub begun : (keeps : Type 0) (o : Option Start) (s : Start) (p : SessionView) → o ≡ Some s → SessionInvariantFrom keeps o p → SessionInvariant keeps s p
-begun keeps o s p is u = subst (λ (o : Option Start). SessionInvariantFrom keeps o p) is u
+pub begun : {keeps : Type 0} {o : Option Start} {s : Start} {p : SessionView} → o ≡ Some s → SessionInvariantFrom keeps o p → SessionInvariant keeps s p
+begun {keeps} {p} is u = subst (λ (o : Option Start). SessionInvariantFrom keeps o p) is u

@@ -44,7 +44,7 @@ halts_so (Err e) (Err y) same whole failed is h f = λ _. f
 
 -- ---- where a point is to begin and none is in progress
 
-module _ (old : CoreState) (left : old.left ≡ None) where
+module _ (old : CoreState) (left : old.left ≡ None) (new : CoreState) (made : Type 0) where
   abbrev if_held : Bool → Option PointRefusal
   if_held b = if b then Some points.Held else None
 
@@ -59,10 +59,9 @@ module _ (old : CoreState) (left : old.left ≡ None) where
     none_rests = ap (λ (l : List Entry). if_held (nat_lt 0 (length l))) (sym none_held) ∙ no_other
 
     -- Where none is held, only by the device.
-    pub point_fails : (new : CoreState) (made : Type 0) (r : Result (Unit {0}) PointRefusal) → IsPointStep old new (point_refusal old) made r
-        → OnErr r (new.failed ≡ true)
-    point_fails new made (Ok x) h = tt
-    point_fails new made (Err refusal) h = refused_so old new (point_refusal old) made refusal h
+    pub point_fails : (r : Result (Unit {0}) PointRefusal) → IsPointStep old new (point_refusal old) made r → OnErr r (new.failed ≡ true)
+    point_fails (Ok x) h = tt
+    point_fails (Err refusal) h = refused_so old new (point_refusal old) made refusal h
         (λ e. failed_so old.failed rest refusal e (λ d. absurd (none-some refusal (none_rests ∙ d))))
 
   abbrev why_of : Option PointRefusal → PointRefusal
@@ -74,9 +73,8 @@ module _ (old : CoreState) (left : old.left ≡ None) where
   held_alone false refusal e = absurd (none-some refusal e)
 
   -- Where it is refused for another reason than that one is held, it is by the device.
-  begins_or_fails : (new : CoreState) (made : Type 0) (refusal : PointRefusal) → refusal ≢ points.Held
-      → IsPointStep old new (point_refusal old) made (Err refusal) → new.failed ≡ true
-  begins_or_fails new made refusal not_held h = refused_so old new (point_refusal old) made refusal h
+  begins_or_fails : (refusal : PointRefusal) → refusal ≢ points.Held → IsPointStep old new (point_refusal old) made (Err refusal) → new.failed ≡ true
+  begins_or_fails refusal not_held h = refused_so old new (point_refusal old) made refusal h
       (λ e. failed_so old.failed rest refusal e (λ d. absurd (not_held (held_alone (nat_lt 0 (length (held old))) refusal (no_other ∙ d)))))
 
   abbrev is_held : Option PointRefusal → Bool
@@ -88,18 +86,17 @@ module _ (old : CoreState) (left : old.left ≡ None) where
   none_waits none_held false e = none-some points.Held (none_rests none_held ∙ e)
 
   -- So a session halts only where the device has failed, and else it has begun, where none is held.
-  pub halts : (new : CoreState) (made same whole : Type 0) (cut : Result (Unit {0}) PointRefusal) (result : Result (Unit {0}) Halted)
-      → IsPointStep old new (point_refusal old) made cut → BeginsOrWaits cut result → same
-      → MatchResult result (λ _. same) (λ _. whole → new.failed ≡ true)
-  halts new made same whole cut (Ok x) h b s = s
-  halts new made same whole (Ok x) (Err y) h b s = absurd b
-  halts new made same whole (Err why) (Err y) h b s = λ _. begins_or_fails new made why b h
+  pub halts : {same : Type 0} (whole : Type 0) (cut : Result (Unit {0}) PointRefusal) (result : Result (Unit {0}) Halted)
+      → IsPointStep old new (point_refusal old) made cut → BeginsOrWaits cut result → same → MatchResult result (λ _. same) (λ _. whole → new.failed ≡ true)
+  halts whole cut (Ok x) h b s = s
+  halts whole (Ok x) (Err y) h b s = absurd b
+  halts whole (Err why) (Err y) h b s = λ _. begins_or_fails why b h
 
-  pub begins : (new : CoreState) (made begun : Type 0) → (made → begun) → (cut : Result (Unit {0}) PointRefusal) (result : Result (Unit {0}) Halted)
+  pub begins : {begun : Type 0} → (made → begun) → (cut : Result (Unit {0}) PointRefusal) (result : Result (Unit {0}) Halted)
       → IsPointStep old new (point_refusal old) made cut → BeginsOrWaits cut result → OnOk result (held new ≡ [] → begun)
-  begins new made begun so cut (Err y) h b = tt
-  begins new made begun so (Ok x) (Ok y) h b = λ _. so h.1
-  begins new made begun so (Err why) (Ok y) h b = λ none_held.
+  begins so cut (Err y) h b = tt
+  begins so (Ok x) (Ok y) h b = λ _. so h.1
+  begins so (Err why) (Ok y) h b = λ none_held.
       let k = subst (λ (r : PointRefusal). IsPointStep old new (point_refusal old) made (Err r)) b h in
       absurd (none_waits (ap held (sym k.1) ∙ none_held) old.failed k.0)
 

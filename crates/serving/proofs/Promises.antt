@@ -28,34 +28,32 @@ all_taken (Some input) (Some bs) ended taken t at_end =
     t.2.to_come ∙ ap (λ l. taken ++ lines l) none ∙ append-nil taken
 
 -- where the core at the end is as it always is
-module _ (keeps : Type 0) (start now : MachineView) (idle : IsIdle (core_state_of start.core)) (input left : Option (List ℕ)) (ended : Bool)
-    (before written : Option (List ℕ)) (no_doubt : now.core.failed ≡ false → now.core.doubt ≡ []) (recovers : keeps → RecoversNow now.core) where
+module _ {keeps : Type 0} {start now : MachineView} (idle : IsIdle (core_state_of start.core)) {input left : Option (List ℕ)} {ended : Bool}
+    {before written : Option (List ℕ)} (no_doubt : now.core.failed ≡ false → now.core.doubt ≡ []) (recovers : keeps → RecoversNow now.core) where
   pub runs_whole : ServingProgress keeps start now [] input left ended before written → IsAtEnd left
       → HasRunSo keeps start now.core input before written (Ok tt)
   unfolding has_served
   runs_whole h at_end = record {
-    served = has_served keeps start now idle [] input left ended before written h no_doubt recovers;
+    served = has_served keeps start now idle no_doubt recovers h;
     all = all_taken input left ended h.taken h.takes at_end;
   }
 
   pub runs_to_read : ServingProgress keeps start now [] input left ended before written
       → HasRunSo keeps start now.core input before written (Err faults.Read)
-  runs_to_read h = has_served keeps start now idle [] input left ended before written h no_doubt recovers
+  runs_to_read h = has_served keeps start now idle no_doubt recovers h
 
   pub runs_to_last_ticket : ServingProgress keeps start now [] input left ended before written
       → HasRunSo keeps start now.core input before written (Err faults.Exhausted)
-  runs_to_last_ticket h = has_served keeps start now idle [] input left ended before written h no_doubt recovers
+  runs_to_last_ticket h = has_served keeps start now idle no_doubt recovers h
 
-  pub runs_to_device : (row : List Line) → ServingProgress keeps start now row input left ended before written → can_retire row ≡ false
+  pub runs_to_device : {row : List Line} → ServingProgress keeps start now row input left ended before written → can_retire row ≡ false
       → HasRunSo keeps start now.core input before written (Err faults.Device)
-  runs_to_device row h last = (row, has_served keeps start now idle row input left ended before written h no_doubt recovers, last)
+  runs_to_device {row} h last = (row, has_served keeps start now idle no_doubt recovers h, last)
 
   -- whatever was written since
-  pub runs_to_write : (row : List Line) (torn : Option (List ℕ)) → ServingProgress keeps start now row input left ended before written
+  pub runs_to_write : {row : List Line} (torn : Option (List ℕ)) → ServingProgress keeps start now row input left ended before written
       → HasRunSo keeps start now.core input before torn (Err faults.Write)
-  runs_to_write row torn h =
-      let s = has_served keeps start now idle row input left ended before written h no_doubt recovers in
-      (s.taken, s.stages, s.run)
+  runs_to_write torn h = let s = has_served keeps start now idle no_doubt recovers h in (s.taken, s.stages, s.run)
 
 -- ---- a server that was refused
 
@@ -64,7 +62,7 @@ module _ (keeps : Type 0) (core : CoreView) (places : ℕ) (idle : IsIdle (core_
   not_run : HasServed keeps (with_lent core (replicate places None)) core [] input before before
   not_run =
       let start = with_lent core (replicate places None) in
-      has_served keeps start start idle [] input input false before before (starts keeps start input before) no_doubt recovers
+      has_served keeps start start idle no_doubt recovers (starts keeps start input before)
 
   pub no_workers_ran : HasRunSo keeps (with_lent core (replicate places None)) core input before before (Err faults.NoWorkers)
   no_workers_ran = not_run

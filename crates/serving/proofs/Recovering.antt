@@ -19,7 +19,7 @@ use Rattle.meaning.specs.Output.{WritesOutput, answer_line, joined, output_lines
 use Rattle.meaning.specs.Serial.{fold, next_state, reply_to}
 use Rattle.meaning.specs.State.{State}
 use Rattle.legal_runs.specs.Events.{loggable}
-use Rattle.legal_runs.specs.Laws.{AreAscending, IsSerialLog, ticket_replies}
+use Rattle.legal_runs.specs.Laws.{AreAscending, ticket_replies}
 use Rattle.legal_runs.specs.CoreState.{Entry, Replied, are_related_entries, entries}
 use Rattle.legal_runs.proofs.Elements.{in_contained}
 use Rattle.legal_runs.proofs.SerialReplies.{IsIn, in_left}
@@ -224,22 +224,21 @@ some_is : (m k : Msg) → Some m ≡ Some k → m ≡ k
 some_is m k h = cc
 
 -- The first message is given its own reply, and the replies to come are given behind it.
-its_reply : (g : Geometry) (x : State) (n : ℕ) (m : Msg) (log : List Replied) (es : List Entry) → AllByRecursion (λ e. n + 1 ≤ e.0) es
-    → HaveSerialReplies g x n log ((n, m) ∷ es) → (k : Msg) (reply : Reply) → IsIn (n, k, reply) log → reply ≡ reply_to g x m
-its_reply g x n m log es h serial_all k reply is = ⊎_elim
-    (λ (less : n < n). absurd (omega (arith, less)))
-    (λ here. ⊎_elim (λ (same : (n, reply) ≡ (n, reply_to g x m)). ap (λ (q : ℕ × Reply). q.1) same)
-    (λ later. let from : n + 1 ≤ n = serial_from g (next_state g x m) (n + 1) es h (n, reply) later in absurd (omega (arith, from))) here)
-    (serial_all n k reply is)
+module _ (g : Geometry) (x : State) (n : ℕ) (m : Msg) (log : List Replied) (es : List Entry) (serial_all : HaveSerialReplies g x n log ((n, m) ∷ es)) where
+  its_reply : AllByRecursion (λ e. n + 1 ≤ e.0) es → (k : Msg) (reply : Reply) → IsIn (n, k, reply) log → reply ≡ reply_to g x m
+  its_reply h k reply is = ⊎_elim
+      (λ (less : n < n). absurd (omega (arith, less)))
+      (λ here. ⊎_elim (λ (same : (n, reply) ≡ (n, reply_to g x m)). ap (λ (q : ℕ × Reply). q.1) same)
+      (λ later. let from : n + 1 ≤ n = serial_from g (next_state g x m) (n + 1) es h (n, reply) later in absurd (omega (arith, from))) here)
+      (serial_all n k reply is)
 
-serial_on : (g : Geometry) (x : State) (n : ℕ) (m : Msg) (log : List Replied) (es : List Entry) → HaveSerialReplies g x n log ((n, m) ∷ es)
-    → HaveSerialReplies g (next_state g x m) (n + 1) log es
-serial_on g x n m log es serial_all t k reply is = ⊎_elim
-    (λ (less : t < n). inl (omega (arith, less)))
-    (λ here. ⊎_elim
-    (λ (same : (t, reply) ≡ (n, reply_to g x m)). let at : t ≡ n = ap (λ (q : ℕ × Reply). q.0) same in inl (omega (arith, at)))
-    (λ later. inr later) here)
-    (serial_all t k reply is)
+  serial_on : HaveSerialReplies g (next_state g x m) (n + 1) log es
+  serial_on t k reply is = ⊎_elim
+      (λ (less : t < n). inl (omega (arith, less)))
+      (λ here. ⊎_elim
+      (λ (same : (t, reply) ≡ (n, reply_to g x m)). let at : t ≡ n = ap (λ (q : ℕ × Reply). q.0) same in inl (omega (arith, at)))
+      (λ later. inr later) here)
+      (serial_all t k reply is)
 
 module _ (g : Geometry) (log : List Replied) where
   none_answered : (x : State) (n : ℕ) (ls : List (List ℕ)) (es : List Entry) → HasNoGap g es (ticketed n (admitted g ls)) → AnswersFirst g x es ls []
@@ -247,10 +246,10 @@ module _ (g : Geometry) (log : List Replied) where
       let s = spells_part g n ls es h in
       record { first = []; behind = ls; parts = refl; answers = refl; part = s.part; closed = s.closed; state = leads g x s.part es s.spell }
 
-  one_more : (x : State) (es fs : List Entry) (line : List ℕ) (ls : List (List ℕ)) (w : List ℕ) (written : List (List ℕ))
+  one_more : {x : State} {es fs : List Entry} {line : List ℕ} {ls : List (List ℕ)} {w : List ℕ} {written : List (List ℕ)}
       → w ≡ answer_line g x (message_of line) → fold g x (messages es) ≡ fold g (state_after_line g x (message_of line)) (messages fs)
       → AnswersFirst g (state_after_line g x (message_of line)) fs ls written → AnswersFirst g x es (line ∷ ls) (w ∷ written)
-  one_more x es fs line ls w written retires goes rest = record {
+  one_more {line} retires goes rest = record {
     first = line ∷ rest.first;
     behind = rest.behind;
     parts = ap (λ l. line ∷ l) rest.parts;
@@ -269,7 +268,7 @@ module _ (g : Geometry) (log : List Replied) where
         let stays = state_stays g x (message_of line) none in
         let retires = kept_line g x log n (message_of line) w k
         (λ m reply is in_range its. absurd (true≢false (sym in_range ∙ not_in_range g m (ap (admitted_in g) (sym is) ∙ none)))) in
-        one_more x es es line ls w written retires (ap (λ y. fold g y (messages es)) (sym stays))
+        one_more retires (ap (λ y. fold g y (messages es)) (sym stays))
         (subst (λ y. AnswersFirst g y es ls written) (sym stays) (on x n es h serial_all rest))
 
     answers_one : (m : Msg) → message_of line ≡ Some m → is_in_range g m ≡ true → HasNoGap g es ((n, m) ∷ ticketed (n + 1) (admitted g ls))
@@ -282,8 +281,8 @@ module _ (g : Geometry) (log : List Replied) where
         let serial_here = subst (HaveSerialReplies g x n log) j.1 serial_all in
         let behind = from_gap g (n + 1) j.0 (ticketed (n + 1) (admitted g ls)) late j.2 in
         let retires = kept_line g x log n (Some m) w k
-        (λ m' reply same in_range its. its_reply g x n m log j.0 behind serial_here m' reply its ∙ ap (reply_to g x) (some_is m m' same)) in
-        one_more x es j.0 line ls w written (retires ∙ ap (answer_line g x) (sym is))
+        (λ m' reply same in_range its. its_reply g x n m log j.0 serial_here behind m' reply its ∙ ap (reply_to g x) (some_is m m' same)) in
+        one_more (retires ∙ ap (answer_line g x) (sym is))
         (ap (λ l. fold g x (messages l)) j.1 ∙ ap (λ o. fold g (state_after_line g x o) (messages j.0)) (sym is))
         (subst (λ o. AnswersFirst g (state_after_line g x o) j.0 ls written) (sym is)
         (on (next_state g x m) (n + 1) j.0 j.2 (serial_on g x n m log j.0 serial_here) rest)))
@@ -293,24 +292,23 @@ module _ (g : Geometry) (log : List Replied) where
         (λ here. let from : n + 1 ≤ n = serial_from g x (n + 1) es behind (n, its.0) here in absurd (omega (arith, from)))
         (serial_all n m its.0 its.1)) h
 
-pub answers_first : (g : Geometry) (log : List Replied) (x : State) (n : ℕ) (ls written : List (List ℕ)) (es : List Entry)
-    → HasNoGap g es (ticketed n (admitted g ls)) → HaveSerialReplies g x n log es → AreInLog g log n ls written → AnswersFirst g x es ls written
-answers_first g log x n ls [] es h serial_all k = none_answered g log x n ls es h
-answers_first g log x n [] (w ∷ written) es h serial_all k = absurd k
-answers_first g log x n (line ∷ ls) (w ∷ written) es h serial_all k =
-    let on = λ (y : State) (i : ℕ) (fs : List Entry) (h : HasNoGap g fs (ticketed i (admitted g ls))) (t : HaveSerialReplies g y i log fs)
-    (k : AreInLog g log i ls written). answers_first g log y i ls written fs h t k in
-    let o = message_of line in
-    ⊎_elim
-    (λ (none : admitted_in g o ≡ []).
-    answers_none g log x n line ls w written es on none
-    (subst (λ ms. HasNoGap g es (ticketed n (ms ++ admitted g ls))) none h) serial_all k.0
-    (subst (λ ms. AreInLog g log (next_ticket n ms) ls written) none k.1))
-    (λ (j : (m : Msg) × (o ≡ Some m) × (admitted_in g o ≡ m ∷ [])).
-    answers_one g log x n line ls w written es on j.0 j.1 (ranges_too g j.0 (ap (admitted_in g) (sym j.1) ∙ j.2))
-    (subst (λ ms. HasNoGap g es (ticketed n (ms ++ admitted g ls))) j.2 h) serial_all
-    (subst (λ o. IsInLog g log n o w) j.1 k.0) (subst (λ ms. AreInLog g log (next_ticket n ms) ls written) j.2 k.1))
-    (takes_one g o)
+  answers_first : (x : State) (n : ℕ) (ls written : List (List ℕ)) (es : List Entry) → HasNoGap g es (ticketed n (admitted g ls))
+      → HaveSerialReplies g x n log es → AreInLog g log n ls written → AnswersFirst g x es ls written
+  answers_first x n ls [] es h serial_all k = none_answered x n ls es h
+  answers_first x n [] (w ∷ written) es h serial_all k = absurd k
+  answers_first x n (line ∷ ls) (w ∷ written) es h serial_all k =
+      let on = λ (y : State) (i : ℕ) (fs : List Entry) (h : HasNoGap g fs (ticketed i (admitted g ls))) (t : HaveSerialReplies g y i log fs)
+      (k : AreInLog g log i ls written). answers_first y i ls written fs h t k in
+      let o = message_of line in
+      ⊎_elim
+      (λ (none : admitted_in g o ≡ []).
+      answers_none x n line ls w written es on none (subst (λ ms. HasNoGap g es (ticketed n (ms ++ admitted g ls))) none h) serial_all k.0
+      (subst (λ ms. AreInLog g log (next_ticket n ms) ls written) none k.1))
+      (λ (j : (m : Msg) × (o ≡ Some m) × (admitted_in g o ≡ m ∷ [])).
+      answers_one x n line ls w written es on j.0 j.1 (ranges_too g j.0 (ap (admitted_in g) (sym j.1) ∙ j.2))
+      (subst (λ ms. HasNoGap g es (ticketed n (ms ++ admitted g ls))) j.2 h) serial_all
+      (subst (λ o. IsInLog g log n o w) j.1 k.0) (subst (λ ms. AreInLog g log (next_ticket n ms) ls written) j.2 k.1))
+      (takes_one g o)
 
 -- ---- what a log leads to
 
@@ -332,30 +330,29 @@ longer g part (line ∷ ls) rest h = ⊎_elim
     inr (k.0, longer g part ls rest k.1)) h
 
 -- Where the first lines of an input were consumed, and a log has what was written for the first of these, it leads where a restart may go on.
-pub recovers_to : (g : Geometry) (x : State) (n : ℕ) (input : List ℕ) (taken rest written : List (List ℕ)) (log more : List Replied)
-    → lines input ≡ taken ++ rest → AreInLog g log n taken written → IsSerialLog g x (ticketed n (admitted g taken)) (log ++ more)
-    → RecoversTo g x (fold g x (loggable (log ++ more))) input (joined written)
-recovers_to g x n input taken rest written log more first kept serial =
-    let arrivals = ticketed n (admitted g taken) in
-    let sorted = sorted_log g x arrivals (log ++ more) (ascending n (admitted g taken)) serial in
-    let es = by_ticket (entries (log ++ more)) in
-    let a = answers_first g log x n taken written es sorted.no_gap
-    (λ t m reply is. inr (sorted.tells (t, reply) (said_so (log ++ more) t m reply (in_left (t, m, reply) log more is)))) kept in
+recovers_to : {g : Geometry} {x : State} {input : List ℕ} {log : List Replied} {bytes : List ℕ} (n : ℕ) (taken written : List (List ℕ))
+    → AreFirst (Some input) taken → AreInLog g log n taken written → (h : HoldsLog g x (ticketed n (admitted g taken)) log bytes)
+    → RecoversTo g x (fold g x (loggable (log ++ h.more))) input (joined written)
+recovers_to {g} {x} {log} n taken written first kept h =
+    let whole = log ++ h.more in
+    let sorted = sorted_log g x (ticketed n (admitted g taken)) whole (ascending n (admitted g taken)) h.serial in
+    let a = answers_first g log x n taken written (by_ticket (entries whole)) sorted.no_gap
+    (λ t m reply is. inr (sorted.tells (t, reply) (said_so whole t m reply (in_left (t, m, reply) log h.more is)))) kept in
     record {
       acknowledged = a.first;
-      behind = a.behind ++ rest;
-      first = first ∙ ap (λ l. l ++ rest) a.parts ∙ append_assoc a.first a.behind rest;
+      behind = a.behind ++ first.0;
+      first = first.1 ∙ ap (λ l. l ++ first.0) a.parts ∙ append_assoc a.first a.behind first.0;
       answers = ap joined a.answers;
       part = a.part;
-      closed = longer g a.part a.behind rest a.closed;
+      closed = longer g a.part a.behind first.0 a.closed;
       state = sorted.state ∙ a.state;
     }
 
 -- So it is where these bytes hold what was written.
-pub bytes_recover : (g : Geometry) (x : State) (n : ℕ) (input before written : Option (List ℕ)) (taken answers : List (List ℕ))
-    (log : List Replied) (bytes : List ℕ) → AreFirst input taken → Appends before written (joined answers) → AreInLog g log n taken answers
+pub bytes_recover : {g : Geometry} {x : State} {input before written : Option (List ℕ)} {log : List Replied} {bytes : List ℕ} (n : ℕ)
+    (taken answers : List (List ℕ)) → AreFirst input taken → Appends before written (joined answers) → AreInLog g log n taken answers
     → HoldsLog g x (ticketed n (admitted g taken)) log bytes → BytesRecover g x input before written bytes
-bytes_recover g x n input before written taken answers log bytes first output kept h = record {
+bytes_recover {g} {x} {input} {before} {written} {log} n taken answers first output kept h = record {
   now = fold g x (loggable (log ++ h.more));
   holds_now = h.recovers;
   recovers = so input first;
@@ -364,7 +361,7 @@ bytes_recover g x n input before written taken answers log bytes first output ke
     so : (input : Option (List ℕ)) → AreFirst input taken
         → WritesOutput input before written (RecoversTo g x (fold g x (loggable (log ++ h.more))))
     so None first = tt
-    so (Some all) first = (joined answers, output, recovers_to g x n all taken first.0 answers log h.more first.1 kept h.serial)
+    so (Some all) first = (joined answers, output, recovers_to n taken answers first kept h)
 
 -- where nothing was written, nothing of the input need be there
 pub none_written : (g : Geometry) (x : State) (input : List ℕ) → RecoversTo g x x input []

@@ -82,10 +82,8 @@ module _ (keeps : Type 0) (core : CoreView) (lent : List (Option JobView)) (none
     emptied = set-twice hands k (has.Result done) has.Empty ∙ sym (hands-set lent k None)
 
     passes : RunsBetween keeps (at hands core) (at (set ran k has.Empty) new) [] []
-    passes = passes_on keeps (at hands core) (at ran core) (at (set ran k has.Empty) new) [] [] [] []
-        (step_passes keeps (at hands core) (at ran core) (steps.Run k) outcomes.Ran moved.0)
-        (step_passes keeps (at ran core) (at (set ran k has.Empty) new) (steps.Back k) (outcomes.Back done.ticket)
-        (back_step keeps core ran none recovers moved.1 k done result_there new geometry same found one_out reply_pairs state_after))
+    passes = passes_on (step_passes moved.0)
+        (step_passes (back_step keeps core ran none recovers moved.1 k done result_there new geometry same found one_out reply_pairs state_after))
 
     pub gives_back : IsInternal keeps (with_lent core lent) (with_lent new (set lent k None))
     gives_back = subst (λ (l : List Holding). IsInternal keeps (at hands core) (at l new)) emptied (record {

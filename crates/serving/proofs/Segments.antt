@@ -30,7 +30,7 @@ counted : (b : Bool) (old new : ℕ) → CountsFailure b old new → new ≡ old
 counted true old new h = h
 counted false old new h = h ∙ sym (add-zero old)
 
-module _ (keeps : Type 0) (old new : MachineView) (step : Step) (outcome : Outcome) (k : IsMachineStep keeps old new step outcome) where
+module _ {keeps : Type 0} {old new : MachineView} {step : Step} {outcome : Outcome} (k : IsMachineStep keeps old new step outcome) where
   abbrev event : Event
   event = record { step = step; outcome = outcome; rose = k.rose; state_after = machine_of new }
 
@@ -49,10 +49,10 @@ module _ (keeps : Type 0) (old new : MachineView) (step : Step) (outcome : Outco
   }
 
 -- A segment in which nothing arrives and nothing is answered leaves what is known of the lines.
-pub quiet_goes_on : (keeps : Type 0) (old new : MachineView) → RunsBetween keeps old new [] [] → (row : List Line) (start : MachineView)
-    (input left : Option (List ℕ)) (ended : Bool) (before written : Option (List ℕ)) → ServingProgress keeps start old row input left ended before written
+pub quiet_goes_on : {keeps : Type 0} {start old new : MachineView} {row : List Line} {input left : Option (List ℕ)} {ended : Bool}
+    {before written : Option (List ℕ)} → RunsBetween keeps old new [] [] → ServingProgress keeps start old row input left ended before written
     → ServingProgress keeps start new row input left ended before written
-quiet_goes_on keeps old new p row start input left ended before written h =
+quiet_goes_on {keeps} {start} {new} p h =
     let come = ticketed start.core.next (admitted start.core.geometry h.taken) in
     let s = h.serving in
     record {
@@ -63,7 +63,7 @@ quiet_goes_on keeps old new p row start input left ended before written h =
         reply_pairs = s.reply_pairs;
         passes = subst (λ (es : List Entry). RunsBetween keeps start new es s.reply_pairs) (append-nil come)
             (subst (λ (l : List (ℕ × Reply)). RunsBetween keeps start new (come ++ []) l) (append-nil s.reply_pairs)
-            (passes_on keeps start old new come [] s.reply_pairs [] s.passes p));
+            (passes_on s.passes p));
         known = s.known;
         answered = s.answered;
       };
@@ -76,23 +76,23 @@ run_fails : (g : Geometry) (old : Hands) (events : List Event) → IsLegal g old
 run_fails g old [] legal failed = failed
 run_fails g old (event ∷ events) legal failed = run_fails g event.state_after events legal.1 (failure_lasts g old event legal.0 failed).failed
 
-pub still_failed : (keeps : Type 0) (old new : MachineView) (come : List Entry) (reply_pairs : List (ℕ × Reply)) → RunsBetween keeps old new come reply_pairs
+pub still_failed : {keeps : Type 0} {old new : MachineView} {come : List Entry} {reply_pairs : List (ℕ × Reply)} → RunsBetween keeps old new come reply_pairs
     → old.core.failed ≡ true → new.core.failed ≡ true
-still_failed keeps old new come reply_pairs p failed =
+still_failed {old} p failed =
     ap (λ (w : Hands). w.core.failed) (sym p.ends) ∙ run_fails old.core.geometry (machine_of old) _ p.legal failed
 
 -- A step of the core alone, in which nothing arrives or is answered, and nothing is dispatched or collected.
-pub core_is_quiet : (keeps : Type 0) (old new : CoreView) (step : Step) (outcome : Outcome) → IsCoreStep keeps old new step outcome
-    → moves_what_is_out step ≡ false → arrives step outcome ≡ [] → answers outcome ≡ [] → (hands : List Holding)
-    → Holds (record { core = old; hands = hands }) → IsInternal keeps (record { core = old; hands = hands }) (record { core = new; hands = hands })
-core_is_quiet keeps old new step outcome k still none_come none_told hands h =
+pub core_is_quiet : {keeps : Type 0} {old new : CoreView} {hands : List Holding} (step : Step) (outcome : Outcome) → IsCoreStep keeps old new step outcome
+    → moves_what_is_out step ≡ false → arrives step outcome ≡ [] → answers outcome ≡ [] → Holds (record { core = old; hands = hands })
+    → IsInternal keeps (record { core = old; hands = hands }) (record { core = new; hands = hands })
+core_is_quiet {keeps} {old} {new} {hands} step outcome k still none_come none_told h =
     let was : MachineView = record { core = old; hands = hands } in
     let now : MachineView = record { core = new; hands = hands } in
     record {
       holds = core_holds keeps old new hands step outcome h k still;
       passes = subst (λ (es : List Entry). RunsBetween keeps was now es []) none_come
           (subst (λ (l : List (ℕ × Reply)). RunsBetween keeps was now (arrives step outcome) l) none_told
-          (step_passes keeps was now step outcome (core_step keeps old new hands step outcome h k)));
+          (step_passes (core_step keeps old new hands step outcome h k)));
     }
 
 -- ---- logs
@@ -100,14 +100,6 @@ core_is_quiet keeps old new step outcome k still none_come none_told hands h =
 no_answer_of_log : (r : Result ℕ CoreFault) → answers (log_outcome r) ≡ []
 no_answer_of_log (Ok count) = refl
 no_answer_of_log (Err why) = refl
-
-pub log_is_quiet : (keeps : Type 0) (old new : CoreView) (n : ℕ) (r : Result ℕ CoreFault)
-    → IsCalled old.geometry (core_state_of old) (core_state_of new) (steps.Log n) (log_outcome r) (log_rose r) → new.geometry ≡ old.geometry
-    → CountsFailure (log_rose r) old.medium.faults new.medium.faults → (keeps → RecoversThroughout (batch (core_state_of old) n) old new)
-    → (hands : List Holding) → Holds (record { core = old; hands = hands })
-    → IsInternal keeps (record { core = old; hands = hands }) (record { core = new; hands = hands })
-log_is_quiet keeps old new n r called geometry counts moments = core_is_quiet keeps old new (steps.Log n) (log_outcome r)
-    (record { rose = log_rose r; called = called; geometry = geometry; failures = counts; any_moment = moments }) refl refl (no_answer_of_log r)
 
 none_behind_all : {A : Type 0} (n : ℕ) (xs : List A) → length xs ≤ n → drop n xs ≡ []
 none_behind_all zero [] le = refl
@@ -133,28 +125,36 @@ no_answer_of_point : {T : Type 0} (made : T → Outcome) → ((x : T) → answer
 no_answer_of_point made none (Ok x) = none x
 no_answer_of_point made none (Err why) = refl
 
-module _ (keeps : Type 0) (old new : CoreView) (geometry : new.geometry ≡ old.geometry) (moments : keeps → RecoversThroughout [] old new) where
+-- ---- steps of the core that move no job
+
+module _ (keeps : Type 0) (old new : CoreView) (geometry : new.geometry ≡ old.geometry) where
   abbrev IsStepOf : Step → Outcome → Bool → Type 0
   IsStepOf step outcome rose = IsCalled old.geometry (core_state_of old) (core_state_of new) step outcome rose → CountsFailure rose old.medium.faults new.medium.faults
       → (hands : List Holding) → Holds (record { core = old; hands = hands })
       → IsInternal keeps (record { core = old; hands = hands }) (record { core = new; hands = hands })
 
-  pub point_is_quiet : (r : Result (Unit {0}) PointRefusal) → IsStepOf steps.Point (step_outcome (λ _. outcomes.Pointed) r) (point_rose r)
-  point_is_quiet r called counts = core_is_quiet keeps old new steps.Point (step_outcome (λ _. outcomes.Pointed) r)
-      (record { rose = point_rose r; called = called; geometry = geometry; failures = counts; any_moment = moments }) refl refl
-      (no_answer_of_point (λ _. outcomes.Pointed) (λ _. refl) r)
+  pub log_is_quiet : (n : ℕ) (r : Result ℕ CoreFault) → (keeps → RecoversThroughout (batch (core_state_of old) n) old new)
+      → IsStepOf (steps.Log n) (log_outcome r) (log_rose r)
+  log_is_quiet n r moments called counts hands h = core_is_quiet (steps.Log n) (log_outcome r)
+      (record { rose = log_rose r; called = called; geometry = geometry; failures = counts; any_moment = moments }) refl refl (no_answer_of_log r) h
 
-  pub cut_is_quiet : (r : Result (Unit {0}) PointRefusal) → IsStepOf steps.Cut (step_outcome (λ _. outcomes.Cut) r) (point_rose r)
-  cut_is_quiet r called counts = core_is_quiet keeps old new steps.Cut (step_outcome (λ _. outcomes.Cut) r)
-      (record { rose = point_rose r; called = called; geometry = geometry; failures = counts; any_moment = moments }) refl refl
-      (no_answer_of_point (λ _. outcomes.Cut) (λ _. refl) r)
+  module _ (moments : keeps → RecoversThroughout [] old new) where
+    pub point_is_quiet : (r : Result (Unit {0}) PointRefusal) → IsStepOf steps.Point (step_outcome (λ _. outcomes.Pointed) r) (point_rose r)
+    point_is_quiet r called counts hands h = core_is_quiet steps.Point (step_outcome (λ _. outcomes.Pointed) r)
+        (record { rose = point_rose r; called = called; geometry = geometry; failures = counts; any_moment = moments }) refl refl
+        (no_answer_of_point (λ _. outcomes.Pointed) (λ _. refl) r) h
 
-  pub piece_is_quiet : (r : Result ℕ PointRefusal) → IsStepOf steps.Piece (step_outcome outcomes.Left r) (point_rose r)
-  piece_is_quiet r called counts = core_is_quiet keeps old new steps.Piece (step_outcome outcomes.Left r)
-      (record { rose = point_rose r; called = called; geometry = geometry; failures = counts; any_moment = moments }) refl refl
-      (no_answer_of_point outcomes.Left (λ _. refl) r)
+    pub cut_is_quiet : (r : Result (Unit {0}) PointRefusal) → IsStepOf steps.Cut (step_outcome (λ _. outcomes.Cut) r) (point_rose r)
+    cut_is_quiet r called counts hands h = core_is_quiet steps.Cut (step_outcome (λ _. outcomes.Cut) r)
+        (record { rose = point_rose r; called = called; geometry = geometry; failures = counts; any_moment = moments }) refl refl
+        (no_answer_of_point (λ _. outcomes.Cut) (λ _. refl) r) h
 
-  pub flip_is_quiet : (r : Result (Unit {0}) PointRefusal) → IsStepOf steps.Flip (step_outcome (λ _. outcomes.Flipped) r) (point_rose r)
-  flip_is_quiet r called counts = core_is_quiet keeps old new steps.Flip (step_outcome (λ _. outcomes.Flipped) r)
-      (record { rose = point_rose r; called = called; geometry = geometry; failures = counts; any_moment = moments }) refl refl
-      (no_answer_of_point (λ _. outcomes.Flipped) (λ _. refl) r)
+    pub piece_is_quiet : (r : Result ℕ PointRefusal) → IsStepOf steps.Piece (step_outcome outcomes.Left r) (point_rose r)
+    piece_is_quiet r called counts hands h = core_is_quiet steps.Piece (step_outcome outcomes.Left r)
+        (record { rose = point_rose r; called = called; geometry = geometry; failures = counts; any_moment = moments }) refl refl
+        (no_answer_of_point outcomes.Left (λ _. refl) r) h
+
+    pub flip_is_quiet : (r : Result (Unit {0}) PointRefusal) → IsStepOf steps.Flip (step_outcome (λ _. outcomes.Flipped) r) (point_rose r)
+    flip_is_quiet r called counts hands h = core_is_quiet steps.Flip (step_outcome (λ _. outcomes.Flipped) r)
+        (record { rose = point_rose r; called = called; geometry = geometry; failures = counts; any_moment = moments }) refl refl
+        (no_answer_of_point (λ _. outcomes.Flipped) (λ _. refl) r) h

@@ -80,7 +80,7 @@ module _ (keeps : Type 0) (old new : CoreView) (lent : List (Option JobView)) (n
       let now : MachineView = record { core = new; hands = after } in
       record {
         holds = holds;
-        passes = subst (λ (l : List (ℕ × Reply)). RunsBetween keeps was now [] l) none_told (step_passes keeps was now steps.Grant outcome step);
+        passes = subst (λ (l : List (ℕ × Reply)). RunsBetween keeps was now [] l) none_told (step_passes step);
       }
 
   goes_out : (job : JobView) → IsGrantOf old.geometry (core_state_of old) (core_state_of new) job

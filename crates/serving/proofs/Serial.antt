@@ -134,16 +134,17 @@ module _ (g : Geometry) (replies : List (ℕ × Reply)) where
       }
 
   -- The lines that are completed are the first lines of the serial server.
-  pub sent_lines_are_serial : (x : State) (n : ℕ) (ls more : List (List ℕ)) (sent_lines row : List Line) → HaveSerialReplies x n (admitted g ls)
-      → AreKnown g replies n ls (sent_lines ++ row) → AllByRecursion (λ line. is_completed line ≡ true) sent_lines
-      → map text sent_lines ≡ take (length sent_lines) (output_lines g x (ls ++ more))
-  sent_lines_are_serial x n ls more [] row h k done = refl
-  sent_lines_are_serial x n [] more (known ∷ sent_lines) row h k done = absurd k
-  sent_lines_are_serial x n (l ∷ ls) more (known ∷ sent_lines) row h k done =
-      let o = message_of l in
-      let one = served_line x n (admitted g ls) o known h k.0 done.0 in
-      let rest = sent_lines_are_serial (state_after_line g x o) (next_ticket n (admitted_in g o)) ls more sent_lines row one.tells k.1 done.1 in
-      λ i. one.retires i ∷ rest i
+  module _ (more : List (List ℕ)) (row : List Line) where
+    pub sent_lines_are_serial : (x : State) (n : ℕ) (ls : List (List ℕ)) (sent_lines : List Line) → HaveSerialReplies x n (admitted g ls)
+        → AreKnown g replies n ls (sent_lines ++ row) → AllByRecursion (λ line. is_completed line ≡ true) sent_lines
+        → map text sent_lines ≡ take (length sent_lines) (output_lines g x (ls ++ more))
+    sent_lines_are_serial x n ls [] h k done = refl
+    sent_lines_are_serial x n [] (known ∷ sent_lines) h k done = absurd k
+    sent_lines_are_serial x n (l ∷ ls) (known ∷ sent_lines) h k done =
+        let o = message_of l in
+        let one = served_line x n (admitted g ls) o known h k.0 done.0 in
+        let rest = sent_lines_are_serial (state_after_line g x o) (next_ticket n (admitted_in g o)) ls sent_lines one.tells k.1 done.1 in
+        λ i. one.retires i ∷ rest i
 
   pub as_many : (n : ℕ) (ls : List (List ℕ)) (row : List Line) → AreKnown g replies n ls row → length row ≡ length ls
   as_many n [] [] k = refl
@@ -156,7 +157,7 @@ module _ (g : Geometry) (replies : List (ℕ × Reply)) where
       → AreKnown g replies n ls (sent_lines ++ []) → AllByRecursion (λ line. is_completed line ≡ true) sent_lines
       → map text sent_lines ≡ output_lines g x ls
   all_said x n ls sent_lines h k done =
-      sent_lines_are_serial x n ls [] sent_lines [] h k done
+      sent_lines_are_serial [] [] x n ls sent_lines h k done
       ∙ (λ i. take (many i) (output_lines g x (ls ++ [])))
       ∙ take-output_lines g x ls []
     where

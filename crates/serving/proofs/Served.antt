@@ -1,5 +1,5 @@
 -- What a server has written when it ends, beside the serial server.
-use Rattle.std.proofs.Common.{◌≡◌, ◌≢◌, ℕ, ◌<◌, ◌-◌, ◌^◌, Bool, true, false, List, [], ◌∷◌, ◌++◌, Option, Some, None, ap, sym, ◌∙◌, subst, length, map, take, inr, ⊎_elim, append_assoc, append-nil, arith}
+use Rattle.std.proofs.Common.{◌≡◌, ◌≢◌, ℕ, ◌<◌, Bool, true, false, List, [], ◌∷◌, ◌++◌, Option, Some, None, ap, sym, ◌∙◌, subst, length, map, take, inr, ⊎_elim, append_assoc, append-nil, arith}
 use Rattle.std.specs.Prelude.{IfSome, Ok, Err}
 use Rattle.std.specs.Io.KnownBytes.{IsAtEnd}
 use Rattle.std.proofs.lemmas.Bool.{true≢false}
@@ -15,11 +15,8 @@ use Rattle.legal_runs.specs.Laws.{IsIdle, IsSoundCoreState}
 use Rattle.legal_runs.specs.CoreState.{Entry}
 use Rattle.legal_runs.specs.Runs.{arrived}
 use Rattle.messages.proofs.FirstLines.{lines-first}
-use Rattle.messages.specs.Grammar.{message_of}
 use Rattle.messages.specs.Lines.{lines}
-use Rattle.messages.specs.Messages.{is_in_range}
-use Rattle.messages.specs.FirstLine.{GivesLine, LosesFront, behind_first_line}
-use Rattle.messages.specs.declared.Msg.{Msg}
+use Rattle.messages.specs.FirstLine.{LosesFront, behind_first_line}
 use Rattle.messages.specs.declared.Reply.{Reply}
 use Rattle.meaning.specs.Order.{by_ticket, messages, serial_replies}
 use Rattle.meaning.specs.Output.{AnswersWholeLines, joined, output_lines, state_after_lines, with_newlines}
@@ -29,10 +26,12 @@ use Rattle.meaning.specs.State.{State}
 use Rattle.scheduler.specs.CoreView.{RecoversNow, core_state_of}
 use Rattle.serving.specs.Ends.{AreFirst, AreServed, EndsSo, HasServed, IsWoundUp, committed_in}
 use Rattle.serving.specs.Progress.{ServingProgress, IsServing}
+use Rattle.serving.specs.Session.{IsReadEnd}
 use Rattle.serving.specs.Lines.{AreKnown, Line, admitted, next_ticket, text, ticketed}
 use Rattle.runs.specs.Machine.{MachineView, machine_of}
 use Rattle.runs.specs.Stages.{events_of}
 use Rattle.serving.specs.declared.server.ServeFault.TheVariants as faults
+use Rattle.serving.specs.declared.session.ReadEnd.TheVariants as ends_of_reading
 use Rattle.serving.proofs.Inside.{idle_again}
 use Rattle.serving.proofs.Serial.{HaveSerialReplies, all_said, asked_leads_there, messages-ticketed, next_from, sent_lines_are_serial, told_earlier}
 
@@ -48,7 +47,7 @@ module _ (keeps : Type 0) (start now : MachineView) (idle : IsIdle (core_state_o
 
   -- ---- of a run
 
-  module _ (taken : List (List ℕ)) (sent_lines row : List Line) (s : IsServing keeps start now taken sent_lines row) where
+  module _ {taken : List (List ℕ)} {sent_lines row : List Line} (s : IsServing keeps start now taken sent_lines row) where
     by_line : by_ticket (arrived (events_of s.passes.stages)) ≡ ticketed start.core.next (admitted g taken)
     by_line = arrived_by_ticket g (machine_of start) (events_of s.passes.stages) s.passes.legal ∙ s.passes.come_are
 
@@ -74,24 +73,22 @@ module _ (keeps : Type 0) (start now : MachineView) (idle : IsIdle (core_state_o
         ∙ asked_leads_there g x taken
 
     begins : (more : List (List ℕ)) → map text sent_lines ≡ take (length sent_lines) (output_lines g x (taken ++ more))
-    begins more = sent_lines_are_serial g s.reply_pairs x start.core.next taken more sent_lines row all_told s.known s.answered
+    begins more = sent_lines_are_serial g s.reply_pairs more row x start.core.next taken sent_lines all_told s.known s.answered
 
   -- all that was consumed is answered
-  served : (taken : List (List ℕ)) (sent_lines : List Line) → IsServing keeps start now taken sent_lines [] → IsIdle (core_state_of now.core)
+  served : {taken : List (List ℕ)} {sent_lines : List Line} → IsServing keeps start now taken sent_lines [] → IsIdle (core_state_of now.core)
       → AreServed g x (committed_in now.core) taken (joined (map text sent_lines))
-  served taken sent_lines s ends = record {
-    output = ap joined (all_said g s.reply_pairs x start.core.next taken sent_lines (all_told taken sent_lines [] s) s.known s.answered);
-    state = leads taken sent_lines [] s ends;
-  }
+  served {taken} {sent_lines} s ends =
+      record { output = ap joined (all_said g s.reply_pairs x start.core.next taken sent_lines (all_told s) s.known s.answered); state = leads s ends }
 
   -- ---- the ends
 
-  pub ends_whole : (input left : Option (List ℕ)) (ended : Bool) (before written : Option (List ℕ)) → ServingProgress keeps start now [] input left ended before written
+  pub ends_whole : {input left : Option (List ℕ)} {ended : Bool} {before written : Option (List ℕ)} → ServingProgress keeps start now [] input left ended before written
       → now.core.failed ≡ false → IsAtEnd left → EndsSo start.core now.core input left before written (Ok tt)
-  ends_whole None left ended before written h works at_end = (idle_again keeps start now idle None left ended before written h, works, at_end, tt)
-  ends_whole (Some input) None ended before written h works at_end = absurd (none-some h.takes.0 h.takes.1)
-  ends_whole (Some input) (Some bs) ended before written h works at_end =
-      let ends = idle_again keeps start now idle (Some input) (Some bs) ended before written h in
+  ends_whole {input = None} h works at_end = (idle_again idle h, works, at_end, tt)
+  ends_whole {input = Some input} {left = None} h works at_end = absurd (none-some h.takes.0 h.takes.1)
+  ends_whole {input = Some input} {left = Some bs} h works at_end =
+      let ends = idle_again idle h in
       let rest = h.takes.0 in
       let none : rest ≡ [] = sym (same_Some bs rest h.takes.1) ∙ at_end in
       let all : lines input ≡ h.taken = h.takes.2.to_come ∙ ap (λ l. h.taken ++ lines l) none ∙ append-nil h.taken in (
@@ -101,23 +98,22 @@ module _ (keeps : Type 0) (start now : MachineView) (idle : IsIdle (core_state_o
         (
           joined (map text h.sent_lines),
           h.output,
-          subst (λ (ls : List (List ℕ)). AreServed g x (committed_in now.core) ls (joined (map text h.sent_lines))) (sym all)
-              (served h.taken h.sent_lines h.serving ends),
+          subst (λ (ls : List (List ℕ)). AreServed g x (committed_in now.core) ls (joined (map text h.sent_lines))) (sym all) (served h.serving ends),
         ),
       )
 
-  pub ends_at_read : (input left behind before written : Option (List ℕ)) → ServingProgress keeps start now [] input left false before written
+  pub ends_at_read : {input left before written : Option (List ℕ)} (behind : Option (List ℕ)) → ServingProgress keeps start now [] input left false before written
       → now.core.failed ≡ false → IfSome left (λ bs. LosesFront bs behind) → EndsSo start.core now.core input behind before written (Err faults.Read)
-  ends_at_read None left behind before written h works lost = (idle_again keeps start now idle None left false before written h, works, tt)
-  ends_at_read (Some input) None behind before written h works lost = absurd (none-some h.takes.0 h.takes.1)
-  ends_at_read (Some input) (Some bs) behind before written h works lost =
-      let ends = idle_again keeps start now idle (Some input) (Some bs) false before written h in
+  ends_at_read {input = None} behind h works lost = (idle_again idle h, works, tt)
+  ends_at_read {input = Some input} {left = None} behind h works lost = absurd (none-some h.takes.0 h.takes.1)
+  ends_at_read {input = Some input} {left = Some bs} behind h works lost =
+      let ends = idle_again idle h in
       let t : AreTaken input h.takes.0 false h.taken = h.takes.2 in
       let parts : input ≡ with_newlines h.taken ++ lost.got ++ lost.rest =
       ⊎_elim (λ e. absurd (true≢false (sym e)))
       (λ whole. whole ∙ ap (λ z. with_newlines h.taken ++ z) (sym (same_Some bs h.takes.0 h.takes.1) ∙ lost.parts)
       ∙ sym (append_assoc (with_newlines h.taken) lost.got lost.rest)) t.whole in
-      let k = served h.taken h.sent_lines h.serving ends in
+      let k = served h.serving ends in
       let output : AnswersWholeLines g x behind input (joined (map text h.sent_lines)) = record {
         whole = h.taken;
         begun = lost.got;
@@ -130,22 +126,22 @@ module _ (keeps : Type 0) (start now : MachineView) (idle : IsIdle (core_state_o
       } in
       (ends, works, (joined (map text h.sent_lines), h.output, record { output = output; state = k.state }))
 
-  pub ends_exhausted : (input left behind : Option (List ℕ)) (ended : Bool) (before written : Option (List ℕ)) (line : List ℕ) (m : Msg)
-      → ServingProgress keeps start now [] input left ended before written → now.core.failed ≡ false → now.core.next ≡ 2 ^ 64 - 1
-      → IfSome left (λ bs. GivesLine line bs behind) → message_of line ≡ Some m → is_in_range g m ≡ true
-      → EndsSo start.core now.core input behind before written (Err faults.Exhausted)
-  ends_exhausted None left behind ended before written line m h works next found is in_range =
-      (idle_again keeps start now idle None left ended before written h, works, next, tt)
-  ends_exhausted (Some input) None behind ended before written line m h works next found is in_range = absurd (none-some h.takes.0 h.takes.1)
-  ends_exhausted (Some input) (Some bs) behind ended before written line m h works next found is in_range =
-      let ends = idle_again keeps start now idle (Some input) (Some bs) ended before written h in
+  pub ends_exhausted : {input left before written : Option (List ℕ)} {ended : Bool} (behind : Option (List ℕ))
+      → ServingProgress keeps start now [] input left ended before written → now.core.failed ≡ false
+      → IsReadEnd g now.core left ended behind ends_of_reading.TicketsExhausted → EndsSo start.core now.core input behind before written (Err faults.Exhausted)
+  ends_exhausted {input = None} behind h works why = (idle_again idle h, works, why.0, tt)
+  ends_exhausted {input = Some input} {left = None} behind h works why = absurd (none-some h.takes.0 h.takes.1)
+  ends_exhausted {input = Some input} {left = Some bs} behind h works why =
+      let ends = idle_again idle h in
+      let line = why.1.0 in
+      let found = why.1.2.1 in
       let same = same_Some bs h.takes.0 h.takes.1 in
       let parts : lines input ≡ h.taken ++ line ∷ lines (behind_first_line bs) =
       h.takes.2.to_come ∙ ap (λ z. h.taken ++ lines z) (sym same) ∙ ap (λ z. h.taken ++ z) (lines-first bs found.more)
       ∙ ap (λ z. h.taken ++ z ∷ lines (behind_first_line bs)) (sym found.line_is) in (
         ends,
         works,
-        next,
+        why.0,
         (
           joined (map text h.sent_lines),
           h.output,
@@ -154,20 +150,20 @@ module _ (keeps : Type 0) (start now : MachineView) (idle : IsIdle (core_state_o
             line = line;
             behind = lines (behind_first_line bs);
             parts = parts;
-            message = m;
-            is_message = is;
-            in_range = in_range;
-            served = served h.taken h.sent_lines h.serving ends;
+            message = why.1.1;
+            is_message = why.1.3;
+            in_range = why.1.4;
+            served = served h.serving ends;
           },
         ),
       )
 
-  pub ends_at_device : (row : List Line) (input left : Option (List ℕ)) (ended : Bool) (before written : Option (List ℕ))
+  pub ends_at_device : {row : List Line} {input left : Option (List ℕ)} {ended : Bool} {before written : Option (List ℕ)}
       → ServingProgress keeps start now row input left ended before written → now.core.failed ≡ true → IsWoundUp now.core
       → EndsSo start.core now.core input left before written (Err faults.Device)
-  ends_at_device row None left ended before written h failed wound_up = (failed, wound_up, tt)
-  ends_at_device row (Some input) left ended before written h failed wound_up =
-      let all = begins h.taken h.sent_lines row h.serving (lines h.takes.0)
+  ends_at_device {input = None} h failed wound_up = (failed, wound_up, tt)
+  ends_at_device {input = Some input} h failed wound_up =
+      let all = begins h.serving (lines h.takes.0)
       ∙ ap (λ ls. take (length h.sent_lines) (output_lines g x ls)) (sym h.takes.2.to_come) in
       (failed, wound_up, (joined (map text h.sent_lines), h.output, (length h.sent_lines, ap joined all)))
 
@@ -175,10 +171,10 @@ module _ (keeps : Type 0) (start now : MachineView) (idle : IsIdle (core_state_o
   first_taken None left ended taken t = tt
   first_taken (Some input) left ended taken t = (lines t.0, t.2.to_come)
 
-  unfoldable pub has_served : (row : List Line) (input left : Option (List ℕ)) (ended : Bool) (before written : Option (List ℕ))
-      → ServingProgress keeps start now row input left ended before written → (now.core.failed ≡ false → now.core.doubt ≡ [])
-      → (keeps → RecoversNow now.core) → HasServed keeps start now.core row input before written
-  has_served row input left ended before written h none recovers =
+  unfoldable pub has_served : {row : List Line} {input left : Option (List ℕ)} {ended : Bool} {before written : Option (List ℕ)}
+      → (now.core.failed ≡ false → now.core.doubt ≡ []) → (keeps → RecoversNow now.core)
+      → ServingProgress keeps start now row input left ended before written → HasServed keeps start now.core row input before written
+  has_served {row} {input} {left} {ended} none recovers h =
       let p = h.serving.passes in
       record {
         taken = h.taken;

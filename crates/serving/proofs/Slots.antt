@@ -23,9 +23,9 @@ use Rattle.serving.specs.Progress.{ServingProgress}
 use Rattle.serving.specs.Lines.{Line}
 use Rattle.serving.specs.Runs.{RunsBetween, inside}
 
-pub passes_count : (keeps : Type 0) (old new : MachineView) (come : List Entry) (reply_pairs : List (ℕ × Reply)) → RunsBetween keeps old new come reply_pairs
+pub passes_count : {keeps : Type 0} {old new : MachineView} {come : List Entry} {reply_pairs : List (ℕ × Reply)} → RunsBetween keeps old new come reply_pairs
     → inside (core_state_of new.core) + length reply_pairs ≡ inside (core_state_of old.core) + length come
-passes_count keeps old new come reply_pairs p =
+passes_count {old} {new} p =
     let run = run_counts old.core.geometry (machine_of old) (events_of p.stages) p.legal in
     let ends : inside (last (machine_of old) (events_of p.stages)).core ≡ inside (core_state_of new.core) = ap (λ (w : Hands). inside w.core) p.ends in
     let came = ap length p.come_are in
@@ -47,9 +47,9 @@ run_slots g old [] legal = refl
 run_slots g old (event ∷ events) legal =
     run_slots g event.state_after events legal.1 ∙ move_slots g old.core event.state_after.core _ (moves g old event legal.0)
 
-pub passes_slots : (keeps : Type 0) (old new : MachineView) (come : List Entry) (reply_pairs : List (ℕ × Reply)) → RunsBetween keeps old new come reply_pairs
+pub passes_slots : {keeps : Type 0} {old new : MachineView} {come : List Entry} {reply_pairs : List (ℕ × Reply)} → RunsBetween keeps old new come reply_pairs
     → new.core.slots ≡ old.core.slots
-passes_slots keeps old new come reply_pairs p =
+passes_slots {old} p =
     ap (λ (w : Hands). w.core.slots) (sym p.ends) ∙ run_slots old.core.geometry (machine_of old) (events_of p.stages) p.legal
 
 -- ---- a slot for the next
@@ -73,10 +73,10 @@ isnt_full g w m few = of w.failed (not (is_in_range g m)) (w.next == 2 ^ 64 - 1)
     of false false false false le e = cc
 
 -- Where fewer lines are in the reorder buffer than there are slots, a message finds one.
-pub finds_a_slot : (keeps : Type 0) (start now : MachineView) → IsIdle (core_state_of start.core) → (row : List Line) (input left : Option (List ℕ))
-    (ended : Bool) (before written : Option (List ℕ)) (m : Msg) → ServingProgress keeps start now row input left ended before written
+pub finds_a_slot : {keeps : Type 0} {start now : MachineView} {row : List Line} {input left : Option (List ℕ)} {ended : Bool} {before written : Option (List ℕ)}
+    (m : Msg) → IsIdle (core_state_of start.core) → ServingProgress keeps start now row input left ended before written
     → length row < start.core.slots → (arrive now.core.geometry (core_state_of now.core) m).0 ≢ outcomes.ArriveRefused arrivals.Full
-finds_a_slot keeps start now idle row input left ended before written m h few =
-    let most = few_inside keeps start now idle row input left ended before written h in
-    let same = passes_slots keeps start now _ _ h.serving.passes in
+finds_a_slot {now} m idle h few =
+    let most = few_inside idle h in
+    let same = passes_slots h.serving.passes in
     isnt_full now.core.geometry (core_state_of now.core) m (omega (arith, most, same, few))

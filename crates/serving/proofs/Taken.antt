@@ -72,8 +72,8 @@ still keeps m h = record { holds = h; passes = stays keeps m }
 
 -- ---- the next line
 
-module _ (keeps : Type 0) (start old new : MachineView) (row : List Line) (known : Line) (input left now_left : Option (List ℕ)) (ended now_ended : Bool)
-    (before written : Option (List ℕ)) (idle : IsIdle (core_state_of start.core)) (going : ended ≡ false) (closes : IsClosed left now_ended) where
+module _ {keeps : Type 0} {start old new : MachineView} {row : List Line} {known : Line} {input left now_left : Option (List ℕ)} {ended now_ended : Bool}
+    {before written : Option (List ℕ)} (idle : IsIdle (core_state_of start.core)) (going : ended ≡ false) (closes : IsClosed left now_ended) where
   -- It was given.
   pub line_goes_on : (line : List ℕ) → IsTaken keeps old new (message_of line) known → IfSome left (λ bs. GivesLine line bs now_left)
       → ServingProgress keeps start old row input left ended before written
@@ -82,7 +82,7 @@ module _ (keeps : Type 0) (start old new : MachineView) (row : List Line) (known
     taken = h.taken ++ line ∷ [];
     sent_lines = h.sent_lines;
     takes = takes_line input left now_left ended now_ended h.taken line h.takes going found closes;
-    serving = serves_taken keeps start old new h.taken h.sent_lines row line known idle t h.serving;
+    serving = serves_taken line idle t h.serving;
     output = h.output;
   }
 
@@ -96,8 +96,7 @@ module _ (keeps : Type 0) (start old new : MachineView) (row : List Line) (known
         taken = h.taken ++ l.line ∷ [];
         sent_lines = h.sent_lines;
         takes = l.takes;
-        serving = serves_taken keeps start old new h.taken h.sent_lines row l.line known idle
-            (subst (λ (o : Option Msg). IsTaken keeps old new o known) (sym l.no_message) t) h.serving;
+        serving = serves_taken l.line idle (subst (λ (o : Option Msg). IsTaken keeps old new o known) (sym l.no_message) t) h.serving;
         output = h.output;
       }
 

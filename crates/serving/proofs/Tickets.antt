@@ -49,8 +49,8 @@ run_next g old (event ∷ events) legal =
     ∙ ap (next_ticket old.core.next) (sym (messages-append come (arrived events)))
 
 -- Where nothing arrives, the next ticket stays.
-pub quiet_ticket : (keeps : Type 0) (old new : MachineView) (reply_pairs : List (ℕ × Reply)) → RunsBetween keeps old new [] reply_pairs
+pub quiet_ticket : {keeps : Type 0} {old new : MachineView} {reply_pairs : List (ℕ × Reply)} → RunsBetween keeps old new [] reply_pairs
     → new.core.next ≡ old.core.next
-quiet_ticket keeps old new reply_pairs p =
+quiet_ticket {old} p =
     ap (λ (w : Hands). w.core.next) (sym p.ends) ∙ run_next old.core.geometry (machine_of old) (events_of p.stages) p.legal
     ∙ ap (λ (es : List Entry). next_ticket old.core.next (messages es)) p.come_are

@@ -3,11 +3,10 @@ use Rattle.serving.proofs.Slots.{finds_a_slot, passes_count, passes_slots}
 use Rattle.serving.proofs.laws.what_is_inside_is_what_arrived_less_what_was_answered.Goals as goal
 
 pub returns-clause-count : goal.returns-clause-count
-returns-clause-count g c = passes_count g.D.Disk.keeps
+returns-clause-count g c old new come replies p = passes_count p
 
 pub returns-clause-slots : goal.returns-clause-slots
-returns-clause-slots g c = passes_slots g.D.Disk.keeps
+returns-clause-slots g c old new come replies p = passes_slots p
 
 pub returns-clause-a_slot : goal.returns-clause-a_slot
-returns-clause-a_slot g c start now row input left ended before written m idle h few =
-    finds_a_slot g.D.Disk.keeps start now idle row input left ended before written m h few
+returns-clause-a_slot g c start now row input left ended before written m idle h few = finds_a_slot m idle h few

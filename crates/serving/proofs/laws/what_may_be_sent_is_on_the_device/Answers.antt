@@ -3,4 +3,4 @@ use Rattle.serving.proofs.Holding.{holds_sent}
 use Rattle.serving.proofs.laws.what_may_be_sent_is_on_the_device.Goals as goal
 
 pub returns : goal.returns
-returns g c = holds_sent g.D.Disk.keeps
+returns g c s told later now bytes may kept appends = holds_sent may appends kept

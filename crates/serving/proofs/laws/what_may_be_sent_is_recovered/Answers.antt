@@ -1,11 +1,9 @@
 -- A crash image that holds what was sent recovers to a state with those lines and a closed part of the rest.
-use Rattle.serving.specs.Ends.{committed_in}
 use Rattle.serving.proofs.Holding.{holds_sent}
 use Rattle.serving.proofs.Recovering.{bytes_recover}
 use Rattle.serving.proofs.laws.what_may_be_sent_is_recovered.Goals as goal
 
 pub returns : goal.returns
-returns g c = λ s told later now bytes may kept appends left leaves.
-    let h = holds_sent g.D.Disk.keeps s told later now bytes may kept appends left leaves in
-    bytes_recover s.core.geometry (committed_in s.core) s.core.next s.input s.before later h.taken h.lines h.log left h.first h.output h.kept
-    h.holds
+returns g c s told later now bytes may kept appends left leaves =
+    let h = holds_sent may appends kept left leaves in
+    bytes_recover s.core.next h.taken h.lines h.first h.output h.kept h.holds

@@ -18,7 +18,7 @@ invariant_of-self g c =
     let so = is_answered_so g.D.Disk.keeps old new c.answer-first.result
     (answer_step g.D.Disk.keeps old new c.know_recovery.ensures.no_doubt c.know_recovery.ensures.now c.answer-first.ensures.geometry c.answer-first.ensures.untouched
     c.answer-first.result c.answer-first.ensures.state_after) _ (holds_of g.D.Disk.keeps _ _ c.self.invariant.0) in (
-      on_machine g.D.Disk.keeps _ _ _ _ c.self.invariant.0 (none_answered g.D.Disk.keeps _ _ c.answer-first.result c.in_default.not-Some so) refl refl,
+      on_machine g.D.Disk.keeps _ _ c.self.invariant.0 _ _ (none_answered g.D.Disk.keeps _ _ c.answer-first.result c.in_default.not-Some so) refl refl,
       c.self.invariant.1,
     )
 
@@ -29,7 +29,7 @@ invariant_of-self-2 g c =
     let so = is_answered_so g.D.Disk.keeps old new c.answer-first.result
     (answer_step g.D.Disk.keeps old new c.know_recovery.ensures.no_doubt c.know_recovery.ensures.now c.answer-first.ensures.geometry c.answer-first.ensures.untouched
     c.answer-first.result c.answer-first.ensures.state_after) _ (holds_of g.D.Disk.keeps _ _ c.self.invariant.0) in (
-      on_answer g.D.Disk.keeps _ _ _ _ _ _ c.self.invariant.0
+      on_answer g.D.Disk.keeps _ _ c.self.invariant.0 _ _ _ _
           (subst (λ (o : Option (ℕ × Reply)). IsAnswered g.D.Disk.keeps (with_lent old c.self.inside.dispatch_seat.lent) (with_lent new c.self.inside.dispatch_seat.lent) o)
           c.in-Some.is so) c.answer.ensures.lines c.answer.ensures.slots,
       c.self.invariant.1,

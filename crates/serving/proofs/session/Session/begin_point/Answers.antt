@@ -15,7 +15,7 @@ invariant_of-self g c =
     let new = c.cut-cut.new.self in
     let quiet = cut_is_quiet g.D.Disk.keeps old new c.cut-cut.ensures.geometry c.cut-cut.ensures.any_moment c.cut-cut.result
     (cut_called old.geometry (core_state_of old) (core_state_of new) c.cut-cut.result c.cut-cut.ensures.state_after) c.cut-cut.ensures.counts in
-    (on_machine g.D.Disk.keeps _ _ _ _ c.self.invariant.0 (quiet _ (holds_of g.D.Disk.keeps _ _ c.self.invariant.0)) refl refl, c.self.invariant.1)
+    (on_machine g.D.Disk.keeps _ _ c.self.invariant.0 _ _ (quiet _ (holds_of g.D.Disk.keeps _ _ c.self.invariant.0)) refl refl, c.self.invariant.1)
 
 pub returns-clause-moves : goal.returns-clause-moves
 returns-clause-moves g c =
@@ -23,9 +23,8 @@ returns-clause-moves g c =
     let new = c.cut-cut.new.self in
     let left = ap (λ (p : SessionView). p.core.left) c.self.view_is ∙ c.requires.none in (
       ap (λ (p : SessionView). p.stop) c.self.view_is,
-      halts (core_state_of old) left (core_state_of new) _
-          (c.self.inside.output_failed ≡ c.args.self.now.output_failed) (c.self.inside.output_failed ≡ false) c.cut-cut.result c.begin.result c.cut-cut.ensures.state_after
-          c.begin.ensures (ap (λ (p : SessionView). p.output_failed) c.self.view_is),
+      halts (core_state_of old) left (core_state_of new) _ (c.self.inside.output_failed ≡ false) c.cut-cut.result c.begin.result
+          c.cut-cut.ensures.state_after c.begin.ensures (ap (λ (p : SessionView). p.output_failed) c.self.view_is),
     )
 
 pub returns-clause-begun : goal.returns-clause-begun
@@ -33,6 +32,5 @@ returns-clause-begun g c =
     let old = c.self.inside.core in
     let new = c.cut-cut.new.self in
     let left = ap (λ (p : SessionView). p.core.left) c.self.view_is ∙ c.requires.none in
-    begins (core_state_of old) left (core_state_of new) _
-    ((n : ℕ) × (new.left ≡ Some n)) (λ m. (m.0, ap (λ (w : CoreState). w.left) m.2)) c.cut-cut.result c.begin.result c.cut-cut.ensures.state_after
-    c.begin.ensures
+    begins (core_state_of old) left (core_state_of new) _ {begun = (n : ℕ) × (new.left ≡ Some n)} (λ m. (m.0, ap (λ (w : CoreState). w.left) m.2))
+    c.cut-cut.result c.begin.result c.cut-cut.ensures.state_after c.begin.ensures

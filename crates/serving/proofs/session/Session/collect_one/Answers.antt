@@ -27,4 +27,4 @@ invariant_of-self-2 g c =
     c.args.k place s.0 c.in-Some.done s.1 s.2 c.give_back.new.self c.give_back.ensures.geometry c.give_back.ensures.untouched
     back.0 back.1 back.2 back.3) in
     let places = ap (λ (l : List (Option JobView)). length l) s.3 ∙ set-length old.dispatch_seat.lent c.args.k None in
-    (on_machine g.D.Disk.keeps _ _ _ _ c.self.invariant.0 quiet c.in-Some.ensures.bench places, c.in-Some.ensures.bench ∙ c.self.invariant.1)
+    (on_machine g.D.Disk.keeps _ _ c.self.invariant.0 _ _ quiet c.in-Some.ensures.bench places, c.in-Some.ensures.bench ∙ c.self.invariant.1)

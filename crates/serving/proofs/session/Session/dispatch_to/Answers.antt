@@ -28,7 +28,7 @@ invariant_of-self g c =
     let first = ap (λ (p : SessionView). position is_none p.dispatch_seat.lent) c.self.view_is ∙ c.requires.first in
     let quiet = sends g.D.Disk.keeps old.core c.grant-granted.new.self lent c.know_recovery.ensures.no_doubt c.know_recovery.ensures.now granted.geometry
     granted.untouched (holds_of g.D.Disk.keeps _ _ c.self.invariant.0) c.args.k first _ _ _ granted.state_after c.offer_granted.ensures.lends in (
-      on_machine g.D.Disk.keeps _ _ _ _ c.self.invariant.0 quiet c.offer_granted.ensures.bench (as_many c.args.k lent _ _ _ c.offer_granted.ensures.lends),
+      on_machine g.D.Disk.keeps _ _ c.self.invariant.0 _ _ quiet c.offer_granted.ensures.bench (as_many c.args.k lent _ _ _ c.offer_granted.ensures.lends),
       c.offer_granted.ensures.bench ∙ c.self.invariant.1,
     )
 

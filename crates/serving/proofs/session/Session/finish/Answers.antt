@@ -15,7 +15,7 @@ invariant_of-self g c =
     let new = c.point.new.self in
     let quiet = point_is_quiet g.D.Disk.keeps old new c.point.ensures.geometry c.point.ensures.any_moment c.point.result
     (point_called old.geometry (core_state_of old) (core_state_of new) c.point.result c.point.ensures.state_after) c.point.ensures.counts in
-    (on_machine g.D.Disk.keeps _ _ _ _ c.self.invariant.0 (quiet _ (holds_of g.D.Disk.keeps _ _ c.self.invariant.0)) refl refl, c.self.invariant.1)
+    (on_machine g.D.Disk.keeps _ _ c.self.invariant.0 _ _ (quiet _ (holds_of g.D.Disk.keeps _ _ c.self.invariant.0)) refl refl, c.self.invariant.1)
 
 pub returns-in-EndOfInput-clause-moves : goal.returns-in-EndOfInput-clause-moves
 returns-in-EndOfInput-clause-moves g c =
@@ -27,6 +27,7 @@ returns-in-EndOfInput-clause-moves g c =
     let output_failed = ap (λ (p : SessionView). p.output_failed) c.self.view_is ∙ sent.moves.1 ∙ logged.moves.1 in (
       ap (λ (p : SessionView). p.stop) c.self.view_is ∙ sent.moves.0 ∙ logged.moves.0,
       halts_so c.point.result c.or_halt.result _ _ _ c.or_halt.ensures output_failed
-          (point_fails (core_state_of c.self.inside.core) left idle.none_held (core_state_of c.point.new.self)
-          (core_state_of c.point.new.self ≡ record (core_state_of c.self.inside.core) { room = c.self.inside.core.geometry.half }) c.point.result c.point.ensures.state_after),
+          (point_fails (core_state_of c.self.inside.core) left (core_state_of c.point.new.self)
+          (core_state_of c.point.new.self ≡ record (core_state_of c.self.inside.core) { room = c.self.inside.core.geometry.half }) idle.none_held c.point.result
+          c.point.ensures.state_after),
     )

@@ -18,7 +18,7 @@ pub invariant_of-self : goal.invariant_of-self
 invariant_of-self g c =
     let sent = subst (λ (bytes : List ℕ). Appends (g.L.ReplySink.sent c.self.inside.sink) (g.L.ReplySink.sent c.send.new.self) bytes)
     c.waiting.ensures c.in-Ok.ensures.sent in
-    (on_send g.D.Disk.keeps _ _ _ _ _ c.self.invariant.0 c.clear.ensures sent c.len-self-inside.ensures.len, c.self.invariant.1)
+    (on_send g.D.Disk.keeps _ _ c.self.invariant.0 _ _ _ c.clear.ensures sent c.len-self-inside.ensures.len, c.self.invariant.1)
 
 pub invariant_of-self-in-Err : goal.invariant_of-self-in-Err
-invariant_of-self-in-Err g c = (on_break g.D.Disk.keeps _ _ _ c.self.invariant.0, c.self.invariant.1)
+invariant_of-self-in-Err g c = (on_break g.D.Disk.keeps _ _ c.self.invariant.0 _, c.self.invariant.1)

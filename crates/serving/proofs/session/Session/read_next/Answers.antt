@@ -11,7 +11,7 @@ use Rattle.serving.specs.Runs.{lent_hand}
 use Rattle.serving.specs.Session.{SessionInvariantFrom, SessionView}
 use Rattle.serving.specs.declared.session.ReadEnd.{ReadEnd}
 use Rattle.serving.specs.declared.session.ReadEnd.TheVariants as ends_of_reading
-use Rattle.serving.proofs.Stopping.{stops_at_refusal}
+use Rattle.serving.proofs.Stopping.{gives, stops_at_refusal}
 use Rattle.serving.proofs.Taken.{at_end, has_sent_end, none_left, still, takes_none}
 use Rattle.serving.proofs.Invariant.{follows, has_place, has_slot, holds_of, knows_of, on_line, on_long_line, on_stop}
 use Rattle.serving.proofs.session.Session.read_next.Goals as goal
@@ -78,8 +78,8 @@ invariant_of-self-in-Err-take g c =
     let left = unread rest f.lines in
     let took = c.in-Err-take.ensures.takes (map lent_hand f.dispatch_seat.lent) (holds_of g.D.Disk.keeps _ _ u) in
     let room = has_place g.D.Disk.keeps _ _ u may in
-    let found = subst (λ (l : List ℕ). IfSome left (λ bs. GivesLine l bs (unread rest n))) (sym c.line.ensures)
-    (subst (λ (x : Found). Finds (Ok x) left (line_of n) (unread rest n)) c.in-Ok-Line.field-0-is c.in-Ok-Line.ensures.found) in
+    let found = gives c.line.result.now left (unread rest n) (subst (λ (l : List ℕ). IfSome left (λ bs. GivesLine l bs (unread rest n))) (sym c.line.ensures)
+    (subst (λ (x : Found). Finds (Ok x) left (line_of n) (unread rest n)) c.in-Ok-Line.field-0-is c.in-Ok-Line.ensures.found)) in
     subst (λ (stop : ReadEnd). SessionInvariantFrom g.D.Disk.keeps g.L.ReplySink.start (record {
       core = c.take.new.core;
       dispatch_seat = f.dispatch_seat;
@@ -97,8 +97,7 @@ invariant_of-self-in-Err-take g c =
       on_stop g.D.Disk.keeps _ c.take.new.core c.take.new.row f.outstanding (unread rest n) (is_drained n) (has_ended n) (rest (source n)) none
           c.in-Err-take.ensures.slots (omega (arith, ap length took.5)) (omega (arith, may)) knows
           _ (read_end_of took.1) u took.3.quiet took.5
-          (stops_at_refusal g.D.Disk.keeps _ _ left (unread rest n) (rest (source n)) (is_drained f.lines) c.line.result.now took.0 took.1 took.2 found took.3
-          (has_slot g.D.Disk.keeps _ _ took.0 none u room)),
+          (stops_at_refusal left (rest (source n)) (is_drained f.lines) c.line.result.now took.2 found took.3 (has_slot g.D.Disk.keeps _ _ took.0 none u room)),
       c.self.invariant.1,
     )
 
