@@ -19,34 +19,35 @@ slot_or_none-slot slots node low = rw (lt-ltb node slots low) refl
 pub slot_or_none-end : (slots node : ℕ) → slots ≤ node → slot_or_none slots node ≡ None
 slot_or_none-end slots node high = rw (le-ltb node slots high) refl
 
-pub first_of-way : (next : ℕ → ℕ) (slots a : ℕ) (xs : List ℕ) (z : ℕ) → IsWay next a xs z → AreSlots slots xs → slots ≤ z
-    → first_of xs ≡ slot_or_none slots (next a)
-first_of-way next slots a [] z way inside outside = sym (ap (slot_or_none slots) way ∙ slot_or_none-end slots z outside)
-first_of-way next slots a (x ∷ xs) z way inside outside = sym (ap (slot_or_none slots) way.0 ∙ slot_or_none-slot slots x inside.0)
-
-pub behind-way : (next : ℕ → ℕ) (slots a i : ℕ) (xs : List ℕ) (z : ℕ) → IsWay next a xs z → AreSlots slots xs → slots ≤ z
-    → 0 < times i xs → behind i xs ≡ slot_or_none slots (next i)
-behind-way next slots a i [] z way inside outside some = absurd (omega arith)
-behind-way next slots a i (x ∷ xs) z way inside outside some = elim (eqb_tells x i) [
-  | inl e ↦ rw e.0 (first_of-way next slots x xs z way.1 inside.1 outside ∙ ap (λ y. slot_or_none slots (next y)) e.1)
-  | inr n ↦ rw n.0 (behind-way next slots x i xs z way.1 inside.1 outside (let same = times-cons_other i x xs n.1 in omega arith))
-]
-
 pub behind_in-nowhere : (i : ℕ) (lists : List (List ℕ)) → times i (concat lists) ≡ 0 → behind_in i lists ≡ None
 behind_in-nowhere i [] none = refl
 behind_in-nowhere i (xs ∷ lists) none =
     let both = times-append i xs (concat lists) in
     rw (le-ltb 0 (times i xs) (omega arith)) (behind_in-nowhere i lists (omega arith))
 
-behind_in-table : (next : ℕ → ℕ) (slots i : ℕ) (at : ℕ → List ℕ) (from count : ℕ)
-    → ((e : ℕ) → from ≤ e → e < from + count → 0 < times i (at e) → behind i (at e) ≡ slot_or_none slots (next i))
-    → 0 < times i (concat (table at from count)) → behind_in i (table at from count) ≡ slot_or_none slots (next i)
-behind_in-table next slots i at from zero each some = absurd (omega arith)
-behind_in-table next slots i at from (suc count) each some = elim (leb_tells 1 (times i (at from))) [
-  | inl e ↦ rw e.0 (each from (omega arith) (omega arith) e.1)
-  | inr n ↦ rw n.0 (behind_in-table next slots i at (suc from) count (λ e low high. each e (omega arith) (omega arith))
-      (let both = times-append i (at from) (concat (table at (suc from) count)) in omega arith))
-]
+module _ (next : ℕ → ℕ) (slots : ℕ) where
+  pub first_of-way : (a : ℕ) (xs : List ℕ) (z : ℕ) → IsWay next a xs z → AreSlots slots xs → slots ≤ z
+      → first_of xs ≡ slot_or_none slots (next a)
+  first_of-way a [] z way inside outside = sym (ap (slot_or_none slots) way ∙ slot_or_none-end slots z outside)
+  first_of-way a (x ∷ xs) z way inside outside = sym (ap (slot_or_none slots) way.0 ∙ slot_or_none-slot slots x inside.0)
+
+  pub behind-way : (a i : ℕ) (xs : List ℕ) (z : ℕ) → IsWay next a xs z → AreSlots slots xs → slots ≤ z
+      → 0 < times i xs → behind i xs ≡ slot_or_none slots (next i)
+  behind-way a i [] z way inside outside some = absurd (omega arith)
+  behind-way a i (x ∷ xs) z way inside outside some = elim (eqb_tells x i) [
+    | inl e ↦ rw e.0 (first_of-way x xs z way.1 inside.1 outside ∙ ap (λ y. slot_or_none slots (next y)) e.1)
+    | inr n ↦ rw n.0 (behind-way x i xs z way.1 inside.1 outside (let same = times-cons_other i x xs n.1 in omega arith))
+  ]
+
+  behind_in-table : (i : ℕ) (at : ℕ → List ℕ) (from count : ℕ)
+      → ((e : ℕ) → from ≤ e → e < from + count → 0 < times i (at e) → behind i (at e) ≡ slot_or_none slots (next i))
+      → 0 < times i (concat (table at from count)) → behind_in i (table at from count) ≡ slot_or_none slots (next i)
+  behind_in-table i at from zero each some = absurd (omega arith)
+  behind_in-table i at from (suc count) each some = elim (leb_tells 1 (times i (at from))) [
+    | inl e ↦ rw e.0 (each from (omega arith) (omega arith) e.1)
+    | inr n ↦ rw n.0 (behind_in-table i at (suc from) count (λ e low high. each e (omega arith) (omega arith))
+        (let both = times-append i (at from) (concat (table at (suc from) count)) in omega arith))
+  ]
 
 module _ (slots nodes : ℕ) (next previous : ℕ → ℕ) (linked : IsLinked slots nodes next previous) where
   pub behind_in-linked : (slot : ℕ) → slot < slots → next slot ≢ slot → behind_in slot (rings next slots nodes) ≡ slot_or_none slots (next slot)

@@ -108,7 +108,7 @@ module _ (slots nodes slot before : ℕ) (next previous next' previous' : ℕ �
     other_way : (end : ℕ) → slots ≤ end → end < nodes → end ≢ slots + list → IsWay next' end (ring next slots end) end
     other_way end outside below other =
         let away = avoids end outside below other in
-        way-kept next next' end end (ring next slots end) end (inserted.rest_next end (λ same. omega arith) away.0)
+        way-kept next next' (ring next slots end) end (inserted.rest_next end (λ same. omega arith) away.0)
         (rest-kept slot before next next' inserted.rest_next (ring next slots end)
         (ring-passes slots nodes slot next previous linked within alone end outside below) away.1)
         (linked.closed end outside below)
@@ -262,7 +262,7 @@ module _ (slots nodes slot list : ℕ) (next previous next' previous' : ℕ → 
     first_way : IsWay next' (slots + list) (slot ∷ ring next slots (slots + list)) (slots + list)
     first_way = (
       inserted.to_slot,
-      way-kept next next' (slots + list) slot (ring next slots (slots + list)) (slots + list) inserted.from_slot
+      way-kept next next' (ring next slots (slots + list)) (slots + list) inserted.from_slot
           (rest-kept slot (slots + list) next next' inserted.rest_next (ring next slots (slots + list))
           (ring-passes slots nodes slot next previous linked within alone (slots + list) (omega arith) end_below)
           (apart-from_slots (slots + list) (omega arith) (ring next slots (slots + list)) (walk-inside next slots slots (next (slots + list)))))

@@ -39,28 +39,28 @@ start-within slots chains i some = elim (leb_tells slots i) [
 ]
 
 module _ {T : Type 0} where
-  pub behind-empty : (values : List (Option T)) (slots : ℕ) (lists : List (List ℕ)) (count i : ℕ) → ArenaRule values (linked_as slots lists) count
+  pub behind-empty : {values : List (Option T)} {slots : ℕ} {lists : List (List ℕ)} {count : ℕ} (i : ℕ) → ArenaRule values (linked_as slots lists) count
       → is_some (slice_index_or values i None) ≡ false → behind_in i (chains_in lists) ≡ None
-  behind-empty values slots lists count i kept empty = elim (leb_tells 1 (times i (concat (chains_in lists)))) [
+  behind-empty {lists = lists} i kept empty = elim (leb_tells 1 (times i (concat (chains_in lists)))) [
     | inl e ↦ absurd (let held = kept.parted.chains_hold i e.1 in let lost : false ≡ true = sym empty ∙ held in cc)
     | inr n ↦ behind_in-nowhere i (chains_in lists) (omega arith)
   ]
 
   -- `put`
-  pub put-within : (values : List (Option T)) (slots : ℕ) (lists : List (List ℕ)) (count slot : ℕ) → ArenaRule values (linked_as slots lists) count
+  pub put-within : {values : List (Option T)} {slots : ℕ} {lists : List (List ℕ)} {count slot : ℕ} → ArenaRule values (linked_as slots lists) count
       → first_of (slice_index_or lists 0 []) ≡ Some slot → slot < length values
-  put-within values slots [] count slot kept found = absurd (cc)
-  put-within values slots ([] ∷ chains) count slot kept found = absurd (cc)
-  put-within values slots ((x ∷ rest) ∷ chains) count slot kept found =
+  put-within {lists = []} kept found = absurd (cc)
+  put-within {lists = [] ∷ chains} kept found = absurd (cc)
+  put-within {lists = (x ∷ rest) ∷ chains} {slot} kept found =
       let same : x ≡ slot = cc in
       kept.parted.within slot (omega (arith, times-cons_is slot x (rest ++ concat chains) same))
 
-  pub put-kept : (values : List (Option T)) (slots : ℕ) (lists : List (List ℕ)) (count slot : ℕ) (value : T) → ArenaRule values (linked_as slots lists) count
+  pub put-kept : {values : List (Option T)} {slots : ℕ} {lists : List (List ℕ)} {count slot : ℕ} (value : T) → ArenaRule values (linked_as slots lists) count
       → first_of (slice_index_or lists 0 []) ≡ Some slot
       → ArenaRule (slice_set values slot (Some value)) (linked_as slots (map (without slot) lists)) (count - 1)
-  put-kept values slots [] count slot value kept found = absurd (cc)
-  put-kept values slots ([] ∷ chains) count slot value kept found = absurd (cc)
-  put-kept values slots ((x ∷ rest) ∷ chains) count slot value kept found =
+  put-kept {lists = []} value kept found = absurd (cc)
+  put-kept {lists = [] ∷ chains} value kept found = absurd (cc)
+  put-kept {values} {slots} {lists = (x ∷ rest) ∷ chains} {count} {slot} value kept found =
       let same : x ≡ slot = cc in
       let P : ℕ → Type 0 = λ s. ArenaRule (slice_set values s (Some value)) (linked_as slots (map (without s) ((x ∷ rest) ∷ chains))) (count - 1) in
       let Q : List (List ℕ) → Type 0 = λ lists. ArenaRule (slice_set values x (Some value)) (linked_as slots lists) (count - 1) in
@@ -71,114 +71,114 @@ module _ {T : Type 0} where
         parted = parted-put values x rest chains value kept.parted;
       }))
 
-  pub put-row : (values : List (Option T)) (slots : ℕ) (lists : List (List ℕ)) (count slot : ℕ) (value : T) → ArenaRule values (linked_as slots lists) count
+  pub put-row : {values : List (Option T)} {slots : ℕ} {lists : List (List ℕ)} {count slot : ℕ} (value : T) → ArenaRule values (linked_as slots lists) count
       → first_of (slice_index_or lists 0 []) ≡ Some slot
       → row_of (slice_set values slot (Some value)) (linked_as slots (map (without slot) lists)) ≡ after_put (row_of values (linked_as slots lists)) value
-  put-row values slots [] count slot value kept found = absurd (cc)
-  put-row values slots ([] ∷ chains) count slot value kept found = absurd (cc)
-  put-row values slots ((x ∷ rest) ∷ chains) count slot value kept found =
+  put-row {lists = []} value kept found = absurd (cc)
+  put-row {lists = [] ∷ chains} value kept found = absurd (cc)
+  put-row {values} {slots} {lists = (x ∷ rest) ∷ chains} {slot} value kept found =
       let same : x ≡ slot = cc in
       let P : ℕ → Type 0 = λ s. row_of (slice_set values s (Some value)) (linked_as slots (map (without s) ((x ∷ rest) ∷ chains)))
       ≡ after_put (row_of values (linked_as slots ((x ∷ rest) ∷ chains))) value in
       subst P same (ap (λ (lists : List (List ℕ)). row_of (slice_set values x (Some value)) (linked_as slots lists))
       (unlinked-free x rest chains (kept.parted.once x)))
 
-  pub put-made : (values values' : List (Option T)) (links links' : Linked) (count slot : ℕ) (value : T) (m : Row T) → ArenaRule values links count
+  pub put-made : {values values' : List (Option T)} {links links' : Linked} {count slot : ℕ} (value : T) {m : Row T} → ArenaRule values links count
       → first_of (list_at links 0) ≡ Some slot → values' ≡ slice_set values slot (Some value)
       → links' ≡ linked_as links.slots (map (without slot) links.lists) → row_of values links ≡ m → row_of values' links' ≡ after_put m value
-  put-made values values' links links' count slot value m kept found values_are links_are row_is =
-      rw (values_are, links_are) (put-row values links.slots links.lists count slot value kept found)
+  put-made value kept found values_are links_are row_is =
+      rw (values_are, links_are) (put-row value kept found)
       ∙ ap (λ (row : Row T). after_put row value) row_is
 
   -- a slot that holds its value, taken off its list
-  unlinked-held : (values : List (Option T)) (slots : ℕ) (free : List ℕ) (chains : List (List ℕ)) (count i : ℕ)
+  unlinked-held : {values : List (Option T)} {slots : ℕ} {free : List ℕ} {chains : List (List ℕ)} {count : ℕ} (i : ℕ)
       → ArenaRule values (linked_as slots (free ∷ chains)) count → is_some (slice_index_or values i None) ≡ true
       → map (without i) (free ∷ chains) ≡ free ∷ map (without i) chains
-  unlinked-held values slots free chains count i kept held =
+  unlinked-held {values} {slots} {free} {chains} i kept held =
       let unfree = without-absent i free (held-not_free (row_of values (linked_as slots (free ∷ chains))) kept.parted i held) in
       cc
 
   -- `lend`
-  pub lend-kept : (values : List (Option T)) (slots : ℕ) (lists : List (List ℕ)) (count i : ℕ) → ArenaRule values (linked_as slots lists) count
+  pub lend-kept : {values : List (Option T)} {slots : ℕ} {lists : List (List ℕ)} {count : ℕ} (i : ℕ) → ArenaRule values (linked_as slots lists) count
       → is_some (slice_index_or values i None) ≡ true
       → ArenaRule (slice_set values i None) (linked_as slots (map (without i) lists)) count
-  lend-kept values slots [] count i kept held = absurd (omega (arith, kept.has_free))
-  lend-kept values slots (free ∷ chains) count i kept held =
+  lend-kept {lists = []} i kept held = absurd (omega (arith, kept.has_free))
+  lend-kept {values} {slots} {lists = free ∷ chains} {count} i kept held =
       let Q : List (List ℕ) → Type 0 = λ lists. ArenaRule (slice_set values i None) (linked_as slots lists) count in
-      subst Q (sym (unlinked-held values slots free chains count i kept held)) (record {
+      subst Q (sym (unlinked-held i kept held)) (record {
         slots = kept.slots ∙ sym (length-set values i None);
         has_free = omega arith;
         counted = kept.counted;
         parted = parted-lend (row_of values (linked_as slots (free ∷ chains))) i kept.parted held;
       })
 
-  pub lend-row : (values : List (Option T)) (slots : ℕ) (lists : List (List ℕ)) (count i : ℕ) → ArenaRule values (linked_as slots lists) count
+  pub lend-row : {values : List (Option T)} {slots : ℕ} {lists : List (List ℕ)} {count : ℕ} (i : ℕ) → ArenaRule values (linked_as slots lists) count
       → is_some (slice_index_or values i None) ≡ true
       → row_of (slice_set values i None) (linked_as slots (map (without i) lists)) ≡ after_lend (row_of values (linked_as slots lists)) i
-  lend-row values slots [] count i kept held = absurd (omega (arith, kept.has_free))
-  lend-row values slots (free ∷ chains) count i kept held =
+  lend-row {lists = []} i kept held = absurd (omega (arith, kept.has_free))
+  lend-row {values} {slots} {lists = free ∷ chains} i kept held =
       rw held (ap (λ (lists : List (List ℕ)). row_of (slice_set values i None) (linked_as slots lists))
-      (unlinked-held values slots free chains count i kept held))
+      (unlinked-held i kept held))
 
   -- `take`
-  prepended : (values : List (Option T)) (slots : ℕ) (free : List ℕ) (chains : List (List ℕ)) (count i : ℕ)
+  prepended : {values : List (Option T)} {slots : ℕ} {free : List ℕ} {chains : List (List ℕ)} {count : ℕ} (i : ℕ)
       → ArenaRule values (linked_as slots (free ∷ chains)) count → is_some (slice_index_or values i None) ≡ true
       → slice_set (map (without i) (free ∷ chains)) 0 (i ∷ slice_index_or (map (without i) (free ∷ chains)) 0 []) ≡ (i ∷ free) ∷ map (without i) chains
-  prepended values slots free chains count i kept held =
-      ap (λ (lists : List (List ℕ)). slice_set lists 0 (i ∷ slice_index_or lists 0 [])) (unlinked-held values slots free chains count i kept held)
+  prepended i kept held =
+      ap (λ (lists : List (List ℕ)). slice_set lists 0 (i ∷ slice_index_or lists 0 [])) (unlinked-held i kept held)
 
-  pub take-kept : (values : List (Option T)) (slots : ℕ) (lists : List (List ℕ)) (count i : ℕ) → ArenaRule values (linked_as slots lists) count
+  pub take-kept : {values : List (Option T)} {slots : ℕ} {lists : List (List ℕ)} {count : ℕ} (i : ℕ) → ArenaRule values (linked_as slots lists) count
       → is_some (slice_index_or values i None) ≡ true
       → ArenaRule (slice_set values i None) (linked_as slots (slice_set (map (without i) lists) 0 (i ∷ slice_index_or (map (without i) lists) 0 []))) (count + 1)
-  take-kept values slots [] count i kept held = absurd (omega (arith, kept.has_free))
-  take-kept values slots (free ∷ chains) count i kept held =
+  take-kept {lists = []} i kept held = absurd (omega (arith, kept.has_free))
+  take-kept {values} {slots} {lists = free ∷ chains} {count} i kept held =
       let Q : List (List ℕ) → Type 0 = λ lists. ArenaRule (slice_set values i None) (linked_as slots lists) (count + 1) in
-      subst Q (sym (prepended values slots free chains count i kept held)) (record {
+      subst Q (sym (prepended i kept held)) (record {
         slots = kept.slots ∙ sym (length-set values i None);
         has_free = omega arith;
         counted = omega (arith, kept.counted);
         parted = parted-take (row_of values (linked_as slots (free ∷ chains))) i kept.parted held;
       })
 
-  pub take-row : (values : List (Option T)) (slots : ℕ) (lists : List (List ℕ)) (count i : ℕ) → ArenaRule values (linked_as slots lists) count
+  pub take-row : {values : List (Option T)} {slots : ℕ} {lists : List (List ℕ)} {count : ℕ} (i : ℕ) → ArenaRule values (linked_as slots lists) count
       → is_some (slice_index_or values i None) ≡ true
       → row_of (slice_set values i None) (linked_as slots (slice_set (map (without i) lists) 0 (i ∷ slice_index_or (map (without i) lists) 0 [])))
       ≡ after_take (row_of values (linked_as slots lists)) i
-  take-row values slots [] count i kept held = absurd (omega (arith, kept.has_free))
-  take-row values slots (free ∷ chains) count i kept held =
+  take-row {lists = []} i kept held = absurd (omega (arith, kept.has_free))
+  take-row {values} {slots} {lists = free ∷ chains} i kept held =
       rw held (ap (λ (lists : List (List ℕ)). row_of (slice_set values i None) (linked_as slots lists))
-      (prepended values slots free chains count i kept held))
+      (prepended i kept held))
 
   -- `move_to`
-  appended : (values : List (Option T)) (slots : ℕ) (free : List ℕ) (chains : List (List ℕ)) (count i c : ℕ)
+  appended : {values : List (Option T)} {slots : ℕ} {free : List ℕ} {chains : List (List ℕ)} {count : ℕ} (i c : ℕ)
       → ArenaRule values (linked_as slots (free ∷ chains)) count → is_some (slice_index_or values i None) ≡ true
       → slice_set (map (without i) (free ∷ chains)) (c + 1) (slice_index_or (map (without i) (free ∷ chains)) (c + 1) [] ++ i ∷ [])
       ≡ free ∷ moved chains i c
-  appended values slots free chains count i c kept held =
+  appended i c kept held =
       rw (add-one) (ap (λ (lists : List (List ℕ)). slice_set lists (suc c) (slice_index_or lists (suc c) [] ++ i ∷ []))
-      (unlinked-held values slots free chains count i kept held))
+      (unlinked-held i kept held))
 
-  pub move-kept : (values : List (Option T)) (slots : ℕ) (lists : List (List ℕ)) (count i c : ℕ) → ArenaRule values (linked_as slots lists) count
+  pub move-kept : {values : List (Option T)} {slots : ℕ} {lists : List (List ℕ)} {count : ℕ} (i c : ℕ) → ArenaRule values (linked_as slots lists) count
       → is_some (slice_index_or values i None) ≡ true → c < length (chains_in lists)
       → ArenaRule values (linked_as slots (slice_set (map (without i) lists) (c + 1) (slice_index_or (map (without i) lists) (c + 1) [] ++ i ∷ []))) count
-  move-kept values slots [] count i c kept held within = absurd (omega (arith, kept.has_free))
-  move-kept values slots (free ∷ chains) count i c kept held within =
+  move-kept {lists = []} i c kept held within = absurd (omega (arith, kept.has_free))
+  move-kept {values} {slots} {lists = free ∷ chains} {count} i c kept held within =
       let Q : List (List ℕ) → Type 0 = λ lists. ArenaRule values (linked_as slots lists) count in
-      subst Q (sym (appended values slots free chains count i c kept held)) (record {
+      subst Q (sym (appended i c kept held)) (record {
         slots = kept.slots;
         has_free = omega arith;
         counted = kept.counted;
         parted = parted-move (row_of values (linked_as slots (free ∷ chains))) i c kept.parted held within;
       })
 
-  pub move-row : (values : List (Option T)) (slots : ℕ) (lists : List (List ℕ)) (count i c : ℕ) → ArenaRule values (linked_as slots lists) count
+  pub move-row : {values : List (Option T)} {slots : ℕ} {lists : List (List ℕ)} {count : ℕ} (i c : ℕ) → ArenaRule values (linked_as slots lists) count
       → is_some (slice_index_or values i None) ≡ true → c < length (chains_in lists)
       → row_of values (linked_as slots (slice_set (map (without i) lists) (c + 1) (slice_index_or (map (without i) lists) (c + 1) [] ++ i ∷ [])))
       ≡ after_move (row_of values (linked_as slots lists)) i c
-  move-row values slots [] count i c kept held within = absurd (omega (arith, kept.has_free))
-  move-row values slots (free ∷ chains) count i c kept held within =
+  move-row {lists = []} i c kept held within = absurd (omega (arith, kept.has_free))
+  move-row {values} {slots} {lists = free ∷ chains} i c kept held within =
       rw (held, lt-ltb c (length chains) within) (ap (λ (lists : List (List ℕ)). row_of values (linked_as slots lists))
-      (appended values slots free chains count i c kept held))
+      (appended i c kept held))
 
   -- `restore`
   none-from : (o : Option T) → is_some o ≡ false → is_none o ≡ true
@@ -189,11 +189,11 @@ module _ {T : Type 0} where
   lent-from m i within empty unfree =
       rw (lt-ltb i (capacity_of m) within, none-from (value_at m i) empty, unfree) refl
 
-  pub restore-kept : (values : List (Option T)) (slots : ℕ) (lists : List (List ℕ)) (count i : ℕ) (value : T) → ArenaRule values (linked_as slots lists) count
+  pub restore-kept : {values : List (Option T)} {slots : ℕ} {lists : List (List ℕ)} {count : ℕ} (i : ℕ) (value : T) → ArenaRule values (linked_as slots lists) count
       → i < length values → times i (concat lists) ≡ 0
       → ArenaRule (slice_set values i (Some value)) (linked_as slots lists) count
-  restore-kept values slots [] count i value kept within alone = absurd (omega (arith, kept.has_free))
-  restore-kept values slots (free ∷ chains) count i value kept within alone = record {
+  restore-kept {lists = []} i value kept within alone = absurd (omega (arith, kept.has_free))
+  restore-kept {values} {slots} {lists = free ∷ chains} i value kept within alone = record {
     slots = kept.slots ∙ sym (length-set values i (Some value));
     has_free = kept.has_free;
     counted = kept.counted;
@@ -201,11 +201,11 @@ module _ {T : Type 0} where
         (omega (arith, times-append i free (concat chains)));
   }
 
-  pub lent-alone : (values : List (Option T)) (slots : ℕ) (lists : List (List ℕ)) (count i : ℕ) → ArenaRule values (linked_as slots lists) count
+  pub lent-alone : {values : List (Option T)} {slots : ℕ} {lists : List (List ℕ)} {count : ℕ} (i : ℕ) → ArenaRule values (linked_as slots lists) count
       → i < length values → is_some (slice_index_or values i None) ≡ false → times i (concat lists) ≡ 0
       → is_lent (row_of values (linked_as slots lists)) i ≡ true
-  lent-alone values slots [] count i kept within empty alone = absurd (omega (arith, kept.has_free))
-  lent-alone values slots (free ∷ chains) count i kept within empty alone =
+  lent-alone {lists = []} i kept within empty alone = absurd (omega (arith, kept.has_free))
+  lent-alone {values} {slots} {lists = free ∷ chains} i kept within empty alone =
       lent-from (row_of values (linked_as slots (free ∷ chains))) i within empty (omega (arith, times-append i free (concat chains)))
 
   -- where `restore` refuses
@@ -228,10 +228,10 @@ module _ {T : Type 0} where
       go true false = refl
       go false n = refl
 
-  pub not_lent-listed : (values : List (Option T)) (slots : ℕ) (lists : List (List ℕ)) (count i : ℕ) → ArenaRule values (linked_as slots lists) count
+  pub not_lent-listed : {values : List (Option T)} {slots : ℕ} {lists : List (List ℕ)} {count : ℕ} (i : ℕ) → ArenaRule values (linked_as slots lists) count
       → (times i (concat lists) ≡ 0 → ⊥) → is_lent (row_of values (linked_as slots lists)) i ≡ false
-  not_lent-listed values slots [] count i kept listed = absurd (omega (arith, kept.has_free))
-  not_lent-listed values slots (free ∷ chains) count i kept listed = elim (leb_tells 1 (times i free)) [
+  not_lent-listed {lists = []} i kept listed = absurd (omega (arith, kept.has_free))
+  not_lent-listed {values} {slots} {lists = free ∷ chains} i kept listed = elim (leb_tells 1 (times i free)) [
     | inl e ↦ not_lent-free (row_of values (linked_as slots (free ∷ chains))) i e.1
     | inr n ↦ not_lent (row_of values (linked_as slots (free ∷ chains))) i
         (kept.parted.chains_hold i (elim (leb_tells 1 (times i (concat chains))) [
@@ -279,7 +279,7 @@ module _ {T : Type 0} where
   pub restored-answer : (m : Row T) (i : ℕ) (value : T) → is_lent m i ≡ true → Ok tt ≡ restore_answer m i value
   restored-answer m i value lent = rw lent refl
 
-  pub restored-row : (values values' : List (Option T)) (links : Linked) (i : ℕ) (value : T) (m : Row T) → is_lent m i ≡ true
+  pub restored-row : {values values' : List (Option T)} (links : Linked) (i : ℕ) (value : T) {m : Row T} → is_lent m i ≡ true
       → values' ≡ slice_set values i (Some value) → row_of values links ≡ m → row_of values' links ≡ after_restore m i value
-  restored-row values values' links i value m lent values_are row_is =
+  restored-row links i value lent values_are row_is =
       rw lent (rw values_are refl ∙ ap (λ (row : Row T). let made : Row T = record row { values = slice_set row.values i (Some value) } in made) row_is)

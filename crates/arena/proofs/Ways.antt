@@ -11,22 +11,30 @@ use Rattle.arena.proofs.Times.{times-cons_other}
 abbrev pub AreSlots : ℕ → List ℕ → Type 0
 AreSlots slots xs = AllByRecursion (λ x. x < slots) xs
 
--- a way over slots to an end is what the walk finds
-pub walk-way : (next : ℕ → ℕ) (slots steps a : ℕ) (xs : List ℕ) (z : ℕ) → IsWay next a xs z → AreSlots slots xs → slots ≤ z
-    → length xs ≤ steps → walk next slots steps (next a) ≡ xs
-walk-way next slots zero a [] z way inside outside short = refl
-walk-way next slots zero a (x ∷ xs) z way inside outside short = absurd (omega arith)
-walk-way next slots (suc steps) a [] z way inside outside short = rw (way, le-ltb z slots outside) refl
-walk-way next slots (suc steps) a (x ∷ xs) z way inside outside short =
-    rw (way.0, lt-ltb x slots inside.0) (ap (λ (l : List ℕ). x ∷ l) (walk-way next slots steps x xs z way.1 inside.1 outside (omega arith)))
+module _ (next : ℕ → ℕ) (slots : ℕ) where
+  -- a way over slots to an end is what the walk finds
+  pub walk-way : (steps a : ℕ) (xs : List ℕ) (z : ℕ) → IsWay next a xs z → AreSlots slots xs → slots ≤ z
+      → length xs ≤ steps → walk next slots steps (next a) ≡ xs
+  walk-way zero a [] z way inside outside short = refl
+  walk-way zero a (x ∷ xs) z way inside outside short = absurd (omega arith)
+  walk-way (suc steps) a [] z way inside outside short = rw (way, le-ltb z slots outside) refl
+  walk-way (suc steps) a (x ∷ xs) z way inside outside short =
+      rw (way.0, lt-ltb x slots inside.0) (ap (λ (l : List ℕ). x ∷ l) (walk-way steps x xs z way.1 inside.1 outside (omega arith)))
 
--- a walk meets slots alone
-pub walk-inside : (next : ℕ → ℕ) (slots steps a : ℕ) → AreSlots slots (walk next slots steps a)
-walk-inside next slots zero a = tt
-walk-inside next slots (suc steps) a = elim (leb_tells (suc a) slots) [
-  | inl e ↦ rw e.0 (e.1, walk-inside next slots steps (next a))
-  | inr n ↦ rw n.0 tt
-]
+  -- a walk meets slots alone
+  pub walk-inside : (steps a : ℕ) → AreSlots slots (walk next slots steps a)
+  walk-inside zero a = tt
+  walk-inside (suc steps) a = elim (leb_tells (suc a) slots) [
+    | inl e ↦ rw e.0 (e.1, walk-inside steps (next a))
+    | inr n ↦ rw n.0 tt
+  ]
+
+  pub length-walk : (steps a : ℕ) → length (walk next slots steps a) ≤ steps
+  length-walk zero a = omega arith
+  length-walk (suc steps) a = elim (leb_tells (suc a) slots) [
+    | inl e ↦ rw e.0 (omega (arith, length-walk steps (next a)))
+    | inr n ↦ rw n.0 (omega arith)
+  ]
 
 -- each slot is a node
 pub slots-below : (slots nodes : ℕ) (xs : List ℕ) → slots ≤ nodes → AreSlots slots xs → AreSlots nodes xs
@@ -50,19 +58,12 @@ times-no_slot slots i [] inside outside = refl
 times-no_slot slots i (x ∷ xs) inside outside =
     times-cons_other i x xs (λ same. absurd (let within : x < slots = inside.0 in omega arith)) ∙ times-no_slot slots i xs inside.1 outside
 
-pub length-walk : (next : ℕ → ℕ) (slots steps a : ℕ) → length (walk next slots steps a) ≤ steps
-length-walk next slots zero a = omega arith
-length-walk next slots (suc steps) a = elim (leb_tells (suc a) slots) [
-  | inl e ↦ rw e.0 (omega (arith, length-walk next slots steps (next a)))
-  | inr n ↦ rw n.0 (omega arith)
-]
-
 -- a way stays where its nodes lead on as before
-pub way-kept : (next next' : ℕ → ℕ) (a b : ℕ) (xs : List ℕ) (z : ℕ) → next' b ≡ next a
+pub way-kept : (next next' : ℕ → ℕ) {a b : ℕ} (xs : List ℕ) (z : ℕ) → next' b ≡ next a
     → AllByRecursion (λ x. next' x ≡ next x) xs → IsWay next a xs z → IsWay next' b xs z
-way-kept next next' a b [] z first rest way = first ∙ way
-way-kept next next' a b (x ∷ xs) z first rest way =
-    (first ∙ way.0, way-kept next next' x x xs z rest.0 rest.1 way.1)
+way-kept next next' [] z first rest way = first ∙ way
+way-kept next next' (x ∷ xs) z first rest way =
+    (first ∙ way.0, way-kept next next' xs z rest.0 rest.1 way.1)
 
 -- the rows of two functions, where one is made of the other at each place
 pub table-map : (at at' : ℕ → List ℕ) (made : List ℕ → List ℕ) (from count : ℕ)

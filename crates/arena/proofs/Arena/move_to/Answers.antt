@@ -10,7 +10,7 @@ invariant_of-self g c =
     let count : c.chains.result ≡ length (chains_in c.self.inside.links.lists) = rw (← c.self.view_is) at c.chains.ensures in
     let within : c.args.c < length (chains_in c.self.inside.links.lists) = omega arith in
     rw (c.append.ensures.lists, c.unlink.ensures.lists)
-    (move-kept c.self.inside.values.items c.self.inside.links.slots c.self.inside.links.lists c.self.inside.free c.args.i c.args.c c.self.invariant held within)
+    (move-kept c.args.i c.args.c c.self.invariant held within)
 
 pub returns-clause-row : goal.returns-clause-row
 returns-clause-row g c =
@@ -18,7 +18,7 @@ returns-clause-row g c =
     let count : c.chains.result ≡ length (chains_in c.self.inside.links.lists) = rw (← c.self.view_is) at c.chains.ensures in
     let within : c.args.c < length (chains_in c.self.inside.links.lists) = omega arith in
     rw (← c.self.view_is, c.append.ensures.lists, c.unlink.ensures.lists)
-    (move-row c.self.inside.values.items c.self.inside.links.slots c.self.inside.links.lists c.self.inside.free c.args.i c.args.c c.self.invariant held within)
+    (move-row c.args.i c.args.c c.self.invariant held within)
 
 pub returns-clause-parted : goal.returns-clause-parted
 returns-clause-parted g c = (invariant_of-self g c).parted

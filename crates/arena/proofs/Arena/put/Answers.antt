@@ -5,26 +5,22 @@ use Rattle.arena.proofs.Arena.put.Goals as goal
 
 pub unlink-requires : goal.unlink-requires
 unlink-requires g c =
-    let within = put-within c.self.inside.values.items c.self.inside.links.slots c.self.inside.links.lists c.self.inside.free c.in-Some.slot
-    c.self.invariant (sym c.first.ensures ∙ c.in-Some.is) in
+    let within = put-within c.self.invariant (sym c.first.ensures ∙ c.in-Some.is) in
     omega (arith, c.self.invariant.slots)
 
 pub fill-requires-clause-is_there : goal.fill-requires-clause-is_there
 fill-requires-clause-is_there g c =
-    let within = put-within c.self.inside.values.items c.self.inside.links.slots c.self.inside.links.lists c.self.inside.free c.in-Some.slot
-    c.self.invariant (sym c.first.ensures ∙ c.in-Some.is) in
+    let within = put-within c.self.invariant (sym c.first.ensures ∙ c.in-Some.is) in
     omega arith
 
 pub invariant_of-self : goal.invariant_of-self
 invariant_of-self g c =
     rw (c.fill.ensures, c.unlink.ensures.lists)
-    (put-kept c.self.inside.values.items c.self.inside.links.slots c.self.inside.links.lists c.self.inside.free c.in-Some.slot c.args.value
-    c.self.invariant (sym c.first.ensures ∙ c.in-Some.is))
+    (put-kept c.args.value c.self.invariant (sym c.first.ensures ∙ c.in-Some.is))
 
 pub returns-clause-row : goal.returns-clause-row
 returns-clause-row g c =
-    put-made c.self.inside.values.items c.fill.new.values.items c.self.inside.links c.unlink.new.self c.self.inside.free c.in-Some.slot
-    c.args.value c.args.self.now c.self.invariant (sym c.first.ensures ∙ c.in-Some.is) c.fill.ensures c.unlink.ensures.lists c.self.view_is
+    put-made c.args.value c.self.invariant (sym c.first.ensures ∙ c.in-Some.is) c.fill.ensures c.unlink.ensures.lists c.self.view_is
 
 pub returns-clause-parted : goal.returns-clause-parted
 returns-clause-parted g c = (invariant_of-self g c).parted

@@ -16,7 +16,7 @@ returns-then-i-capacity-clause-answer g c =
           let listed : times c.args.i (concat c.self.inside.links.lists) ≡ 0 → ⊥ =
           (λ none. let answer = w.is_alone.ensures.1 none in let wrong = w.if-not-is_alone.true in cc) in
           let P = λ (m : Row g.row.T.Denot). is_lent m c.args.i ≡ false in
-          subst P c.self.view_is (not_lent-listed c.self.inside.values.items c.self.inside.links.slots c.self.inside.links.lists c.self.inside.free c.args.i c.self.invariant listed))
+          subst P c.self.view_is (not_lent-listed c.args.i c.self.invariant listed))
     ])
 
 pub returns-then-i-capacity-clause-row : goal.returns-then-i-capacity-clause-row
@@ -28,15 +28,14 @@ returns-then-i-capacity-clause-row g c =
           let listed : times c.args.i (concat c.self.inside.links.lists) ≡ 0 → ⊥ =
           (λ none. let answer = w.is_alone.ensures.1 none in let wrong = w.if-not-is_alone.true in cc) in
           let P = λ (m : Row g.row.T.Denot). is_lent m c.args.i ≡ false in
-          subst P c.self.view_is (not_lent-listed c.self.inside.values.items c.self.inside.links.slots c.self.inside.links.lists c.self.inside.free c.args.i c.self.invariant listed))
+          subst P c.self.view_is (not_lent-listed c.args.i c.self.invariant listed))
     ])
 
 pub invariant_of-self : goal.invariant_of-self
 invariant_of-self g c =
     let count : c.capacity.result ≡ length c.self.inside.values.items = rw (← c.self.view_is) at c.capacity.ensures.count in
     let alone : times c.args.i (concat c.self.inside.links.lists) ≡ 0 = c.is_alone.ensures.0 c.if-not-is_alone.false in
-    rw c.fill.ensures (restore-kept c.self.inside.values.items c.self.inside.links.slots c.self.inside.links.lists c.self.inside.free c.args.i
-    c.args.value c.self.invariant (omega arith) alone)
+    rw c.fill.ensures (restore-kept c.args.i c.args.value c.self.invariant (omega arith) alone)
 
 pub returns-clause-answer : goal.returns-clause-answer
 returns-clause-answer g c =
@@ -45,8 +44,7 @@ returns-clause-answer g c =
     let empty : is_some (slice_index_or c.self.inside.values.items c.args.i None) ≡ false = rw (← c.self.view_is) at (sym c.holds.ensures.answer ∙ c.if-holds.false) in
     let P = λ (m : Row g.row.T.Denot). is_lent m c.args.i ≡ true in
     restored-answer c.args.self.now c.args.i c.args.value (subst P c.self.view_is
-    (lent-alone c.self.inside.values.items c.self.inside.links.slots c.self.inside.links.lists c.self.inside.free c.args.i c.self.invariant
-    (omega arith) empty alone))
+    (lent-alone c.args.i c.self.invariant (omega arith) empty alone))
 
 pub returns-clause-row : goal.returns-clause-row
 returns-clause-row g c =
@@ -54,10 +52,8 @@ returns-clause-row g c =
     let alone : times c.args.i (concat c.self.inside.links.lists) ≡ 0 = c.is_alone.ensures.0 c.if-not-is_alone.false in
     let empty : is_some (slice_index_or c.self.inside.values.items c.args.i None) ≡ false = rw (← c.self.view_is) at (sym c.holds.ensures.answer ∙ c.if-holds.false) in
     let P = λ (m : Row g.row.T.Denot). is_lent m c.args.i ≡ true in
-    restored-row c.self.inside.values.items c.fill.new.values.items c.self.inside.links c.args.i c.args.value c.args.self.now
-    (subst P c.self.view_is
-    (lent-alone c.self.inside.values.items c.self.inside.links.slots c.self.inside.links.lists c.self.inside.free c.args.i c.self.invariant
-    (omega arith) empty alone))
+    restored-row c.self.inside.links c.args.i c.args.value (subst P c.self.view_is
+    (lent-alone c.args.i c.self.invariant (omega arith) empty alone))
     c.fill.ensures c.self.view_is
 
 pub returns-clause-parted : goal.returns-clause-parted

@@ -7,20 +7,20 @@ use Rattle.arena.proofs.Arena.take.Goals as goal
 pub overflow_add-self : goal.overflow_add-self
 overflow_add-self g c =
     let held : is_some (slice_index_or c.self.inside.values.items c.args.i None) ≡ true = rw (← c.self.view_is) at (sym c.holds.ensures.answer ∙ c.if-not-holds.false) in
-    let fits = kept-fits _ _ _ (take-kept c.self.inside.values.items c.self.inside.links.slots c.self.inside.links.lists c.self.inside.free c.args.i c.self.invariant held) in
+    let fits = kept-fits _ _ _ (take-kept c.args.i c.self.invariant held) in
     omega (arith, length-set c.self.inside.values.items c.args.i None)
 
 pub invariant_of-self : goal.invariant_of-self
 invariant_of-self g c =
     let held : is_some (slice_index_or c.self.inside.values.items c.args.i None) ≡ true = rw (← c.self.view_is) at (sym c.holds.ensures.answer ∙ c.if-not-holds.false) in
     rw (c.take.ensures.after, c.move_first.ensures.lists)
-    (take-kept c.self.inside.values.items c.self.inside.links.slots c.self.inside.links.lists c.self.inside.free c.args.i c.self.invariant held)
+    (take-kept c.args.i c.self.invariant held)
 
 pub returns-clause-row : goal.returns-clause-row
 returns-clause-row g c =
     let held : is_some (slice_index_or c.self.inside.values.items c.args.i None) ≡ true = rw (← c.self.view_is) at (sym c.holds.ensures.answer ∙ c.if-not-holds.false) in
     rw (← c.self.view_is, c.take.ensures.after, c.move_first.ensures.lists)
-    (take-row c.self.inside.values.items c.self.inside.links.slots c.self.inside.links.lists c.self.inside.free c.args.i c.self.invariant held)
+    (take-row c.args.i c.self.invariant held)
 
 pub returns-clause-parted : goal.returns-clause-parted
 returns-clause-parted g c = (invariant_of-self g c).parted
