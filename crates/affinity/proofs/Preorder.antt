@@ -55,9 +55,9 @@ fits_in_volume g a v (suc (suc n) ∷ p) h = absurd h
 earlier : (v w e : ℕ) → v < w → v * e + e ≤ w * e
 earlier v w e h = row_fits v e w e h (omega arith)
 
-children : (base e v w first count other : ℕ) (r : Bool) → FitsIn (base + v * e) e first count → base + w * e ≤ other → other < base + w * e + e
+children : (base v w other : ℕ) {e first count : ℕ} {r : Bool} → FitsIn (base + v * e) e first count → base + w * e ≤ other → other < base + w * e + e
     → (v ≡ w → r ≡ (nat_le first other && nat_lt other (first + count))) → ((v == w) && r) ≡ (nat_le first other && nat_lt other (first + count))
-children base e v w first count other r fits low high same = ⊎_elim
+children base v w other {e} {first} {count} {r} fits low high same = ⊎_elim
     (λ (equal : v ≡ w). let inner : r ≡ (nat_le first other && nat_lt other (first + count)) = same equal in grind (arith, nat_tests))
     (λ apart. ⊎_elim
     (λ (less : v < w). let space : v * e + e ≤ w * e = earlier v w e less in grind (arith, nat_tests))
@@ -72,7 +72,7 @@ among_volumes g a v w p q h k =
     let fits = fits_in_volume g a w q k in
     let same : v ≡ w → begins p q ≡ contains (interval g (a ∷ v ∷ p)) (number g (a ∷ w ∷ q)) =
     λ e. subst (λ (x : ℕ). IsPath g (a ∷ x ∷ q) → begins p q ≡ contains (interval g (a ∷ v ∷ p)) (number g (a ∷ x ∷ q))) e (in_volume g a v p q h) k in
-    children (2 + a * aggregate_size g) (volume_size g) v w (number g (a ∷ v ∷ p)) (size g (a ∷ v ∷ p)) (number g (a ∷ w ∷ q)) (begins p q) (fits_in_volume g a v p h) fits.low (omega arith) same
+    children (2 + a * aggregate_size g) v w (number g (a ∷ w ∷ q)) (fits_in_volume g a v p h) fits.low (omega arith) same
 
 -- a path's volume, and its aggregate, are there
 volume_there : (g : Geometry) (a v : ℕ) (p : Path) → IsPath g (a ∷ v ∷ p) → (a < g.aggregates) × (v < g.volumes)
@@ -107,7 +107,7 @@ among_aggregates g a b p q h k =
     let fits = fits_in_aggregate g b q k in
     let same : a ≡ b → begins p q ≡ contains (interval g (a ∷ p)) (number g (b ∷ q)) =
     λ e. subst (λ (x : ℕ). IsPath g (x ∷ q) → begins p q ≡ contains (interval g (a ∷ p)) (number g (x ∷ q))) e (in_aggregate g a p q h) k in
-    children 1 (aggregate_size g) a b (number g (a ∷ p)) (size g (a ∷ p)) (number g (b ∷ q)) (begins p q) (fits_in_aggregate g a p h) fits.low (omega arith) same
+    children 1 a b (number g (b ∷ q)) (fits_in_aggregate g a p h) fits.low (omega arith) same
 
 fits_in_server : (g : Geometry) (p : Path) → IsPath g p → FitsIn 0 (server_size g) (number g p) (size g p)
 fits_in_server g [] h = record { low = omega arith; some = omega arith; high = omega arith }
