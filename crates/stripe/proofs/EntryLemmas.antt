@@ -164,9 +164,9 @@ same-rewritten (e ∷ es) (suc n) content within up =
     let first = all-at (ComesBefore e) n no_entry es (omega arith) up.0 in
     rw (no_match at.file at.block e.file e.block (before_other e.file e.block at.file at.block first)) (same-rewritten es n content (omega arith) up.1)
 
-pub content-rewritten : (es : List BlockEntry) (f b n : ℕ) (content : Block) → IsAscending es → IsAt es f b n → (i j : ℕ)
+pub content-rewritten : {es : List BlockEntry} {f b n : ℕ} (content : Block) → IsAscending es → IsAt es f b n → (i j : ℕ)
     → content_at (rewritten es n content) i j ≡ (if (f == i) && (b == j) then Some content else content_at es i j)
-content-rewritten es f b n content up at i j = elim (match_tells f b i j) [
+content-rewritten {es} {f} {b} {n} content up at i j = elim (match_tells f b i j) [
   | inl e ↦ rw (e.0, ← e.1, ← e.2, ← at.file, ← at.block) (same-rewritten es n content at.within up)
   | inr o ↦ rw o.0 (other-rewritten es n content i j at.within (λ file block. o.1 (sym (file ∙ at.file)) (sym (block ∙ at.block))))
 ]

@@ -137,9 +137,9 @@ pub held-content : (row : Row Block) (index : List IndexEntry) (n : ℕ) (p : In
 held-content row index n p stored within here =
     unwrapped (value_at row p.slot) no_block (stored.hold p.slot (times-place index n p within here))
 
-pub found-value : (row : Row Block) (index : List IndexEntry) (es : List BlockEntry) (f b n : ℕ) (p : IndexEntry) → IsStored row index
+pub found-value : {row : Row Block} {index : List IndexEntry} {es : List BlockEntry} {f b n : ℕ} {p : IndexEntry} → IsStored row index
     → entries_of row.values index ≡ es → IsAt es f b n → p ≡ slice_index_or index n p → value_at row p.slot ≡ content_at es f b
-found-value row index es f b n p stored same at here =
+found-value {row} {index} {es} {f} {b} {n} {p} stored same at here =
     let within : n < length (entries_of row.values index) = rw (← same) at at.within in
     let up : IsAscending es = rw same at stored.ascending in
     let there : slice_index_or es n no_entry ≡ entry_at row.values p = rw (← same) (place-entry row.values index n p within here) in
@@ -175,21 +175,21 @@ entries-other values slot w (q ∷ index) none = elim (eqb_tells q.slot slot) [
       (entries-other values slot w index (let same = times-cons_other slot q.slot (slots_of index) n.1 in omega arith))
 ]
 
-pub entries-written : (values : List (Option Block)) (index : List IndexEntry) (n : ℕ) (p : IndexEntry) (content : Block)
+pub entries-written : (values : List (Option Block)) (index : List IndexEntry) (n : ℕ) {p : IndexEntry} (content : Block)
     → ((i : ℕ) → times i (slots_of index) ≤ 1) → n < length index → p ≡ slice_index_or index n p → p.slot < length values
     → entries_of (slice_set values p.slot (Some content)) index ≡ rewritten (entries_of values index) n content
-entries-written values [] n p content once within here fits = absurd (omega arith)
-entries-written values (q ∷ index) zero p content once within here fits =
+entries-written values [] n content once within here fits = absurd (omega arith)
+entries-written values (q ∷ index) zero {p} content once within here fits =
     let same : q.slot ≡ p.slot = ap (λ (r : IndexEntry). r.slot) (sym here) in
     both_same _ _ _ _ (entry-written values q p.slot content same fits)
     (entries-other values p.slot (Some content) index
     (let more = times-cons_is p.slot q.slot (slots_of index) same in let most = once p.slot in omega arith))
-entries-written values (q ∷ index) (suc n) p content once within here fits =
+entries-written values (q ∷ index) (suc n) {p} content once within here fits =
     let later = times-place index n p (omega arith) here in
     both_same _ _ _ _
     (entry-other values q p.slot (Some content)
     (λ same. absurd (let more = times-cons_is p.slot q.slot (slots_of index) same in let most = once p.slot in omega arith)))
-    (entries-written values index n p content (λ i. let tail = times-tail i q.slot (slots_of index) in let most = once i in omega arith) (omega arith) here fits)
+    (entries-written values index n content (λ i. let tail = times-tail i q.slot (slots_of index) in let most = once i in omega arith) (omega arith) here fits)
 
 pub stored-written : (row : Row Block) (index : List IndexEntry) (n : ℕ) (p : IndexEntry) (content : Block) → IsStored row index → n < length index
     → p ≡ slice_index_or index n p → IsStored (with_value row p.slot content) index
@@ -198,7 +198,7 @@ stored-written row index n p content stored within here =
     let fits = held-within row.values p.slot held in
     let long = length-set row.values p.slot (Some content) in
     record {
-      ascending = rw (entries-written row.values index n p content stored.once within here fits)
+      ascending = rw (entries-written row.values index n content stored.once within here fits)
           (ascending-rewritten (entries_of row.values index) n content (let same = length-entries row.values index in omega arith) stored.ascending);
       parted = parted-restore row p.slot content stored.parted fits (held-not_free row stored.parted p.slot held);
       once = stored.once;
@@ -359,10 +359,10 @@ after_take-is : (row : Row Block) (i : ℕ) → holds_value row i ≡ true
     → after_take row i ≡ record { values = slice_set row.values i None; free = i ∷ row.free; chains = map (without i) row.chains }
 after_take-is row i held = rw held refl
 
-pub taken-more : (before now : Row Block) (run : List IndexEntry) (k : ℕ) (p : IndexEntry) → IsTaken before now run k → ((i : ℕ) → times i (slots_of run) ≤ 1)
+pub taken-more : {before now : Row Block} {run : List IndexEntry} {k : ℕ} {p : IndexEntry} → IsTaken before now run k → ((i : ℕ) → times i (slots_of run) ≤ 1)
     → ((i : ℕ) → 0 < times i (slots_of run) → holds_value before i ≡ true) → k < length run → p ≡ slice_index_or run k p
     → IsParted (after_take now p.slot) → IsTaken before (after_take now p.slot) run (k + 1)
-taken-more before now run k p taken once hold within here parted =
+taken-more {before} {now} {run} {k} {p} taken once hold within here parted =
     let next = λ (i : ℕ). times-next i run k p within here in
     let one = times-cons_same p.slot (slots_of (take k run)) in
     let fresh : times p.slot (slots_of (take k run)) ≡ 0 =
@@ -470,13 +470,13 @@ abbrev pub run_of : List IndexEntry → ℕ → ℕ → List IndexEntry
 run_of index from end = take (end - from) (drop from index)
 
 -- the next place of the run between two indices
-pub taken-next : (before now : Row Block) (index : List IndexEntry) (from end k : ℕ) (d : IndexEntry) → IsStored before index → from ≤ end
+pub taken-next : {before now : Row Block} {index : List IndexEntry} (from end : ℕ) {k : ℕ} (d : IndexEntry) → IsStored before index → from ≤ end
     → IsTaken before now (run_of index from end) k → k < length (run_of index from end)
     → IsParted (after_take now (slice_index_or (run_of index from end) k d).slot)
     → IsTaken before (after_take now (slice_index_or (run_of index from end) k d).slot) (run_of index from end) (k + 1)
-taken-next before now index from end k d stored order taken low parted =
+taken-next {index = index} from end {k} d stored order taken low parted =
     let parts = λ (i : ℕ). times-cut i index from (end - from) end (omega arith) in
-    taken-more before now (run_of index from end) k (slice_index_or (run_of index from end) k d) taken
+    taken-more taken
     (λ i. let sum = parts i in let most = stored.once i in omega arith)
     (λ i some. stored.hold i (let sum = parts i in omega arith))
     low (place-read (run_of index from end) k d low) parted

@@ -10,8 +10,7 @@ loop-place-init c = taken-none c.self.inside.blocks _ c.self.invariant.0.parted
 pub loop-place-preserved : goal.loop-place-preserved
 loop-place-preserved c =
     rw (c.take.ensures.row, c.from.ensures, c.deref.ensures.value)
-    (taken-next c.self.inside.blocks c.loop-place.self-inside.1.0 c.self.inside.index.items c.args.from c.args.end c.loop-place.place-index
-    (record { file = 0; block = 0; slot = 0 }) c.self.invariant.0 c.requires.order
+    (taken-next c.args.from c.args.end (record { file = 0; block = 0; slot = 0 }) c.self.invariant.0 c.requires.order
     (rw c.deref.ensures.value at c.loop-place.invariant)
     (rw c.deref.ensures.value at c.loop-place-test.true)
     (rw (c.take.ensures.row, c.from.ensures, c.deref.ensures.value) at c.take.ensures.parted))

@@ -14,7 +14,7 @@ pub returns-in-Ok-clause-holds : goal.returns-in-Ok-clause-holds
 returns-in-Ok-clause-holds c =
     rw c.write.ensures (record {
       quota = refl;
-      content = content-rewritten c.args.self.now.entries c.args.f c.args.b c.in-Ok.n c.args.content.now c.in-Ok.ensures.kept.ascending c.in-Ok.ensures.found;
+      content = content-rewritten c.args.content.now c.in-Ok.ensures.kept.ascending c.in-Ok.ensures.found;
     })
 
 pub returns-in-Ok-clause-kept : goal.returns-in-Ok-clause-kept

@@ -33,5 +33,5 @@ returns c =
     (let full = rw (← same) at c.requires in let long = length-entries c.self.inside.blocks.values c.self.inside.index.items in omega arith) in
     rw (← c.self.view_is, c.from-slot.ensures)
     (part_same _ _ _ _ (length-set c.self.inside.blocks.values c.index.result.now.slot (Some c.args.content.now))
-    (entries-written c.self.inside.blocks.values c.self.inside.index.items c.args.n c.index.result.now c.args.content.now c.self.invariant.0.once within c.index.ensures
+    (entries-written c.self.inside.blocks.values c.self.inside.index.items c.args.n c.args.content.now c.self.invariant.0.once within c.index.ensures
     (slot-within c.self.inside.blocks c.self.inside.index.items c.args.n c.index.result.now c.self.invariant.0 within c.index.ensures)))
