@@ -105,7 +105,7 @@ module _ (version : ℕ) (g : Geometry) (pieces : ℕ → List ℕ) (n i : ℕ) 
           let x : State = decoded_by version g (first_of g pieces n) in
           let none : (f b : ℕ) → group g f b ≡ s → x.blocks (a, v, f, b) ≡ None =
           λ f b on. if_none (has_volume g (a, v)) _
-          (no_block_in_zeros g pieces n a v (group g f b) f b (omega (arith, number, part, on, behind))) in
+          (no_block_in_zeros g pieces n (stripe_piece_number g a v (group g f b)) f b (omega (arith, number, part, on, behind))) in
           let nothing : stripe_entries g x a v s ≡ [] =
           entries_same g x empty a v s (λ f b on. ap (entry_if (x.files (a, v, f)) f b) (none f b on)
           ∙ no_entry_of_none (x.files (a, v, f)) f b)

@@ -94,6 +94,6 @@ module _ (g : Geometry) (x : State) (is : IsState g x) (a v s f b : ℕ) where
               no_part false q e = refl
 
 -- Entries that ascend and hold the blocks of a stripe are those that spell it.
-pub spelled : (g : Geometry) (x : State) → IsState g x → (a v s : ℕ) (es : List BlockEntry) → IsAscending es
+pub spelled : {g : Geometry} {x : State} → IsState g x → (a v s : ℕ) (es : List BlockEntry) → IsAscending es
     → ((f b : ℕ) → content_at es f b ≡ (if group g f b == s then x.blocks (a, v, f, b) else None)) → es ≡ stripe_entries g x a v s
-spelled g x is a v s es up holds = ascending_same es (stripe_entries g x a v s) up (entries_ascend g x a v s) (λ f b. holds f b ∙ sym (stripe_holds g x is a v s f b))
+spelled {g} {x} is a v s es up holds = ascending_same es (stripe_entries g x a v s) up (entries_ascend g x a v s) (λ f b. holds f b ∙ sym (stripe_holds g x is a v s f b))

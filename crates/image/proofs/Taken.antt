@@ -18,6 +18,11 @@ use Rattle.image.proofs.Decoded.{is_volume_there}
 abbrev pub first_of : Geometry → (ℕ → List ℕ) → ℕ → ℕ → List ℕ
 first_of g pieces n i = if nat_lt i n then pieces i else replicate (piece_size g i) 0
 
+pub no_entries : (n k : ℕ) → entries_in n (replicate k 0) ≡ []
+no_entries zero k = refl
+no_entries (suc n) zero = refl
+no_entries (suc n) (suc k) = refl
+
 module _ (g : Geometry) (pieces : ℕ → List ℕ) (n i : ℕ) where
   pub first_there : i < n → first_of g pieces n i ≡ pieces i
   first_there less = ap (λ (t : Bool). if t then pieces i else replicate (piece_size g i) 0) (lt-ltb i n less)
@@ -25,6 +30,9 @@ module _ (g : Geometry) (pieces : ℕ → List ℕ) (n i : ℕ) where
   pub first_behind : n ≤ i → first_of g pieces n i ≡ replicate (piece_size g i) 0
   first_behind no_less = ap (λ (t : Bool). if t then pieces i else replicate (piece_size g i) 0)
       (false_from_ne_true (nat_lt i n) (λ on. let less = ltb-true i n on in omega (arith, less, no_less)))
+
+  pub no_block_in_zeros : (f b : ℕ) → n ≤ i → block_in g (first_of g pieces n i) f b ≡ None
+  no_block_in_zeros f b behind = ap (λ (l : List ℕ). block_in g l f b) (first_behind behind) ∙ ap (λ es. content_at es f b) (no_entries g.quota (piece_size g i))
 
 -- one more piece makes no difference at another
 first_more : (g : Geometry) (pieces : ℕ → List ℕ) (n i : ℕ) → i ≢ n → first_of g pieces n i ≡ first_of g pieces (suc n) i
@@ -36,23 +44,12 @@ first_more g pieces n i other =
 
 -- ---- zeros decode to nothing
 
-pub no_entries : (n k : ℕ) → entries_in n (replicate k 0) ≡ []
-no_entries zero k = refl
-no_entries (suc n) zero = refl
-no_entries (suc n) (suc k) = refl
-
 pub zeros_of_volume : (g : Geometry) (pieces : ℕ → List ℕ) (n a v : ℕ) → n ≤ volume_piece_number g a v
     → first_of g pieces n (volume_piece_number g a v) ≡ replicate 64 0
 zeros_of_volume g pieces n a v behind =
     let first : volume_piece_number g a v ≡ volume_piece_number g a v + 0 = omega arith in
     let size : piece_size g (volume_piece_number g a v) ≡ 64 = ap (piece_size g) first ∙ size_there g a v 0 (omega arith) in
     first_behind g pieces n (volume_piece_number g a v) behind ∙ ap (λ (k : ℕ). replicate k 0) size
-
-pub no_block_in_zeros : (g : Geometry) (pieces : ℕ → List ℕ) (n a v s f b : ℕ) → n ≤ stripe_piece_number g a v s
-    → block_in g (first_of g pieces n (stripe_piece_number g a v s)) f b ≡ None
-no_block_in_zeros g pieces n a v s f b behind =
-    ap (λ (l : List ℕ). block_in g l f b) (first_behind g pieces n (stripe_piece_number g a v s) behind)
-    ∙ ap (λ es. content_at es f b) (no_entries g.quota (piece_size g (stripe_piece_number g a v s)))
 
 -- ---- a field that is decoded where its volume is there
 
@@ -77,7 +74,7 @@ none_before version g pieces = λ i. record {
   made = λ k. none_told (has_volume g k) _ (ap is_made_in (zeros k)) i;
   sealed = λ k. none_told (has_volume g k) _ (ap is_sealed_in (zeros k)) i;
   files = λ k. none_told (has_volume g (k.0, k.1)) _ (ap (λ (l : List ℕ). has_file_in l k.2) (zeros (k.0, k.1)) ∙ no_file k.2) i;
-  blocks = λ k. no_value (has_volume g (k.0, k.1)) _ (no_block_in_zeros g pieces 0 k.0 k.1 (group g k.2 k.3) k.2 k.3 (omega arith)) i;
+  blocks = λ k. no_value (has_volume g (k.0, k.1)) _ (no_block_in_zeros g pieces 0 (stripe_piece_number g k.0 k.1 (group g k.2 k.3)) k.2 k.3 (omega arith)) i;
   labels = λ k. no_value (has_volume g k) _ (ap (label_in version) (zeros k)) i;
 }
   where

@@ -10,7 +10,7 @@ use Rattle.messages.specs.declared.Msg.{Msg}
 use Rattle.messages.specs.declared.Msg.TheVariants.{MakeVol, DropVol, Create, Delete, Seal, Unseal, Write, Punch, Read, List as ListFiles, Usage as AskUsage, Summary as AskSummary, SetLabel, Label as AskLabel}
 use Rattle.messages.specs.declared.Refusal.{Refusal}
 use Rattle.meaning.specs.Serial.{key, effect, outcome, accepted_reply, refusal, next_state, no_label}
-use Rattle.meaning.specs.State.{State, IsState, sum_below, one_if, is_volume, is_file, is_block}
+use Rattle.meaning.specs.State.{State, BlockKey, IsState, sum_below, one_if, is_volume, is_file, is_block}
 use Rattle.stripe.specs.Entries.{stripe_bytes}
 use Rattle.image.specs.Pieces.{aggregate_of, volume_of, part_of, piece_of, part_piece, label_bytes, stripe_piece, entry_if}
 use Rattle.image.specs.Touched.{may_change, may_change_part}
@@ -138,10 +138,10 @@ module _ (g : Geometry) (x : State) (is : IsState g x) (a v s : ℕ) where
           (true≢false (sym (is.blocks (a, v, f, b) (ap (λ (o : Option Block). is_some o) has)).1 ∙ out))
 
 -- one block of another stripe
-block_elsewhere : (g : Geometry) (s i j k l a v f b : ℕ) → s ≢ group g k l → group g f b ≡ s → is_block i j k l (a, v, f, b) ≡ false
-block_elsewhere g s i j k l a v f b other on =
-    by (i == a) (j == v) (k == f) (l == b) (λ file block.
-    other (sym on ∙ sym (λ n. group g (eqb-true k f file n) (eqb-true l b block n))))
+block_elsewhere : (g : Geometry) {s : ℕ} (i j k l : ℕ) (q : BlockKey) → s ≢ group g k l → group g q.2 q.3 ≡ s → is_block i j k l q ≡ false
+block_elsewhere g i j k l q other on =
+    by (i == q.0) (j == q.1) (k == q.2) (l == q.3) (λ file block.
+    other (sym on ∙ sym (λ n. group g (eqb-true k q.2 file n) (eqb-true l q.3 block n))))
   where
     by : (p q r t : Bool) → (r ≡ true → t ≡ true → ⊥) → (p && q && r && t) ≡ false
     by true true true true none = absurd (none refl refl)
@@ -168,14 +168,14 @@ module _ (version : ℕ) (g : Geometry) (x : State) (is : IsState g x) (i j : �
       ap (stripe_bytes g.quota)
       (entries_same g (effect x (Write a v f b content)) x i j s
       (λ k l on. ap (λ (t : Bool). entry_if (x.files (i, j, k)) k l (if t then Some content else x.blocks (i, j, k, l)))
-      (block_elsewhere g s a v f b i j k l other on)))
+      (block_elsewhere g a v f b (i, j, k, l) other on)))
   part_untouched (Punch a v f b) zero off = refl
   part_untouched (Punch a v f b) (suc s) off =
       let other : s ≢ group g f b = λ same. true≢false (sym (eq-eqb (suc s) (suc (group g f b)) (ap suc same)) ∙ off) in
       ap (stripe_bytes g.quota)
       (entries_same g (effect x (Punch a v f b)) x i j s
       (λ k l on. ap (λ (t : Bool). entry_if (x.files (i, j, k)) k l (if t then None else x.blocks (i, j, k, l)))
-      (block_elsewhere g s a v f b i j k l other on)))
+      (block_elsewhere g a v f b (i, j, k, l) other on)))
   part_untouched (SetLabel a v bytes) zero off = absurd (true≢false off)
   part_untouched (SetLabel a v bytes) (suc s) off = refl
   part_untouched (Read a v f b) p off = refl

@@ -11,7 +11,7 @@ use Rattle.affinity.proofs.Placed.{group_below}
 use Rattle.messages.specs.Messages.{AreSizedBytes}
 use Rattle.messages.specs.declared.Block.{Block}
 use Rattle.meaning.specs.State.{State, VolumeKey, IsState, sum_below}
-use Rattle.image.specs.Pieces.{pieces_of_volume, piece_count, piece_at, piece_size, piece_of, aggregate_of, volume_of, part_of, volume_piece_number, has_volume, is_made_in, is_sealed_in, has_file_in, label_in, block_in, bytes_at, decoded_by}
+use Rattle.image.specs.Pieces.{pieces_of_volume, piece_count, piece_at, piece_size, piece_of, aggregate_of, volume_of, part_of, volume_piece_number, has_volume, is_made_in, is_sealed_in, has_file_in, label_in, block_in, bytes_at, decoded_by, stripe_piece_number}
 use Rattle.image.specs.Image.{image_head, image_of, read, is_image, is_version, has_head, version_in, piece_in, decoded_state, decoded_before, is_good, AreGood}
 use Rattle.image.proofs.Agreeing.{piece_same, zero_piece}
 use Rattle.image.proofs.Cuts.{is_piece, piece_again}
@@ -69,7 +69,7 @@ module _ (version : ℕ) (g : Geometry) (bytes : List ℕ) where
       let number = number_there g n in
       ap (λ (x : State). x.blocks (aggregate_of g n, volume_of g n, f, b)) (taken version g bytes n (omega (arith, below)))
       ∙ if_none (has_volume g (aggregate_of g n, volume_of g n)) _
-      (no_block_in_zeros g (piece_in g bytes) n (aggregate_of g n) (volume_of g n) (group g f b) f b (omega (arith, number, part)))
+      (no_block_in_zeros g (piece_in g bytes) n (stripe_piece_number g (aggregate_of g n) (volume_of g n) (group g f b)) f b (omega (arith, number, part)))
     where
       if_none : (h : Bool) (o : Option Block) → o ≡ None → (if h then o else None) ≡ None
       if_none true o off = off

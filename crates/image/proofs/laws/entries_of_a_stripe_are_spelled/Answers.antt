@@ -3,4 +3,4 @@ use Rattle.image.proofs.Order.{spelled}
 use Rattle.image.proofs.laws.entries_of_a_stripe_are_spelled.Goals as goal
 
 pub returns : goal.returns
-returns c = spelled
+returns c = λ g x. spelled
