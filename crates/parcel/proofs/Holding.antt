@@ -181,7 +181,7 @@ module _ (g : Geometry) (out : Path → Bool) (p : Path) (apart : IsApart p out)
     back_in : (q : Path) → IsPath g q → begins p q ≡ true → is_some (new q) ≡ true
     back_in q path below =
         let rest = begins_split p q below in
-        subst (λ (r : Path). is_some (new r) ≡ true) (sym rest.1) (restored_is_in g p l n new put.nodes fits rest.0 (subst (λ (r : Path). IsPath g r) rest.1 path))
+        subst (λ (r : Path). is_some (new r) ≡ true) (sym rest.1) (restored_is_in g p l n put.nodes fits rest.0 (subst (λ (r : Path). IsPath g r) rest.1 path))
 
     unchanged : (q : Path) → begins p q ≡ false → new q ≡ n q
     unchanged q beside = put.nodes q ∙ put_outside p (in_parcels l) n q beside
@@ -224,7 +224,7 @@ job_goes_back out job done n x h ran =
 pub job_reply : (out : Path → Bool) (job : JobView) (done : Done) (n : Nodes) (x : State) → IsJobOut out job n x → IsJobRun job done → done.reply ≡ reply_to job.geometry x job.message
 job_reply out job done n x h ran = (serial_run job done x ran h.shows).reply
 
-pub job_is_back : (out : Path → Bool) (job : JobView) (done : Done) (n new : Nodes) (x : State) → IsJobOut out job n x → IsJobRun job done → IsMessage job.message
+pub job_is_back : {out : Path → Bool} {job : JobView} {done : Done} {n new : Nodes} {x : State} → IsJobOut out job n x → IsJobRun job done → IsMessage job.message
     → RestoresAt job.geometry (job_place job) done.parcels n new → TreeHolds job.geometry out new (next_state job.geometry x job.message)
-job_is_back out job done n new x h ran message put =
+job_is_back {out} {job} {done} {n} {new} {x} h ran message put =
     restored_holds job.geometry out (job_place job) h.apart job.message refl job.standing done.parcels n new x h.holds put ran.suits.fits (serial_run job done x ran h.shows).shows message

@@ -1,5 +1,5 @@
 -- What is lent or restored at a path leaves the state everywhere else.
-use Rattle.std.proofs.Common.{◌≡◌, Bool, true, false, [], ◌∷◌, Option, refl, ap, ◌∙◌}
+use Rattle.std.proofs.Common.{◌≡◌, Bool, true, false, [], ◌∷◌, refl, ap, ◌∙◌}
 use Rattle.std.specs.Prelude.{◌&&◌, ◌==◌, None, if◌then◌else◌}
 use Rattle.std.proofs.lemmas.Bool.{cond-false, not-true, true≢false}
 use Rattle.affinity.specs.declared.geometry.Geometry.{Geometry}
@@ -7,7 +7,7 @@ use Rattle.affinity.specs.Geometry.{group}
 use Rattle.affinity.specs.Path.{Path, begins, volume, logical, stripe, label}
 use Rattle.meaning.specs.Shares.{AgreeOn}
 use Rattle.meaning.specs.Laws.{outside}
-use Rattle.parcel.specs.Nodes.{Node, Nodes, marks_made, marks_sealed, files_have, slots_hold, text_of, tree_state, put_at, TakesOut, PutsBack}
+use Rattle.parcel.specs.Nodes.{Nodes, marks_made, marks_sealed, files_have, slots_hold, text_of, tree_state, put_at, TakesOut, PutsBack}
 
 -- nodes that are the same at the paths that a test picks hold the same state there
 pub agree_where_same : (g : Geometry) (R : Path → Bool) (m n : Nodes) → ((q : Path) → R q ≡ true → m q ≡ n q) → AgreeOn g R (tree_state g m) (tree_state g n)
@@ -22,15 +22,15 @@ agree_where_same g R m n same = record {
 pub taken_leaves : (g : Geometry) (p : Path) (old new : Nodes) → TakesOut p old new → AgreeOn g (outside p) (tree_state g new) (tree_state g old)
 taken_leaves g p old new h = agree_where_same g (outside p) new old (λ q r. h q ∙ cond-false (begins p q) None (old q) (not-true (begins p q) r))
 
-put_elsewhere : (b : Bool) (p q : Path) (part below : Nodes) (o : Option Node) → (b && begins p q) ≡ false
-    → (begins p q ≡ false → put_at p part below q ≡ below q) → below q ≡ o → (if b then put_at p part below q else o) ≡ o
-put_elsewhere true p q part below o h step same = step h ∙ same
-put_elsewhere false p q part below o h step same = refl
+put_elsewhere : (b : Bool) (p q : Path) (part below : Nodes) → (b && begins p q) ≡ false
+    → (begins p q ≡ false → put_at p part below q ≡ below q) → (if b then put_at p part below q else below q) ≡ below q
+put_elsewhere true p q part below h step = step h
+put_elsewhere false p q part below h step = refl
 
 pub put_outside : (p : Path) (part old : Nodes) (q : Path) → begins p q ≡ false → put_at p part old q ≡ old q
 put_outside [] part old q h = absurd (true≢false h)
 put_outside (x ∷ p) part old [] h = refl
-put_outside (x ∷ p) part old (y ∷ q) h = put_elsewhere (x == y) p q part (λ r. old (y ∷ r)) (old (y ∷ q)) h (put_outside p part (λ r. old (y ∷ r)) q) refl
+put_outside (x ∷ p) part old (y ∷ q) h = put_elsewhere (x == y) p q part (λ r. old (y ∷ r)) h (put_outside p part (λ r. old (y ∷ r)) q)
 
 pub put_leaves : (g : Geometry) (p : Path) (part old new : Nodes) → PutsBack p part old new → AgreeOn g (outside p) (tree_state g new) (tree_state g old)
 put_leaves g p part old new h = agree_where_same g (outside p) new old (λ q r. h q ∙ put_outside p part old q (not-true (begins p q) r))

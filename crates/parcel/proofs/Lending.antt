@@ -49,8 +49,8 @@ kind_of g p l h = absurd h
 pub gap_from_refused : (g : Geometry) (p : Path) (old new : Nodes) → Refuses (IsRootPath g) p old new → HasGap g p old × SameNodes old new
 gap_from_refused g p old new h = ((h.gap.0, path_there g h.gap.0 h.gap.1, h.gap.2, h.gap.3), h.same)
 
-pub lent_from_taken : (g : Geometry) (p : Path) (t : Standing) (l : Parcels) (old new : Nodes) → TakesParcels (IsRootPath g) p l old new → Fits g p l → t ≡ standing_at p old → LendsAt g p t l old new
-lent_from_taken g p t l old new h fits stands = record {
+pub lent_from_taken : {g : Geometry} {p : Path} {t : Standing} {l : Parcels} {old new : Nodes} → TakesParcels (IsRootPath g) p l old new → Fits g p l → t ≡ standing_at p old → LendsAt g p t l old new
+lent_from_taken {g} {p} {t} {l} {old} h fits stands = record {
   all_in = λ q path related. h.all_in q (root_path g q path) related;
   fits = fits;
   parcels = h.parcels;
@@ -83,5 +83,6 @@ whole_is_in g (a ∷ v ∷ suc zero ∷ []) (parcels.Label l) h [] path = refl
 whole_is_in g (a ∷ v ∷ suc zero ∷ []) (parcels.Label l) h (i ∷ q) path = absurd path
 whole_is_in g p l h q path = absurd h
 
-pub restored_is_in : (g : Geometry) (p : Path) (l : Parcels) (old new : Nodes) → PutsBack p (in_parcels l) old new → Fits g p l → (q : Path) → IsPath g (p ++ q) → is_some (new (p ++ q)) ≡ true
-restored_is_in g p l old new h fits q path = ap is_some (h (p ++ q) ∙ put_there p q (in_parcels l) old) ∙ whole_is_in g p l fits q path
+pub restored_is_in : (g : Geometry) (p : Path) (l : Parcels) (old : Nodes) {new : Nodes} → PutsBack p (in_parcels l) old new → Fits g p l
+    → (q : Path) → IsPath g (p ++ q) → is_some (new (p ++ q)) ≡ true
+restored_is_in g p l old h fits q path = ap is_some (h (p ++ q) ∙ put_there p q (in_parcels l) old) ∙ whole_is_in g p l fits q path

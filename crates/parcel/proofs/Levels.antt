@@ -6,7 +6,7 @@ use Rattle.affinity.specs.Path.{Path}
 use Rattle.affinity.specs.declared.geometry.Geometry.{Geometry}
 use Rattle.parcel.specs.Fits.{Fits, IsKindOf}
 use Rattle.parcel.specs.Levels.{IsLeafPath, IsLogicalPath, IsVolumePath, Refuses, HandsBack}
-use Rattle.parcel.specs.Nodes.{Node, Nodes, in_child, in_row, in_volume, in_logical, in_label, SameNodes}
+use Rattle.parcel.specs.Nodes.{Nodes, in_child, in_volume, in_logical, in_label, SameNodes}
 use Rattle.parcel.specs.Tree.{IsOut}
 use Rattle.parcel.specs.declared.parts.Label.{Label}
 use Rattle.parcel.specs.declared.parts.Logical.{Logical}
@@ -51,13 +51,10 @@ leaf_path (x ∷ p) h = absurd h
 pub child_read : {X : Type 0} (xs : List (Option X)) (i n : ℕ) (child : Option X) → i < n → length xs ≡ n → child ≡ slice_index_or xs i child → child ≡ slice_index_or xs i None
 child_read xs i n child below count at = get_or_read xs i child (omega arith) at None
 
-pub through : {X : Type 0} (Child Row : Path → Nodes → Nodes → Type 0) (nodes : X → Nodes) (own : Node) (xs : List (Option X)) (p : Path) (child : Option X) (old new after : Nodes)
-    → 0 < length p → old ≡ in_row nodes own xs → child ≡ slice_index_or xs (slice_index_or p 0 0) None
-    → (Child (rest_of p) (in_child nodes (slice_index_or xs (slice_index_or p 0 0) None)) new → Row (slice_index_or p 0 0 ∷ rest_of p) (in_row nodes own xs) after)
-    → Child (rest_of p) (in_child nodes child) new → Row p old after
-through Child Row nodes own xs p child old new after long was at step h =
-    let here : Child (rest_of p) (in_child nodes (slice_index_or xs (slice_index_or p 0 0) None)) new = subst (λ x. Child (rest_of p) (in_child nodes x) new) at h in
-    subst (λ q. Row q old after) (sym (split p long)) (subst (λ o. Row (slice_index_or p 0 0 ∷ rest_of p) o after) (sym was) (step here))
+pub through : (Child Row : Path → Nodes → Nodes → Type 0) {p : Path} {was child old row new after : Nodes} → 0 < length p → old ≡ row → was ≡ child
+    → (Child (rest_of p) child new → Row (slice_index_or p 0 0 ∷ rest_of p) row after) → Child (rest_of p) was new → Row p old after
+through Child Row {p} {old} {new} {after} long is at step h = subst (λ q. Row q old after) (sym (split p long))
+    (subst (λ n. Row (slice_index_or p 0 0 ∷ rest_of p) n after) (sym is) (step (subst (λ n. Child (rest_of p) n new) at h)))
 
 -- ---- a volume, whose children are two
 
@@ -112,14 +109,18 @@ either (Err e) ok err f h = h err
 
 -- ---- the kind and the fit of parcels don't depend on the numbers of the aggregate and the volume
 
-pub moved_volume : (g : Geometry) (a v b w : ℕ) (q : Path) (p : Parcels) → (IsKindOf (a ∷ v ∷ q) p → Fits g (a ∷ v ∷ q) p) → IsKindOf (b ∷ w ∷ q) p → Fits g (b ∷ w ∷ q) p
+-- parcels fit at a path if they are of its kind
+abbrev FitsKind : Geometry → Path → Parcels → Type 0
+FitsKind g q p = IsKindOf q p → Fits g q p
+
+pub moved_volume : (g : Geometry) (a v b w : ℕ) (q : Path) (p : Parcels) → FitsKind g (a ∷ v ∷ q) p → FitsKind g (b ∷ w ∷ q) p
 moved_volume g a v b w [] (parcels.Vol x) h k = h tt
 moved_volume g a v b w (zero ∷ []) (parcels.Logical x) h k = h tt
 moved_volume g a v b w (zero ∷ s ∷ []) (parcels.Stripe x) h k = h tt
 moved_volume g a v b w (suc zero ∷ []) (parcels.Label x) h k = h tt
 moved_volume g a v b w q p h k = absurd k
 
-pub moved_aggregate : (g : Geometry) (a b : ℕ) (q : Path) (p : Parcels) → (IsKindOf (a ∷ q) p → Fits g (a ∷ q) p) → IsKindOf (b ∷ q) p → Fits g (b ∷ q) p
+pub moved_aggregate : (g : Geometry) (a b : ℕ) (q : Path) (p : Parcels) → FitsKind g (a ∷ q) p → FitsKind g (b ∷ q) p
 moved_aggregate g a b [] (parcels.Aggr x) h k = h tt
 moved_aggregate g a b (v ∷ q) p h k = moved_volume g a v b v q p h k
 moved_aggregate g a b [] p h k = absurd k

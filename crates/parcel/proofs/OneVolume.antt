@@ -37,31 +37,32 @@ passed g x m told y e same new = record {
 pub at_volume : (a v : ℕ) (h : Facts) → facts_if ((a == a) && (v == v)) h ≡ h
 at_volume a v h = λ i. facts_if (eq-eqb a a refl i && eq-eqb v v refl i) h
 
--- the tests of a write, where its stripe has n blocks
-pub write_tests : (g : Geometry) (a v f b : ℕ) (content : Block) (h : Facts) (n : ℕ) → is_in_range g (Write a v f b content) ≡ true → group_count g (only a v h) a v (group g f b) ≡ n
-    → refusal g (only a v h) (Write a v f b content) ≡ unless_closed h.made h.sealed (unless (h.files f) File (unless (is_some (h.blocks f b) || nat_lt n g.quota) Space None))
-write_tests g a v f b content h n range count =
-    let at = at_volume a v h in
-    λ i. unless (range i) Range (unless_closed (at i).made (at i).sealed (unless ((at i).files f) File (unless (is_some ((at i).blocks f b) || nat_lt (count i) g.quota) Space None)))
+module _ (g : Geometry) (a v : ℕ) where
+  -- the tests of a write, where its stripe has n blocks
+  pub write_tests : (f b : ℕ) (content : Block) (h : Facts) {n : ℕ} → is_in_range g (Write a v f b content) ≡ true → group_count g (only a v h) a v (group g f b) ≡ n
+      → refusal g (only a v h) (Write a v f b content) ≡ unless_closed h.made h.sealed (unless (h.files f) File (unless (is_some (h.blocks f b) || nat_lt n g.quota) Space None))
+  write_tests f b content h range count =
+      let at = at_volume a v h in
+      λ i. unless (range i) Range (unless_closed (at i).made (at i).sealed (unless ((at i).files f) File (unless (is_some ((at i).blocks f b) || nat_lt (count i) g.quota) Space None)))
 
--- the tests of a message that changes a file
-pub punch_tests : (g : Geometry) (a v f b : ℕ) (h : Facts) → is_in_range g (Punch a v f b) ≡ true
-    → refusal g (only a v h) (Punch a v f b) ≡ unless_closed h.made h.sealed (unless (h.files f) File None)
-punch_tests g a v f b h range = let at = at_volume a v h in λ i. unless (range i) Range (unless_closed (at i).made (at i).sealed (unless ((at i).files f) File None))
+  -- the tests of a message that changes a file
+  pub punch_tests : (f b : ℕ) (h : Facts) → is_in_range g (Punch a v f b) ≡ true
+      → refusal g (only a v h) (Punch a v f b) ≡ unless_closed h.made h.sealed (unless (h.files f) File None)
+  punch_tests f b h range = let at = at_volume a v h in λ i. unless (range i) Range (unless_closed (at i).made (at i).sealed (unless ((at i).files f) File None))
 
-pub delete_tests : (g : Geometry) (a v f : ℕ) (h : Facts) → is_in_range g (Delete a v f) ≡ true
-    → refusal g (only a v h) (Delete a v f) ≡ unless_closed h.made h.sealed (unless (h.files f) File None)
-delete_tests g a v f h range = let at = at_volume a v h in λ i. unless (range i) Range (unless_closed (at i).made (at i).sealed (unless ((at i).files f) File None))
+  pub delete_tests : (f : ℕ) (h : Facts) → is_in_range g (Delete a v f) ≡ true
+      → refusal g (only a v h) (Delete a v f) ≡ unless_closed h.made h.sealed (unless (h.files f) File None)
+  delete_tests f h range = let at = at_volume a v h in λ i. unless (range i) Range (unless_closed (at i).made (at i).sealed (unless ((at i).files f) File None))
 
-pub create_tests : (g : Geometry) (a v f : ℕ) (h : Facts) → is_in_range g (Create a v f) ≡ true
-    → refusal g (only a v h) (Create a v f) ≡ unless_closed h.made h.sealed (unless (not (h.files f)) Exists None)
-create_tests g a v f h range = let at = at_volume a v h in λ i. unless (range i) Range (unless_closed (at i).made (at i).sealed (unless (not ((at i).files f)) Exists None))
+  pub create_tests : (f : ℕ) (h : Facts) → is_in_range g (Create a v f) ≡ true
+      → refusal g (only a v h) (Create a v f) ≡ unless_closed h.made h.sealed (unless (not (h.files f)) Exists None)
+  create_tests f h range = let at = at_volume a v h in λ i. unless (range i) Range (unless_closed (at i).made (at i).sealed (unless (not ((at i).files f)) Exists None))
 
-pub list_tests : (g : Geometry) (a v : ℕ) (h : Facts) → is_in_range g (ListFiles a v) ≡ true → refusal g (only a v h) (ListFiles a v) ≡ unless h.made Volume None
-list_tests g a v h range = let at = at_volume a v h in λ i. unless (range i) Range (unless (at i).made Volume None)
+  pub list_tests : (h : Facts) → is_in_range g (ListFiles a v) ≡ true → refusal g (only a v h) (ListFiles a v) ≡ unless h.made Volume None
+  list_tests h range = let at = at_volume a v h in λ i. unless (range i) Range (unless (at i).made Volume None)
 
-pub usage_tests : (g : Geometry) (a v : ℕ) (h : Facts) → is_in_range g (AskUsage a v) ≡ true → refusal g (only a v h) (AskUsage a v) ≡ unless h.made Volume None
-usage_tests g a v h range = let at = at_volume a v h in λ i. unless (range i) Range (unless (at i).made Volume None)
+  pub usage_tests : (h : Facts) → is_in_range g (AskUsage a v) ≡ true → refusal g (only a v h) (AskUsage a v) ≡ unless h.made Volume None
+  usage_tests h range = let at = at_volume a v h in λ i. unless (range i) Range (unless (at i).made Volume None)
 
 -- ---- effects
 

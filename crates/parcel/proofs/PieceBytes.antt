@@ -1,5 +1,5 @@
 -- The bytes of a volume's piece, written one behind the other.
-use Rattle.std.proofs.Common.{◌≡◌, ℕ, ◌+◌, ◌-◌, Bool, true, false, List, [], ◌∷◌, ◌++◌, length, take, drop, replicate, refl, sym, ◌∙◌, ap, arith, append_assoc, append-nil, length-append, length-take, length-drop}
+use Rattle.std.proofs.Common.{◌≡◌, ℕ, ◌-◌, Bool, true, false, List, [], ◌∷◌, ◌++◌, length, take, drop, replicate, refl, sym, ◌∙◌, ap, arith, append_assoc, append-nil, length-append, length-take}
 use Rattle.std.specs.Prelude.{if◌then◌else◌}
 use Rattle.std.proofs.lemmas.List.{take_at, drop_at, drop_all}
 use Rattle.byteorder.specs.Endian.{little_bytes}
@@ -14,9 +14,9 @@ put_next at k front rest ys long =
     (λ i. take_at front rest at long i ++ (ys ++ drop k (drop_at front rest at long i))) ∙ sym (append_assoc front ys (drop k rest))
 
 -- flags, files, a label and zeros
-pub four_parts : (out marks files label blank : List ℕ) → length out ≡ 64 → length marks ≡ 8 → length files ≡ 8 → length label ≡ 32
+pub four_parts : (out marks files label blank : List ℕ) → length marks ≡ 8 → length files ≡ 8 → length label ≡ 32
     → let three = put_mid 16 32 (put_mid 8 8 (marks ++ drop 8 out) files) label in put_mid 48 (length three - 48) three blank ≡ ((marks ++ files) ++ label) ++ blank
-four_parts out marks files label blank long m f l =
+four_parts out marks files label blank m f l =
     let left : List ℕ = drop 32 (drop 8 (drop 8 out)) in
     let two : put_mid 8 8 (marks ++ drop 8 out) files ≡ (marks ++ files) ++ drop 8 (drop 8 out) = put_next 8 8 marks (drop 8 out) files m in
     let three : put_mid 16 32 (put_mid 8 8 (marks ++ drop 8 out) files) label ≡ ((marks ++ files) ++ label) ++ left =

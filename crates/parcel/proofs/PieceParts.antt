@@ -4,14 +4,11 @@ use Rattle.std.specs.Prelude.{◌↔◌, ◌==◌, if◌then◌else◌, IsTrue, 
 use Rattle.std.specs.List.{AllByRecursion}
 use Rattle.std.proofs.lemmas.Nat.{pow_pos}
 use Rattle.affinity.specs.Geometry.{group}
-use Rattle.affinity.specs.Interval.{IsPath}
 use Rattle.affinity.specs.Path.{Path}
 use Rattle.affinity.specs.declared.geometry.Geometry.{Geometry}
 use Rattle.byteorder.specs.Endian.{little_number}
 use Rattle.messages.specs.Messages.{AreSizedBytes}
 use Rattle.messages.specs.Replies.{has_file}
-use Rattle.messages.specs.declared.Block.{Block}
-use Rattle.meaning.specs.State.{State, IsState}
 use Rattle.stripe.specs.Entries.{IsStripePiece}
 use Rattle.stripe.specs.Stripe.{StripePart}
 use Rattle.image.specs.Pieces.{block_in, bytes_at, piece_count, aggregate_of, volume_of as volume_number}
@@ -19,7 +16,7 @@ use Rattle.image.proofs.Numbers.{in_aggregates, in_volumes}
 use Rattle.parcel.specs.Fits.{FitsLogical, FitsVolume, FitsAggregate, FitsRoot, IsWholeChild, IsWholeLogical, IsWholeVolume, IsWholeAggregate, IsWholeRoot}
 use Rattle.parcel.specs.Levels.{volume_below, volume_in, is_whole_root}
 use Rattle.parcel.specs.Nodes.{Nodes, in_child, in_stripe, in_label, in_logical, in_volume, in_aggregate, in_root, marks_made, marks_sealed, files_have, slots_hold, text_of, tree_state}
-use Rattle.parcel.specs.Pieces.{HasFacts, IsPartRead, spelled, decoded_piece, volume_with, with_files, facts_with}
+use Rattle.parcel.specs.Pieces.{HasFacts, IsPartRead, spelled, decoded_piece, volume_with, with_files}
 use Rattle.parcel.specs.Shown.{volume_facts, files_in, blocks_below, blocks_in, blocks_of, shown_label}
 use Rattle.parcel.specs.Tree.{IsIn}
 use Rattle.parcel.specs.declared.parts.Label.{Label}
@@ -35,10 +32,10 @@ use Rattle.parcel.proofs.Whole.{root_whole, root_gap, child_whole_at}
 
 -- ---- the volume's own piece
 
-pub volume_is_read : (version : ℕ) (g : Geometry) (bytes : List ℕ) (good : Bool) (old new : Vol) → FitsVolume g old → IsWholeVolume old
+pub volume_is_read : {version : ℕ} {g : Geometry} {bytes : List ℕ} {good : Bool} {old new : Vol} → FitsVolume g old → IsWholeVolume old
     → (IsTrue good ↔ (bytes ≡ spelled (decoded_piece version g bytes))) → (IsTrue good → new ≡ volume_with (decoded_piece version g bytes) old) → (IsFalse good → new ≡ old)
     → IsPartRead version g zero bytes good old new
-volume_is_read version g bytes good old new fits whole is taken kept = record {
+volume_is_read {version} {g} {bytes} {good} {old} {new} fits whole is taken kept = record {
   fits = by_fits good refl;
   whole = by_whole good refl;
   spelled = λ x a v state has. (
@@ -70,12 +67,12 @@ pub all_bytes : (bytes : List ℕ) → ((i : ℕ) → get_or bytes i 0 < 256) �
 all_bytes [] each = tt
 all_bytes (b ∷ bytes) each = (each 0, all_bytes bytes (λ i. each (suc i)))
 
-pub stripe_is_read : (version : ℕ) (g : Geometry) (s : ℕ) (bytes : List ℕ) (good : Bool) (old : Vol) (l k : Logical) → old.logical ≡ Some l
+pub stripe_is_read : {version : ℕ} {g : Geometry} {s : ℕ} {bytes : List ℕ} {good : Bool} {old : Vol} {l k : Logical} → old.logical ≡ Some l
     → IsWholeVolume old → FitsLogical g k → IsWholeLogical k → k.files ≡ l.files
     → (IsTrue good ↔ IsStripePiece g l.files s bytes)
     → (IsTrue good → (f b : ℕ) → blocks_of g k.stripes.items f b ≡ (if group g f b == s then block_in g bytes f b else blocks_of g l.stripes.items f b))
     → AreSizedBytes (g.quota * 520) bytes → IsPartRead version g (suc s) bytes good old (record old { logical = Some k })
-stripe_is_read version g s bytes good old l k was whole fits now_whole files piece blocks are = record {
+stripe_is_read {g} {s} {bytes} {old} {l} was whole fits now_whole files piece blocks are = record {
   fits = record { logical = fits };
   whole = (now_whole, whole.1);
   spelled = λ x a v is has. let there : (f : ℕ) → x.files (a, v, f) ≡ has_file l.files f = λ f. has.files f ∙ ap (λ o. files_in o f) was in (
@@ -122,9 +119,9 @@ module _ (g : Geometry) where
       (child_whole_at IsWholeAggregate r.aggregates.items a within whole)
 
   -- the volume of a piece, where nothing is out
-  pub piece_is_there : (o : Option Root) → IfSome o (FitsRoot g) → IsIn g [] (in_child in_root o) → (n a v : ℕ) → n < piece_count g → a
-      ≡ aggregate_of g n → v ≡ volume_number g n → IsThere (volume_in o a v)
-  piece_is_there o fits all n a v below aggregate volume =
+  pub piece_is_there : (o : Option Root) → IfSome o (FitsRoot g) → IsIn g [] (in_child in_root o) → (n : ℕ) → n < piece_count g
+      → {a v : ℕ} → a ≡ aggregate_of g n → v ≡ volume_number g n → IsThere (volume_in o a v)
+  piece_is_there o fits all n below {a} {v} aggregate volume =
       volume_is_there a v (subst (λ (k : ℕ). k < g.aggregates) (sym aggregate) (in_aggregates g n below))
       (subst (λ (k : ℕ). k < g.volumes) (sym volume) (in_volumes g n)) o fits (tree_whole o fits all)
 

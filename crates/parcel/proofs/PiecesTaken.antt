@@ -1,6 +1,6 @@
 -- A piece that was read in the tree: its state is the one with that piece taken in.
-use Rattle.std.proofs.Common.{◌≡◌, ℕ, zero, suc, ◌<◌, Bool, true, false, ◌&&◌, List, [], ◌∷◌, ◌++◌, Option, Some, None, is_some, refl, sym, ◌∙◌, ap, subst, true≢false}
-use Rattle.std.specs.Prelude.{◌↔◌, ◌==◌, if◌then◌else◌, not, IsTrue}
+use Rattle.std.proofs.Common.{◌≡◌, ℕ, zero, suc, Bool, true, false, ◌&&◌, List, [], ◌∷◌, Option, Some, None, is_some, refl, sym, ◌∙◌, ap, subst}
+use Rattle.std.specs.Prelude.{◌↔◌, ◌==◌, if◌then◌else◌, IsTrue}
 use Rattle.std.proofs.lemmas.Bool.{and_parts, and_from, eqb-true, eq-eqb, not-true}
 use Rattle.affinity.specs.Geometry.{group}
 use Rattle.affinity.specs.Interval.{IsPath}
@@ -8,15 +8,14 @@ use Rattle.affinity.specs.Path.{Path, begins, volume}
 use Rattle.affinity.specs.declared.geometry.Geometry.{Geometry}
 use Rattle.messages.specs.Messages.{AreSizedBytes}
 use Rattle.messages.specs.Replies.{has_file}
-use Rattle.messages.specs.declared.Block.{Block}
 use Rattle.meaning.specs.Laws.{outside}
 use Rattle.meaning.specs.Shares.{AgreeOn}
-use Rattle.meaning.specs.State.{State, VolumeKey, FileKey, BlockKey, IsState, is_volume, is_block_of}
+use Rattle.meaning.specs.State.{State, IsState, is_volume}
 use Rattle.meaning.proofs.Agree.{agree-sym, agree-trans}
 use Rattle.meaning.proofs.ShareLaws.{agree_in_and_out}
-use Rattle.image.specs.Pieces.{part_piece, piece_part_size, with_part, with_volume_piece, with_stripe_piece, is_made_in, is_sealed_in, has_file_in, label_in as decoded_label_in, block_in}
-use Rattle.parcel.specs.Nodes.{Nodes, in_child, in_logical, in_volume, files_bits, tree_state, PutsBack}
-use Rattle.parcel.specs.Pieces.{HasFacts, IsPartRead, IsRead, facts_with, spelled, decoded_piece}
+use Rattle.image.specs.Pieces.{part_piece, piece_part_size, with_part, is_made_in, is_sealed_in, has_file_in, label_in as decoded_label_in, block_in}
+use Rattle.parcel.specs.Nodes.{Nodes, in_child, in_logical, in_volume, files_bits, tree_state}
+use Rattle.parcel.specs.Pieces.{HasFacts, IsRead, facts_with}
 use Rattle.parcel.specs.Shown.{volume_facts, files_in}
 use Rattle.parcel.specs.Tree.{IsIn}
 use Rattle.parcel.specs.Volume.{Facts}
@@ -100,19 +99,19 @@ files_told : (o : Option Logical) (f : ℕ) → files_in o f ≡ has_file (files
 files_told None f = sym (has_none f)
 files_told (Some l) f = refl
 
-pub part_state : (version : ℕ) (g : Geometry) (x : State) → IsState g x → (a v : ℕ) → a < g.aggregates → v < g.volumes → (w : Vol)
-    → HasFacts x a v (volume_facts g w) → (part : ℕ) → (part ≡ 0 → (f b : ℕ) → x.blocks (a, v, f, b) ≡ None)
-    → (bytes : List ℕ) → AreSizedBytes (piece_part_size g part) bytes → bytes ≡ part_piece version g (with_part version g x a v part bytes) a v part → IsState g (with_part version g x a v part bytes)
-part_state version g x is a v first second w has zero empty bytes are good =
-    volume_state version g bytes (good ∙ volume_decoded version g x a v bytes) x is a v first second (empty refl) are
-part_state version g x is a v first second w has (suc s) empty bytes are good =
+pub part_state : (version : ℕ) {g : Geometry} {x : State} → IsState g x → {a v : ℕ} → IsPath g (volume a v) → (w : Vol) → HasFacts x a v (volume_facts g w)
+    → {part : ℕ} → (part ≡ 0 → (f b : ℕ) → x.blocks (a, v, f, b) ≡ None) → {bytes : List ℕ} → AreSizedBytes (piece_part_size g part) bytes
+    → bytes ≡ part_piece version g (with_part version g x a v part bytes) a v part → IsState g (with_part version g x a v part bytes)
+part_state version {g} {x} is {a} {v} path w has {part = zero} empty {bytes} are good =
+    volume_state version g bytes (good ∙ volume_decoded version g x a v bytes) x is a v path.0 path.1 (empty refl) are
+part_state version {g} {x} is {a} {v} path w has {part = suc s} empty {bytes} are good =
     let files : ℕ = files_bits (in_child in_logical w.logical []) in
     let told : (f : ℕ) → x.files (a, v, f) ≡ has_file files f = λ f. has.files f ∙ files_told w.logical f in
     stripe_state g x is a v s files told bytes are (stripe_is_piece g x is a v s files told bytes are good)
 
 -- ---- in the tree
 
-module _ (version : ℕ) (g : Geometry) (part : ℕ) (bytes : List ℕ) (good : Bool) (a v : ℕ) (found : Option Vol) (old new : Nodes) (read : IsRead version g part bytes good (volume a v) found old new)
+module _ {version : ℕ} {g : Geometry} {part : ℕ} {bytes : List ℕ} {good : Bool} {a v : ℕ} {found : Option Vol} {old new : Nodes} (read : IsRead version g part bytes good (volume a v) found old new)
     (at : (q : Path) → old (a ∷ v ∷ q) ≡ in_child in_volume found q) where
   pub has_then : HasFacts (tree_state g old) a v (volume_facts g read.was)
   has_then = state_there g old a v read.was (λ q. at q ∙ ap (λ o. in_child in_volume o q) read.there)
@@ -132,7 +131,7 @@ module _ (version : ℕ) (g : Geometry) (part : ℕ) (bytes : List ℕ) (good : 
   read_in whole q path related =
       elim (begins (volume a v) q) as (λ b. begins (volume a v) q ≡ b → is_some (new q) ≡ true) [
         | true ↦ λ e. let rest = begins_split (volume a v) q e in
-            subst (λ r. is_some (new r) ≡ true) (sym rest.1) (restored_is_in g (volume a v) (parcels.Vol read.now) old new read.nodes
+            subst (λ r. is_some (new r) ≡ true) (sym rest.1) (restored_is_in g (volume a v) (parcels.Vol read.now) old read.nodes
             (read.read.fits, read.read.whole) rest.0 (subst (λ r. IsPath g r) rest.1 path))
         | false ↦ λ e. ap is_some (read.nodes q ∙ put_outside (volume a v) (in_volume read.now) old q e) ∙ whole q path refl
       ] refl

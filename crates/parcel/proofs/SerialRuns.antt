@@ -66,7 +66,7 @@ served_is_in job done old lent new h whole q path related =
     let p = place g job.message in
     elim (begins p q) as (λ b. begins p q ≡ b → is_some (new q) ≡ true) [
       | true ↦ λ e. let rest = begins_split p q e in
-          subst (λ r. is_some (new r) ≡ true) (sym rest.1) (restored_is_in g p done.parcels lent new h.put.nodes h.ran.suits.fits rest.0 (subst (λ r. IsPath g r) rest.1 path))
+          subst (λ r. is_some (new r) ≡ true) (sym rest.1) (restored_is_in g p done.parcels lent h.put.nodes h.ran.suits.fits rest.0 (subst (λ r. IsPath g r) rest.1 path))
       | false ↦ λ e. ap is_some (h.put.nodes q ∙ put_outside p (in_parcels done.parcels) lent q e ∙ h.taken.rest q ∙ cond-false (begins p q) None (old q) e) ∙ whole q path refl
     ] refl
 

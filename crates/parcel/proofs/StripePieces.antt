@@ -1,5 +1,5 @@
 -- A stripe's piece: bytes are the piece of what they decode to exactly where they are the piece of a stripe, and then they leave a state.
-use Rattle.std.proofs.Common.{◌≡◌, ℕ, zero, suc, ◌+◌, ◌*◌, ◌-◌, ◌<◌, ◌≤◌, Bool, true, false, ◌&&◌, List, [], ◌∷◌, ◌++◌, length, replicate, Option, Some, None, IfSome, is_some, refl, sym, ◌∙◌, ap, subst, arith, true≢false, length-append, ⊎_elim}
+use Rattle.std.proofs.Common.{◌≡◌, ℕ, ◌+◌, ◌*◌, ◌-◌, ◌<◌, ◌≤◌, Bool, true, false, ◌&&◌, List, [], ◌∷◌, length, replicate, Option, Some, None, IfSome, is_some, refl, sym, ◌∙◌, ap, subst, arith, true≢false, length-append, ⊎_elim}
 use Rattle.std.specs.Prelude.{◌==◌, ◌^◌, if◌then◌else◌, nat_lt}
 use Rattle.std.specs.List.{AllByRecursion, flat_map}
 use Rattle.std.proofs.lemmas.Bool.{and_parts, and_from, eqb-true, eq-eqb, lt-ltb, ltb-true, cases_lt}
@@ -32,9 +32,9 @@ files_small g s (e ∷ es) lies =
     (omega (arith, first, most), files_small g s es (lies_behind g s e es lies))
 
 -- its blocks are those that a state has there
-pub entries_spelled : (g : Geometry) (x : State) → IsState g x → (a v s : ℕ) (p : StripePart) → IsAscending p.entries → FitsStripe g s p
+pub entries_spelled : {g : Geometry} {x : State} → IsState g x → (a v : ℕ) {s : ℕ} {p : StripePart} → IsAscending p.entries → FitsStripe g s p
     → ((f b : ℕ) → group g f b ≡ s → x.blocks (a, v, f, b) ≡ content_at p.entries f b) → p.entries ≡ stripe_entries g x a v s
-entries_spelled g x is a v s p up fits same = stripe_spelled g x is a v s p.entries up holds
+entries_spelled {g} {x} is a v {s} {p} up fits same = stripe_spelled is a v s p.entries up holds
   where
     holds : (f b : ℕ) → content_at p.entries f b ≡ (if group g f b == s then x.blocks (a, v, f, b) else None)
     holds f b = by (group g f b == s) refl (content_at p.entries f b) refl
@@ -130,7 +130,7 @@ module _ (g : Geometry) (x : State) (is : IsState g x) (a v s files : ℕ) (has 
     }
 
     pub stripe_good : bytes ≡ stripe_piece g taken a v s
-    stripe_good = piece.spelled ∙ ap (stripe_bytes g.quota) (stripe_spelled g taken stripe_state a v s es piece.ascending holds)
+    stripe_good = piece.spelled ∙ ap (stripe_bytes g.quota) (stripe_spelled stripe_state a v s es piece.ascending holds)
       where
         holds : (f b : ℕ) → content_at es f b ≡ (if group g f b == s then taken.blocks (a, v, f, b) else None)
         holds f b = by (group g f b == s) refl (content_at es f b) refl
@@ -195,9 +195,9 @@ file_below k files f small there =
     (cases_lt f k)
 
 -- the entries of a stripe's piece fit there
-pub entries_fit : (g : Geometry) (s files : ℕ) (bytes : List ℕ) → files < 2 ^ g.files → IsStripePiece g files s bytes → (p : StripePart) → p.quota
-    ≡ g.quota → p.entries ≡ entries_in g.quota bytes → FitsStripe g s p
-entries_fit g s files bytes small piece p quota entries = record {
+pub entries_fit : {g : Geometry} {s files : ℕ} {bytes : List ℕ} → files < 2 ^ g.files → IsStripePiece g files s bytes → {p : StripePart}
+    → p.quota ≡ g.quota → p.entries ≡ entries_in g.quota bytes → FitsStripe g s p
+entries_fit {g} {s} {files} {bytes} small piece {p} quota entries = record {
   quota = quota;
   lies = λ f b some. content_of (λ f b. (f < g.files) × (b < g.blocks) × (group g f b ≡ s)) f b p.entries
       (subst (AllByRecursion (λ (e : BlockEntry). (e.file < g.files) × (e.block < g.blocks) × (group g e.file e.block ≡ s))) (sym entries)

@@ -1,7 +1,6 @@
 -- A volume's piece: what is spelled is what the volume has, and bytes that spell what they decode to leave a state.
-use Rattle.std.proofs.Common.{◌≡◌, ℕ, zero, suc, ◌+◌, ◌-◌, ◌%◌, ◌^◌, ◌<◌, ◌≤◌, Bool, true, false, ◌&&◌, List, [], ◌∷◌, ◌++◌, length, take, drop, get_or, replicate, unwrap_or, Option, Some, None, IfSome, is_some, refl, sym, ◌∙◌, ap, subst, arith, ⊎_elim, true≢false, length-take, length-drop, mod-lt}
+use Rattle.std.proofs.Common.{◌≡◌, ℕ, zero, ◌%◌, ◌^◌, ◌<◌, ◌≤◌, Bool, true, false, List, [], ◌∷◌, ◌++◌, replicate, unwrap_or, Option, Some, None, IfSome, is_some, refl, sym, ◌∙◌, ap, subst, arith, ⊎_elim, true≢false, mod-lt}
 use Rattle.std.specs.Prelude.{◌==◌, if◌then◌else◌}
-use Rattle.std.specs.List.{AllByRecursion}
 use Rattle.std.proofs.lemmas.Bool.{cases_lt, and_parts, and_from, eqb-true, eq-eqb}
 use Rattle.std.proofs.lemmas.Nat.{pow_pos}
 use Rattle.std.proofs.lemmas.Nat.Bits.{bit_at_above}
@@ -14,7 +13,6 @@ use Rattle.messages.specs.declared.Block.{Block}
 use Rattle.meaning.specs.Serial.{file_bits, no_label}
 use Rattle.meaning.specs.State.{State, VolumeKey, FileKey, BlockKey, IsState, is_volume, sum_below, one_if}
 use Rattle.image.specs.Pieces.{volume_piece, label_bytes, bytes_at, is_made_in, is_sealed_in, has_file_in, label_in as decoded_label_in, with_volume_piece}
-use Rattle.image.proofs.Measures.{all-take, all-drop, all-zeros}
 use Rattle.parcel.specs.Fits.{FitsLogical, FitsVolume, IsWholeChild, IsWholeLogical, IsWholeVolume}
 use Rattle.parcel.specs.Nodes.{in_child, in_logical, files_bits}
 use Rattle.parcel.specs.Pieces.{HasFacts, spelled, decoded_label, decoded_piece, volume_piece_of, volume_with, with_files, facts_with}
@@ -29,17 +27,17 @@ use Rattle.parcel.proofs.Shows.{has_none}
 -- ---- what is spelled
 
 -- the flags, the files and the label, where the volume is made
-volume_spelled : (version : ℕ) (g : Geometry) (x : State) (a v : ℕ) (p : VolumePiece) → x.made (a, v) ≡ p.made → x.sealed (a, v) ≡ p.sealed → file_bits g x a v ≡ p.files
-    → (p.made ≡ true → label_bytes version (x.labels (a, v)) ≡ p.label) → volume_piece version g x a v ≡ spelled p
-volume_spelled version g x a v p made sealed files label = by p.made refl
+volume_spelled : (version : ℕ) (g : Geometry) (x : State) (k : VolumeKey) {p : VolumePiece} → x.made k ≡ p.made → x.sealed k ≡ p.sealed → file_bits g x k.0 k.1 ≡ p.files
+    → (p.made ≡ true → label_bytes version (x.labels k) ≡ p.label) → volume_piece version g x k.0 k.1 ≡ spelled p
+volume_spelled version g x k {p} made sealed files label = by p.made refl
   where
-    by : (t : Bool) → p.made ≡ t → volume_piece version g x a v ≡ spelled p
+    by : (t : Bool) → p.made ≡ t → volume_piece version g x k.0 k.1 ≡ spelled p
     by true on =
         let same = label on in
         λ i. if made i then 1 ∷ one_if (sealed i) ∷ [] ++ replicate 6 0 ++ little_bytes 8 (files i) ++ same i ++ replicate 16 0 else replicate 64 0
     by false off =
-        ap (λ (t : Bool). if t then 1 ∷ one_if (x.sealed (a, v)) ∷ [] ++ replicate 6 0 ++ little_bytes 8 (file_bits g x a v)
-        ++ label_bytes version (x.labels (a, v)) ++ replicate 16 0 else replicate 64 0) (made ∙ off)
+        ap (λ (t : Bool). if t then 1 ∷ one_if (x.sealed k) ∷ [] ++ replicate 6 0 ++ little_bytes 8 (file_bits g x k.0 k.1)
+        ++ label_bytes version (x.labels k) ++ replicate 16 0 else replicate 64 0) (made ∙ off)
         ∙ sym (ap (λ (t : Bool). if t then 1 ∷ one_if p.sealed ∷ [] ++ replicate 6 0 ++ little_bytes 8 p.files ++ p.label ++ replicate 16 0 else replicate 64 0) off)
 
 files_are : (g : Geometry) (x : State) (a v : ℕ) (o : Option Logical) → IfSome o (FitsLogical g) → IsWholeChild IsWholeLogical o → ((f : ℕ) → x.files (a, v, f) ≡ files_in o f)
@@ -50,7 +48,7 @@ files_are g x a v (Some l) fits whole has = (λ i. sum_below g.files (λ f. if h
 -- the piece of a volume of the tree is that of each state in which a volume has the same
 pub volume_written : (g : Geometry) (x : State) (a v : ℕ) (w : Vol) → FitsVolume g w → IsWholeVolume w → HasFacts x a v (volume_facts g w) → volume_piece 2 g x a v ≡ spelled (volume_piece_of w)
 volume_written g x a v w fits whole has =
-    volume_spelled 2 g x a v (volume_piece_of w) has.made has.sealed (files_are g x a v w.logical fits.logical whole.0 has.files)
+    volume_spelled 2 g x (a, v) {p = volume_piece_of w} has.made has.sealed (files_are g x a v w.logical fits.logical whole.0 has.files)
     (λ on. ap (λ (o : Option (List ℕ)). unwrap_or o no_label) has.label)
 
 here : (a v : ℕ) → is_volume a v (a, v) ≡ true
@@ -59,7 +57,7 @@ here a v = and_from (a == a) (v == v) (eq-eqb a a refl) (eq-eqb v v refl)
 -- what bytes decode to, spelled in the state that they lead to
 pub volume_decoded : (version : ℕ) (g : Geometry) (x : State) (a v : ℕ) (bytes : List ℕ) → volume_piece version g (with_volume_piece version x a v bytes) a v ≡ spelled (decoded_piece version g bytes)
 volume_decoded version g x a v bytes =
-    volume_spelled version g (with_volume_piece version x a v bytes) a v (decoded_piece version g bytes)
+    volume_spelled version g (with_volume_piece version x a v bytes) (a, v) {p = decoded_piece version g bytes}
     (ap (λ (t : Bool). if t then is_made_in bytes else x.made (a, v)) (here a v))
     (ap (λ (t : Bool). if t then is_sealed_in bytes else x.sealed (a, v)) (here a v))
     ((λ i. sum_below g.files (λ f. if (if here a v i then has_file_in bytes f else x.files (a, v, f)) then 2 ^ f else 0)) ∙ sum_bits g.files (little_number 8 (bytes_at 8 8 bytes)))

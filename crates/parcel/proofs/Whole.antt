@@ -58,18 +58,42 @@ root_whole (Some r) h = all_whole is_whole_aggregate IsWholeAggregate aggregate_
 abbrev pub IsAllIn : (Path → Type 0) → Nodes → Type 0
 IsAllIn IsThere n = (q : Path) → IsThere q → is_some (n q) ≡ true
 
+-- one of them is out
+abbrev pub HasOneOut : (Path → Type 0) → Nodes → Type 0
+HasOneOut IsThere n = (q : Path) × IsThere q × (n q ≡ None)
+
 pub child_whole_at : {X : Type 0} (IsWhole : X → Type 0) (xs : List (Option X)) (i : ℕ) → i < length xs → AllByRecursion (IsWholeChild IsWhole) xs → IsWholeChild IsWhole (slice_index_or xs i None)
 child_whole_at IsWhole [] i below h = absurd (omega arith)
 child_whole_at IsWhole (x ∷ xs) zero below h = h.0
 child_whole_at IsWhole (x ∷ xs) (suc i) below h = child_whole_at IsWhole xs i (omega arith) h.1
 
-row_all_in : {X : Type 0} (Fits : ℕ → X → Type 0) (IsWhole : X → Type 0) (nodes : X → Nodes) (own : Node) (IsBelow : Path → Type 0) (n : ℕ) (xs : List (Option X))
-    → length xs ≡ n → EachFits Fits 0 xs → AllByRecursion (IsWholeChild IsWhole) xs
-    → ((i : ℕ) (x : Option X) → IfSome x (Fits i) → IsWholeChild IsWhole x → IsAllIn IsBelow (in_child nodes x))
-    → IsAllIn (IsRowPath n IsBelow) (in_row nodes own xs)
-row_all_in Fits IsWhole nodes own IsBelow n xs count fits whole each [] path = refl
-row_all_in Fits IsWhole nodes own IsBelow n xs count fits whole each (i ∷ q) path =
-    each (0 + i) (slice_index_or xs i None) (each_at Fits 0 i xs fits) (child_whole_at IsWhole xs i (omega arith) whole) q path.1
+-- a row of children: all of it is in where each child is, and a child with a gap is a gap of the row
+module _ {X : Type 0} (nodes : X → Nodes) (IsBelow : Path → Type 0) where
+  row_all_in : (Fits : ℕ → X → Type 0) (IsWhole : X → Type 0) (own : Node) {n : ℕ} (xs : List (Option X)) → length xs ≡ n
+      → EachFits Fits 0 xs → AllByRecursion (IsWholeChild IsWhole) xs
+      → ((i : ℕ) (x : Option X) → IfSome x (Fits i) → IsWholeChild IsWhole x → IsAllIn IsBelow (in_child nodes x))
+      → IsAllIn (IsRowPath n IsBelow) (in_row nodes own xs)
+  row_all_in Fits IsWhole own xs count fits whole each [] path = refl
+  row_all_in Fits IsWhole own xs count fits whole each (i ∷ q) path =
+      each (0 + i) (slice_index_or xs i None) (each_at Fits 0 i xs fits) (child_whole_at IsWhole xs i (omega arith) whole) q path.1
+
+  -- some child of the row has a path that is out
+  abbrev HasGapAt : List (Option X) → Type 0
+  HasGapAt xs = (k : ℕ) × (k < length xs) × HasOneOut IsBelow (in_child nodes (slice_index_or xs k None))
+
+  gap_here : (x : Option X) (xs : List (Option X)) (b rest : Bool) → (b && rest) ≡ false
+      → (b ≡ false → HasOneOut IsBelow (in_child nodes x)) → (rest ≡ false → HasGapAt xs) → HasGapAt (x ∷ xs)
+  gap_here x xs false rest h here more = (0, omega arith, here refl)
+  gap_here x xs true rest h here more = let w = more h in (suc w.0, omega (arith, w.1), w.2)
+
+  row_gap : (Fits : ℕ → X → Type 0) (test : Option X → Bool) (i : ℕ) (xs : List (Option X)) → EachFits Fits i xs → list_all test xs ≡ false
+      → ((k : ℕ) (x : Option X) → IfSome x (Fits k) → test x ≡ false → HasOneOut IsBelow (in_child nodes x)) → HasGapAt xs
+  row_gap Fits test i [] fits h each = absurd (true≢false h)
+  row_gap Fits test i (x ∷ xs) fits h each =
+      gap_here x xs (test x) (list_all test xs) h (each i x fits.0) (λ r. row_gap Fits test (suc i) xs fits.1 r each)
+
+  gap_of_row : (own : Node) {n : ℕ} (xs : List (Option X)) → length xs ≡ n → HasGapAt xs → HasOneOut (IsRowPath n IsBelow) (in_row nodes own xs)
+  gap_of_row own xs count w = (w.0 ∷ w.2.0, (omega (arith, w.1), w.2.1), w.2.2)
 
 stripe_all_in : (x : Option StripePart) → IsWholeChild (λ p. Unit {0}) x → IsAllIn IsLeafPath (in_child in_stripe x)
 stripe_all_in None h q path = absurd h
@@ -84,7 +108,7 @@ label_all_in (Some p) h (i ∷ q) path = absurd path
 module _ (g : Geometry) where
   pub logical_all_in : (x : Option Logical) → IfSome x (FitsLogical g) → IsWholeChild IsWholeLogical x → IsAllIn (IsLogicalPath g) (in_child in_logical x)
   logical_all_in None f h q path = absurd h
-  logical_all_in (Some l) f h q path = row_all_in _ (λ p. Unit {0}) in_stripe _ IsLeafPath g.stripes l.stripes.items f.count f.stripes h (λ i x e w. stripe_all_in x w) q path
+  logical_all_in (Some l) f h q path = row_all_in in_stripe IsLeafPath _ (λ p. Unit {0}) _ l.stripes.items f.count f.stripes h (λ i x e w. stripe_all_in x w) q path
 
   pub volume_all_in : (x : Option Vol) → IfSome x (FitsVolume g) → IsWholeChild IsWholeVolume x → IsAllIn (IsVolumePath g) (in_child in_volume x)
   volume_all_in None f h q path = absurd h
@@ -95,37 +119,13 @@ module _ (g : Geometry) where
 
   pub aggregate_all_in : (x : Option Aggr) → IfSome x (FitsAggregate g) → IsWholeChild IsWholeAggregate x → IsAllIn (IsAggregatePath g) (in_child in_aggregate x)
   aggregate_all_in None f h q path = absurd h
-  aggregate_all_in (Some r) f h q path = row_all_in _ IsWholeVolume in_volume _ (IsVolumePath g) g.volumes r.volumes.items f.count f.volumes h (λ i x e w. volume_all_in x e w) q path
+  aggregate_all_in (Some r) f h q path = row_all_in in_volume (IsVolumePath g) _ IsWholeVolume _ r.volumes.items f.count f.volumes h (λ i x e w. volume_all_in x e w) q path
 
   pub root_all_in : (x : Option Root) → IfSome x (FitsRoot g) → IsWholeChild IsWholeRoot x → IsAllIn (IsRootPath g) (in_child in_root x)
   root_all_in None f h q path = absurd h
-  root_all_in (Some r) f h q path = row_all_in _ IsWholeAggregate in_aggregate _ (IsAggregatePath g) g.aggregates r.aggregates.items f.count f.aggregates h (λ i x e w. aggregate_all_in x e w) q path
+  root_all_in (Some r) f h q path = row_all_in in_aggregate (IsAggregatePath g) _ IsWholeAggregate _ r.aggregates.items f.count f.aggregates h (λ i x e w. aggregate_all_in x e w) q path
 
 -- ---- a path that is out
-
-abbrev pub HasOneOut : (Path → Type 0) → Nodes → Type 0
-HasOneOut IsThere n = (q : Path) × IsThere q × (n q ≡ None)
-
--- some child of the row has a path that is out
-abbrev HasGapAt : {X : Type 0} → (X → Nodes) → (Path → Type 0) → List (Option X) → Type 0
-HasGapAt nodes IsBelow xs = (k : ℕ) × (k < length xs) × HasOneOut IsBelow (in_child nodes (slice_index_or xs k None))
-
-gap_here : {X : Type 0} (nodes : X → Nodes) (IsBelow : Path → Type 0) (x : Option X) (xs : List (Option X)) (b rest : Bool) → (b && rest) ≡ false
-    → (b ≡ false → HasOneOut IsBelow (in_child nodes x)) → (rest ≡ false → HasGapAt nodes IsBelow xs) → HasGapAt nodes IsBelow (x ∷ xs)
-gap_here nodes IsBelow x xs false rest h here more = (0, omega arith, here refl)
-gap_here nodes IsBelow x xs true rest h here more = let w = more h in (suc w.0, omega (arith, w.1), w.2)
-
-row_gap : {X : Type 0} (Fits : ℕ → X → Type 0) (test : Option X → Bool) (nodes : X → Nodes) (IsBelow : Path → Type 0) (i : ℕ) (xs : List (Option X))
-    → EachFits Fits i xs → list_all test xs ≡ false
-    → ((k : ℕ) (x : Option X) → IfSome x (Fits k) → test x ≡ false → HasOneOut IsBelow (in_child nodes x))
-    → HasGapAt nodes IsBelow xs
-row_gap Fits test nodes IsBelow i [] fits h each = absurd (true≢false h)
-row_gap Fits test nodes IsBelow i (x ∷ xs) fits h each =
-    gap_here nodes IsBelow x xs (test x) (list_all test xs) h (each i x fits.0) (λ r. row_gap Fits test nodes IsBelow (suc i) xs fits.1 r each)
-
-gap_of_row : {X : Type 0} (nodes : X → Nodes) (own : Node) (IsBelow : Path → Type 0) (n : ℕ) (xs : List (Option X)) → length xs ≡ n
-    → HasGapAt nodes IsBelow xs → HasOneOut (IsRowPath n IsBelow) (in_row nodes own xs)
-gap_of_row nodes own IsBelow n xs count w = (w.0 ∷ w.2.0, (omega (arith, w.1), w.2.1), w.2.2)
 
 stripe_gap : (x : Option StripePart) → is_some x ≡ false → HasOneOut IsLeafPath (in_child in_stripe x)
 stripe_gap None h = ([], tt, refl)
@@ -138,7 +138,7 @@ label_gap (Some p) h = absurd (true≢false h)
 module _ (g : Geometry) where
   pub logical_gap : (x : Option Logical) → IfSome x (FitsLogical g) → is_whole_logical x ≡ false → HasOneOut (IsLogicalPath g) (in_child in_logical x)
   logical_gap None f h = ([], tt, refl)
-  logical_gap (Some l) f h = gap_of_row in_stripe _ IsLeafPath g.stripes l.stripes.items f.count (row_gap _ is_some in_stripe IsLeafPath 0 l.stripes.items f.stripes h (λ k x e r. stripe_gap x r))
+  logical_gap (Some l) f h = gap_of_row in_stripe IsLeafPath _ l.stripes.items f.count (row_gap in_stripe IsLeafPath _ is_some 0 l.stripes.items f.stripes h (λ k x e r. stripe_gap x r))
 
   gap_below : (w : Vol) (b : Bool) → (b && is_some w.label) ≡ false → (b ≡ false → HasOneOut (IsLogicalPath g) (in_child in_logical w.logical)) → HasOneOut (IsVolumePath g) (in_volume w)
   gap_below w false h found = let q = found refl in (zero ∷ q.0, q.1, q.2)
@@ -150,20 +150,20 @@ module _ (g : Geometry) where
 
   pub aggregate_gap : (x : Option Aggr) → IfSome x (FitsAggregate g) → is_whole_aggregate x ≡ false → HasOneOut (IsAggregatePath g) (in_child in_aggregate x)
   aggregate_gap None f h = ([], tt, refl)
-  aggregate_gap (Some r) f h = gap_of_row in_volume _ (IsVolumePath g) g.volumes r.volumes.items f.count
-      (row_gap (λ v. FitsVolume g) is_whole_volume in_volume (IsVolumePath g) 0 r.volumes.items f.volumes h (λ k x e t. volume_gap x e t))
+  aggregate_gap (Some r) f h = gap_of_row in_volume (IsVolumePath g) _ r.volumes.items f.count
+      (row_gap in_volume (IsVolumePath g) (λ v. FitsVolume g) is_whole_volume 0 r.volumes.items f.volumes h (λ k x e t. volume_gap x e t))
 
   pub root_gap : (x : Option Root) → IfSome x (FitsRoot g) → is_whole_root x ≡ false → HasOneOut (IsRootPath g) (in_child in_root x)
   root_gap None f h = ([], tt, refl)
-  root_gap (Some r) f h = gap_of_row in_aggregate _ (IsAggregatePath g) g.aggregates r.aggregates.items f.count
-      (row_gap (λ a. FitsAggregate g) is_whole_aggregate in_aggregate (IsAggregatePath g) 0 r.aggregates.items f.aggregates h
+  root_gap (Some r) f h = gap_of_row in_aggregate (IsAggregatePath g) _ r.aggregates.items f.count
+      (row_gap in_aggregate (IsAggregatePath g) (λ a. FitsAggregate g) is_whole_aggregate 0 r.aggregates.items f.aggregates h
       (λ k x e t. aggregate_gap x e t))
 
 -- ---- taking a place itself
 
-pub taken_itself : {X : Type 0} (IsThere : Path → Type 0) (nodes : X → Nodes) (lent : Parcels) (x : X) (old new : Option X) → old ≡ Some x → new ≡ None → IsAllIn IsThere (in_child nodes old)
+pub taken_itself : {X : Type 0} {IsThere : Path → Type 0} (nodes : X → Nodes) {lent : Parcels} (x : X) {old new : Option X} → old ≡ Some x → new ≡ None → IsAllIn IsThere (in_child nodes old)
     → ((q : Path) → nodes x q ≡ in_parcels lent q) → TakesParcels IsThere [] lent (in_child nodes old) (in_child nodes new)
-taken_itself IsThere nodes lent x old new was now all same = record {
+taken_itself nodes x was now all same = record {
   all_in = λ q path related. all q path;
   parcels = λ q. ap (λ o. in_child nodes o q) was ∙ same q;
   rest = λ q. ap (λ o. in_child nodes o q) now;

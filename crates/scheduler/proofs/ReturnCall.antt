@@ -211,7 +211,7 @@ module _ (keeps : Type 0) (row : Row Slot) (replies : List Reply) (tree : TreeVi
 
     pub back_fits : (q : Path) → IsAffinityOf tree.geometry q a → IsKindOf q done.parcels → Fits tree.geometry q done.parcels
     back_fits = subst (λ (h : Geometry). (q : Path) → IsAffinityOf h q a → IsKindOf q done.parcels → Fits h q done.parcels) (sym k.geometry)
-        (fits_where_lent journal.geometry done.message done.parcels a at result.suits)
+        (fits_where_lent at result.suits)
 
     at_tree : IsAffinityOf tree.geometry (place journal.geometry done.message) a
     at_tree = subst (λ (h : Geometry). IsAffinityOf h (place journal.geometry done.message) a) (sym k.geometry) at

@@ -9,4 +9,4 @@ pub returns-clause-reply : goal.returns-clause-reply
 returns-clause-reply c = job_reply
 
 pub returns-clause-holds : goal.returns-clause-holds
-returns-clause-holds c = job_is_back
+returns-clause-holds c = λ out job done n new x. job_is_back

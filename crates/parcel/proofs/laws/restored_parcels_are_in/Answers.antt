@@ -3,4 +3,4 @@ use Rattle.parcel.proofs.Lending.{restored_is_in}
 use Rattle.parcel.proofs.laws.restored_parcels_are_in.Goals as goal
 
 pub returns : goal.returns
-returns c = restored_is_in
+returns c = λ g p l old new. restored_is_in g p l old

@@ -1,7 +1,7 @@
 -- What was read at the place of the piece.
-use Rattle.std.proofs.Common.{◌≡◌, ℕ, ◌<◌, List, ◌∷◌, length, Bool, true, false, true≢false, None, refl, sym, ◌∙◌, ap, subst}
-use Rattle.messages.specs.Messages.{AreSizedBytes}
-use Rattle.affinity.specs.Path.{Path}
+use Rattle.std.proofs.Common.{◌≡◌, ℕ, ◌<◌, List, ◌∷◌, length, true, false, true≢false, None, refl, sym, ◌∙◌, ap, subst}
+use Rattle.affinity.specs.Interval.{IsPath}
+use Rattle.affinity.specs.Path.{Path, volume}
 use Rattle.meaning.specs.State.{State, IsState}
 use Rattle.image.specs.Pieces.{aggregate_of, volume_of, part_of, piece_count, piece_of, piece_size, part_piece, piece_part_size, with_part, with_piece}
 use Rattle.image.proofs.Numbers.{in_aggregates, in_volumes}
@@ -36,7 +36,7 @@ returns-then-not-read_in_root-clause-good c =
     let x : State = tree_state g old in
     let read = c.read_in_root.ensures.read in
     let there : (q : Path) → old (a ∷ v ∷ q) ≡ in_child in_volume (volume_in c.t.inside.root a v) q = nodes_there g a v c.t.inside.root in
-    let good = read_good c.args.version g p bytes c.read_in_root.result a v (volume_in c.t.inside.root a v) old new read there whole.state in
+    let good = read_good read there whole.state in
     let same : part_piece c.args.version g (with_part c.args.version g x a v p bytes) a v p ≡ piece_of c.args.version g (with_piece c.args.version g x n bytes) n =
     (λ i. part_piece c.args.version g (with_part c.args.version g x (at.ensures.aggregate i) (at.ensures.volume i) (at.ensures.part i) bytes)
     (at.ensures.aggregate i) (at.ensures.volume i) (at.ensures.part i)) in
@@ -59,7 +59,7 @@ returns-clause-good c =
     let x : State = tree_state g old in
     let read = c.read_in_root.ensures.read in
     let there : (q : Path) → old (a ∷ v ∷ q) ≡ in_child in_volume (volume_in c.t.inside.root a v) q = nodes_there g a v c.t.inside.root in
-    let good = read_good c.args.version g p bytes c.read_in_root.result a v (volume_in c.t.inside.root a v) old new read there whole.state in
+    let good = read_good read there whole.state in
     let same : part_piece c.args.version g (with_part c.args.version g x a v p bytes) a v p ≡ piece_of c.args.version g (with_piece c.args.version g x n bytes) n =
     (λ i. part_piece c.args.version g (with_part c.args.version g x (at.ensures.aggregate i) (at.ensures.volume i) (at.ensures.part i) bytes)
     (at.ensures.aggregate i) (at.ensures.volume i) (at.ensures.part i)) in
@@ -83,7 +83,7 @@ returns-clause-taken c =
     let read = c.read_in_root.ensures.read in
     let there : (q : Path) → old (a ∷ v ∷ q) ≡ in_child in_volume (volume_in c.t.inside.root a v) q = nodes_there g a v c.t.inside.root in
     subst (λ (t : TreeView). tree_state g new ≡ with_piece c.args.version t.geometry (state_in t) n bytes) c.t.view_is
-    (read_taken c.args.version g p bytes c.read_in_root.result a v (volume_in c.t.inside.root a v) old new read there c.if-not-read_in_root.false
+    (read_taken read there c.if-not-read_in_root.false
     ∙ (λ i. with_part c.args.version g x (at.ensures.aggregate i) (at.ensures.volume i) (at.ensures.part i) bytes))
 
 pub returns-clause-whole : goal.returns-clause-whole
@@ -101,18 +101,17 @@ returns-clause-whole c =
     let x : State = tree_state g old in
     let read = c.read_in_root.ensures.read in
     let there : (q : Path) → old (a ∷ v ∷ q) ≡ in_child in_volume (volume_in c.t.inside.root a v) q = nodes_there g a v c.t.inside.root in
-    let good = read_good c.args.version g p bytes c.read_in_root.result a v (volume_in c.t.inside.root a v) old new read there whole.state in
+    let good = read_good read there whole.state in
     let piece = subst (λ (t : TreeView). n < piece_count t.geometry) (sym c.t.view_is) c.requires.piece in
     let size : length bytes ≡ piece_part_size g p = subst (λ (t : TreeView). length bytes ≡ piece_size t.geometry n) (sym c.t.view_is) c.requires.size ∙ ap (piece_part_size g) (sym at.ensures.part) in
     let none = subst (λ (t : TreeView). part_of t.geometry n ≡ 0 → (f b : ℕ)
     → (state_in t).blocks (aggregate_of t.geometry n, volume_of t.geometry n, f, b) ≡ None) (sym c.t.view_is) c.requires.empty in
     let empty : p ≡ 0 → (f b : ℕ) → x.blocks (a, v, f, b) ≡ None = λ first f b. (λ i. x.blocks (at.ensures.aggregate i, at.ensures.volume i, f, b)) ∙ none (sym at.ensures.part ∙ first) f b in
-    let taken = read_taken c.args.version g p bytes c.read_in_root.result a v (volume_in c.t.inside.root a v) old new read there c.if-not-read_in_root.false in
-    let has = has_then c.args.version g p bytes c.read_in_root.result a v (volume_in c.t.inside.root a v) old new read there in
-    let first : a < g.aggregates = subst (λ (k : ℕ). k < g.aggregates) (sym at.ensures.aggregate) (in_aggregates g n piece) in
-    let second : v < g.volumes = subst (λ (k : ℕ). k < g.volumes) (sym at.ensures.volume) (in_volumes g n) in
+    let taken = read_taken read there c.if-not-read_in_root.false in
+    let has = has_then read there in
+    let path : IsPath g (volume a v) = subst (λ q. IsPath g q) (λ i. volume (sym at.ensures.aggregate i) (sym at.ensures.volume i)) (in_aggregates g n piece, in_volumes g n) in
     record {
-      all_in = read_in c.args.version g p bytes c.read_in_root.result a v (volume_in c.t.inside.root a v) old new read there whole.all_in;
+      all_in = read_in read there whole.all_in;
       state = subst (λ (y : State). IsState g y) (sym taken)
-          (part_state c.args.version g x whole.state a v first second read.was has p empty bytes (size, all_bytes bytes (λ i. (c.type_inv.bytes i).fits)) (good.0 c.if-not-read_in_root.false));
+          (part_state c.args.version whole.state path read.was has empty (size, all_bytes bytes (λ i. (c.type_inv.bytes i).fits)) (good.0 c.if-not-read_in_root.false));
     }

@@ -1,6 +1,6 @@
 -- The volume is in, and the state has what it has.
 use Rattle.std.proofs.Common.{◌≡◌, ℕ, ◌<◌, Some, sym, ◌∙◌, ap, subst}
-use Rattle.std.specs.Prelude.{None, IfSome, option_copied}
+use Rattle.std.specs.Prelude.{IfSome, option_copied}
 use Rattle.image.specs.Pieces.{piece_count, piece_of, part_piece}
 use Rattle.parcel.specs.Fits.{FitsVolume, IsWholeChild, IsWholeVolume}
 use Rattle.parcel.specs.Levels.{volume_in}
@@ -15,7 +15,7 @@ write_part-requires-clause-fits c =
     let at = c.place_of_piece-place in
     let whole = subst IsWholeTree (sym c.t.view_is) c.requires.whole in
     let piece = subst (λ (t : TreeView). c.args.n < piece_count t.geometry) (sym c.t.view_is) c.requires.piece in
-    let there = piece_is_there g c.t.inside.root c.t.invariant whole.all_in c.args.n at.result.aggregate at.result.volume piece at.ensures.aggregate at.ensures.volume in
+    let there = piece_is_there g c.t.inside.root c.t.invariant whole.all_in c.args.n piece at.ensures.aggregate at.ensures.volume in
     subst (λ o. IfSome o (FitsVolume g)) (sym c.volume_at.ensures ∙ ap option_copied c.in-Some.is) there.0
 
 pub write_part-requires-clause-whole : goal.write_part-requires-clause-whole
@@ -24,7 +24,7 @@ write_part-requires-clause-whole c =
     let at = c.place_of_piece-place in
     let whole = subst IsWholeTree (sym c.t.view_is) c.requires.whole in
     let piece = subst (λ (t : TreeView). c.args.n < piece_count t.geometry) (sym c.t.view_is) c.requires.piece in
-    let there = piece_is_there g c.t.inside.root c.t.invariant whole.all_in c.args.n at.result.aggregate at.result.volume piece at.ensures.aggregate at.ensures.volume in
+    let there = piece_is_there g c.t.inside.root c.t.invariant whole.all_in c.args.n piece at.ensures.aggregate at.ensures.volume in
     subst (λ o. IsWholeChild IsWholeVolume o) (sym c.volume_at.ensures ∙ ap option_copied c.in-Some.is) there.1
 
 pub unreachable-requires : goal.unreachable-requires
@@ -33,7 +33,7 @@ unreachable-requires c =
     let at = c.place_of_piece-place in
     let whole = subst IsWholeTree (sym c.t.view_is) c.requires.whole in
     let piece = subst (λ (t : TreeView). c.args.n < piece_count t.geometry) (sym c.t.view_is) c.requires.piece in
-    let there = piece_is_there g c.t.inside.root c.t.invariant whole.all_in c.args.n at.result.aggregate at.result.volume piece at.ensures.aggregate at.ensures.volume in
+    let there = piece_is_there g c.t.inside.root c.t.invariant whole.all_in c.args.n piece at.ensures.aggregate at.ensures.volume in
     subst (λ o. IsWholeChild IsWholeVolume o) (sym c.volume_at.ensures ∙ ap option_copied c.in-None.is) there.1
 
 pub returns : goal.returns

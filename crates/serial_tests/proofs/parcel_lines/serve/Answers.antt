@@ -21,4 +21,4 @@ restore-requires-clause-fits c =
     (subst (λ k. IsAffinityOf g (place_of g k c.numbers.result) c.in-Some.a) c.kind.ensures c.in-Some.ensures.placed) in
     subst (λ l. (q : Path) → IsAffinityOf c.lend.new.self.geometry q c.in-Some.a → IsKindOf q l → Fits c.lend.new.self.geometry q l) (sym c.into_parcels.ensures)
     (subst (λ (h : Geometry). (q : Path) → IsAffinityOf h q c.in-Some.a → IsKindOf q c.run-done.result.parcels → Fits h q c.run-done.result.parcels) same
-    (fits_where_lent g m c.run-done.result.parcels c.in-Some.a there suits))
+    (fits_where_lent there suits))

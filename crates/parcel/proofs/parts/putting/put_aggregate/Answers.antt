@@ -58,8 +58,7 @@ returns-in-Some-clause-err c =
     let path : (i < g.volumes) × IsVolumePath g (rest_of p) = row_path g.volumes (IsVolumePath g) p c.in-len1-up.len_at_least c.requires.path in
     let at : c.index_mut.result.now ≡ slice_index_or xs i None = child_read xs i g.volumes c.index_mut.result.now path.0 fits.count c.index_mut.ensures.value in
     map_err c.put_volume.result (λ back h. λ a. through (λ q old new. HandsBack (IsKindOf (a ∷ i ∷ q) c.args.p) q c.args.p back old new)
-    (λ q old new. HandsBack (IsKindOf (a ∷ q) c.args.p) q c.args.p back old new)
-    in_volume Inner xs p c.index_mut.result.now _ _ _ c.in-len1-up.len_at_least (ap (in_child in_aggregate) was) at
+    (λ q old new. HandsBack (IsKindOf (a ∷ q) c.args.p) q c.args.p back old new) c.in-len1-up.len_at_least (ap (in_child in_aggregate) was) (ap (in_child in_volume) at)
     (row_handed_back in_volume Inner xs i c.put_volume.new.place (omega arith) (IsKindOf (a ∷ i ∷ rest_of p) c.args.p) (rest_of p) c.args.p back) (h a i)) c.put_volume.ensures.err
 
 pub returns-in-Some-clause-fits : goal.returns-in-Some-clause-fits

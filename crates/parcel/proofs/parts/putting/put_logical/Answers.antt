@@ -48,8 +48,7 @@ returns-in-Some-clause-err c =
     let path : (i < g.stripes) × IsLeafPath (rest_of p) = row_path g.stripes IsLeafPath p c.in-len1-up.len_at_least c.requires.path in
     let at : c.index_mut.result.now ≡ slice_index_or xs i None = child_read xs i g.stripes c.index_mut.result.now path.0 fits.count c.index_mut.ensures.value in
     map_err c.put_stripe.result (λ back h. λ a v. through (λ q old new. HandsBack (IsKindOf (a ∷ v ∷ zero ∷ i ∷ q) c.args.p) q c.args.p back old
-    new) (λ q old new. HandsBack (IsKindOf (a ∷ v ∷ zero ∷ q) c.args.p) q c.args.p back old new)
-    in_stripe (Files c.in-Some.logical.files) xs p c.index_mut.result.now _ _ _ c.in-len1-up.len_at_least (ap (in_child in_logical) was) at
+    new) (λ q old new. HandsBack (IsKindOf (a ∷ v ∷ zero ∷ q) c.args.p) q c.args.p back old new) c.in-len1-up.len_at_least (ap (in_child in_logical) was) (ap (in_child in_stripe) at)
     (row_handed_back in_stripe (Files c.in-Some.logical.files) xs i c.put_stripe.new.place (omega arith)
     (IsKindOf (a ∷ v ∷ zero ∷ i ∷ rest_of p) c.args.p) (rest_of p) c.args.p back)
     (subst (λ q. HandsBack (IsKindOf (a ∷ v ∷ zero ∷ i ∷ q) c.args.p) q c.args.p back (in_child in_stripe c.index_mut.result.now)

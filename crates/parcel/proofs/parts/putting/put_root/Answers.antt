@@ -45,8 +45,7 @@ returns-in-Some-clause-err c =
     let path : (i < g.aggregates) × IsAggregatePath g (rest_of p) = row_path g.aggregates (IsAggregatePath g) p c.in-len1-up.len_at_least c.requires.path in
     let at : c.index_mut.result.now ≡ slice_index_or xs i None = child_read xs i g.aggregates c.index_mut.result.now path.0 fits.count c.index_mut.ensures.value in
     map_err c.put_aggregate.result (λ back h. through (λ q old new. HandsBack (IsKindOf (i ∷ q) c.args.p) q c.args.p back old new)
-    (λ q old new. HandsBack (IsKindOf (q) c.args.p) q c.args.p back old new)
-    in_aggregate Inner xs p c.index_mut.result.now _ _ _ c.in-len1-up.len_at_least (ap (in_child in_root) was) at
+    (λ q old new. HandsBack (IsKindOf q c.args.p) q c.args.p back old new) c.in-len1-up.len_at_least (ap (in_child in_root) was) (ap (in_child in_aggregate) at)
     (row_handed_back in_aggregate Inner xs i c.put_aggregate.new.place (omega arith) (IsKindOf (i ∷ rest_of p) c.args.p) (rest_of p) c.args.p back) (h i)) c.put_aggregate.ensures.err
 
 pub returns-in-Some-clause-fits : goal.returns-in-Some-clause-fits

@@ -36,8 +36,7 @@ returns-in-Some-clause-none c =
     let fits : FitsAggregate g c.in-Some.aggregate = subst (λ x. IfSome x (FitsAggregate g)) was c.requires.fits in
     let path : (i < g.volumes) × IsVolumePath g (rest_of p) = row_path g.volumes (IsVolumePath g) p c.in-len1-up.len_at_least c.requires.path in
     let at : c.index_mut.result.now ≡ slice_index_or xs i None = child_read xs i g.volumes c.index_mut.result.now path.0 fits.count c.index_mut.ensures.value in
-    map_none c.take_volume.result (through (Refuses (IsVolumePath g)) (Refuses (IsAggregatePath g)) in_volume Inner xs p c.index_mut.result.now _ _
-    _ c.in-len1-up.len_at_least (ap (in_child in_aggregate) was) at
+    map_none c.take_volume.result (through (Refuses (IsVolumePath g)) (Refuses (IsAggregatePath g)) c.in-len1-up.len_at_least (ap (in_child in_aggregate) was) (ap (in_child in_volume) at)
     (row_refused in_volume Inner xs i c.take_volume.new.place (omega arith) (IsVolumePath g) g.volumes (rest_of p) path.0)) c.take_volume.ensures.none
 
 pub returns-in-Some-clause-fits : goal.returns-in-Some-clause-fits

@@ -32,8 +32,7 @@ returns-in-Some-clause-none c =
     let fits : FitsRoot g c.in-Some.root = subst (λ x. IfSome x (FitsRoot g)) was c.requires.fits in
     let path : (i < g.aggregates) × IsAggregatePath g (rest_of p) = row_path g.aggregates (IsAggregatePath g) p c.in-len1-up.len_at_least c.requires.path in
     let at : c.index_mut.result.now ≡ slice_index_or xs i None = child_read xs i g.aggregates c.index_mut.result.now path.0 fits.count c.index_mut.ensures.value in
-    map_none c.take_aggregate.result (through (Refuses (IsAggregatePath g)) (Refuses (IsRootPath g)) in_aggregate Inner xs p c.index_mut.result.now
-    _ _ _ c.in-len1-up.len_at_least (ap (in_child in_root) was) at
+    map_none c.take_aggregate.result (through (Refuses (IsAggregatePath g)) (Refuses (IsRootPath g)) c.in-len1-up.len_at_least (ap (in_child in_root) was) (ap (in_child in_aggregate) at)
     (row_refused in_aggregate Inner xs i c.take_aggregate.new.place (omega arith) (IsAggregatePath g) g.aggregates (rest_of p) path.0)) c.take_aggregate.ensures.none
 
 pub returns-in-Some-clause-fits : goal.returns-in-Some-clause-fits

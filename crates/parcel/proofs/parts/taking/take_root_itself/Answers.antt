@@ -2,9 +2,8 @@
 use Rattle.std.proofs.Common.{◌≡◌, true, false, subst, refl}
 use Rattle.std.specs.Prelude.{Some, IfSome}
 use Rattle.parcel.specs.Fits.{FitsRoot, IsWholeChild, IsWholeRoot}
-use Rattle.parcel.specs.Levels.{IsRootPath, is_whole_root}
+use Rattle.parcel.specs.Levels.{is_whole_root}
 use Rattle.parcel.specs.Nodes.{in_root}
-use Rattle.parcel.specs.declared.parts.Parcels.TheVariants as parcels
 use Rattle.parcel.proofs.Whole.{root_whole, root_all_in, root_gap, taken_itself, refused_itself}
 use Rattle.parcel.proofs.parts.taking.take_root_itself.Goals as goal
 
@@ -16,8 +15,7 @@ returns-then-not-is_whole_root-clause-none c =
 pub returns-in-Some-clause-some : goal.returns-in-Some-clause-some
 returns-in-Some-clause-some c =
     let whole : is_whole_root c.args.place.now ≡ true = cc in
-    taken_itself (IsRootPath c.args.g.now) in_root (parcels.Root c.in-Some.root) c.in-Some.root c.args.place.now c.take.new.self (cc) (cc)
-    (root_all_in c.args.g.now c.args.place.now c.requires.fits (root_whole c.args.place.now whole)) (λ q. refl)
+    taken_itself in_root c.in-Some.root (cc) (cc) (root_all_in c.args.g.now c.args.place.now c.requires.fits (root_whole c.args.place.now whole)) (λ q. refl)
 
 pub returns-in-Some-clause-lent : goal.returns-in-Some-clause-lent
 returns-in-Some-clause-lent c =

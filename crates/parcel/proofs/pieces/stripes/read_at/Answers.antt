@@ -1,5 +1,5 @@
 -- What a stripe's piece decodes to fits there.
-use Rattle.std.proofs.Common.{◌≡◌, refl, sym, ◌∙◌, ap, subst, Some}
+use Rattle.std.proofs.Common.{refl, ◌∙◌, ap, subst}
 use Rattle.std.specs.Prelude.{IfSome}
 use Rattle.stripe.specs.Stripe.{StripePart, content_at}
 use Rattle.parcel.specs.Fits.{FitsStripe}
@@ -14,7 +14,7 @@ returns-then-read_piece c =
     let quota = ap (λ (p : StripePart). p.quota) good.1 ∙ ap (λ (p : StripePart). p.quota) c.drop_all.ensures ∙ fits.quota in
     let entries = ap (λ (p : StripePart). p.entries) good.1 in
     record {
-      fits = entries_fit g c.args.s c.args.files c.args.bytes.now c.requires.files good.0 c.read_piece.new.self quota entries;
+      fits = entries_fit c.requires.files good.0 quota entries;
       whole = tt;
       piece = (λ on. good.0, λ is. refl);
       blocks = λ on f b. ap (λ es. content_at es f b) entries;

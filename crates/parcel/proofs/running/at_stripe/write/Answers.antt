@@ -23,7 +23,7 @@ returns-in-Some-clause-step c =
     let count : group_count g (only a v h) a v s ≡ length p.entries = count_is_length g s (only a v h) a v p c.has_room-room.ensures.kept
     c.requires.fits (λ i j _. ap (λ h. h.blocks i j) (at_volume a v h)) in
     refused g (only a v h) (Write a v c.args.f c.args.b c.args.content.now) _
-    (write_tests g a v c.args.f c.args.b c.args.content.now h _ range count
+    (write_tests g a v c.args.f c.args.b c.args.content.now h range count
     ∙ (λ i. unless_closed c.args.standing.made c.args.standing.sealed
     (unless (has_file c.args.standing.files c.args.f) File (unless (sym c.has_room-room.ensures.room i) Space None)))
     ∙ sym c.write_refusal.ensures ∙ c.in-Some.is)
@@ -38,7 +38,7 @@ returns-clause-step c =
     let count : group_count g (only a v h) a v s ≡ length p.entries = count_is_length g s (only a v h) a v p c.has_room-room.ensures.kept
     c.requires.fits (λ i j _. ap (λ h. h.blocks i j) (at_volume a v h)) in
     passed g (only a v h) (Write a v c.args.f c.args.b c.args.content.now) _ _
-    (write_tests g a v c.args.f c.args.b c.args.content.now h _ range count
+    (write_tests g a v c.args.f c.args.b c.args.content.now h range count
     ∙ (λ i. unless_closed c.args.standing.made c.args.standing.sealed
     (unless (has_file c.args.standing.files c.args.f) File (unless (sym c.has_room-room.ensures.room i) Space None)))
     ∙ sym c.write_refusal.ensures ∙ c.in_default.is) refl

@@ -26,5 +26,4 @@ returns-clause-some c =
     subst (λ (s : TreeView). (p : Path) → IsAffinityOf s.geometry p c.args.a → LendsAt s.geometry p c.standing_at-standing.result c.in_ok-parcels.parcels (in_tree s) new) c.self.view_is
     (λ p h. subst (λ q. LendsAt g q c.standing_at-standing.result c.in_ok-parcels.parcels (in_child in_root c.self.inside.root) new)
     (path_unique g (path c.place-place.result) p c.args.a c.place-place.ensures h)
-    (lent_from_taken g (path c.place-place.result) c.standing_at-standing.result c.in_ok-parcels.parcels _ new c.in_ok-parcels.ensures.some
-    c.in_ok-parcels.ensures.lent c.standing_at-standing.ensures))
+    (lent_from_taken c.in_ok-parcels.ensures.some c.in_ok-parcels.ensures.lent c.standing_at-standing.ensures))

@@ -13,6 +13,6 @@ returns c =
     let label_is : c.copy_from_slice-2.new.self ≡ c.args.self.now.label = c.copy_from_slice-2.ensures.after in
     let blank_is : c.copy_from_slice-3.new.self ≡ replicate 16 0 = c.copy_from_slice-3.ensures.after in
     four_parts c.args.out.now c.copy_from_slice.new.self c.write_u64.new.buf c.copy_from_slice-2.new.self c.copy_from_slice-3.new.self
-    c.requires.size (ap length marks_are) (ap length files_are) (omega arith)
+    (ap length marks_are) (ap length files_are) (omega arith)
     ∙ (λ i. ((marks_are i ++ files_are i) ++ label_is i) ++ blank_is i)
     ∙ spelled_made c.args.self.now c.from.result c.if-not-self.false (c.from.ensures ∙ mark_byte c.args.self.now.sealed)
