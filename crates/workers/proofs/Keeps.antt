@@ -21,11 +21,15 @@ use Rattle.workers.proofs.Rows.{set_at, there}
 dispatch_seat_is_no_claim : (r k : ℕ) (l : LentRow) (job : JobView) → Dispatcher r l ≡ Claimed k job → ⊥
 dispatch_seat_is_no_claim r k l job e = cc
 
-idle_is_no_dispatch_seat : (r : ℕ) (l : LentRow) → Idle ≡ Dispatcher r l → ⊥
-idle_is_no_dispatch_seat r l e = cc
+-- a worker's view, which isn't that of the dispatcher
+abbrev pub IsWorker : View → Type 0
+IsWorker v = (r : ℕ) (l : LentRow) → v ≡ Dispatcher r l → ⊥
 
-claim_is_no_dispatch_seat : (r k : ℕ) (l : LentRow) (job : JobView) → Claimed k job ≡ Dispatcher r l → ⊥
-claim_is_no_dispatch_seat r k l job e = cc
+idle_is_worker : IsWorker Idle
+idle_is_worker r l e = cc
+
+claim_is_worker : (k : ℕ) (job : JobView) → IsWorker (Claimed k job)
+claim_is_worker k job r l e = cc
 
 idle_is_no_claim : (k : ℕ) (job : JobView) → Idle ≡ Claimed k job → ⊥
 idle_is_no_claim k job e = cc
@@ -40,12 +44,12 @@ one_job : (a b : JobView) → Some a ≡ Some b → a ≡ b
 one_job a b e = cc
 
 -- The state of a place is as before where its word, what is lent and whether it was readied are as before.
-stands_still : (r q k word word' : ℕ) (o o' : Option JobView) (home : Home) → PlaceState r k word o home
+stands_still : {r q k word word' : ℕ} {o o' : Option JobView} {home : Home} → PlaceState r k word o home
     → (k < q → k < r) → (q ≤ k → r ≤ k) → word' ≡ word → o' ≡ o → PlaceState q k word' o' home
-stands_still r q k word word' o o' home (is_empty w l before after) less more ew eo = is_empty (ew ∙ w) (eo ∙ l) (λ h. before (less h)) (λ h. after (more h))
-stands_still r q k word word' o o' home (is_offered job w l at) less more ew eo = is_offered job (ew ∙ w) (eo ∙ l) at
-stands_still r q k word word' o o' home (is_claimed job w l at) less more ew eo = is_claimed job (ew ∙ w) (eo ∙ l) at
-stands_still r q k word word' o o' home (is_delivered job done w l at run) less more ew eo = is_delivered job done (ew ∙ w) (eo ∙ l) at run
+stands_still (is_empty w l before after) less more ew eo = is_empty (ew ∙ w) (eo ∙ l) (λ h. before (less h)) (λ h. after (more h))
+stands_still (is_offered job w l at) less more ew eo = is_offered job (ew ∙ w) (eo ∙ l) at
+stands_still (is_claimed job w l at) less more ew eo = is_claimed job (ew ∙ w) (eo ∙ l) at
+stands_still (is_delivered job done w l at run) less more ew eo = is_delivered job done (ew ∙ w) (eo ∙ l) at run
 
 -- the dispatcher's seat knows what the rule says
 the_dispatch_seat : (s : Board) (h : BenchRule s) (id r : ℕ) (l : LentRow) → get_elem? s.views id ≡ some (Dispatcher r l) → (id ≡ h.dispatch_seat) × (r ≡ h.resting) × (l ≡ h.lent)
@@ -54,13 +58,13 @@ the_dispatch_seat s h id r l me = let same = h.no_other id r l me in
     (same, e.0, e.1)
 
 -- The dispatcher changes place k, which nobody has claimed.
-pub dispatch_seat_moves : (s : Board) (h : BenchRule s) (id k n r q : ℕ) (o : Option JobView) (l : LentRow) (home : Home)
+pub dispatch_seat_moves : {s : Board} (h : BenchRule s) (id k : ℕ) {n r q : ℕ} {o : Option JobView} {l : LentRow} {home : Home}
     → get_elem? s.views id ≡ some (Dispatcher r l) → k < length s.homes
     → ((seat : ℕ) (job : JobView) → get_elem? s.views seat ≡ some (Claimed k job) → ⊥)
     → ((i : ℕ) → i ≢ k → ((i < q → i < r) × (q ≤ i → r ≤ i)))
     → PlaceState q k n o home
     → BenchRule record { words = set s.words (k + 6) n; homes = set s.homes k home; views = set s.views id (Dispatcher q (set l k o)) }
-dispatch_seat_moves s h id k n r q o l home me near free readied stands =
+dispatch_seat_moves {s} h id k {n} {r} {q} {o} {l} {home} me near free readied stands =
     let d = the_dispatch_seat s h id r l me in
     let row : length l ≡ length s.homes = ap length d.2 ∙ h.row in
     let wide : k + 6 < length s.words = let w = h.words in omega arith in
@@ -87,24 +91,23 @@ dispatch_seat_moves s h id k n r q o l home me near free readied stands =
       places = λ i x at. ⊎_elim
           (λ t. subst (λ j. PlaceState q j (get_or (set s.words (k + 6) n) (j + 6) 0) (lent_at (set l k o) j) x) (sym t.0)
           (subst (λ y. PlaceState q k (get_or (set s.words (k + 6) n) (k + 6) 0) (lent_at (set l k o) k) y) t.1
-          (stands_still q q k n _ o _ home stands (λ a. a) (λ a. a) (get_or-set_same s.words (k + 6) n 0 wide) (get_or-set_same l k o None (omega arith)))))
-          (λ t. let apart = t.0 in stands_still h.resting q i _ _ _ _ x (h.places i x t.1)
+          (stands_still stands (λ a. a) (λ a. a) (get_or-set_same s.words (k + 6) n 0 wide) (get_or-set_same l k o None (omega arith)))))
+          (λ t. let apart = t.0 in stands_still (h.places i x t.1)
           (λ a. let b = (readied i apart).0 a in let e = d.1 in omega arith) (λ a. let b = (readied i apart).1 a in let e = d.1 in omega arith)
           (get_or-set_other s.words (k + 6) (i + 6) n 0 (λ e. apart (omega arith))) (get_or-set_other l k i o None apart ∙ ap (λ y. lent_at y i) d.2))
           (at_set s.homes k i home x at);
     }
 
 -- A worker changes place k, which no other has claimed. Afterwards it has no claim but one of k.
-pub worker_moves : (s : Board) (h : BenchRule s) (id k n : ℕ) (v w : View) (home : Home)
-    → get_elem? s.views id ≡ some v → k < length s.homes
-    → ((r : ℕ) (l : LentRow) → v ≡ Dispatcher r l → ⊥) → ((r : ℕ) (l : LentRow) → w ≡ Dispatcher r l → ⊥)
+pub worker_moves : {s : Board} (h : BenchRule s) (id : ℕ) {k n : ℕ} {v w : View} {home : Home}
+    → get_elem? s.views id ≡ some v → k < length s.homes → IsWorker v × IsWorker w
     → ((seat : ℕ) (job : JobView) → seat ≢ id → get_elem? s.views seat ≡ some (Claimed k job) → ⊥)
     → ((i : ℕ) (job : JobView) → w ≡ Claimed i job → (i ≡ k) × (n ≡ 2) × (lent_at h.lent k ≡ Some job))
     → PlaceState h.resting k n (lent_at h.lent k) home
     → BenchRule record { words = set s.words (k + 6) n; homes = set s.homes k home; views = set s.views id w }
-worker_moves s h id k n v w home me near was_none is_none free mine stands =
+worker_moves {s} h id {k} {n} {v} {w} {home} me near workers free mine stands =
     let wide : k + 6 < length s.words = let e = h.words in omega arith in
-    let not_dispatch_seat : h.dispatch_seat ≢ id = λ e. was_none h.resting h.lent (some-injective _ _ (sym me ∙ (ap (λ i. get_elem? s.views i) (sym e) ∙ h.dispatcher))) in
+    let not_dispatch_seat : h.dispatch_seat ≢ id = λ e. workers.0 h.resting h.lent (some-injective _ _ (sym me ∙ (ap (λ i. get_elem? s.views i) (sym e) ∙ h.dispatcher))) in
     record {
       dispatch_seat = h.dispatch_seat;
       resting = h.resting;
@@ -112,7 +115,7 @@ worker_moves s h id k n v w home me near was_none is_none free mine stands =
       words = length-set s.words (k + 6) n ∙ (h.words ∙ ap word_of (sym (length-set s.homes k home)));
       row = h.row ∙ sym (length-set s.homes k home);
       dispatcher = set_else s.views id h.dispatch_seat w not_dispatch_seat ∙ h.dispatcher;
-      no_other = λ seat p m at. ⊎_elim (λ t. absurd (is_none p m t.1)) (λ t. h.no_other seat p m t.1) (at_set s.views id seat w (Dispatcher p m) at);
+      no_other = λ seat p m at. ⊎_elim (λ t. absurd (workers.1 p m t.1)) (λ t. h.no_other seat p m t.1) (at_set s.views id seat w (Dispatcher p m) at);
       claims = λ seat i job at. ⊎_elim
           (λ t. let c = mine i job t.1 in let here : k ≡ i = sym c.0 in
           (ap (λ j. get_or (set s.words (k + 6) n) (j + 6) 0) c.0 ∙ (get_or-set_same s.words (k + 6) n 0 wide ∙ c.1), ap (λ j. lent_at h.lent j) c.0 ∙ c.2))
@@ -132,8 +135,8 @@ worker_moves s h id k n v w home me near was_none is_none free mine stands =
       places = λ i x at. ⊎_elim
           (λ t. subst (λ j. PlaceState h.resting j (get_or (set s.words (k + 6) n) (j + 6) 0) (lent_at h.lent j) x) (sym t.0)
           (subst (λ y. PlaceState h.resting k (get_or (set s.words (k + 6) n) (k + 6) 0) (lent_at h.lent k) y) t.1
-          (stands_still h.resting h.resting k n _ _ _ home stands (λ a. a) (λ a. a) (get_or-set_same s.words (k + 6) n 0 wide) refl)))
-          (λ t. let apart = t.0 in stands_still h.resting h.resting i _ _ _ _ x (h.places i x t.1) (λ a. a) (λ a. a)
+          (stands_still stands (λ a. a) (λ a. a) (get_or-set_same s.words (k + 6) n 0 wide) refl)))
+          (λ t. let apart = t.0 in stands_still (h.places i x t.1) (λ a. a) (λ a. a)
           (get_or-set_other s.words (k + 6) (i + 6) n 0 (λ e. apart (omega arith))) refl)
           (at_set s.homes k i home x at);
     }
@@ -152,7 +155,7 @@ aside s h id v ws me long same = subst (λ vs. BenchRule record { words = ws; ho
   no_other = h.no_other;
   claims = λ seat k job at. let c = h.claims seat k job at in (same k ∙ c.0, c.1);
   one_claim = h.one_claim;
-  places = λ k x at. stands_still h.resting h.resting k _ _ _ _ x (h.places k x at) (λ a. a) (λ a. a) (same k) refl;
+  places = λ k x at. stands_still (h.places k x at) (λ a. a) (λ a. a) (same k) refl;
 }
 
 -- an event count is signaled, or the bench is stopped
@@ -165,39 +168,39 @@ fails : (s : Board) (h : BenchRule s) (id i : ℕ) (v : View) → get_elem? s.vi
 fails s h id i v me = aside s h id v _ me (length-set s.words i _) (λ k. ap (λ ws. get_or ws (k + 6) 0) (set-get_or s.words i 0))
 
 -- the state of a place whose word is 0, 1 or 3
-at_offered : (r k word : ℕ) (o : Option JobView) (home : Home) → PlaceState r k word o home → word ≡ 1
+at_offered : {r k word : ℕ} {o : Option JobView} {home : Home} → PlaceState r k word o home → word ≡ 1
     → (job : JobView) × (o ≡ Some job) × (home ≡ some (Some (Offered job)))
-at_offered r k word o home (is_empty w l b a) e = absurd (omega arith)
-at_offered r k word o home (is_offered job w l at) e = (job, l, at)
-at_offered r k word o home (is_claimed job w l at) e = absurd (omega arith)
-at_offered r k word o home (is_delivered job done w l at run) e = absurd (omega arith)
+at_offered (is_empty w l b a) e = absurd (omega arith)
+at_offered (is_offered job w l at) e = (job, l, at)
+at_offered (is_claimed job w l at) e = absurd (omega arith)
+at_offered (is_delivered job done w l at run) e = absurd (omega arith)
 
-at_answered : (r k word : ℕ) (o : Option JobView) (home : Home) → PlaceState r k word o home → word ≡ 3
+at_answered : {r k word : ℕ} {o : Option JobView} {home : Home} → PlaceState r k word o home → word ≡ 3
     → (job : JobView) × (done : Done) × (o ≡ Some job) × (home ≡ some (Some (Delivered done))) × IsJobRun job done
-at_answered r k word o home (is_empty w l b a) e = absurd (omega arith)
-at_answered r k word o home (is_offered job w l at) e = absurd (omega arith)
-at_answered r k word o home (is_claimed job w l at) e = absurd (omega arith)
-at_answered r k word o home (is_delivered job done w l at run) e = (job, done, l, at, run)
+at_answered (is_empty w l b a) e = absurd (omega arith)
+at_answered (is_offered job w l at) e = absurd (omega arith)
+at_answered (is_claimed job w l at) e = absurd (omega arith)
+at_answered (is_delivered job done w l at run) e = (job, done, l, at, run)
 
-none_is_no_job : (o : Option JobView) (job : JobView) → o ≡ None → o ≡ Some job → ⊥
-none_is_no_job o job e f = cc
+none_is_no_job : {o : Option JobView} {job : JobView} → o ≡ None → o ≡ Some job → ⊥
+none_is_no_job e f = cc
 
 -- where nothing is lent
-at_empty : (r k word : ℕ) (o : Option JobView) (home : Home) → PlaceState r k word o home → o ≡ None
+at_empty : {r k word : ℕ} {o : Option JobView} {home : Home} → PlaceState r k word o home → o ≡ None
     → (word ≡ 0) × (k < r → home ≡ some (None))
-at_empty r k word o home (is_empty w l b a) e = (w, b)
-at_empty r k word o home (is_offered job w l at) e = absurd (none_is_no_job o job e l)
-at_empty r k word o home (is_claimed job w l at) e = absurd (none_is_no_job o job e l)
-at_empty r k word o home (is_delivered job done w l at run) e = absurd (none_is_no_job o job e l)
+at_empty (is_empty w l b a) e = (w, b)
+at_empty (is_offered job w l at) e = absurd (none_is_no_job e l)
+at_empty (is_claimed job w l at) e = absurd (none_is_no_job e l)
+at_empty (is_delivered job done w l at run) e = absurd (none_is_no_job e l)
 
 -- nobody has claimed a place whose word isn't 2
-unclaimed : (s : Board) (h : BenchRule s) (k n : ℕ) → get_or s.words (k + 6) 0 ≡ n → n ≢ 2 → (seat : ℕ) (job : JobView) → get_elem? s.views seat ≡ some (Claimed k job) → ⊥
-unclaimed s h k n e ne seat job at = ne (sym e ∙ (h.claims seat k job at).0)
+unclaimed : {s : Board} (h : BenchRule s) {k n : ℕ} → get_or s.words (k + 6) 0 ≡ n → n ≢ 2 → (seat : ℕ) (job : JobView) → get_elem? s.views seat ≡ some (Claimed k job) → ⊥
+unclaimed h {k} e ne seat job at = ne (sym e ∙ (h.claims seat k job at).0)
 
 -- what a step on the word of place k gives for that place, its kind gives
-of_place : (told : ℕ → Sat → ℕ → Sat → Type 0) (slots id k : ℕ) (me : Sat) (f : ℕ → ℕ) (st : Step (Option CellContent)) → st.word ≡ k + 6
+of_place : (told : ℕ → Sat → ℕ → Sat → Type 0) {slots : ℕ} (id k : ℕ) (me : Sat) (f : ℕ → ℕ) (st : Step (Option CellContent)) → st.word ≡ k + 6
     → Allows BenchRule slots id me (k + 6) f (λ n w. told k me n w) → Allows BenchRule slots id me (k + 6) f (λ n w. OfPlace told st me n w)
-of_place told slots id k me f st here allowed s h long at fits =
+of_place told id k me f st here allowed s h long at fits =
     let a = allowed s h long at fits in
     (a.0, a.1, a.2, a.3, λ i e. let same : k ≡ i = omega arith in subst (λ j. told j me (get_or s.words (k + 6) 0) (a.0, carried_after me.1 a.1)) same a.4)
 
@@ -205,40 +208,40 @@ readies_at : (slots id k : ℕ) (lent : LentRow) (held : List (ℕ × Option Cel
     → Allows BenchRule slots id (Dispatcher (k + 1) lent, held) (k + 6) (λ _. 0) (λ n w. Readies k (Dispatcher (k + 1) lent, held) w)
 readies_at slots id k lent held near empty s h long at fits =
     let d = the_dispatch_seat s h id (k + 1) lent at in let t = there s.homes k (omega arith) in
-    let e = at_empty h.resting k _ _ t.0 (h.places k t.0 t.1) (ap (λ l. lent_at l k) (sym d.2) ∙ empty) in
+    let e = at_empty (h.places k t.0 t.1) (ap (λ l. lent_at l k) (sym d.2) ∙ empty) in
     let same : set lent k None ≡ lent = ap (set lent k) (sym empty) ∙ set-get_or lent k None in (
       Dispatcher k lent,
       takes k None,
       t.1 ∙ ap some (e.1 (let r = d.1 in omega arith)),
       subst (λ l. BenchRule record { words = set s.words (k + 6) 0; homes = set s.homes k none; views = set s.views id (Dispatcher k l) }) same
-          (dispatch_seat_moves s h id k 0 (k + 1) k None lent none at (omega arith) (unclaimed s h k 0 e.0 (λ x. omega arith))
+          (dispatch_seat_moves h id k at (omega arith) (unclaimed h e.0 (λ x. omega arith))
           (λ i apart. ((λ a. omega arith), (λ a. omega arith)))
           (is_empty refl refl (λ a. absurd (omega arith)) (λ a. refl))),
       refl,
     )
 
-pub readies : (slots id k : ℕ) (me : Sat) (lent : LentRow) (held : List (ℕ × Option CellContent)) → me ≡ (Dispatcher (k + 1) lent, held) → k < slots → lent_at lent k ≡ None
+pub readies : {slots : ℕ} (id : ℕ) {k : ℕ} {me : Sat} {lent : LentRow} {held : List (ℕ × Option CellContent)} → me ≡ (Dispatcher (k + 1) lent, held) → k < slots → lent_at lent k ≡ None
     → Allows BenchRule slots id me (k + 6) (λ _. 0) (λ n w. OfPlace {F = Option CellContent} (λ i m _. Readies i m) (step slots (k + 6) 0 0 none) me 0 w)
-readies slots id k me lent held is near empty = of_place (λ i m _. Readies i m) slots id k me (λ _. 0) (step slots (k + 6) 0 0 none) refl
+readies {slots} id {k} {me} {lent} {held} is near empty = of_place (λ i m _. Readies i m) id k me (λ _. 0) (step slots (k + 6) 0 0 none) refl
     (subst (λ m. Allows BenchRule slots id m (k + 6) (λ _. 0) (λ n w. Readies k m w)) (sym is) (readies_at slots id k lent held near empty))
 
 offers_at : (slots id k : ℕ) (lent : LentRow) (job : JobView) (held : List (ℕ × Option CellContent)) → k < slots → lent_at lent k ≡ None
     → Allows BenchRule slots id (Dispatcher 0 lent, (k, Some (Offered job)) ∷ held) (k + 6) (λ _. 1) (λ n w. Offers k (Dispatcher 0 lent, (k, Some (Offered job)) ∷ held) w)
 offers_at slots id k lent job held near empty s h long at fits =
     let d = the_dispatch_seat s h id 0 lent at in let t = there s.homes k (omega arith) in
-    let e = at_empty h.resting k _ _ t.0 (h.places k t.0 t.1) (ap (λ l. lent_at l k) (sym d.2) ∙ empty) in (
+    let e = at_empty (h.places k t.0 t.1) (ap (λ l. lent_at l k) (sym d.2) ∙ empty) in (
       Dispatcher 0 (set lent k (Some job)),
       gives,
       tt,
-      dispatch_seat_moves s h id k 1 0 0 (Some job) lent (some (Some (Offered job))) at (omega arith) (unclaimed s h k 0 e.0 (λ x. omega arith))
+      dispatch_seat_moves h id k at (omega arith) (unclaimed h e.0 (λ x. omega arith))
           (λ i apart. ((λ a. a), (λ a. a))) (is_offered job refl refl refl),
       refl,
     )
 
-pub offers : (slots id k : ℕ) (me : Sat) (lent : LentRow) (job : JobView) (held : List (ℕ × Option CellContent)) → me
-    ≡ (Dispatcher 0 lent, (k, Some (Offered job)) ∷ held) → k < slots → lent_at lent k ≡ None
+pub offers : {slots : ℕ} (id : ℕ) {k : ℕ} {me : Sat} {lent : LentRow} {job : JobView} {held : List (ℕ × Option CellContent)}
+    → me ≡ (Dispatcher 0 lent, (k, Some (Offered job)) ∷ held) → k < slots → lent_at lent k ≡ None
     → Allows BenchRule slots id me (k + 6) (λ _. 1) (λ n w. OfPlace {F = Option CellContent} (λ i m _. Offers i m) (step slots (k + 6) 1 0 none) me 1 w)
-offers slots id k me lent job held is near empty = of_place (λ i m _. Offers i m) slots id k me (λ _. 1) (step slots (k + 6) 1 0 none) refl
+offers {slots} id {k} {me} {lent} {job} {held} is near empty = of_place (λ i m _. Offers i m) id k me (λ _. 1) (step slots (k + 6) 1 0 none) refl
     (subst (λ m. Allows BenchRule slots id m (k + 6) (λ _. 1) (λ n w. Offers k m w)) (sym is) (offers_at slots id k lent job held near empty))
 
 claims_at : (slots id k : ℕ) → k < slots → Allows BenchRule slots id idle (k + 6) (λ n. either (eqb n 1) 2 n) (λ n w. Claims k idle n w)
@@ -246,20 +249,19 @@ claims_at slots id k near s h long at fits =
     let n = get_or s.words (k + 6) 0 in let t = there s.homes k (omega arith) in
     let F : ℕ → Type 0 = λ m. (w : View) × (a : Act (Option CellContent)) × Valid s.homes [] a × BenchRule (stepped s (k + 6) m id [] w a) × Claims k idle n (w, carried_after [] a) in
     exchanged n 1 2 F
-    (λ e. let o = at_offered h.resting k n _ t.0 (h.places k t.0 t.1) e in (
+    (λ e. let o = at_offered (h.places k t.0 t.1) e in (
       Claimed k o.0,
       takes k (Some (Offered o.0)),
       t.1 ∙ ap some o.2,
-      worker_moves s h id k 2 Idle (Claimed k o.0) none at (omega arith) (λ r l. idle_is_no_dispatch_seat r l) (λ r l. claim_is_no_dispatch_seat r k l o.0)
-          (λ seat j _ c. unclaimed s h k 1 e (λ x. omega arith) seat j c)
+      worker_moves h id at (omega arith) (idle_is_worker, claim_is_worker k o.0) (λ seat j _ c. unclaimed h e (λ x. omega arith) seat j c)
           (λ i j c. let q = one_claimed k i o.0 j c in (sym q.0, refl, o.1 ∙ ap Some q.1)) (is_claimed o.0 refl o.1 refl),
       ((λ _. (o.0, refl)), (λ ne. absurd (ne e))),
     ))
     (λ ne. (Idle, keeps, tt, fails s h id (k + 6) Idle at, ((λ e. absurd (ne e)), (λ _. refl))))
 
-pub claims : (slots id k : ℕ) (me : Sat) → me ≡ idle → k < slots
+pub claims : {slots : ℕ} (id : ℕ) {k : ℕ} {me : Sat} → me ≡ idle → k < slots
     → Allows BenchRule slots id me (k + 6) (λ n. either (eqb n 1) 2 n) (λ n w. OfPlace {F = Option CellContent} Claims (step slots (k + 6) 1 2 none) me n w)
-claims slots id k me is near = of_place Claims slots id k me (λ n. either (eqb n 1) 2 n) (step slots (k + 6) 1 2 none) refl
+claims {slots} id {k} {me} is near = of_place Claims id k me (λ n. either (eqb n 1) 2 n) (step slots (k + 6) 1 2 none) refl
     (subst (λ m. Allows BenchRule slots id m (k + 6) (λ n. either (eqb n 1) 2 n) (λ n w. Claims k m n w)) (sym is) (claims_at slots id k near))
 
 delivers_at : (slots id k : ℕ) (job : JobView) (done : Done) → k < slots → IsJobRun job done
@@ -269,15 +271,14 @@ delivers_at slots id k job done near run s h long at fits =
       Idle,
       gives,
       tt,
-      worker_moves s h id k 3 (Claimed k job) Idle (some (Some (Delivered done))) at (omega arith) (λ r l. claim_is_no_dispatch_seat r k l job) (λ r l. idle_is_no_dispatch_seat r l)
-          (λ seat j ne other. ne (h.one_claim seat id k j job other at))
+      worker_moves h id at (omega arith) (claim_is_worker k job, idle_is_worker) (λ seat j ne other. ne (h.one_claim seat id k j job other at))
           (λ i j e. absurd (idle_is_no_claim i j e)) (is_delivered job done refl c.1 refl run),
       refl,
     )
 
-pub delivers : (slots id k : ℕ) (me : Sat) (job : JobView) (done : Done) → me ≡ (Claimed k job, (k, Some (Delivered done)) ∷ []) → k < slots → IsJobRun job done
+pub delivers : {slots : ℕ} (id : ℕ) {k : ℕ} {me : Sat} {job : JobView} {done : Done} → me ≡ (Claimed k job, (k, Some (Delivered done)) ∷ []) → k < slots → IsJobRun job done
     → Allows BenchRule slots id me (k + 6) (λ _. 3) (λ n w. OfPlace {F = Option CellContent} (λ _ m _. Delivers m) (step slots (k + 6) 3 0 none) me 3 w)
-delivers slots id k me job done is near run = of_place (λ _ m _. Delivers m) slots id k me (λ _. 3) (step slots (k + 6) 3 0 none) refl
+delivers {slots} id {k} {me} {job} {done} is near run = of_place (λ _ m _. Delivers m) id k me (λ _. 3) (step slots (k + 6) 3 0 none) refl
     (subst (λ m. Allows BenchRule slots id m (k + 6) (λ _. 3) (λ n w. Delivers m w)) (sym is) (delivers_at slots id k job done near run))
 
 collects_at : (slots id k : ℕ) (lent : LentRow) (held : List (ℕ × Option CellContent)) → k < slots
@@ -287,19 +288,19 @@ collects_at slots id k lent held near s h long at fits =
     let F : ℕ → Type 0 = λ m. (w : View) × (a : Act (Option CellContent)) × Valid s.homes held a × BenchRule (stepped s (k + 6) m id held w a)
     × Collects k (Dispatcher 0 lent, held) n (w, carried_after held a) in
     exchanged n 3 0 F
-    (λ e. let o = at_answered h.resting k n _ t.0 (h.places k t.0 t.1) e in (
+    (λ e. let o = at_answered (h.places k t.0 t.1) e in (
       Dispatcher 0 (set lent k None),
       takes k (Some (Delivered o.1)),
       t.1 ∙ ap some o.3,
-      dispatch_seat_moves s h id k 0 0 0 None lent none at (omega arith) (unclaimed s h k 3 e (λ x. omega arith))
+      dispatch_seat_moves h id k at (omega arith) (unclaimed h e (λ x. omega arith))
           (λ i apart. ((λ a. a), (λ a. a))) (is_empty refl refl (λ a. absurd (omega arith)) (λ a. refl)),
       ((λ _. (o.0, o.1, ap (λ l. lent_at l k) d.2 ∙ o.2, o.4, refl)), (λ ne. absurd (ne e))),
     ))
     (λ ne. (Dispatcher 0 lent, keeps, tt, fails s h id (k + 6) (Dispatcher 0 lent) at, ((λ e. absurd (ne e)), (λ _. refl))))
 
-pub collects : (slots id k : ℕ) (me : Sat) (lent : LentRow) (held : List (ℕ × Option CellContent)) → me ≡ (Dispatcher 0 lent, held) → k < slots
+pub collects : {slots : ℕ} (id : ℕ) {k : ℕ} {me : Sat} {lent : LentRow} {held : List (ℕ × Option CellContent)} → me ≡ (Dispatcher 0 lent, held) → k < slots
     → Allows BenchRule slots id me (k + 6) (λ n. either (eqb n 3) 0 n) (λ n w. OfPlace {F = Option CellContent} Collects (step slots (k + 6) 3 0 none) me n w)
-collects slots id k me lent held is near = of_place Collects slots id k me (λ n. either (eqb n 3) 0 n) (step slots (k + 6) 3 0 none) refl
+collects {slots} id {k} {me} {lent} {held} is near = of_place Collects id k me (λ n. either (eqb n 3) 0 n) (step slots (k + 6) 3 0 none) refl
     (subst (λ m. Allows BenchRule slots id m (k + 6) (λ n. either (eqb n 3) 0 n) (λ n w. Collects k m n w)) (sym is) (collects_at slots id k lent held near))
 
 -- A worker's seat is split off.
@@ -311,7 +312,7 @@ splits id v s h me = subst (λ vs. BenchRule record { words = s.words; homes = s
   words = h.words;
   row = h.row;
   dispatcher = at_longer s.views (Idle ∷ []) h.dispatch_seat _ h.dispatcher;
-  no_other = λ seat r l at. ⊎_elim (λ t. h.no_other seat r l t) (λ t. absurd (idle_is_no_dispatch_seat r l t)) (at_snoc s.views Idle (Dispatcher r l) seat at);
+  no_other = λ seat r l at. ⊎_elim (λ t. h.no_other seat r l t) (λ t. absurd (idle_is_worker r l t)) (at_snoc s.views Idle (Dispatcher r l) seat at);
   claims = λ seat k job at. ⊎_elim (λ t. h.claims seat k job t) (λ t. absurd (idle_is_no_claim k job t)) (at_snoc s.views Idle (Claimed k job) seat at);
   one_claim = λ seat other k job job' at at'. ⊎_elim
       (λ t. ⊎_elim (λ u. h.one_claim seat other k job job' t u) (λ u. absurd (idle_is_no_claim k job' u)) (at_snoc s.views Idle (Claimed k job') other at'))

@@ -1,37 +1,36 @@
 -- The place's slot is next in order; it takes the job and is offered, and the others are rotated on.
-use Rattle.std.proofs.Common.{◌+◌, ◌∙◌, set, Some, true, arith}
+use Rattle.std.proofs.Common.{◌+◌, ◌∙◌, Some, true, arith}
 use Rattle.std.proofs.lemmas.List.{length-set}
-use Rattle.workers.specs.Seats.{lent_of, spare, spare_from}
-use Rattle.workers.specs.declared.job_cell.CellContent.TheVariants.{Offered}
+use Rattle.workers.specs.Seats.{lent_of}
 use Rattle.workers.proofs.Turning.{others}
 use Rattle.workers.proofs.Lending.{within, turned_to, filled, lends, flags_of, flag_set, held_at, settles, counted, dispatch_seat_of}
 use Rattle.workers.proofs.bench.put_offer.Goals as goal
 
 pub offer-requires-clause-job : goal.offer-requires-clause-job
 offer-requires-clause-job c = let m = c.args.seat.now.me in let k = c.args.k in let ls = lent_of m.0 in let d = c.requires.dispatch_seat in
-    let near = within _ m _ k d c.requires.bench.1 in let at = turned_to m c.turn_to.new.seat.me ls (spare 0 ls) (spare_from k ls) d.seat c.turn_to.ensures.slots in
-    let full = filled k ls (Some (Offered c.args.job)) c.turn_to.new.seat.me c.lay_job.new.seat.me at c.lay_job.ensures.slot near c.requires.empty in
+    let near = within k d c.requires.bench.1 in
+    let full = filled (turned_to d.seat c.turn_to.ensures.slots) c.lay_job.ensures.slot near c.requires.empty in
     (ls, c.args.job, others k ls, full, c.requires.empty)
 
 pub turn_to-requires-2-clause-flags : goal.turn_to-requires-2-clause-flags
 turn_to-requires-2-clause-flags c = let m = c.args.seat.now.me in let k = c.args.k in let ls = lent_of m.0 in let d = c.requires.dispatch_seat in
-    let near = within _ m _ k d c.requires.bench.1 in let at = turned_to m c.turn_to.new.seat.me ls (spare 0 ls) (spare_from k ls) d.seat c.turn_to.ensures.slots in
-    let full = filled k ls (Some (Offered c.args.job)) c.turn_to.new.seat.me c.lay_job.new.seat.me at c.lay_job.ensures.slot near c.requires.empty in
-    let lent = lends k ls c.args.job c.lay_job.new.seat.me c.offer.new.seat.me full c.offer.ensures.lent near in let row = set ls k (Some c.args.job) in
-    flags_of _ c.offer.new.seat.me row _ (flag_set c.args.lent.now k ls (Some c.args.job) d.flagged) lent
+    let near = within k d c.requires.bench.1 in
+    let full = filled (turned_to d.seat c.turn_to.ensures.slots) c.lay_job.ensures.slot near c.requires.empty in
+    let lent = lends full c.offer.ensures.lent near in
+    flags_of (flag_set c.args.lent.now k ls (Some c.args.job) d.flagged) lent
 
 pub turn_to-requires-2-clause-slots : goal.turn_to-requires-2-clause-slots
 turn_to-requires-2-clause-slots c = let m = c.args.seat.now.me in let k = c.args.k in let ls = lent_of m.0 in let d = c.requires.dispatch_seat in
-    let near = within _ m _ k d c.requires.bench.1 in let at = turned_to m c.turn_to.new.seat.me ls (spare 0 ls) (spare_from k ls) d.seat c.turn_to.ensures.slots in
-    let full = filled k ls (Some (Offered c.args.job)) c.turn_to.new.seat.me c.lay_job.new.seat.me at c.lay_job.ensures.slot near c.requires.empty in
-    let lent = lends k ls c.args.job c.lay_job.new.seat.me c.offer.new.seat.me full c.offer.ensures.lent near in let row = set ls k (Some c.args.job) in
-    held_at (k + 1) c.offer.new.seat.me row lent
+    let near = within k d c.requires.bench.1 in
+    let full = filled (turned_to d.seat c.turn_to.ensures.slots) c.lay_job.ensures.slot near c.requires.empty in
+    let lent = lends full c.offer.ensures.lent near in
+    held_at (k + 1) lent
 
 pub returns-clause-dispatch_seat : goal.returns-clause-dispatch_seat
 returns-clause-dispatch_seat c = let m = c.args.seat.now.me in let k = c.args.k in let ls = lent_of m.0 in let d = c.requires.dispatch_seat in
-    let near = within _ m _ k d c.requires.bench.1 in let at = turned_to m c.turn_to.new.seat.me ls (spare 0 ls) (spare_from k ls) d.seat c.turn_to.ensures.slots in
-    let full = filled k ls (Some (Offered c.args.job)) c.turn_to.new.seat.me c.lay_job.new.seat.me at c.lay_job.ensures.slot near c.requires.empty in
-    let lent = lends k ls c.args.job c.lay_job.new.seat.me c.offer.new.seat.me full c.offer.ensures.lent near in let row = set ls k (Some c.args.job) in
+    let near = within k d c.requires.bench.1 in
+    let full = filled (turned_to d.seat c.turn_to.ensures.slots) c.lay_job.ensures.slot near c.requires.empty in
+    let lent = lends full c.offer.ensures.lent near in
     let flags = flag_set c.args.lent.now k ls (Some c.args.job) d.flagged in
     let long = counted c.args.lent.now ls d.flagged in let wide = length-set ls k (Some c.args.job) in let flags_long = length-set c.args.lent.now k true in
-    dispatch_seat_of _ _ _ row d.bench (settles (k + 1) _ row c.offer.new.seat.me c.turn_to-2.new.seat.me lent c.turn_to-2.ensures.slots (omega arith)) flags (flags_long ∙ d.places)
+    dispatch_seat_of d.bench (settles (k + 1) lent c.turn_to-2.ensures.slots (omega arith)) flags (flags_long ∙ d.places)

@@ -1,5 +1,5 @@
 -- The result leaves its slot, the flag goes down, and the slots are rotated on into the order of the free places.
-use Rattle.std.proofs.Common.{ap, sym, ◌∙◌, set, None, false, arith}
+use Rattle.std.proofs.Common.{ap, sym, ◌∙◌, None, false, arith}
 use Rattle.std.proofs.lemmas.List.{length-set}
 use Rattle.workers.specs.Steps.{Sat}
 use Rattle.workers.specs.Seats.{lent_of}
@@ -8,32 +8,32 @@ use Rattle.workers.proofs.bench.take_delivered.Goals as goal
 
 pub take_result-done-requires : goal.take_result-done-requires
 take_result-done-requires c = let won = c.requires.won.1 in
-    (c.requires.bench.0, (won.done, headed _ _ _ (ap (λ (m : Sat). m.1) won.seat)))
+    (c.requires.bench.0, (won.done, headed (ap (λ (m : Sat). m.1) won.seat)))
 
 pub turn_to-requires-clause-flags : goal.turn_to-requires-clause-flags
 turn_to-requires-clause-flags c = let row = c.requires.won.0 in let won = c.requires.won.1 in let k = c.args.k in
     let long = c.requires.won.3 in let wide = counted _ row c.requires.won.2 in let inside = c.requires.bench.1 in
-    let back = comes_back k row won.job won.done c.args.seat.now.me c.take_result-done.new.seat.me won.seat c.take_result-done.ensures.slot (omega arith) won.asked in
-    flags_of _ c.take_result-done.new.seat.me (set row k None) _ (flag_set c.args.lent.now k row None c.requires.won.2) back
+    let back = comes_back row won.seat c.take_result-done.ensures.slot (omega arith) won.asked in
+    flags_of (flag_set c.args.lent.now k row None c.requires.won.2) back
 
 pub turn_to-requires-clause-slots : goal.turn_to-requires-clause-slots
 turn_to-requires-clause-slots c = let row = c.requires.won.0 in let won = c.requires.won.1 in let k = c.args.k in
     let long = c.requires.won.3 in let wide = counted _ row c.requires.won.2 in let inside = c.requires.bench.1 in
-    let back = comes_back k row won.job won.done c.args.seat.now.me c.take_result-done.new.seat.me won.seat c.take_result-done.ensures.slot (omega arith) won.asked in
-    held_at k c.take_result-done.new.seat.me (set row k None) back
+    let back = comes_back row won.seat c.take_result-done.ensures.slot (omega arith) won.asked in
+    held_at k back
 
 pub returns-clause-dispatch_seat : goal.returns-clause-dispatch_seat
 returns-clause-dispatch_seat c = let row = c.requires.won.0 in let won = c.requires.won.1 in let k = c.args.k in
     let long = c.requires.won.3 in let wide = counted _ row c.requires.won.2 in let inside = c.requires.bench.1 in
-    let back = comes_back k row won.job won.done c.args.seat.now.me c.take_result-done.new.seat.me won.seat c.take_result-done.ensures.slot (omega arith) won.asked in
+    let back = comes_back row won.seat c.take_result-done.ensures.slot (omega arith) won.asked in
     let set_wide = length-set row k None in let flags_long = length-set c.args.lent.now k false in
-    let rests = settles k _ (set row k None) c.take_result-done.new.seat.me c.turn_to.new.seat.me back c.turn_to.ensures.slots (omega arith) in
-    dispatch_seat_of _ _ _ (set row k None) c.requires.bench.2 rests (flag_set c.args.lent.now k row None c.requires.won.2) (flags_long ∙ long)
+    let rests = settles k back c.turn_to.ensures.slots (omega arith) in
+    dispatch_seat_of c.requires.bench.2 rests (flag_set c.args.lent.now k row None c.requires.won.2) (flags_long ∙ long)
 
 pub returns-clause-lent : goal.returns-clause-lent
 returns-clause-lent c = let row = c.requires.won.0 in let won = c.requires.won.1 in let k = c.args.k in
     let long = c.requires.won.3 in let wide = counted _ row c.requires.won.2 in let inside = c.requires.bench.1 in
-    let back = comes_back k row won.job won.done c.args.seat.now.me c.take_result-done.new.seat.me won.seat c.take_result-done.ensures.slot (omega arith) won.asked in
+    let back = comes_back row won.seat c.take_result-done.ensures.slot (omega arith) won.asked in
     let set_wide = length-set row k None in let flags_long = length-set c.args.lent.now k false in
-    let rests = settles k _ (set row k None) c.take_result-done.new.seat.me c.turn_to.new.seat.me back c.turn_to.ensures.slots (omega arith) in
+    let rests = settles k back c.turn_to.ensures.slots (omega arith) in
     ap (λ (n : Sat). lent_of n.0) rests ∙ sym (ap (λ (n : Sat). lent_of n.0) won.seat)

@@ -9,7 +9,7 @@ use Rattle.workers.proofs.steps.claim.Goals as goal
 
 pub compare_exchange-requires : goal.compare_exchange-requires
 compare_exchange-requires c = let w = c.requires.bench.1.0 in
-    (search rules, omega arith, claims _ _ _ c.args.seat.now.me c.requires.idle c.requires.place)
+    (search rules, omega arith, claims _ c.requires.idle c.requires.place)
 
 pub returns-clause-won : goal.returns-clause-won
 returns-clause-won c = λ yes. let t = (c.compare_exchange.ensures.2 c.args.k refl).0 (eqb-true _ _ yes) in

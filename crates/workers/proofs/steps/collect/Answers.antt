@@ -6,7 +6,7 @@ use Rattle.workers.proofs.steps.collect.Goals as goal
 
 pub compare_exchange-requires : goal.compare_exchange-requires
 compare_exchange-requires c = let t = c.requires.dispatch_seat in let w = c.requires.bench.1.0 in
-    (search rules, omega arith, collects _ _ _ c.args.seat.now.me t.0 t.1 t.2 c.requires.place)
+    (search rules, omega arith, collects _ t.2 c.requires.place)
 
 pub returns-clause-won : goal.returns-clause-won
 returns-clause-won c = λ yes. (c.compare_exchange.ensures.2 c.args.k refl).0 (eqb-true _ _ yes)

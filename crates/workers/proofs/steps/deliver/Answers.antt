@@ -8,7 +8,7 @@ use Rattle.workers.proofs.steps.deliver.Goals as goal
 
 pub store-requires : goal.store-requires
 store-requires c = let t = c.requires.result in let w = c.requires.bench.1.0 in
-    (search rules, omega arith, delivers _ _ _ c.args.seat.now.me t.0 t.1 t.2 c.requires.place t.3)
+    (search rules, omega arith, delivers _ t.2 c.requires.place t.3)
 
 pub returns-clause-idle : goal.returns-clause-idle
 returns-clause-idle c = c.store.ensures.2 c.args.k refl ∙ ap (λ (m : Sat). (Idle, rest m.1)) c.requires.result.2

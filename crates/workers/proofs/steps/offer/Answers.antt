@@ -5,4 +5,4 @@ use Rattle.workers.proofs.steps.offer.Goals as goal
 
 pub store-requires : goal.store-requires
 store-requires c = let t = c.requires.job in let w = c.requires.bench.1.0 in
-    (search rules, omega arith, offers _ _ _ c.args.seat.now.me t.0 t.1 t.2 t.3 c.requires.place t.4)
+    (search rules, omega arith, offers _ t.3 c.requires.place t.4)

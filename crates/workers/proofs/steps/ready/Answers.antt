@@ -5,4 +5,4 @@ use Rattle.workers.proofs.steps.ready.Goals as goal
 
 pub store-requires : goal.store-requires
 store-requires c = let t = c.requires.resting in let w = c.requires.bench.1.0 in
-    (search rules, omega arith, readies _ _ _ c.args.seat.now.me t.0 t.1 t.2 c.requires.place t.3)
+    (search rules, omega arith, readies _ t.2 c.requires.place t.3)

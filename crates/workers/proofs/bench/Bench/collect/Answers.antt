@@ -5,7 +5,6 @@ use Rattle.parcel.specs.Run.{JobView, IsJobRun}
 use Rattle.workers.specs.Rule.{LentRow, lent_at}
 use Rattle.workers.specs.Steps.{Sat}
 use Rattle.workers.specs.Seats.{DispatchSeatView, lent_of}
-use Rattle.workers.specs.declared.job_cell.CellContent.TheVariants.{Delivered}
 use Rattle.workers.proofs.Lending.{same_head, one_result}
 use Rattle.workers.proofs.bench.Bench.collect.Goals as goal
 
@@ -17,7 +16,7 @@ take_delivered-requires-clause-won c = let won = c.try_collect.ensures.won c.if-
 
 pub returns-clause-some : goal.returns-clause-some
 returns-clause-some c = let won = c.try_collect.ensures.won c.if-not-try_collect.false in let done = c.take_delivered.result in
-    let same = one_result done won.done (same_head c.try_collect.new.seat.me.1 _ _ c.args.k (Some (Delivered done)) (Some (Delivered won.done))
+    let same = one_result done won.done (same_head
     c.take_delivered.ensures.result (ap (λ (n : Sat). n.1) won.seat)) in
     subst (λ (row : LentRow). (job : JobView) × (lent_at row c.args.k ≡ Some job) × IsJobRun job done
     × (lent_of c.take_delivered.new.seat.me.0 ≡ set row c.args.k None)) (ap (λ (d : DispatchSeatView). d.lent) c.seat.view_is)
