@@ -69,13 +69,13 @@ none-least numbers blocks block i below =
 -- ---- who goes first
 
 -- the first one that may go at a number below this one, and at so many behind it
-pub below-from : (g : Geometry) (room : Bool) (held waiting : List QueuedMessage) → AllByRecursion (λ d. IsAffinity g d.affinity) waiting → Ascend waiting
-    → (ready_table : List (Option QueuedMessage)) → ((n : ℕ) → IsFlagRight held waiting ready_table n) → (from n : ℕ)
-    → earliest_from (has_room room) ready_table from n (first_below room held waiting from) ≡ first_below room held waiting (from + n)
-below-from g room held waiting placed ascends ready_table right from zero = ap (λ k. first_below room held waiting k) (let none : from ≡ from + 0 = omega arith in none)
-below-from g room held waiting placed ascends ready_table right from (suc n) =
-    ap (λ (o : Option QueuedMessage). earlier o (if_passes (has_room room) (ready_in ready_table (from + n)))) (below-from g room held waiting placed ascends ready_table right from n)
-    ∙ ap (λ (o : Option QueuedMessage). earlier (first_below room held waiting (from + n)) (if_passes (has_room room) o)) (right (from + n))
-    ∙ ap (λ (o : Option QueuedMessage). earlier (first_below room held waiting (from + n)) o) (room-at g room held waiting placed ascends (from + n))
-    ∙ sym (below-step g room held waiting placed ascends (from + n))
-    ∙ ap (λ k. first_below room held waiting k) (let one : from + n + 1 ≡ from + suc n = omega arith in one)
+module _ (g : Geometry) (room : Bool) (held waiting : List QueuedMessage) (placed : AllByRecursion (λ d. IsAffinity g d.affinity) waiting) (ascends : Ascend waiting)
+    (ready_table : List (Option QueuedMessage)) (right : (n : ℕ) → IsFlagRight held waiting ready_table n) where
+  pub below-from : (from n : ℕ) → earliest_from (has_room room) ready_table from n (first_below room held waiting from) ≡ first_below room held waiting (from + n)
+  below-from from zero = ap (λ k. first_below room held waiting k) (let none : from ≡ from + 0 = omega arith in none)
+  below-from from (suc n) =
+      ap (λ (o : Option QueuedMessage). earlier o (if_passes (has_room room) (ready_in ready_table (from + n)))) (below-from from n)
+      ∙ ap (λ (o : Option QueuedMessage). earlier (first_below room held waiting (from + n)) (if_passes (has_room room) o)) (right (from + n))
+      ∙ ap (λ (o : Option QueuedMessage). earlier (first_below room held waiting (from + n)) o) (room-at g room held waiting placed ascends (from + n))
+      ∙ sym (below-step g room held waiting placed ascends (from + n))
+      ∙ ap (λ k. first_below room held waiting k) (let one : from + n + 1 ≡ from + suc n = omega arith in one)

@@ -115,9 +115,9 @@ present-append [] ys = refl
 present-append (None ∷ xs) ys = present-append xs ys
 present-append (Some t ∷ xs) ys = ap (λ (ts : List QueuedMessage). t ∷ ts) (present-append xs ys)
 
-waiting-same : (a b c d : ℕ) (ts us : List QueuedMessage) → a ≡ b → c ≡ d → ts ≡ us
+waiting-same : {a b c d : ℕ} {ts us : List QueuedMessage} → a ≡ b → c ≡ d → ts ≡ us
     → ◌≡◌ {A = Waiting} (record { numbers = a; seats = c; messages = ts }) (record { numbers = b; seats = d; messages = us })
-waiting-same a b c d ts us e f g = rw (e, f, g) refl
+waiting-same e f g = rw (e, f, g) refl
 
 -- ---- one more
 
@@ -170,7 +170,7 @@ module _ (row : Row QueuedMessage) (t : QueuedMessage) (i : ℕ) (rest : List �
 
   pub push-view : ◌≡◌ {A = Waiting} (record { numbers = length after.chains; seats = length after.values; messages = waiting_in after })
       (record { numbers = length row.chains; seats = length row.values; messages = waiting_in row ++ t ∷ [] })
-  push-view = waiting-same _ _ _ _ _ _ (length-moved row.chains i n) (length-set row.values i (Some t)) push-waiting
+  push-view = waiting-same (length-moved row.chains i n) (length-set row.values i (Some t)) push-waiting
 
   push-full : (j : ℕ) → j < capacity_of after → value_at after j ≡ None → 0 < times_on j rest
   push-full j below none = elim (cases_eq j i) [
@@ -281,7 +281,7 @@ module _ (row : Row QueuedMessage) (n i : ℕ) (t : QueuedMessage) (q : IsQueued
 
   pub pop-view : ◌≡◌ {A = Waiting} (record { numbers = length later.chains; seats = length later.values; messages = waiting_in later })
       (record { numbers = length row.chains; seats = length row.values; messages = without_slot t.slot (waiting_in row) })
-  pop-view = waiting-same _ _ _ _ _ _ (length-map row.chains (without i)) (length-set {A = Option QueuedMessage} row.values i None) pop-waiting
+  pop-view = waiting-same (length-map row.chains (without i)) (length-set {A = Option QueuedMessage} row.values i None) pop-waiting
 
   pop-full : (j : ℕ) → j < capacity_of later → value_at later j ≡ None → 0 < times_on j (i ∷ row.free)
   pop-full j below none = elim (cases_eq j i) [

@@ -112,9 +112,9 @@ not_true : (b : Bool) → not b ≡ true → b ≡ false
 not_true true h = absurd (true≢false (sym h))
 not_true false h = refl
 
-pub clear-first : (g : Geometry) (held waiting : List QueuedMessage) (t : QueuedMessage) (p : QueuedMessage → Bool) → AllByRecursion (λ d. IsAffinity g d.affinity) waiting
+pub clear-first : (g : Geometry) (held waiting : List QueuedMessage) {t : QueuedMessage} (p : QueuedMessage → Bool) → AllByRecursion (λ d. IsAffinity g d.affinity) waiting
     → Ascend waiting → find p waiting ≡ Some t → is_conflict_free held waiting t ≡ true → find (has_number t.affinity.number) waiting ≡ Some t
-clear-first g held waiting t p placed ascends found clear =
+clear-first g held waiting {t} p placed ascends found clear =
     first_in g t p waiting (find-all (λ d. IsAffinity g d.affinity) p waiting t placed found) ascends found
     (not_true _ (and_parts (is_free_of held t) _ clear).1)
 
@@ -156,7 +156,7 @@ module _ (g : Geometry) (room : Bool) (held waiting : List QueuedMessage) (place
           let parts = and_parts (has_number n u) _ (find-passes (λ t. has_number n t && (has_room room t && is_conflict_free held waiting t)) waiting u is) in
           let clear = (and_parts (has_room room u) (is_conflict_free held waiting u) parts.1).1 in
           let at = eqb-true u.affinity.number n parts.0 in
-          let here = clear-first g held waiting u (λ t. has_number n t && (has_room room t && is_conflict_free held waiting t)) placed ascends is clear in
+          let here = clear-first g held waiting (λ t. has_number n t && (has_room room t && is_conflict_free held waiting t)) placed ascends is clear in
           let there = ap (λ k. find (has_number k) waiting) (sym at) ∙ here in
           let both = sym first ∙ there in
           let same : f ≡ u = cc in

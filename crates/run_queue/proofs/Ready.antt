@@ -1,10 +1,9 @@
 -- Which ready flags stay right, and what they show of those that may go.
 use Rattle.std.proofs.Common.{◌≡◌, ◌≢◌, ◌∙◌, ℕ, zero, suc, ◌+◌, ◌<◌, ◌≤◌, Bool, true, false, not, ◌&&◌, ◌||◌, List, [], ◌∷◌, ◌++◌, find, take, Option, Some, None, refl, ap, sym, subst, inl, inr, arith, length, slice_index_or}
-use Rattle.std.specs.Prelude.{nat_lt, if◌then◌else◌, slice_set, replicate}
+use Rattle.std.specs.Prelude.{nat_lt, if◌then◌else◌, replicate}
 use Rattle.std.specs.List.{list_any, AllByRecursion}
 use Rattle.std.proofs.lemmas.Bool.{ne_eqb, eqb-true, ltb-true, lt-ltb, cases_Bool, cases_eq, and_from, or_left, true≢false, false_from_ne_true}
 use Rattle.std.proofs.lemmas.Bool.Decides.{eqb_tells, leb_tells}
-use Rattle.std.proofs.lemmas.List.{length-set, get_or-set_same, get_or-set_other}
 use Rattle.std.proofs.lemmas.List.Folds.{list_any-append}
 use Rattle.std.proofs.lemmas.Option.{none-some}
 use Rattle.affinity.specs.Path.{Path}
@@ -109,29 +108,28 @@ later-clear held waiting t f less =
     ∙ ap (λ b. list_any (comes_first f) waiting || (b || false)) not_first
     ∙ or_nothing (list_any (comes_first f) waiting))
 
-pub ready-arrived : (held waiting : List QueuedMessage) (t : QueuedMessage) (n : ℕ) → CameBefore t.ticket waiting
-    → (find (has_number n) waiting ≡ None → t.affinity.number ≢ n) → ready_at held (waiting ++ t ∷ []) n ≡ ready_at held waiting n
-ready-arrived held waiting t n later other =
-    ready-same held waiting held (waiting ++ t ∷ []) n (by (find (has_number n) waiting) refl) (λ f is.
-    later-clear held waiting t f (find-all (λ u. u.ticket < t.ticket) (has_number n) waiting f later is))
-  where
-    by : (o : Option QueuedMessage) → find (has_number n) waiting ≡ o → find (has_number n) (waiting ++ t ∷ []) ≡ find (has_number n) waiting
-    by None is = find-last_other (has_number n) waiting t (ne_eqb t.affinity.number n (other is))
-    by (Some f) is = find-last_found (has_number n) waiting t f is
+module _ (held waiting : List QueuedMessage) (t : QueuedMessage) (later : CameBefore t.ticket waiting) where
+  pub ready-arrived : (n : ℕ) → (find (has_number n) waiting ≡ None → t.affinity.number ≢ n) → ready_at held (waiting ++ t ∷ []) n ≡ ready_at held waiting n
+  ready-arrived n other =
+      ready-same held waiting held (waiting ++ t ∷ []) n (by (find (has_number n) waiting) refl) (λ f is.
+      later-clear held waiting t f (find-all (λ u. u.ticket < t.ticket) (has_number n) waiting f later is))
+    where
+      by : (o : Option QueuedMessage) → find (has_number n) waiting ≡ o → find (has_number n) (waiting ++ t ∷ []) ≡ find (has_number n) waiting
+      by None is = find-last_other (has_number n) waiting t (ne_eqb t.affinity.number n (other is))
+      by (Some f) is = find-last_found (has_number n) waiting t f is
 
-pub right-arrived : (held waiting : List QueuedMessage) (t : QueuedMessage) (before after : List (Option QueuedMessage)) → CameBefore t.ticket waiting
-    → ((n : ℕ) → IsFlagRight held waiting before n) → StayRight held (waiting ++ t ∷ []) before after
-    → (find (has_number t.affinity.number) waiting ≡ None → IsFlagRight held (waiting ++ t ∷ []) after t.affinity.number)
-    → (n : ℕ) → IsFlagRight held (waiting ++ t ∷ []) after n
-right-arrived held waiting t before after later right stay here n = elim (cases_eq n t.affinity.number) [
-  | inl e ↦ subst (λ m. IsFlagRight held (waiting ++ t ∷ []) after m) (sym e) (by (find (has_number t.affinity.number) waiting) refl)
-  | inr other ↦ stay.1 n (right n ∙ sym (ready-arrived held waiting t n later (λ none same. other (sym same))))
-]
-  where
-    by : (o : Option QueuedMessage) → find (has_number t.affinity.number) waiting ≡ o → IsFlagRight held (waiting ++ t ∷ []) after t.affinity.number
-    by None is = here is
-    by (Some f) is = stay.1 t.affinity.number
-        (right t.affinity.number ∙ sym (ready-arrived held waiting t t.affinity.number later (λ none. absurd (none-some f (sym none ∙ is)))))
+  pub right-arrived : (before after : List (Option QueuedMessage)) → ((n : ℕ) → IsFlagRight held waiting before n) → StayRight held (waiting ++ t ∷ []) before after
+      → (find (has_number t.affinity.number) waiting ≡ None → IsFlagRight held (waiting ++ t ∷ []) after t.affinity.number)
+      → (n : ℕ) → IsFlagRight held (waiting ++ t ∷ []) after n
+  right-arrived before after right stay here n = elim (cases_eq n t.affinity.number) [
+    | inl e ↦ subst (λ m. IsFlagRight held (waiting ++ t ∷ []) after m) (sym e) (by (find (has_number t.affinity.number) waiting) refl)
+    | inr other ↦ stay.1 n (right n ∙ sym (ready-arrived n (λ none same. other (sym same))))
+  ]
+    where
+      by : (o : Option QueuedMessage) → find (has_number t.affinity.number) waiting ≡ o → IsFlagRight held (waiting ++ t ∷ []) after t.affinity.number
+      by None is = here is
+      by (Some f) is = stay.1 t.affinity.number
+          (right t.affinity.number ∙ sym (ready-arrived t.affinity.number (λ none. absurd (none-some f (sym none ∙ is)))))
 
 -- ---- numbers one by one
 
@@ -220,10 +218,10 @@ any-between q t before after h =
     ∙ ap (λ b. q t || b) (sym (list_any-append q h.0 h.1) ∙ ap (λ (ts : List QueuedMessage). list_any q ts) (sym h.2))
 
 -- those that wait have distinct tickets
-same-ticket : (p q : QueuedMessage → Bool) (ts : List QueuedMessage) (a b : QueuedMessage) → Ascend ts → find p ts ≡ Some a → find q ts ≡ Some b
+same-ticket : (p q : QueuedMessage → Bool) (ts : List QueuedMessage) {a b : QueuedMessage} → Ascend ts → find p ts ≡ Some a → find q ts ≡ Some b
     → a.ticket ≡ b.ticket → a ≡ b
-same-ticket p q [] a b ascends first second same = absurd (none-some a first)
-same-ticket p q (d ∷ ts) a b ascends first second same = elim (cases_Bool (p d)) [
+same-ticket p q [] {a} ascends first second same = absurd (none-some a first)
+same-ticket p q (d ∷ ts) {a} {b} ascends first second same = elim (cases_Bool (p d)) [
   | inl k ↦ (let is = sym (find-cons p d ts k) ∙ first in let a_is : d ≡ a = cc in elim (cases_Bool (q d)) [
     | inl l ↦ (let is' = sym (find-cons q d ts l) ∙ second in cc)
     | inr l ↦ (let more = find-all (λ u. d.ticket < u.ticket) q ts b ascends.0 (sym (find-skip q d ts l) ∙ second) in
@@ -233,7 +231,7 @@ same-ticket p q (d ∷ ts) a b ascends first second same = elim (cases_Bool (p d
     | inl l ↦ (let is' = sym (find-cons q d ts l) ∙ second in let b_is : d ≡ b = cc in
         let more = find-all (λ u. d.ticket < u.ticket) p ts a ascends.0 later in
         let at = ap (λ (u : QueuedMessage). u.ticket) b_is in absurd (omega (arith, more, at, same)))
-    | inr l ↦ same-ticket p q ts a b ascends.1 later (sym (find-skip q d ts l) ∙ second) same
+    | inr l ↦ same-ticket p q ts ascends.1 later (sym (find-skip q d ts l) ∙ second) same
   ])
 ]
 
@@ -267,7 +265,7 @@ module _ (held held' waiting : List QueuedMessage) (t : QueuedMessage) (joined :
       | inl k ↦ absurd (true≢false (sym clear ∙ not_first held waiting t (any-found (has_number n) (comes_first t) waiting f found
           (and_from (nat_lt f.ticket t.ticket) _ (lt-ltb f.ticket t.ticket k.1) (overlap-both t.affinity f.affinity ∙ near)))))
       | inr k ↦ absurd (let late = e.1 in let early = k.1 in
-          let same = same-ticket (has_number n) (has_number t.affinity.number) waiting f t ascends found first (omega (arith, late, early)) in
+          let same = same-ticket (has_number n) (has_number t.affinity.number) waiting ascends found first (omega (arith, late, early)) in
           other (ap (λ (u : QueuedMessage). u.affinity.number) (sym same) ∙ eqb-true f.affinity.number n (find-passes (has_number n) waiting f found)))
     ]
   ]
@@ -322,24 +320,25 @@ module _ (g : Geometry) (t : QueuedMessage) (placed : IsAffinity g t.affinity) w
     | inr k ↦ rw k (ap (λ b. are_related_intervals u.affinity d.affinity || b) (any-freed u ds all.1 far))
   ]
 
-  pub right-freed : (held waiting : List QueuedMessage) (before after : List (Option QueuedMessage)) → AllByRecursion (λ d. IsAffinity g d.affinity) held
-      → AllByRecursion (λ d. IsAffinity g d.affinity) waiting → ((n : ℕ) → IsFlagRight held waiting before n)
-      → AreNearRight g t.affinity (without_number t.affinity.number held) waiting after
-      → StayRight (without_number t.affinity.number held) waiting before after
-      → (n : ℕ) → IsFlagRight (without_number t.affinity.number held) waiting after n
-  right-freed held waiting before after held_placed waiting_placed right near stay n = by (find (has_number n) waiting) refl
-    where
-      stays : ((f : QueuedMessage) → find (has_number n) waiting ≡ Some f → are_related_intervals t.affinity f.affinity ≡ false)
-          → IsFlagRight (without_number t.affinity.number held) waiting after n
-      stays far = stay.1 n (right n ∙ sym (ready-same held waiting (without_number t.affinity.number held) waiting n refl (λ f found.
-          ap (λ b. not b && not (list_any (comes_first f) waiting)) (any-freed f held held_placed (far f found)))))
+  module _ (held waiting : List QueuedMessage) (held_placed : AllByRecursion (λ d. IsAffinity g d.affinity) held)
+      (waiting_placed : AllByRecursion (λ d. IsAffinity g d.affinity) waiting) where
+    pub right-freed : (before after : List (Option QueuedMessage)) → ((n : ℕ) → IsFlagRight held waiting before n)
+        → AreNearRight g t.affinity (without_number t.affinity.number held) waiting after
+        → StayRight (without_number t.affinity.number held) waiting before after
+        → (n : ℕ) → IsFlagRight (without_number t.affinity.number held) waiting after n
+    right-freed before after right near stay n = by (find (has_number n) waiting) refl
+      where
+        stays : ((f : QueuedMessage) → find (has_number n) waiting ≡ Some f → are_related_intervals t.affinity f.affinity ≡ false)
+            → IsFlagRight (without_number t.affinity.number held) waiting after n
+        stays far = stay.1 n (right n ∙ sym (ready-same held waiting (without_number t.affinity.number held) waiting n refl (λ f found.
+            ap (λ b. not b && not (list_any (comes_first f) waiting)) (any-freed f held held_placed (far f found)))))
 
-      by : (o : Option QueuedMessage) → find (has_number n) waiting ≡ o → IsFlagRight (without_number t.affinity.number held) waiting after n
-      by None is = stays (λ f found. absurd (none-some f (sym is ∙ found)))
-      by (Some f) is = elim (cases_Bool (are_related_intervals t.affinity f.affinity)) [
-        | inl close ↦ (let f_placed = find-all (λ d. IsAffinity g d.affinity) (has_number n) waiting f waiting_placed is in
-            subst (λ m. IsFlagRight (without_number t.affinity.number held) waiting after m)
-            (eqb-true f.affinity.number n (find-passes (has_number n) waiting f is)) (near f.affinity f_placed close))
-        | inr far ↦ stays (λ u found. (let both = sym is ∙ found in let same : f ≡ u = cc in
-            subst (λ (v : QueuedMessage). are_related_intervals t.affinity v.affinity ≡ false) same far))
-      ]
+        by : (o : Option QueuedMessage) → find (has_number n) waiting ≡ o → IsFlagRight (without_number t.affinity.number held) waiting after n
+        by None is = stays (λ f found. absurd (none-some f (sym is ∙ found)))
+        by (Some f) is = elim (cases_Bool (are_related_intervals t.affinity f.affinity)) [
+          | inl close ↦ (let f_placed = find-all (λ d. IsAffinity g d.affinity) (has_number n) waiting f waiting_placed is in
+              subst (λ m. IsFlagRight (without_number t.affinity.number held) waiting after m)
+              (eqb-true f.affinity.number n (find-passes (has_number n) waiting f is)) (near f.affinity f_placed close))
+          | inr far ↦ stays (λ u found. (let both = sym is ∙ found in let same : f ≡ u = cc in
+              subst (λ (v : QueuedMessage). are_related_intervals t.affinity v.affinity ≡ false) same far))
+        ]

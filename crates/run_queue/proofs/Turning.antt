@@ -63,10 +63,10 @@ messages-begun g next slots w h are none_waits none_held = record {
 
 -- ---- one that arrives
 
-pub messages-arrived : (g : Geometry) (slots : ℕ) (w : Waiting) (h : HeldMessages) (t : QueuedMessage) → AreQueued g slots w h → IsAffinity g t.affinity
+pub messages-arrived : {g : Geometry} {slots : ℕ} {w : Waiting} {h : HeldMessages} (t : QueuedMessage) → AreQueued g slots w h → IsAffinity g t.affinity
     → CameBefore t.ticket w.messages → t.slot < slots → list_any (has_slot t.slot) (w.messages ++ h.messages) ≡ false
     → AreQueued g slots (record w { messages = w.messages ++ t ∷ [] }) h
-messages-arrived g slots w h t are placed later there new = record {
+messages-arrived {g} {slots} {w} {h} t are placed later there new = record {
   queues = are.queues;
   places = are.places;
   seats = are.seats;
@@ -76,23 +76,23 @@ messages-arrived g slots w h t are placed later there new = record {
   held_placed = are.held_placed;
 }
 
-pub seat-arrived : (g : Geometry) (slots : ℕ) (w : Waiting) (h : HeldMessages) (t : QueuedMessage) → AreQueued g slots w h → t.slot < slots
+pub seat-arrived : {g : Geometry} {slots : ℕ} {w : Waiting} {h : HeldMessages} (t : QueuedMessage) → AreQueued g slots w h → t.slot < slots
     → list_any (has_slot t.slot) (w.messages ++ h.messages) ≡ false → length w.messages < w.seats
-seat-arrived g slots w h t are there new =
+seat-arrived {g} {slots} {w} {h} t are there new =
     let room = room-arrived slots w.messages h.messages t are.seated there new in
     let all = are.seats in
     omega (arith, room, all)
 
-pub kept-arrived : (g : Geometry) (slots : ℕ) (w v : Waiting) (h : HeldMessages) (t : QueuedMessage) (before after : List (Option QueuedMessage))
+pub kept-arrived : {g : Geometry} {slots : ℕ} {w v : Waiting} {h : HeldMessages} (t : QueuedMessage) {before after : List (Option QueuedMessage)}
     → QueueInvariant g slots w h before → AreQueued g slots v h → v ≡ record w { messages = w.messages ++ t ∷ [] } → CameBefore t.ticket w.messages
     → StayRight h.messages v.messages before after
     → (find (has_number t.affinity.number) w.messages ≡ None → IsFlagRight h.messages v.messages after t.affinity.number) → QueueInvariant g slots v h after
-kept-arrived g slots w v h t before after are rows came later stay here = record {
+kept-arrived {w} {v} {h} t {before} {after} are rows came later stay here = record {
   rows = rows;
   right = record {
     numbers = λ any. (let all = are.right.numbers any in let same = stay.0 in omega (arith, all, same));
     right = λ n. subst (λ (ts : List QueuedMessage). IsFlagRight h.messages ts after n) (sym is)
-        (right-arrived h.messages w.messages t before after later are.right.right
+        (right-arrived h.messages w.messages t later before after are.right.right
         (subst (λ (ts : List QueuedMessage). StayRight h.messages ts before after) is stay)
         (λ none. subst (λ (ts : List QueuedMessage). IsFlagRight h.messages ts after t.affinity.number) is (here none)) n);
   };
@@ -103,9 +103,9 @@ kept-arrived g slots w v h t before after are rows came later stay here = record
 
 -- ---- what is freed
 
-pub messages-freed : (g : Geometry) (slots : ℕ) (w : Waiting) (h : HeldMessages) (n : ℕ) → AreQueued g slots w h
+pub messages-freed : {g : Geometry} {slots : ℕ} {w : Waiting} {h : HeldMessages} (n : ℕ) → AreQueued g slots w h
     → AreQueued g slots w (record h { messages = without_number n h.messages })
-messages-freed g slots w h n are = record {
+messages-freed {g} {slots} {w} {h} n are = record {
   queues = are.queues;
   places = are.places;
   seats = are.seats;
@@ -115,16 +115,16 @@ messages-freed g slots w h n are = record {
   held_placed = all-filter (λ d. IsAffinity g d.affinity) (λ t. not (has_number n t)) h.messages are.held_placed;
 }
 
-pub kept-freed : (g : Geometry) (slots : ℕ) (w : Waiting) (h k : HeldMessages) (t : QueuedMessage) (n : ℕ) (before after : List (Option QueuedMessage))
+pub kept-freed : {g : Geometry} {slots : ℕ} {w : Waiting} {h k : HeldMessages} {t : QueuedMessage} (n : ℕ) {before after : List (Option QueuedMessage)}
     → QueueInvariant g slots w h before → find (has_number n) h.messages ≡ Some t → k ≡ record h { messages = without_number n h.messages }
     → AreNearRight g t.affinity k.messages w.messages after → StayRight k.messages w.messages before after → QueueInvariant g slots w k after
-kept-freed g slots w h k t n before after are found freed near stay = record {
-  rows = subst (λ (x : HeldMessages). AreQueued g slots w x) (sym freed) (messages-freed g slots w h n are.rows);
+kept-freed {g} {slots} {w} {h} {k} {t} n {before} {after} are found freed near stay = record {
+  rows = subst (λ (x : HeldMessages). AreQueued g slots w x) (sym freed) (messages-freed n are.rows);
   right = record {
     numbers = λ any. (let all = are.right.numbers any in let same = stay.0 in omega (arith, all, same));
     right = λ m. subst (λ (ts : List QueuedMessage). IsFlagRight ts w.messages after m) (sym is)
         (right-freed g t (find-all (λ d. IsAffinity g d.affinity) (has_number n) h.messages t are.rows.held_placed found)
-        h.messages w.messages before after are.rows.held_placed are.rows.waiting_placed are.right.right
+        h.messages w.messages are.rows.held_placed are.rows.waiting_placed before after are.right.right
         (subst (λ (ts : List QueuedMessage). AreNearRight g t.affinity ts w.messages after) is near)
         (subst (λ (ts : List QueuedMessage). StayRight ts w.messages before after) is stay) m);
   };
@@ -150,7 +150,7 @@ module _ (g : Geometry) (slots : ℕ) (w : Waiting) (h : HeldMessages) (are : Ar
   next-placed = find-all (λ d. IsAffinity g d.affinity) (λ u. has_room room u && is_conflict_free h.messages w.messages u) w.messages t are.waiting_placed found
 
   pub next-first : find (has_number t.affinity.number) w.messages ≡ Some t
-  next-first = clear-first g h.messages w.messages t (λ u. has_room room u && is_conflict_free h.messages w.messages u) are.waiting_placed are.ascends found next-clear
+  next-first = clear-first g h.messages w.messages (λ u. has_room room u && is_conflict_free h.messages w.messages u) are.waiting_placed are.ascends found next-clear
 
   -- no other one that waits has its slot
   pub next-once : times_seated t.slot w.messages ≤ 1
@@ -198,10 +198,10 @@ times-between s low high t = elim (eqb_tells t.slot s) [
   )
 ]
 
-pub messages-gone : (g : Geometry) (slots : ℕ) (w : Waiting) (h k : HeldMessages) (t : QueuedMessage) → AreQueued g slots w h → IsAffinity g t.affinity
+pub messages-gone : {g : Geometry} {slots : ℕ} {w : Waiting} {h k : HeldMessages} (t : QueuedMessage) → AreQueued g slots w h → IsAffinity g t.affinity
     → list_any (has_slot t.slot) w.messages ≡ true → k ≡ record h { messages = k.messages } → IsBetween t h.messages k.messages
     → AreQueued g slots (record w { messages = without_slot t.slot w.messages }) k
-messages-gone g slots w h k t are placed waits same between = record {
+messages-gone {g} {slots} {w} {h} {k} t are placed waits same between = record {
   queues = are.queues;
   places = subst (λ (l : HeldMessages). (any : Geometry) → server_size any ≤ l.numbers) (sym same) are.places;
   seats = are.seats;
@@ -228,7 +228,7 @@ module _ (g : Geometry) (slots : ℕ) (w v : Waiting) (h k : HeldMessages) (t : 
 
   pub rows-gone : AreQueued g slots v k
   rows-gone = subst (λ (x : Waiting). AreQueued g slots x k) (sym gone)
-      (messages-gone g slots w h k t are (next-placed g slots w h are t next.0 next.1)
+      (messages-gone t are (next-placed g slots w h are t next.0 next.1)
       (next_waits (record { geometry = g; waiting = w.messages; held = h.messages; slots = slots }) t next) same joined)
 
   pub kept-gone : (before after : List (Option QueuedMessage)) → AreFlagsRight h.messages w.messages before → StayRight k.messages v.messages before after

@@ -23,7 +23,7 @@ push-requires-clause-seat c =
     let t = c.args.queued in
     let there = subst (λ (q : RunQueueView). t.slot < q.slots) (sym c.self.view_is) c.requires.slot in
     let new = subst (λ (q : RunQueueView). list_any (has_slot t.slot) (q.waiting ++ q.held) ≡ false) (sym c.self.view_is) c.requires.new_slot in
-    seat-arrived c.self.inside.geometry c.self.inside.slots c.self.inside.waiting c.self.inside.held t c.self.invariant.rows there new
+    seat-arrived t c.self.invariant.rows there new
 
 pub update_ready-requires-clause-ascends : goal.update_ready-requires-clause-ascends
 update_ready-requires-clause-ascends c =
@@ -33,7 +33,7 @@ update_ready-requires-clause-ascends c =
     let there = subst (λ (q : RunQueueView). t.slot < q.slots) (sym c.self.view_is) c.requires.slot in
     let new = subst (λ (q : RunQueueView). list_any (has_slot t.slot) (q.waiting ++ q.held) ≡ false) (sym c.self.view_is) c.requires.new_slot in
     let rows = subst (λ (w : Waiting). AreQueued c.self.inside.geometry c.self.inside.slots w c.self.inside.held) (sym c.push.ensures)
-    (messages-arrived c.self.inside.geometry c.self.inside.slots c.self.inside.waiting c.self.inside.held _ c.self.invariant.rows placed later there new) in
+    (messages-arrived t c.self.invariant.rows placed later there new) in
     rows.ascends
 
 -- whatever waits in this slot, at this affinity
@@ -45,10 +45,9 @@ invariant_of-self c =
     let there = subst (λ (q : RunQueueView). t.slot < q.slots) (sym c.self.view_is) c.requires.slot in
     let new = subst (λ (q : RunQueueView). list_any (has_slot t.slot) (q.waiting ++ q.held) ≡ false) (sym c.self.view_is) c.requires.new_slot in
     let rows = subst (λ (w : Waiting). AreQueued c.self.inside.geometry c.self.inside.slots w c.self.inside.held) (sym c.push.ensures)
-    (messages-arrived c.self.inside.geometry c.self.inside.slots c.self.inside.waiting c.self.inside.held _ c.self.invariant.rows placed later there new) in
+    (messages-arrived t c.self.invariant.rows placed later there new) in
     let number : c.from-number.result ≡ t.affinity.number = omega arith in
-    kept-arrived c.self.inside.geometry c.self.inside.slots c.self.inside.waiting c.push.new.self c.self.inside.held t
-    c.self.inside.ready_table c.update_ready.new.ready_table c.self.invariant rows c.push.ensures later c.update_ready.ensures.others
+    kept-arrived t c.self.invariant rows c.push.ensures later c.update_ready.ensures.others
     (λ none. subst (λ n. IsFlagRight c.self.inside.held.messages c.push.new.self.messages c.update_ready.new.ready_table n) number c.update_ready.ensures.right)
 
 pub invariant_of-self-else-is_first : goal.invariant_of-self-else-is_first
@@ -59,9 +58,8 @@ invariant_of-self-else-is_first c =
     let there = subst (λ (q : RunQueueView). t.slot < q.slots) (sym c.self.view_is) c.requires.slot in
     let new = subst (λ (q : RunQueueView). list_any (has_slot t.slot) (q.waiting ++ q.held) ≡ false) (sym c.self.view_is) c.requires.new_slot in
     let rows = subst (λ (w : Waiting). AreQueued c.self.inside.geometry c.self.inside.slots w c.self.inside.held) (sym c.push.ensures)
-    (messages-arrived c.self.inside.geometry c.self.inside.slots c.self.inside.waiting c.self.inside.held _ c.self.invariant.rows placed later there new) in
+    (messages-arrived t c.self.invariant.rows placed later there new) in
     let number : c.from-number.result ≡ t.affinity.number = omega arith in
     let some : is_some c.front.result ≡ true = c.is_none-is_first.ensures ∙ ap not c.if-is_first.false in
-    kept-arrived c.self.inside.geometry c.self.inside.slots c.self.inside.waiting c.push.new.self c.self.inside.held t
-    c.self.inside.ready_table c.self.inside.ready_table c.self.invariant rows c.push.ensures later (refl, λ n right. right)
+    kept-arrived t c.self.invariant rows c.push.ensures later (refl, λ n right. right)
     (λ none. absurd (true≢false (sym some ∙ ap is_some (c.front.ensures.first ∙ ap (λ n. find (has_number n) c.self.inside.waiting.messages) number ∙ none))))

@@ -17,14 +17,12 @@ update_ready_near-requires-clause-placed c =
 pub update_ready_near-requires-clause-held_placed : goal.update_ready_near-requires-clause-held_placed
 update_ready_near-requires-clause-held_placed c =
     let rows = subst (λ (h : HeldMessages). AreQueued c.self.inside.geometry c.self.inside.slots c.self.inside.waiting h) (sym c.free.ensures)
-    (messages-freed c.self.inside.geometry c.self.inside.slots c.self.inside.waiting c.self.inside.held c.from-number.result c.self.invariant.rows) in
+    (messages-freed c.from-number.result c.self.invariant.rows) in
     rows.held_placed
 
 pub invariant_of-self : goal.invariant_of-self
 invariant_of-self c =
-    kept-freed c.self.inside.geometry c.self.inside.slots c.self.inside.waiting c.self.inside.held c.free.new.self c.in-Some.queued
-    c.from-number.result c.self.inside.ready_table c.update_ready_near.new.ready_table c.self.invariant (sym c.at.ensures ∙ c.in-Some.is) c.free.ensures
-    c.update_ready_near.ensures.near c.update_ready_near.ensures.others
+    kept-freed c.from-number.result c.self.invariant (sym c.at.ensures ∙ c.in-Some.is) c.free.ensures c.update_ready_near.ensures.near c.update_ready_near.ensures.others
 
 pub returns-in_default : goal.returns-in_default
 returns-in_default c =
