@@ -43,14 +43,13 @@ appends_from old text at room =
       rest = ap (drop (at + length text)) whole ∙ drop_at (take at old ++ text) _ (at + length text) front;
     }
 
-pub appends_put : (old new text : List ℕ) (at end : ℕ) → at + length text ≤ length old → new ≡ take at old
-    ++ (text ++ drop (length text) (drop at old)) → end ≡ at + length text → Appends old new at end text
-appends_put old new text at end room e ends = rw (e, ends) (appends_from old text at room)
+pub appends_put : {old new text : List ℕ} {at end : ℕ} → at + length text ≤ length old → new ≡ take at old ++ (text ++ drop (length text) (drop at old)) → end ≡ at + length text
+    → Appends old new at end text
+appends_put {old} {text = text} {at} room e ends = rw (e, ends) (appends_from old text at room)
 
 -- a text in a part of the buffer that is as long
-pub appends_part : (old part text : List ℕ) (at k end : ℕ) → at + length text ≤ length old → part ≡ text → k ≡ length text → end ≡ at + length text → Appends old (put_mid at k old part) at end text
-appends_part old part text at k end room same len ends =
-    appends_put old (put_mid at k old part) text at end room (ap (put_mid at k old) same ∙ ap (λ n. put_mid at n old text) len) ends
+pub appends_part : {old part text : List ℕ} {at k end : ℕ} → at + length text ≤ length old → part ≡ text → k ≡ length text → end ≡ at + length text → Appends old (put_mid at k old part) at end text
+appends_part {old} {text = text} {at} {k} room same len ends = appends_put room (ap (put_mid at k old) same ∙ ap (λ n. put_mid at n old text) len) ends
 
 -- ---- the digits that show some bytes
 

@@ -119,10 +119,10 @@ decoded_err (Err x) r out bytes h e ok = cc ok
 room_is : (size n : ℕ) → n ≤ size → length {A = ℕ} (take n (replicate size 0)) ≡ n
 room_is size n h = length-take-le n (replicate size 0) (let e : length {A = ℕ} (replicate size 0) ≡ size = length-replicate {A = ℕ} size 0 in omega arith)
 
-pub bytes_decoded : (size : ℕ) (w : List ℕ) (n : ℕ) (r : Option (Unit {0})) (out : List ℕ) (u : Unit {0}) → n ≡ length w / 2 → 0 < n → n ≤ size
+pub bytes_decoded : (size : ℕ) (w : List ℕ) {n : ℕ} {r : Option (Unit {0})} (out : List ℕ) {u : Unit {0}} → n ≡ length w / 2 → 0 < n → n ≤ size
     → Decoded w (length {A = ℕ} (take n (replicate size 0))) r out → Some u ≡ r
     → bytes_in_word size w ≡ Some (out ++ drop n (replicate size 0))
-bytes_decoded size w n r out u half some most told ok =
+bytes_decoded size w {n} {r} out {u} half some most told ok =
     let room : ℕ = length {A = ℕ} (take n (replicate size 0)) in
     let decoded : decode_of w ≡ Ok out = sym (decode_sized-half w room (room_is size n most ∙ half)) ∙ decoded_ok (decode_sized w room) r out u told ok in
     let parts = decode_of-ok w out decoded in
@@ -131,8 +131,8 @@ bytes_decoded size w n r out u half some most told ok =
     let rest : drop {A = ℕ} n (replicate size 0) ≡ replicate (size - length out) 0 = rw same (drop-replicate (length out) size 0) in
     bytes_from size w out (record { low = omega arith; high = omega arith; decoded = decoded }) ∙ ap (λ (behind : List ℕ). Some (out ++ behind)) (sym rest)
 
-pub bytes_not_decoded : (size : ℕ) (w : List ℕ) (n : ℕ) (r : Option (Unit {0})) (out : List ℕ) → n ≡ length w / 2 → n ≤ size
+pub bytes_not_decoded : (size : ℕ) (w : List ℕ) {n : ℕ} {r : Option (Unit {0})} (out : List ℕ) → n ≡ length w / 2 → n ≤ size
     → Decoded w (length {A = ℕ} (take n (replicate size 0))) r out → None ≡ r → bytes_in_word size w ≡ None
-bytes_not_decoded size w n r out half most told err =
+bytes_not_decoded size w {n} {r} out half most told err =
     let room : ℕ = length {A = ℕ} (take n (replicate size 0)) in
     no_bytes size w (λ bytes h. decoded_err (decode_sized w room) r out bytes told err (decode_sized-half w room (room_is size n most ∙ half) ∙ h.decoded))

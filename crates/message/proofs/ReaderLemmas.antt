@@ -99,8 +99,8 @@ Contains-slice xs i k j low high within is =
     (k - i, omega (arith, length-between xs i j within), get_or-between xs i j (k - i) 10 (omega arith) ∙ ap (λ n. get_or xs n 10) there ∙ get_or_default xs k 10 0 (omega arith) ∙ is)
 
 -- the first line of a part of the buffer ends where the first newline is
-pub first_line-slice : (xs : List ℕ) (i k j : ℕ) → i ≤ k → k ≤ j → j ≤ length xs → NoneFrom xs i k → (k < j → get_or xs k 0 ≡ 10) → first_line (slice_range xs i j) ≡ slice_range xs i k
-first_line-slice xs i k j low high within none there =
+pub first_line-slice : (xs : List ℕ) {i k j : ℕ} → i ≤ k → k ≤ j → j ≤ length xs → NoneFrom xs i k → (k < j → get_or xs k 0 ≡ 10) → first_line (slice_range xs i j) ≡ slice_range xs i k
+first_line-slice xs {i} {k} {j} low high within none there =
     let quiet = IsWithinLine-slice xs i k (omega arith) none in
     ap first_line (slice-split xs i k j low high) ∙ first_line-within (slice_range xs i k) (slice_range xs k j) quiet
     ∙ ap (λ l. slice_range xs i k ++ l) (elim (cases_lt k j) [
@@ -109,9 +109,9 @@ first_line-slice xs i k j low high within none there =
     ]) ∙ append-nil (slice_range xs i k)
 
 -- and what lies behind it begins behind that newline
-pub behind_first_line-slice : (xs : List ℕ) (i k j n : ℕ) → i ≤ k → k ≤ j → j ≤ length xs → NoneFrom xs i k → (k < j → get_or xs k 0 ≡ 10) → n
-    ≡ min j (k + 1) → behind_first_line (slice_range xs i j) ≡ slice_range xs n j
-behind_first_line-slice xs i k j n low high within none there next =
+pub behind_first_line-slice : (xs : List ℕ) {i k j n : ℕ} → i ≤ k → k ≤ j → j ≤ length xs → NoneFrom xs i k → (k < j → get_or xs k 0 ≡ 10)
+    → n ≡ min j (k + 1) → behind_first_line (slice_range xs i j) ≡ slice_range xs n j
+behind_first_line-slice xs {i} {k} {j} {n} low high within none there next =
     let quiet = IsWithinLine-slice xs i k (omega arith) none in
     ap behind_first_line (slice-split xs i k j low high) ∙ behind_first_line-within (slice_range xs i k) (slice_range xs k j) quiet
     ∙ elim (cases_lt k j) [

@@ -123,9 +123,9 @@ made_again (Label a v) h = refl
 low_byte : (b : ℕ) → b < 65536 → little_number 2 (little_bytes 2 b) ≡ b
 low_byte b h = omega arith
 
-said : (k : Kind) (n bytes : List ℕ) (a v f b : ℕ) → b < 65536 → n ≡ a ∷ v ∷ f ∷ b ∷ [] → message_in_fields (head_with (kind_number k) n ++ bytes) ≡ Some (assembled k a v f b bytes)
+said : (k : Kind) {n : List ℕ} (bytes : List ℕ) {a v f b : ℕ} → b < 65536 → n ≡ a ∷ v ∷ f ∷ b ∷ [] → message_in_fields (head_with (kind_number k) n ++ bytes) ≡ Some (assembled k a v f b bytes)
 unfolding message_in_fields
-said k n bytes a v f b h e =
+said k bytes {a} {v} {f} {b} h e =
     let block = low_byte b h in
     rw (e, kind_again k) (ap (λ (x : ℕ). Some (assembled k a v f x bytes)) block)
 
@@ -139,7 +139,7 @@ four (a ∷ v ∷ f ∷ b ∷ more) = refl
 -- the fields of a record encode its message
 pub record_says : (g : Geometry) (m : Msg) → IsMessage m → is_in_range g m ≡ true → message_in_fields (record_of m) ≡ Some m
 record_says g m whole h =
-    said (kind m) (four_numbers m) (data_of m) _ _ _ _ (fits g m h).block (four (numbers m)) ∙ ap Some (made_again m whole)
+    said (kind m) (data_of m) (fits g m h).block (four (numbers m)) ∙ ap Some (made_again m whole)
 
 -- ---- a record put together in a buffer
 
@@ -199,21 +199,21 @@ assembled_whole kinds.Summary a v f b bytes h = tt
 assembled_whole kinds.SetLabel a v f b bytes h = (length-take-le 32 bytes (let len = h.0 in omega arith), taken_fit 32 bytes h.1)
 assembled_whole kinds.Label a v f b bytes h = tt
 
-assembled_room : (k : Kind) (a v f b : ℕ) (bytes : List ℕ) → a < 256 → v < 256 → f < 256 → FitsRecord (assembled k a v f b bytes)
-assembled_room kinds.MakeVol a v f b bytes a_fits v_fits f_fits = (a_fits, (v_fits, (lit≤ tt, tt)))
-assembled_room kinds.DropVol a v f b bytes a_fits v_fits f_fits = (a_fits, (v_fits, (lit≤ tt, tt)))
-assembled_room kinds.Create a v f b bytes a_fits v_fits f_fits = (a_fits, (v_fits, (f_fits, tt)))
-assembled_room kinds.Delete a v f b bytes a_fits v_fits f_fits = (a_fits, (v_fits, (f_fits, tt)))
-assembled_room kinds.Seal a v f b bytes a_fits v_fits f_fits = (a_fits, (v_fits, (lit≤ tt, tt)))
-assembled_room kinds.Unseal a v f b bytes a_fits v_fits f_fits = (a_fits, (v_fits, (lit≤ tt, tt)))
-assembled_room kinds.Write a v f b bytes a_fits v_fits f_fits = (a_fits, (v_fits, (f_fits, tt)))
-assembled_room kinds.Punch a v f b bytes a_fits v_fits f_fits = (a_fits, (v_fits, (f_fits, tt)))
-assembled_room kinds.Read a v f b bytes a_fits v_fits f_fits = (a_fits, (v_fits, (f_fits, tt)))
-assembled_room kinds.List a v f b bytes a_fits v_fits f_fits = (a_fits, (v_fits, (lit≤ tt, tt)))
-assembled_room kinds.Usage a v f b bytes a_fits v_fits f_fits = (a_fits, (v_fits, (lit≤ tt, tt)))
-assembled_room kinds.Summary a v f b bytes a_fits v_fits f_fits = (lit≤ tt, (lit≤ tt, (lit≤ tt, tt)))
-assembled_room kinds.SetLabel a v f b bytes a_fits v_fits f_fits = (a_fits, (v_fits, (lit≤ tt, tt)))
-assembled_room kinds.Label a v f b bytes a_fits v_fits f_fits = (a_fits, (v_fits, (lit≤ tt, tt)))
+assembled_room : (k : Kind) {a v f : ℕ} (b : ℕ) (bytes : List ℕ) → a < 256 → v < 256 → f < 256 → FitsRecord (assembled k a v f b bytes)
+assembled_room kinds.MakeVol b bytes a_fits v_fits f_fits = (a_fits, (v_fits, (lit≤ tt, tt)))
+assembled_room kinds.DropVol b bytes a_fits v_fits f_fits = (a_fits, (v_fits, (lit≤ tt, tt)))
+assembled_room kinds.Create b bytes a_fits v_fits f_fits = (a_fits, (v_fits, (f_fits, tt)))
+assembled_room kinds.Delete b bytes a_fits v_fits f_fits = (a_fits, (v_fits, (f_fits, tt)))
+assembled_room kinds.Seal b bytes a_fits v_fits f_fits = (a_fits, (v_fits, (lit≤ tt, tt)))
+assembled_room kinds.Unseal b bytes a_fits v_fits f_fits = (a_fits, (v_fits, (lit≤ tt, tt)))
+assembled_room kinds.Write b bytes a_fits v_fits f_fits = (a_fits, (v_fits, (f_fits, tt)))
+assembled_room kinds.Punch b bytes a_fits v_fits f_fits = (a_fits, (v_fits, (f_fits, tt)))
+assembled_room kinds.Read b bytes a_fits v_fits f_fits = (a_fits, (v_fits, (f_fits, tt)))
+assembled_room kinds.List b bytes a_fits v_fits f_fits = (a_fits, (v_fits, (lit≤ tt, tt)))
+assembled_room kinds.Usage b bytes a_fits v_fits f_fits = (a_fits, (v_fits, (lit≤ tt, tt)))
+assembled_room kinds.Summary b bytes a_fits v_fits f_fits = (lit≤ tt, (lit≤ tt, (lit≤ tt, tt)))
+assembled_room kinds.SetLabel b bytes a_fits v_fits f_fits = (a_fits, (v_fits, (lit≤ tt, tt)))
+assembled_room kinds.Label b bytes a_fits v_fits f_fits = (a_fits, (v_fits, (lit≤ tt, tt)))
 
 kind_assembled : (k : Kind) (a v f b : ℕ) (bytes : List ℕ) → kind (assembled k a v f b bytes) ≡ k
 kind_assembled kinds.MakeVol a v f b bytes = refl
@@ -268,7 +268,7 @@ module _ (bytes : List ℕ) (m : Msg) (size : length bytes ≡ 520) (fit : (i : 
       subst IsMessage (sym its_kind.1) (assembled_whole its_kind.0 _ _ _ _ (drop 8 bytes) (long, dropped_fit 8 bytes (bytes_fit bytes fit)))
 
   pub said_room : FitsRecord m
-  said_room = subst FitsRecord (sym its_kind.1) (assembled_room its_kind.0 _ _ _ _ (drop 8 bytes) (fit 1) (fit 2) (fit 3))
+  said_room = subst FitsRecord (sym its_kind.1) (assembled_room its_kind.0 _ (drop 8 bytes) (fit 1) (fit 2) (fit 3))
 
   by_kind : (k : Kind) → kind m ≡ k → m ≡ assembled k (slice_index bytes 1) (slice_index bytes 2) (slice_index bytes 3) (little_number 2 (take 2 (drop 4 bytes))) (drop 8 bytes)
   by_kind k is = its_kind.1 ∙ ap (λ k. assembled k (slice_index bytes 1) (slice_index bytes 2) (slice_index bytes 3)

@@ -133,8 +133,8 @@ record Plain (m : Msg) (k : Kind) (ns : List ℕ) : Type 0 where
   pub numbered : numbers m ≡ ns
   pub no_data : IsData m []
 
-plain_spells : (line : List ℕ) (m : Msg) (k : Kind) (ns : List ℕ) (args : List (List ℕ)) → Plain m k ns → length line ≤ 1100 → words line ≡ keyword k ∷ args → Say args ns → Spells line m
-plain_spells line m k ns args form short e said =
+plain_spells : {line : List ℕ} {m : Msg} {k : Kind} {ns : List ℕ} {args : List (List ℕ)} → Plain m k ns → length line ≤ 1100 → words line ≡ keyword k ∷ args → Say args ns → Spells line m
+plain_spells {line} {m} {k} {ns} form short e said =
     let all : words line ≡ keyword (kind m) ∷ map decimal (numbers m) ++ [] = e ∙ ap (λ (vs : List (List ℕ)). keyword k ∷ vs) said.words ∙ sym (append-nil (keyword k ∷ map decimal ns))
     ∙ (λ i. keyword (sym form.kinded i) ∷ map decimal (sym form.numbered i) ++ []) in
     spell line m [] short all (subst (λ (ks : List ℕ). AreSmall ks) (sym form.numbered) said.small) form.no_data
@@ -144,17 +144,17 @@ module _ (line : List ℕ) (args : List (List ℕ)) (m : Msg) (short : length li
   volume_spells : (make : ℕ → ℕ → Msg) (k : Kind) → ((a v : ℕ) → Plain (make a v) k (a ∷ v ∷ [])) → words line ≡ keyword k ∷ args → of_volume make args ≡ Some m → Spells line m
   volume_spells make k form e h =
       let s = volume_said make args m h in
-      subst (λ (n : Msg). Spells line n) (sym s.2) (plain_spells line (make s.0 s.1) k _ args (form s.0 s.1) short e s.3)
+      subst (λ (n : Msg). Spells line n) (sym s.2) (plain_spells (form s.0 s.1) short e s.3)
 
   file_spells : (make : ℕ → ℕ → ℕ → Msg) (k : Kind) → ((a v f : ℕ) → Plain (make a v f) k (a ∷ v ∷ f ∷ [])) → words line ≡ keyword k ∷ args → of_file make args ≡ Some m → Spells line m
   file_spells make k form e h =
       let s = file_said make args m h in
-      subst (λ (n : Msg). Spells line n) (sym s.3) (plain_spells line (make s.0 s.1 s.2) k _ args (form s.0 s.1 s.2) short e s.4)
+      subst (λ (n : Msg). Spells line n) (sym s.3) (plain_spells (form s.0 s.1 s.2) short e s.4)
 
   block_spells : (make : ℕ → ℕ → ℕ → ℕ → Msg) (k : Kind) → ((a v f b : ℕ) → Plain (make a v f b) k (a ∷ v ∷ f ∷ b ∷ [])) → words line ≡ keyword k ∷ args → of_block make args ≡ Some m → Spells line m
   block_spells make k form e h =
       let s = block_said make args m h in
-      subst (λ (n : Msg). Spells line n) (sym s.4) (plain_spells line (make s.0 s.1 s.2 s.3) k _ args (form s.0 s.1 s.2 s.3) short e s.5)
+      subst (λ (n : Msg). Spells line n) (sym s.4) (plain_spells (form s.0 s.1 s.2 s.3) short e s.5)
 
   write_spells : words line ≡ keyword kinds.Write ∷ args → of_data Write args ≡ Some m → Spells line m
   write_spells e h =
@@ -171,7 +171,7 @@ module _ (line : List ℕ) (args : List (List ℕ)) (m : Msg) (short : length li
   summary_spells : words line ≡ keyword kinds.Summary ∷ args → of_nothing Summary args ≡ Some m → Spells line m
   summary_spells e h =
       let s = nothing_said Summary args m h in
-      subst (λ (n : Msg). Spells line n) (sym s.0) (plain_spells line Summary kinds.Summary [] args (record { kinded = refl; numbered = refl; no_data = refl }) short e s.1)
+      subst (λ (n : Msg). Spells line n) (sym s.0) (plain_spells {k = kinds.Summary} (record { kinded = refl; numbered = refl; no_data = refl }) short e s.1)
 
   kind_spells : (k : Kind) → words line ≡ keyword k ∷ args → of_kind k args ≡ Some m → Spells line m
   kind_spells kinds.MakeVol e h = volume_spells MakeVol kinds.MakeVol (λ a v. record { kinded = refl; numbered = refl; no_data = refl }) e h
@@ -272,51 +272,51 @@ spelled_words line m s =
 spelled_as : (line : List ℕ) (m : Msg) (s : Spells line m) → message_of line ≡ of_kind (kind m) (map decimal (numbers m) ++ s.words_behind)
 spelled_as line m s = with_kind line (keyword (kind m)) (map decimal (numbers m) ++ s.words_behind) (kind m) s.short (spelled_words line m s) (sym (keyword_names (kind m)))
 
-volume_read : (make : ℕ → ℕ → Msg) (a v : ℕ) (behind : List (List ℕ)) → AreSmall (a ∷ v ∷ []) → behind ≡ [] → of_volume make (map decimal (a ∷ v ∷ []) ++ behind) ≡ Some (make a v)
-volume_read make a v behind h none =
+volume_read : (make : ℕ → ℕ → Msg) {a v : ℕ} {behind : List (List ℕ)} → AreSmall (a ∷ v ∷ []) → behind ≡ [] → of_volume make (map decimal (a ∷ v ∷ []) ++ behind) ≡ Some (make a v)
+volume_read make {a} {v} h none =
     ap (λ (ws : List (List ℕ)). of_volume make (map decimal (a ∷ v ∷ []) ++ ws)) none
     ∙ rw (number-decimal a h.0, number-decimal v h.1.0) refl
 
-file_read : (make : ℕ → ℕ → ℕ → Msg) (a v f : ℕ) (behind : List (List ℕ)) → AreSmall (a ∷ v ∷ f ∷ []) → behind ≡ [] → of_file make (map decimal (a ∷ v ∷ f ∷ []) ++ behind) ≡ Some (make a v f)
-file_read make a v f behind h none =
+file_read : (make : ℕ → ℕ → ℕ → Msg) {a v f : ℕ} {behind : List (List ℕ)} → AreSmall (a ∷ v ∷ f ∷ []) → behind ≡ [] → of_file make (map decimal (a ∷ v ∷ f ∷ []) ++ behind) ≡ Some (make a v f)
+file_read make {a} {v} {f} h none =
     ap (λ (ws : List (List ℕ)). of_file make (map decimal (a ∷ v ∷ f ∷ []) ++ ws)) none
     ∙ rw (number-decimal a h.0, number-decimal v h.1.0, number-decimal f h.1.1.0) refl
 
-block_read : (make : ℕ → ℕ → ℕ → ℕ → Msg) (a v f b : ℕ) (behind : List (List ℕ)) → AreSmall (a ∷ v ∷ f ∷ b ∷ []) → behind ≡ []
+block_read : (make : ℕ → ℕ → ℕ → ℕ → Msg) {a v f b : ℕ} {behind : List (List ℕ)} → AreSmall (a ∷ v ∷ f ∷ b ∷ []) → behind ≡ []
     → of_block make (map decimal (a ∷ v ∷ f ∷ b ∷ []) ++ behind) ≡ Some (make a v f b)
-block_read make a v f b behind h none =
+block_read make {a} {v} {f} {b} h none =
     ap (λ (ws : List (List ℕ)). of_block make (map decimal (a ∷ v ∷ f ∷ b ∷ []) ++ ws)) none
     ∙ rw (number-decimal a h.0, number-decimal v h.1.0, number-decimal f h.1.1.0, number-decimal b h.1.1.1.0) refl
 
-data_read : (make : ℕ → ℕ → ℕ → ℕ → Block → Msg) (a v f b : ℕ) (content : Block) (digits : List ℕ) (behind : List (List ℕ))
+data_read : (make : ℕ → ℕ → ℕ → ℕ → Block → Msg) {a v f b : ℕ} {content : Block} {digits : List ℕ} {behind : List (List ℕ)}
     → AreSmall (a ∷ v ∷ f ∷ b ∷ []) → behind ≡ digits ∷ [] → block_in_word digits ≡ Some content
     → of_data make (map decimal (a ∷ v ∷ f ∷ b ∷ []) ++ behind) ≡ Some (make a v f b content)
-data_read make a v f b content digits behind h is said =
+data_read make {a} {v} {f} {b} h is said =
     ap (λ (ws : List (List ℕ)). of_data make (map decimal (a ∷ v ∷ f ∷ b ∷ []) ++ ws)) is
     ∙ rw (number-decimal a h.0, number-decimal v h.1.0, number-decimal f h.1.1.0, number-decimal b h.1.1.1.0, said) refl
 
-label_read : (make : ℕ → ℕ → List ℕ → Msg) (a v : ℕ) (bytes digits : List ℕ) (behind : List (List ℕ)) → AreSmall (a ∷ v ∷ []) → behind ≡ digits ∷ [] → label_in_word digits ≡ Some bytes
+label_read : (make : ℕ → ℕ → List ℕ → Msg) {a v : ℕ} {bytes digits : List ℕ} {behind : List (List ℕ)} → AreSmall (a ∷ v ∷ []) → behind ≡ digits ∷ [] → label_in_word digits ≡ Some bytes
     → of_label make (map decimal (a ∷ v ∷ []) ++ behind) ≡ Some (make a v bytes)
-label_read make a v bytes digits behind h is said =
+label_read make {a} {v} h is said =
     ap (λ (ws : List (List ℕ)). of_label make (map decimal (a ∷ v ∷ []) ++ ws)) is
     ∙ rw (number-decimal a h.0, number-decimal v h.1.0, said) refl
 
 -- what a line spells is what its words make
 made_again : (m : Msg) (behind : List (List ℕ)) → AreSmall (numbers m) → IsData m behind → of_kind (kind m) (map decimal (numbers m) ++ behind) ≡ Some m
-made_again (MakeVol a v) behind small none = volume_read MakeVol a v behind small none
-made_again (DropVol a v) behind small none = volume_read DropVol a v behind small none
-made_again (Create a v f) behind small none = file_read Create a v f behind small none
-made_again (Delete a v f) behind small none = file_read Delete a v f behind small none
-made_again (Seal a v) behind small none = volume_read Seal a v behind small none
-made_again (Unseal a v) behind small none = volume_read Unseal a v behind small none
-made_again (Write a v f b content) behind small d = data_read Write a v f b content d.0 behind small d.1 (says_block d.0 content d.2)
-made_again (Punch a v f b) behind small none = block_read Punch a v f b behind small none
-made_again (Read a v f b) behind small none = block_read Read a v f b behind small none
-made_again (ListFiles a v) behind small none = volume_read ListFiles a v behind small none
-made_again (Usage a v) behind small none = volume_read Usage a v behind small none
+made_again (MakeVol a v) behind small none = volume_read MakeVol small none
+made_again (DropVol a v) behind small none = volume_read DropVol small none
+made_again (Create a v f) behind small none = file_read Create small none
+made_again (Delete a v f) behind small none = file_read Delete small none
+made_again (Seal a v) behind small none = volume_read Seal small none
+made_again (Unseal a v) behind small none = volume_read Unseal small none
+made_again (Write a v f b content) behind small d = data_read Write small d.1 (says_block d.0 content d.2)
+made_again (Punch a v f b) behind small none = block_read Punch small none
+made_again (Read a v f b) behind small none = block_read Read small none
+made_again (ListFiles a v) behind small none = volume_read ListFiles small none
+made_again (Usage a v) behind small none = volume_read Usage small none
 made_again Summary behind small none = ap (of_nothing Summary) none
-made_again (SetLabel a v bytes) behind small d = label_read SetLabel a v bytes d.0 behind small d.1 (says_label d.0 bytes d.2)
-made_again (Label a v) behind small none = volume_read Label a v behind small none
+made_again (SetLabel a v bytes) behind small d = label_read SetLabel small d.1 (says_label d.0 bytes d.2)
+made_again (Label a v) behind small none = volume_read Label small none
 
 pub spelled_is_read : (line : List ℕ) (m : Msg) → Spells line m → message_of line ≡ Some m
 spelled_is_read line m s = spelled_as line m s ∙ made_again m s.words_behind s.fits s.content

@@ -1,5 +1,5 @@
 -- Pairs of digits, one to 512 of them, are decoded to the front of the zeros; all else spells no bytes.
-use Rattle.std.proofs.Common.{◌/◌, length, sym, refl, arith, inl, inr}
+use Rattle.std.proofs.Common.{sym, refl, arith, inl, inr}
 use Rattle.message.proofs.Blocks.{no_bytes, bytes_decoded, bytes_not_decoded}
 use Rattle.message.proofs.heads.read_bytes.Goals as goal
 
@@ -10,9 +10,9 @@ returns-then-size-eq0 c = no_bytes 512 c.args.digits.now (λ bytes h.
     elim c.then-size-eq0.either [ inl none ↦ absurd (omega arith) | inr many ↦ absurd (omega arith) ])
 
 pub returns-in_err-decode_to_slice : goal.returns-in_err-decode_to_slice
-returns-in_err-decode_to_slice c = rw c.from_residual.ensures (bytes_not_decoded 512 c.args.digits.now (length c.args.digits.now / 2)
-    c.decode_to_slice.result c.decode_to_slice.new.out refl (omega arith) c.decode_to_slice.ensures.value (sym c.in_err-decode_to_slice.was))
+returns-in_err-decode_to_slice c = rw c.from_residual.ensures (bytes_not_decoded 512 c.args.digits.now
+    c.decode_to_slice.new.out refl (omega arith) c.decode_to_slice.ensures.value (sym c.in_err-decode_to_slice.was))
 
 pub returns : goal.returns
-returns c = bytes_decoded 512 c.args.digits.now (length c.args.digits.now / 2) c.decode_to_slice.result c.decode_to_slice.new.out tt refl
+returns c = bytes_decoded 512 c.args.digits.now c.decode_to_slice.new.out refl
     (omega arith) (omega arith) c.decode_to_slice.ensures.value (sym c.in_ok-decode_to_slice.was)

@@ -4,4 +4,4 @@ use Rattle.message.proofs.Assembly.{appends_part}
 use Rattle.message.proofs.printing.append.Goals as goal
 
 pub returns : goal.returns
-returns c = appends_part c.args.out.now c.copy_from_slice.new.self c.args.text.now c.args.at _ _ (omega (arith, c.told-out)) c.copy_from_slice.ensures.after (omega arith) refl
+returns c = appends_part (omega (arith, c.told-out)) c.copy_from_slice.ensures.after (omega arith) refl

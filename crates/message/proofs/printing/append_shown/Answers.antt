@@ -1,5 +1,5 @@
 -- The bytes up to the last that isn't 0 are written as two digits each.
-use Rattle.std.proofs.Common.{◌≡◌, ℕ, ◌+◌, ◌*◌, ◌-◌, List, length, take, arith, length-take-le}
+use Rattle.std.proofs.Common.{◌≡◌, ℕ, ◌*◌, List, length, take, arith, length-take-le}
 use Rattle.hex.specs.Hex.{encode_lower}
 use Rattle.message.proofs.Assembly.{appends_part, appends_same, length-lower, shown_by}
 use Rattle.message.proofs.printing.append_shown.Goals as goal
@@ -14,5 +14,4 @@ returns-clause-text c =
     let room = c.requires.room in
     let told = c.told-out in
     appends_same (shown_by c.args.bytes.now bytes c.shown_size.ensures.shown)
-    (appends_part c.args.out.now c.encode_to_slice.new.output (encode_lower bytes) c.args.at (c.args.at + 2 * length bytes - c.args.at)
-    (c.args.at + 2 * length bytes) (omega arith) digits (omega arith) (omega arith))
+    (appends_part (omega arith) digits (omega arith) (omega arith))

@@ -7,5 +7,5 @@ use Rattle.message.proofs.reading.Held.first_len.Goals as goal
 pub returns : goal.returns
 returns c =
     let h = c.args.self.now in
-    sym (ap length (first_line-slice h.buffer.items h.start h.newline h.end h.starts_before h.newline_within (omega arith) h.none_before h.newline_there)
+    sym (ap length (first_line-slice h.buffer.items h.starts_before h.newline_within (omega arith) h.none_before h.newline_there)
     ∙ length-between h.buffer.items h.start h.newline (omega arith))

@@ -27,4 +27,4 @@ invariant_of-self c =
 pub returns-clause-bytes : goal.returns-clause-bytes
 returns-clause-bytes c =
     let h = c.args.self.now in
-    sym (behind_first_line-slice h.buffer.items h.start h.newline h.end c.min-self.result h.starts_before h.newline_within (omega arith) h.none_before h.newline_there c.min-self.ensures)
+    sym (behind_first_line-slice h.buffer.items h.starts_before h.newline_within (omega arith) h.none_before h.newline_there c.min-self.ensures)

@@ -6,4 +6,4 @@ use Rattle.message.proofs.reading.Held.take_line.Goals as goal
 pub returns-clause-line : goal.returns-clause-line
 returns-clause-line c =
     let h = c.args.self.now in
-    c.pass_line.ensures.line ∙ sym (first_line-slice h.buffer.items h.start h.newline h.end h.starts_before h.newline_within (omega arith) h.none_before h.newline_there)
+    c.pass_line.ensures.line ∙ sym (first_line-slice h.buffer.items h.starts_before h.newline_within (omega arith) h.none_before h.newline_there)
