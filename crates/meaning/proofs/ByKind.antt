@@ -53,30 +53,30 @@ none_fails p [] h = refl
 none_fails p (t ∷ ts) h = rw h.0 (none_fails p ts h.1)
 
 -- the numbers of a block that is there are in range
-block_in_range : (g : Geometry) (x : State) → IsState g x → (a v f b : ℕ) → is_some (x.blocks (a, v, f, b)) ≡ true → passes g x (Read a v f b) Range ≡ true
-block_in_range g x s a v f b there =
+block_in_range : {g : Geometry} {x : State} → IsState g x → (a v f b : ℕ) → is_some (x.blocks (a, v, f, b)) ≡ true → passes g x (Read a v f b) Range ≡ true
+block_in_range {g} s a v f b there =
     let block = s.blocks (a, v, f, b) there in
     let file = s.files (a, v, f) block.1 in
     let made = s.made (a, v) file.1 in
     and_from _ _ (lt-ltb a g.aggregates made.0) (and_from _ _ (lt-ltb v g.volumes made.1) (and_from _ _ (lt-ltb f g.files file.0) (and_from _ _ (lt-ltb b g.blocks block.0) refl)))
 
 -- a block may be written where one is, unless its volume is sealed
-pub write_passes : (g : Geometry) (x : State) → IsState g x → (a v f b : ℕ) (content : Block) → x.sealed (a, v) ≡ false
+pub write_passes : {g : Geometry} {x : State} → IsState g x → (a v f b : ℕ) (content : Block) → x.sealed (a, v) ≡ false
     → is_some (x.blocks (a, v, f, b)) ≡ true → refusal g x (Write a v f b content) ≡ None
-write_passes g x s a v f b content unsealed there =
+write_passes {g} {x} s a v f b content unsealed there =
     let block = s.blocks (a, v, f, b) there in
     let file = s.files (a, v, f) block.1 in
-    none_fails (passes g x (Write a v f b content)) (tests (Write a v f b content)) (block_in_range g x s a v f b there, (file.1, (ap not unsealed, (block.1, (or_left _ _ there, tt)))))
+    none_fails (passes g x (Write a v f b content)) (tests (Write a v f b content)) (block_in_range s a v f b there, (file.1, (ap not unsealed, (block.1, (or_left _ _ there, tt)))))
 
 -- a block that is there has a file and a volume, and its numbers are in range
-pub read_passes : (g : Geometry) (x : State) → IsState g x → (a v f b : ℕ) → is_some (x.blocks (a, v, f, b)) ≡ true → refusal g x (Read a v f b) ≡ None
-read_passes g x s a v f b there =
+pub read_passes : {g : Geometry} {x : State} → IsState g x → (a v f b : ℕ) → is_some (x.blocks (a, v, f, b)) ≡ true → refusal g x (Read a v f b) ≡ None
+read_passes {g} {x} s a v f b there =
     let block = s.blocks (a, v, f, b) there in
     let file = s.files (a, v, f) block.1 in
-    none_fails (passes g x (Read a v f b)) (tests (Read a v f b)) (block_in_range g x s a v f b there, (file.1, (block.1, tt)))
+    none_fails (passes g x (Read a v f b)) (tests (Read a v f b)) (block_in_range s a v f b there, (file.1, (block.1, tt)))
 
 -- a block that is there answers a read
-pub read_told : (g : Geometry) (x : State) → IsState g x → (a v f b : ℕ) (content : Block) → x.blocks (a, v, f, b) ≡ Some content → step g x (Read a v f b) ≡ (shows content, x)
-read_told g x s a v f b content found =
-    ap (λ r. outcome r (block_reply (x.blocks (a, v, f, b))) x x) (read_passes g x s a v f b (ap is_some found))
+pub read_told : {g : Geometry} {x : State} → IsState g x → (a v f b : ℕ) {content : Block} → x.blocks (a, v, f, b) ≡ Some content → step g x (Read a v f b) ≡ (shows content, x)
+read_told {x = x} s a v f b found =
+    ap (λ r. outcome r (block_reply (x.blocks (a, v, f, b))) x x) (read_passes s a v f b (ap is_some found))
     ∙ ap (λ o. (block_reply o, x)) found

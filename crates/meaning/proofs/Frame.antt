@@ -153,10 +153,10 @@ outcome_reply : (r : Option Refusal) (a : Reply) (new old new' old' : State) →
 outcome_reply None a new old new' old' = refl
 outcome_reply (Some why) a new old new' old' = refl
 
-outcome_agrees : (g : Geometry) (R : Path → Bool) (r : Option Refusal) (a a' : Reply) (new old new' old' : State) → AgreeOn g R new new'
+outcome_agrees : {g : Geometry} {R : Path → Bool} (r : Option Refusal) (a a' : Reply) {new old new' old' : State} → AgreeOn g R new new'
     → AgreeOn g R old old' → AgreeOn g R (outcome r a new old).1 (outcome r a' new' old').1
-outcome_agrees g R None a a' new old new' old' h j = h
-outcome_agrees g R (Some why) a a' new old new' old' h j = j
+outcome_agrees None a a' h j = h
+outcome_agrees (Some why) a a' h j = j
 
 -- Two states that agree on what is related to the message's place: the replies are the same, and the new states agree as far as the old ones did.
 pub reads_only : (g : Geometry) (R : Path → Bool) (x y : State) (m : Msg) → AgreeOn g R x y → ((q : Path) → are_related (place g m) q ≡ true → R q ≡ true)
@@ -164,7 +164,7 @@ pub reads_only : (g : Geometry) (R : Path → Bool) (x y : State) (m : Msg) → 
 reads_only g R x y m h covers =
     let r = same_refusal g R x y h m covers in (
       (λ i. (outcome (r i) (same_answer g R x y h m covers i) (effect x m) x).0) ∙ outcome_reply (refusal g y m) (accepted_reply g y m) _ _ _ _,
-      subst (λ t. AgreeOn g R (outcome t (accepted_reply g x m) (effect x m) x).1 (next_state g y m)) (sym r) (outcome_agrees g R (refusal g y m) _ _ _ _ _ _ (effect_agrees g R x y h m) h),
+      subst (λ t. AgreeOn g R (outcome t (accepted_reply g x m) (effect x m) x).1 (next_state g y m)) (sym r) (outcome_agrees (refusal g y m) _ _ (effect_agrees g R x y h m) h),
     )
 
 -- A step changes nothing but what lies at its place or below.

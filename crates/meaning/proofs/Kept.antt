@@ -115,8 +115,8 @@ module _ (g : Geometry) (x : State) (a v f b : ℕ) (content : Block) where
   -- a write adds one block at most to its stripe
   one_more : (s : ℕ) → group_count g written a v s ≤ group_count g x a v s + 1
   one_more s = sum_below_one_more g.files f _ _
-      (λ f' ne. sum_below-le g.blocks _ _ (λ b' lt. other_block s f' b' (other_file a v f a v f' b b' ne)))
-      (sum_below_one_more g.blocks b _ _ (λ b' ne. other_block s f b' (other_place a v f a v f b b' ne)) (omega (arith, one_if-le ((group g f b == s) && is_some (written.blocks (a, v, f, b))))))
+      (λ f' ne. sum_below-le g.blocks _ _ (λ b' lt. other_block s f' b' (other_file a v f b (a, v, f', b') ne)))
+      (sum_below_one_more g.blocks b _ _ (λ b' ne. other_block s f b' (other_place a v f b (a, v, f, b') ne)) (omega (arith, one_if-le ((group g f b == s) && is_some (written.blocks (a, v, f, b))))))
 
   keeps_quota : ((a v s : ℕ) → group_count g x a v s ≤ g.quota) → passes g x (Write a v f b content) Space ≡ true → (a' v' s' : ℕ) → group_count g written a' v' s' ≤ g.quota
   keeps_quota h space a' v' s' =

@@ -55,11 +55,11 @@ picks_file a v f = λ i. picks_volume a v i && itself f i
 pub picks_block : (a v f b : ℕ) → is_block a v f b (a, v, f, b) ≡ true
 picks_block a v f b = λ i. picks_file a v f i && itself b i
 
-pub other_file : (a v f : ℕ) (a' v' f' b b' : ℕ) → (f' ≡ f → ⊥) → is_block a v f b (a', v', f', b') ≡ false
-other_file a v f a' v' f' b b' ne = false_from_ne_true _ (λ e. ne (ap (λ k. k.2) (sym (the_block a v f b (a', v', f', b') e))))
+pub other_file : (a v f b : ℕ) (k : BlockKey) → (k.2 ≡ f → ⊥) → is_block a v f b k ≡ false
+other_file a v f b k ne = false_from_ne_true _ (λ e. ne (ap (λ (q : BlockKey). q.2) (sym (the_block a v f b k e))))
 
-pub other_place : (a v f : ℕ) (a' v' f' b b' : ℕ) → (b' ≡ b → ⊥) → is_block a v f b (a', v', f', b') ≡ false
-other_place a v f a' v' f' b b' ne = false_from_ne_true _ (λ e. ne (ap (λ k. k.3) (sym (the_block a v f b (a', v', f', b') e))))
+pub other_place : (a v f b : ℕ) (k : BlockKey) → (k.3 ≡ b → ⊥) → is_block a v f b k ≡ false
+other_place a v f b k ne = false_from_ne_true _ (λ e. ne (ap (λ (q : BlockKey). q.3) (sym (the_block a v f b k e))))
 
 -- ---- what answers as after an insert is the set or map with the key
 

@@ -18,9 +18,9 @@ pub takes_nothing : (input : Option (List ℕ)) → TakesLines input input false
 takes_nothing None = tt
 takes_nothing (Some bytes) = (bytes, refl, record { to_come = refl; are_lines = tt; whole = inr refl })
 
-first_taken : (input rest : List ℕ) (ended now_ended : Bool) (taken : List (List ℕ)) → AreTaken input rest ended taken → ended ≡ false
+first_taken : {input rest : List ℕ} {ended now_ended : Bool} {taken : List (List ℕ)} → AreTaken input rest ended taken → ended ≡ false
     → rest ≢ [] → Contains rest 10 ⊎ (now_ended ≡ true) → AreTaken input (behind_first_line rest) now_ended (taken ++ first_line rest ∷ [])
-first_taken input rest ended now_ended taken t going more closes = record {
+first_taken {input} {rest} {ended} {now_ended} {taken} t going more closes = record {
   to_come = t.to_come ∙ ap (λ z. taken ++ z) (lines-first rest more) ∙ sym (append_assoc taken (first_line rest ∷ []) (lines (behind_first_line rest)));
   are_lines = are_lines-one_more taken (first_line rest) t.are_lines (first_has_none rest);
   whole = ⊎_elim
@@ -30,17 +30,22 @@ first_taken input rest ended now_ended taken t going more closes = record {
       (λ e. inl e) closes;
 }
 
--- a line that was given
-pub takes_line : (input left now_left : Option (List ℕ)) (ended now_ended : Bool) (taken : List (List ℕ)) (line : List ℕ) → TakesLines input left ended taken → ended ≡ false
-    → IfSome left (λ bs. GivesLine line bs now_left) → IsClosed left now_ended → TakesLines input now_left now_ended (taken ++ line ∷ [])
-takes_line None left now_left ended now_ended taken line t going found closes = tt
-takes_line (Some input) None now_left ended now_ended taken line t going found closes = absurd (none-some t.0 t.1)
-takes_line (Some input) (Some bs) now_left ended now_ended taken line t going found closes =
+-- the next line of what was left: it was given, and a newline or the end of the input closes it
+pub record NextLine (line : List ℕ) (left now_left : Option (List ℕ)) (now_ended : Bool) : Type 0 where
+  pub given : IfSome left (λ bs. GivesLine line bs now_left)
+  pub closed : IsClosed left now_ended
+
+pub takes_line : (input : Option (List ℕ)) {left now_left : Option (List ℕ)} {ended now_ended : Bool} (taken : List (List ℕ)) {line : List ℕ} → TakesLines input left ended taken
+    → ended ≡ false → NextLine line left now_left now_ended → TakesLines input now_left now_ended (taken ++ line ∷ [])
+takes_line None taken t going next = tt
+takes_line (Some input) {left = None} taken t going next = absurd (none-some t.0 t.1)
+takes_line (Some input) {left = Some bs} {now_ended = now_ended} taken t going next =
+    let found = next.given in
     let same = same_Some bs t.0 t.1 in (
       behind_first_line t.0,
       found.left_is ∙ ap (λ z. Some (behind_first_line z)) same,
       subst (λ (l : List ℕ). AreTaken input (behind_first_line t.0) now_ended (taken ++ l ∷ [])) (sym (found.line_is ∙ ap first_line same))
-          (first_taken input t.0 ended now_ended taken t.2 going (λ e. found.more (same ∙ e)) (subst (λ (z : List ℕ). Contains z 10 ⊎ (now_ended ≡ true)) same closes)),
+          (first_taken t.2 going (λ e. found.more (same ∙ e)) (subst (λ (z : List ℕ). Contains z 10 ⊎ (now_ended ≡ true)) same next.closed)),
     )
 
 -- what a line that is too long takes: a line that is no message
@@ -49,16 +54,16 @@ pub record TakesNoMessage (input now_left : Option (List ℕ)) (now_ended : Bool
   pub no_message : message_of line ≡ None
   pub takes : TakesLines input now_left now_ended (taken ++ line ∷ [])
 
-pub takes_long_line : (input left now_left : Option (List ℕ)) (ended now_ended : Bool) (taken : List (List ℕ)) → TakesLines input left ended taken → ended ≡ false
-    → IfSome left (λ bs. PassesLine bs now_left) → IsClosed left now_ended → TakesNoMessage input now_left now_ended taken
-takes_long_line None left now_left ended now_ended taken t going found closes =
+pub takes_long_line : {input : Option (List ℕ)} (left : Option (List ℕ)) {now_left : Option (List ℕ)} {ended now_ended : Bool} {taken : List (List ℕ)} → TakesLines input left ended taken
+    → ended ≡ false → IfSome left (λ bs. PassesLine bs now_left) → IsClosed left now_ended → TakesNoMessage input now_left now_ended taken
+takes_long_line {input = None} left t going found closes =
     record { line = replicate {A = ℕ} 1101 0; no_message = sym (too_long (replicate {A = ℕ} 1101 0) (omega (arith, length-replicate {A = ℕ} 1101 0))); takes = tt }
-takes_long_line (Some input) None now_left ended now_ended taken t going found closes = absurd (none-some t.0 t.1)
-takes_long_line (Some input) (Some bs) now_left ended now_ended taken t going found closes = record {
+takes_long_line {input = Some input} None t going found closes = absurd (none-some t.0 t.1)
+takes_long_line {input = Some input} (Some bs) {taken = taken} t going found closes = record {
   line = first_line bs;
   no_message = sym (too_long (first_line bs) found.long);
-  takes = takes_line (Some input) (Some bs) now_left ended now_ended taken (first_line bs) t going
-      (record { more = λ e. long_of_none bs found.long e; line_is = refl; left_is = found.left_is }) closes;
+  takes = takes_line (Some input) taken t going
+      (record { given = record { more = λ e. long_of_none bs found.long e; line_is = refl; left_is = found.left_is }; closed = closes });
 }
   where
     long_of_none : (bs : List ℕ) → 1100 < length (first_line bs) → bs ≡ [] → ⊥

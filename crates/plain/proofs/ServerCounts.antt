@@ -42,8 +42,8 @@ module _ (g : Geometry) (x y : State) (a v f b : ℕ) (others : (k : BlockKey) �
   at_its_stripe in_files in_blocks absent there =
       let s = group g f b in
       sum_one_more g.files f _ _ in_files
-      (λ f' ne. sum_same g.blocks _ _ (λ b'. elsewhere a v s f' b' (other_file a v f a v f' b b' ne)))
-      (sum_one_more g.blocks b _ _ in_blocks (λ b' ne. elsewhere a v s f b' (other_place a v f a v f b b' ne))
+      (λ f' ne. sum_same g.blocks _ _ (λ b'. elsewhere a v s f' b' (other_file a v f b (a, v, f', b') ne)))
+      (sum_one_more g.blocks b _ _ in_blocks (λ b' ne. elsewhere a v s f b' (other_place a v f b (a, v, f, b') ne))
       ((λ i. one_if (itself s i && there i)) ∙ (λ i. one_if (sym (itself s) i && sym absent i) + 1)))
 
   -- its stripe has one block more, and each other stripe as many

@@ -96,7 +96,7 @@ module _ {g : Geometry} {start : State} {input left : Option (List ℕ)} {ended 
       → HasAnswered g start input now_left now_ended y old newer
   answers_line {newer} {y} now_left now_ended line added h going found closes state output appended = record {
     answered = h.answered ++ line ∷ [];
-    taken = takes_line input left now_left ended now_ended h.answered line h.taken going found closes;
+    taken = takes_line input h.answered h.taken going (record { given = found; closed = closes });
     state = state ∙ ap (λ z. state_after_line g z (message_of line)) h.state ∙ sym (state_after_lines-append g start h.answered (line ∷ []));
     output = subst (λ (z : List ℕ). Appends old newer z)
         (ap (λ z. joined (output_lines g start h.answered) ++ z) (output ∙ ap (λ z. answer_line g z (message_of line)) h.state) ∙ sym (joined-one_more g start h.answered line))
@@ -109,7 +109,7 @@ module _ {g : Geometry} {start : State} {input left : Option (List ℕ)} {ended 
       → added ≡ answer_line g x None → Appends new newer added
       → HasAnswered g start input now_left now_ended x old newer
   answers_long_line {newer} now_left now_ended added h going found closes output appended =
-      let t = takes_long_line input left now_left ended now_ended h.answered h.taken going found closes in
+      let t = takes_long_line left h.taken going found closes in
       record {
         answered = h.answered ++ t.line ∷ [];
         taken = t.takes;

@@ -81,7 +81,7 @@ module _ {keeps : Type 0} {start old new : MachineView} {row : List Line} {known
   line_goes_on line t found h = record {
     taken = h.taken ++ line ∷ [];
     sent_lines = h.sent_lines;
-    takes = takes_line input left now_left ended now_ended h.taken line h.takes going found closes;
+    takes = takes_line input h.taken h.takes going (record { given = found; closed = closes });
     serving = serves_taken line idle t h.serving;
     output = h.output;
   }
@@ -91,7 +91,7 @@ module _ {keeps : Type 0} {start old new : MachineView} {row : List Line} {known
       → ServingProgress keeps start old row input left ended before written
       → ServingProgress keeps start new (row ++ known ∷ []) input now_left now_ended before written
   long_line_goes_on t found h =
-      let l = takes_long_line input left now_left ended now_ended h.taken h.takes going found closes in
+      let l = takes_long_line left h.takes going found closes in
       record {
         taken = h.taken ++ l.line ∷ [];
         sent_lines = h.sent_lines;

@@ -15,7 +15,7 @@ use Rattle.plain.proofs.server.Server.block_by.Goals as goal
 
 looked_up : (g : Geometry) (x : State) → IsState g x → (a v f b : ℕ) (r : Option (Bor Block)) → option_copied r ≡ x.blocks (a, v, f, b)
     → IfSome r (λ content. step g x (Read a v f b) ≡ (shows content.now, x))
-looked_up g x s a v f b (Some content) h = read_told g x s a v f b content.now (sym h)
+looked_up g x s a v f b (Some content) h = read_told s a v f b (sym h)
 looked_up g x s a v f b None h = tt
 
 none_there : (g : Geometry) (x : State) (a v f b : ℕ) (r : Option (Bor Block)) → option_copied r ≡ x.blocks (a, v, f, b) → IfNone r (kinds.Read ≡ kinds.Read → accepted_reply g x (Read a v f b) ≡ Hole)

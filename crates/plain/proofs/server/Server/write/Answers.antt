@@ -13,7 +13,7 @@ use Rattle.plain.proofs.Writes.{AreCounts, replaced_counts}
 use Rattle.plain.proofs.server.Server.write.Goals as goal
 
 passed : (c : goal.Then-overwrite) → refusal c.args.g.now (server_state c.args.self.now) (writing c.args.numbers c.args.content.now) ≡ None
-passed c = write_passes c.args.g.now (server_state c.args.self.now) c.requires.sound.state _ _ _ _ c.args.content.now
+passed c = write_passes c.requires.sound.state _ _ _ _ c.args.content.now
     (sym c.is_sealed.ensures ∙ c.if-is_sealed.false) (sym c.overwrite.ensures.there ∙ c.if-overwrite.true)
 
 pub returns-then-overwrite-clause-reply : goal.returns-then-overwrite-clause-reply
