@@ -62,10 +62,10 @@ within_file a v f k q from to e =
     sym (at_file a v f here) ∙ both_ways (by_file (a, v, f) here) (by_file here (a, v, f)) (file_total.antisymm (a, v, f) here) after before
 
 -- where the first key from there on is no block of the file, the file has none
-pub no_block_of_file : {X : Type 0} (m : BTreeMap BlockKey X) (r rest : List (BlockKey × X)) (a v f : ℕ) (k : BlockKey) (x : X)
+pub no_block_of_file : {X : Type 0} (m : BTreeMap BlockKey X) {r rest : List (BlockKey × X)} {a v f : ℕ} {k : BlockKey} {x : X}
     → IsRangeOf by_block (Included (a, v, f, 0)) Unbounded m r → r ≡ (k, x) ∷ rest
     → (◌≡◌ {A = FileKey} (a, v, f) (k.0, k.1, k.2) → ⊥) → (q : BlockKey) → is_block_of_file a v f q ≡ true → is_some (map.get by_block m q) ≡ false
-no_block_of_file m r rest a v f k x h e other q of = false_from_ne_true _ (λ there.
+no_block_of_file m {a = a} {v} {f} {k} h e other q of = false_from_ne_true _ (λ there.
     let at = subst (IsRangeOf by_block (Included (a, v, f, 0)) Unbounded m) e h in
     other (the_file a v f (k.0, k.1, k.2) (within_file a v f k q at.1.0.0 (at.2 q (first_of_file a v f q of, tt) there) of)))
 
@@ -82,8 +82,8 @@ within_volume a v k q from to e =
     sym (at_volume a v here) ∙ both_ways (volume_order (a, v) here) (volume_order here (a, v)) (volume_total.antisymm (a, v) here) after before
 
 -- where the first key from there on is no file of the volume, the volume has none
-pub no_file_of_volume : (s : BTreeSet FileKey) (r rest : List FileKey) (a v : ℕ) (k : FileKey) → set.IsKeyRangeOf by_file (Included (a, v, 0)) Unbounded s r → r ≡ k ∷ rest
+pub no_file_of_volume : (s : BTreeSet FileKey) {r rest : List FileKey} {a v : ℕ} {k : FileKey} → set.IsKeyRangeOf by_file (Included (a, v, 0)) Unbounded s r → r ≡ k ∷ rest
     → (◌≡◌ {A = VolumeKey} (a, v) (k.0, k.1) → ⊥) → (q : FileKey) → is_file_of a v q ≡ true → set.contains by_file s q ≡ false
-no_file_of_volume s r rest a v k h e other q of = false_from_ne_true _ (λ there.
+no_file_of_volume s {a = a} {v} {k} h e other q of = false_from_ne_true _ (λ there.
     let at = subst (set.IsKeyRangeOf by_file (Included (a, v, 0)) Unbounded s) e h in
     other (the_volume a v (k.0, k.1) (within_volume a v k q at.1.0.0 (at.2 q (first_of_volume a v q of, tt) there) of)))

@@ -27,31 +27,33 @@ appends_bare (Some xs) None first rest w none_first none h = absurd h
 appends_bare (Some xs) (Some ys) first rest w none_first none h =
     sym (ap (λ z. ys ++ z) none ∙ append-nil ys) ∙ h ∙ ap (λ z. z ++ w) (ap (λ z. xs ++ z) none_first ∙ append-nil xs)
 
--- nothing waited at the start, and what waited at the end was written
-pub writes_sent : (input old known sent : Option (List ℕ)) (first waiting rest : List ℕ) (P : List ℕ → List ℕ → Type 0) → first ≡ []
-    → WritesOutput input (append_known old first) (append_known known waiting) P
-    → Appends (append_known known waiting) (append_known sent rest) [] → rest ≡ [] → WritesOutput input old sent P
-writes_sent None old known sent first waiting rest P none_first h kept none = tt
-writes_sent (Some input) old known sent first waiting rest P none_first h kept none =
-    (h.0, appends_bare old sent first rest h.0 none_first none (appends_more (append_known old first) (append_known known waiting) (append_known sent rest) h.0 h.1 kept), h.2)
+module _ (old mid sent : Option (List ℕ)) {first rest : List ℕ} (none_first : first ≡ []) (none : rest ≡ []) where
+  -- nothing waited at the start, and what waited at the end was written
+  pub writes_sent : (input : Option (List ℕ)) (P : List ℕ → List ℕ → Type 0) → WritesOutput input (append_known old first) mid P
+      → Appends mid (append_known sent rest) [] → WritesOutput input old sent P
+  writes_sent None P h kept = tt
+  writes_sent (Some input) P h kept = (h.0, appends_bare old sent first rest h.0 none_first none (appends_more (append_known old first) mid (append_known sent rest) h.0 h.1 kept), h.2)
 
 -- ---- how a session ends
 
-writes_all : (g : Geometry) (start : State) (input left : Option (List ℕ)) (ended : Bool) (x : State) (old new : Option (List ℕ))
+-- nothing was left
+pub ends : {g : Geometry} {start : State} {input left : Option (List ℕ)} {ended : Bool} {x : State} {old new : Option (List ℕ)}
     → HasAnswered g start input left ended x old new → IfSome left (λ bs. bs ≡ [])
     → WritesOutput input old new (λ bytes written. written ≡ serial_out g start bytes)
-writes_all g start None left ended x old new h all = tt
-writes_all g start (Some input) None ended x old new h all = absurd (none-some h.taken.0 h.taken.1)
-writes_all g start (Some input) (Some bs) ended x old new h all =
+ends {input = None} h all = tt
+ends {input = Some input} {left = None} h all = absurd (none-some h.taken.0 h.taken.1)
+ends {g} {start} {input = Some input} {left = Some bs} h all =
     let t = h.taken.2 in
     let none_left : lines h.taken.0 ≡ [] = ap lines (sym (same_Some bs h.taken.0 h.taken.1) ∙ all) in
     (joined (output_lines g start h.answered), h.output, sym (ap (λ z. joined (output_lines g start z)) (t.to_come ∙ ap (λ z. h.answered ++ z) none_left ∙ append-nil h.answered)))
 
-writes_whole_lines : (g : Geometry) (start : State) (input left now_left : Option (List ℕ)) (ended : Bool) (x : State) (old new : Option (List ℕ)) → HasAnswered g start input left ended x old new
+-- a read failed
+pub fails : {g : Geometry} {start : State} {input left : Option (List ℕ)} {ended : Bool} {x : State} {old new : Option (List ℕ)} (now_left : Option (List ℕ))
+    → HasAnswered g start input left ended x old new
     → ended ≡ false → IfSome left (λ bs. LosesFront bs now_left) → WritesOutput input old new (AnswersWholeLines g start now_left)
-writes_whole_lines g start None left now_left ended x old new h going lost = tt
-writes_whole_lines g start (Some input) None now_left ended x old new h going lost = absurd (none-some h.taken.0 h.taken.1)
-writes_whole_lines g start (Some input) (Some bs) now_left ended x old new h going lost =
+fails {input = None} now_left h going lost = tt
+fails {input = Some input} {left = None} now_left h going lost = absurd (none-some h.taken.0 h.taken.1)
+fails {g} {start} {input = Some input} {left = Some bs} now_left h going lost =
     let t = h.taken.2 in
     let same = same_Some bs h.taken.0 h.taken.1 in (
       joined (output_lines g start h.answered),
@@ -69,10 +71,11 @@ writes_whole_lines g start (Some input) (Some bs) now_left ended x old new h goi
       },
     )
 
-writes_beginning : (g : Geometry) (start : State) (input left : Option (List ℕ)) (ended : Bool) (x : State) (old new : Option (List ℕ)) → HasAnswered g start input left ended x old new
+-- the session stopped behind a line
+pub stops_short : {g : Geometry} {start : State} {input left : Option (List ℕ)} {ended : Bool} {x : State} {old new : Option (List ℕ)} → HasAnswered g start input left ended x old new
     → WritesOutput input old new (IsBeginning g start)
-writes_beginning g start None left ended x old new h = tt
-writes_beginning g start (Some input) left ended x old new h =
+stops_short {input = None} h = tt
+stops_short {g} {start} {input = Some input} h =
     let t = h.taken.2 in (
       joined (output_lines g start h.answered),
       h.output,
@@ -90,11 +93,11 @@ module _ {g : Geometry} {start : State} {input left : Option (List ℕ)} {ended 
   goes_on {newer} h j = record { answered = h.answered; taken = h.taken; state = h.state; output = appends_more old new newer (joined (output_lines g start h.answered)) h.output j }
 
   -- a line was answered
-  pub answers_line : {newer : Option (List ℕ)} {y : State} (now_left : Option (List ℕ)) (now_ended : Bool) (line added : List ℕ) → HasAnswered g start input left ended x old new → ended ≡ false
+  pub answers_line : {newer now_left : Option (List ℕ)} {y : State} {now_ended : Bool} (line : List ℕ) {added : List ℕ} → HasAnswered g start input left ended x old new → ended ≡ false
       → IfSome left (λ bs. GivesLine line bs now_left) → IsClosed left now_ended
       → y ≡ state_after_line g x (message_of line) → added ≡ answer_line g x (message_of line) → Appends new newer added
       → HasAnswered g start input now_left now_ended y old newer
-  answers_line {newer} {y} now_left now_ended line added h going found closes state output appended = record {
+  answers_line {newer} line {added} h going found closes state output appended = record {
     answered = h.answered ++ line ∷ [];
     taken = takes_line input h.answered h.taken going (record { given = found; closed = closes });
     state = state ∙ ap (λ z. state_after_line g z (message_of line)) h.state ∙ sym (state_after_lines-append g start h.answered (line ∷ []));
@@ -104,11 +107,11 @@ module _ {g : Geometry} {start : State} {input left : Option (List ℕ)} {ended 
   }
 
   -- a line that is too long was answered
-  pub answers_long_line : {newer : Option (List ℕ)} (now_left : Option (List ℕ)) (now_ended : Bool) (added : List ℕ) → HasAnswered g start input left ended x old new → ended ≡ false
+  pub answers_long_line : {newer now_left : Option (List ℕ)} {now_ended : Bool} {added : List ℕ} → HasAnswered g start input left ended x old new → ended ≡ false
       → IfSome left (λ bs. PassesLine bs now_left) → IsClosed left now_ended
       → added ≡ answer_line g x None → Appends new newer added
       → HasAnswered g start input now_left now_ended x old newer
-  answers_long_line {newer} now_left now_ended added h going found closes output appended =
+  answers_long_line {newer} {added = added} h going found closes output appended =
       let t = takes_long_line left h.taken going found closes in
       record {
         answered = h.answered ++ t.line ∷ [];
@@ -119,16 +122,3 @@ module _ {g : Geometry} {start : State} {input left : Option (List ℕ)} {ended 
             ∙ sym (ap (answer_line g (state_after_lines g start h.answered)) t.no_message)) ∙ sym (joined-one_more g start h.answered t.line))
             (Appends-trans old new newer (joined (output_lines g start h.answered)) added h.output appended);
       }
-
-  -- nothing was left
-  pub ends : HasAnswered g start input left ended x old new → IfSome left (λ bs. bs ≡ []) → WritesOutput input old new (λ bytes written. written ≡ serial_out g start bytes)
-  ends h all = writes_all g start input left ended x old new h all
-
-  -- a read failed
-  pub fails : (now_left : Option (List ℕ)) → HasAnswered g start input left ended x old new → ended ≡ false
-      → IfSome left (λ bs. LosesFront bs now_left) → WritesOutput input old new (AnswersWholeLines g start now_left)
-  fails now_left h going lost = writes_whole_lines g start input left now_left ended x old new h going lost
-
-  -- the session stopped behind a line
-  pub stops_short : HasAnswered g start input left ended x old new → WritesOutput input old new (IsBeginning g start)
-  stops_short h = writes_beginning g start input left ended x old new h

@@ -2,7 +2,7 @@
 use Rattle.std.proofs.Common.{refl, sym, ap, ◌∙◌, subst, ℕ, List, Option}
 use Rattle.std.specs.Prelude.{IfSome}
 use Rattle.messages.specs.FirstLine.{LosesFront}
-use Rattle.message.specs.Reader.{unread, line_of, is_drained, source}
+use Rattle.message.specs.Reader.{unread, line_of, source}
 use Rattle.messages.specs.Grammar.{message_of}
 use Rattle.messages.specs.Replies.{no_message}
 use Rattle.message.specs.Waiting.{so_far}
@@ -19,7 +19,7 @@ pub returns-in-Ok-clause-answered : goal.returns-in-Ok-clause-answered
 returns-in-Ok-clause-answered g c = λ start input before h.
     let contents = g.W.Write.contents c.send_before_line.new.w in
     let answer = line_answer c.args.g.now (server_state c.args.server.now) (message_of (line_of c.next_line.new.self)) in
-    answers_line (unread g.R.Read.remaining c.next_line.new.self) (is_drained c.next_line.new.self) (line_of c.next_line.new.self) answer
+    answers_line (line_of c.next_line.new.self)
     (goes_on {newer = so_far contents c.send_before_line.new.out} h c.in_ok-send_before_line.ensures.kept) (sym c.if-is_drained.ensures.value)
     (rw c.in-Ok-Line.field-0-is at c.in-Ok-Line.ensures.found) (rw c.in-Ok-Line.field-0-is at c.in-Ok-Line.ensures.closes)
     (c.in-Ok.ensures.state ∙ ap (λ z. state_after_line c.args.g.now (server_state c.args.server.now) (message_of z)) c.line.ensures) refl
@@ -33,7 +33,7 @@ returns-in-Err-answer_line-clause-out_of_memory g c = λ start input before h is
 pub returns-in-Ok-TooLong-clause-answered : goal.returns-in-Ok-TooLong-clause-answered
 returns-in-Ok-TooLong-clause-answered g c = λ start input before h.
     let contents = g.W.Write.contents c.send_before_line.new.w in
-    answers_long_line (unread g.R.Read.remaining c.next_line.new.self) (is_drained c.next_line.new.self) no_message
+    answers_long_line
     (goes_on {newer = so_far contents c.send_before_line.new.out} h c.in_ok-send_before_line.ensures.kept) (sym c.if-is_drained.ensures.value)
     (rw c.in-Ok-TooLong.field-0-is at c.in-Ok-TooLong.ensures.found) (rw c.in-Ok-TooLong.field-0-is at c.in-Ok-TooLong.ensures.closes) refl
     (adds_so_far contents c.send_before_line.new.out c.add_no_message.new.self no_message c.add_no_message.ensures)

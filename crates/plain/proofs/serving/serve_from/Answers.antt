@@ -6,6 +6,5 @@ use Rattle.plain.proofs.serving.serve_from.Goals as goal
 
 pub returns-clause-out_of_memory : goal.returns-clause-out_of_memory
 returns-clause-out_of_memory g c = λ is.
-    writes_sent (g.R.Read.remaining c.args.r.now) (g.W.Write.contents c.args.w.now) (g.W.Write.contents c.answer_lent-answered.new.w)
-    (g.W.Write.contents c.send.new.w) c.in-Ok-new.out _ c.send.new.self (IsBeginning c.args.g.now empty)
-    c.in-Ok-new.ensures (c.answer_lent-answered.ensures.out_of_memory is) c.in_ok-send.ensures.kept c.in_ok-send.ensures.none_waits
+    writes_sent (g.W.Write.contents c.args.w.now) _ (g.W.Write.contents c.send.new.w) c.in-Ok-new.ensures c.in_ok-send.ensures.none_waits
+    (g.R.Read.remaining c.args.r.now) (IsBeginning c.args.g.now empty) (c.answer_lent-answered.ensures.out_of_memory is) c.in_ok-send.ensures.kept

@@ -13,10 +13,10 @@ use Rattle.plain.specs.Server.{server_state}
 use Rattle.meaning.proofs.ByKind.{read_told}
 use Rattle.plain.proofs.server.Server.block_by.Goals as goal
 
-looked_up : (g : Geometry) (x : State) → IsState g x → (a v f b : ℕ) (r : Option (Bor Block)) → option_copied r ≡ x.blocks (a, v, f, b)
+looked_up : {g : Geometry} {x : State} → IsState g x → (a v f b : ℕ) (r : Option (Bor Block)) → option_copied r ≡ x.blocks (a, v, f, b)
     → IfSome r (λ content. step g x (Read a v f b) ≡ (shows content.now, x))
-looked_up g x s a v f b (Some content) h = read_told s a v f b (sym h)
-looked_up g x s a v f b None h = tt
+looked_up s a v f b (Some content) h = read_told s a v f b (sym h)
+looked_up s a v f b None h = tt
 
 none_there : (g : Geometry) (x : State) (a v f b : ℕ) (r : Option (Bor Block)) → option_copied r ≡ x.blocks (a, v, f, b) → IfNone r (kinds.Read ≡ kinds.Read → accepted_reply g x (Read a v f b) ≡ Hole)
 none_there g x a v f b (Some content) h = tt
@@ -25,8 +25,7 @@ none_there g x a v f b None h = λ _. ap block_reply (sym h)
 pub returns-in-Read-clause-shown : goal.returns-in-Read-clause-shown
 returns-in-Read-clause-shown c =
     let ns = c.args.numbers in
-    rw c.in-Read.is (looked_up c.args.g.now (server_state c.args.self.now) c.requires.sound.state (slice_index ns 0) (slice_index ns 1)
-    (slice_index ns 2) (slice_index ns 3) c.get.result c.get.ensures.value)
+    rw c.in-Read.is (looked_up c.requires.sound.state (slice_index ns 0) (slice_index ns 1) (slice_index ns 2) (slice_index ns 3) c.get.result c.get.ensures.value)
 
 pub returns-in-Read-clause-hole : goal.returns-in-Read-clause-hole
 returns-in-Read-clause-hole c =

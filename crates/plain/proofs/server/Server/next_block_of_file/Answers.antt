@@ -5,8 +5,7 @@ use Rattle.plain.proofs.server.Server.next_block_of_file.Goals as goal
 use Rattle.plain.proofs.server.Server.next_block_of_file.Goals.{else-of_a-a-via-then-of_a-a+then-of_v-v+else-of_f-f, else-of_a-a-via-then-of_a-a+else-of_v-v, else-of_a-a-via-else-of_a-a}
 
 pub returns-else-of_a-a-clause-none : goal.returns-else-of_a-a-clause-none
-returns-else-of_a-a-clause-none c = no_block_of_file c.args.self.now.blocks c.range.result c.next.new.self c.args.a c.args.v c.args.f
-    c.in_ok-key.key.now _ (c.range.ensures.in_range tt) c.in_ok-key.ensures.steps
+returns-else-of_a-a-clause-none c = no_block_of_file c.args.self.now.blocks (c.range.ensures.in_range tt) c.in_ok-key.ensures.steps
     (elim c.else-of_a-a.branch [
       | else-of_a-a-via-then-of_a-a+then-of_v-v+else-of_f-f w ↦ λ e. w.if-of_f-f.false (sym (ap (λ t. t.2) e))
       | else-of_a-a-via-then-of_a-a+else-of_v-v w ↦ λ e. w.if-of_v-v.false (sym (ap (λ t. t.1) e))
