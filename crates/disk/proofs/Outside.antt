@@ -49,12 +49,12 @@ same_none {X} at xs ys same =
     sym (take-append-drop at ys) ∙ ap (λ (l : List X). l ++ drop at ys) same.before ∙ ap (λ (l : List X). take at xs ++ l) rest ∙ take-append-drop at xs
 
 -- The range that is known grows to one that holds it, or that is anywhere if it was empty.
-pub covered : {X : Type 0} (a e b f : ℕ) (xs ys : List X) → a ≤ e → b ≤ f → (a ≡ e) ⊎ ((b ≤ a) × (e ≤ f)) → SameOutside a (e - a) xs ys → SameOutside b (f - b) xs ys
-covered {X} a e b f xs ys ordered ordered' (inl empty) same =
+pub covered : {X : Type 0} (a e b f : ℕ) {xs ys : List X} → a ≤ e → (a ≡ e) ⊎ ((b ≤ a) × (e ≤ f)) → SameOutside a (e - a) xs ys → SameOutside b (f - b) xs ys
+covered {X} a e b f {xs} {ys} ordered (inl empty) same =
     let none : e - a ≡ 0 = omega (arith, empty) in
     let is : ys ≡ xs = same_none a xs ys (subst (λ (n : ℕ). SameOutside a n xs ys) none same) in
     subst (λ (l : List X). SameOutside b (f - b) xs l) (sym is) (same_all b (f - b) xs)
-covered a e b f xs ys ordered ordered' (inr holds) same = wider a (e - a) xs ys same b (f - b) holds.0 (omega (arith, ordered, ordered', holds.1))
+covered a e b f {xs} {ys} ordered (inr holds) same = wider a (e - a) xs ys same b (f - b) holds.0 (omega (arith, ordered, holds))
 
 -- with the new items in the range, the whole is the new list
 pub refreshed : {X : Type 0} (at n : ℕ) (new old part : List X) → SameOutside at n new old → part ≡ take n (drop at new) → put_mid at n old part ≡ new

@@ -12,13 +12,13 @@ module _ (a e b f at n : ℕ) (m : Medium) (kept : List ℕ) (ordered : a ≤ e)
   marks : SameOutside b (f - b) (replicate (length m.now) false) (marked m.unsynced at n)
   marks =
       same_both b (f - b) (replicate (length m.now) false) m.unsynced (marked m.unsynced at n)
-      (covered a e b f (replicate (length m.now) false) m.unsynced ordered (omega (arith, from, to)) grows holds.marks)
+      (covered a e b f ordered grows holds.marks)
       (wider at n m.unsynced (marked m.unsynced at n) (marked_outside m.unsynced at n) b (f - b) from (omega (arith, from, to)))
 
   pub holds_lost : HoldsUnsynced b f (lost at n m) kept
   holds_lost = record {
     inside = inside;
-    kept = covered a e b f m.now kept ordered (omega (arith, from, to)) grows holds.kept;
+    kept = covered a e b f ordered grows holds.kept;
     marks = marks;
   }
 
@@ -30,7 +30,7 @@ module _ (a e b f at n : ℕ) (m : Medium) (kept : List ℕ) (ordered : a ≤ e)
         inside = omega (arith, inside, long);
         kept = same_both b (f - b) over m.now kept
             (same_back b (f - b) m.now over (wider at (length bytes) m.now over (overlaid_outside m.now at bytes) b (f - b) from (omega (arith, from, to, size))))
-            (covered a e b f m.now kept ordered (omega (arith, from, to)) grows holds.kept);
+            (covered a e b f ordered grows holds.kept);
         marks =
             subst (λ (k : ℕ). SameOutside b (f - b) (replicate k false) (marked m.unsynced at (length bytes))) (sym long)
             (subst (λ (k : ℕ). SameOutside b (f - b) (replicate (length m.now) false) (marked m.unsynced at k)) (sym size) marks);
