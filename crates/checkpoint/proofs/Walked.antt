@@ -123,7 +123,7 @@ module _ (g h : Geometry) (same : h ≡ g) (number n at size : ℕ) (buffer : Li
         length-take size buffer,
         piece_inside g n below,
         image_sized (layout_of g) number is_image,
-        part_inside (layout_of g) (image number) (omega (arith, is_image)),
+        part_inside (layout_of g) (image number),
         long,
       )
 
@@ -167,7 +167,7 @@ pub image_bytes : (g : Geometry) (number : ℕ) (now : List ℕ) → number < 2 
 image_bytes g number now is_image long are =
     let at = part_at (layout_of g) (image number) in
     let size = part_size (layout_of g) (image number) in (
-      length-take-le size (drop at now) (omega (arith, length-drop at now, long, part_inside (layout_of g) (image number) (omega (arith, is_image))))
+      length-take-le size (drop at now) (omega (arith, length-drop at now, long, part_inside (layout_of g) (image number)))
           ∙ image_sized (layout_of g) number is_image ∙ sym (whole_image g),
       bytes_by_recursion (part_bytes (layout_of g) (image number) now) (bytes-range at size now are),
     )

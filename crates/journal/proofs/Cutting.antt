@@ -62,8 +62,7 @@ module _ (g : Geometry) (n : ℕ) (x : Option State) (is_area : n < 2) (w0 w1 w2
     long_2 = chained.same.same.size
 
     pub begun_ready : IsReady (layout_of g) (other n) 0 w2
-    begun_ready = ready_kept (layout_of g) (other n) 0 (half n) w1 w2 (omega arith) (λ is. omega (arith, is, is_area))
-        (omega (arith, fits, long_1, long_2)) cleared.ready chained.same.same chained.calm
+    begun_ready = ready_kept (omega arith) (λ is. omega (arith, is, is_area)) (omega (arith, fits, long_1, long_2)) cleared.ready chained.same.same chained.calm
 
     pub begun_none : front (layout_of g) (other n) w2.now ≡ []
     begun_none =
@@ -131,8 +130,8 @@ module _ (g : Geometry) (n used : ℕ) (x : Option State) (bytes : List ℕ) (w0
         pub named_ready : device_size (layout_of g) ≤ length w0.now → IsReady (layout_of g) (other n) used w0 → IsReady (layout_of g) (other n) used w2
         named_ready fits ready =
             let long = flipped.same.same.size in
-            ready_kept (layout_of g) (other n) used root (synced w0) w2 (omega arith) (λ is. omega (arith, is)) (omega (arith, fits, long))
-            (ready_kept (layout_of g) (other n) used root w0 (synced w0) (omega arith) (λ is. omega (arith, is)) fits ready (same_but_none (layout_of g) root w0.now) refl)
+            ready_kept (omega arith) (λ is. omega (arith, is)) (omega (arith, fits, long))
+            (ready_kept {w' = synced w0} (omega arith) (λ is. omega (arith, is)) fits ready (same_but_none (layout_of g) root w0.now) refl)
             flipped.same.same flipped.calm
 
         half_named : (front (layout_of g) (other n) w2.now ≡ front (layout_of g) (other n) w0.now) × (chain (layout_of g) (other n) w2.now ≡ chain (layout_of g) (other n) w0.now)

@@ -66,7 +66,7 @@ all_done n bytes old new long long' so_far = sym (take_all n new (omega (arith, 
 pub image_long : (g : Geometry) (area : ℕ) (m : Medium) → area < 2 → device_size (layout_of g) ≤ length m.now → length (image_in g area m) ≡ image_size g
 image_long g area m is_area whole =
     let sized = image_sized (layout_of g) area is_area in
-    let inside = part_inside (layout_of g) (image area) (omega (arith, is_area)) in
+    let inside = part_inside (layout_of g) (image area) in
     length-take-le (part_size (layout_of g) (image area)) (drop (part_at (layout_of g) (image area)) m.now)
     (omega (arith, inside, whole, length-drop (part_at (layout_of g) (image area)) m.now)) ∙ sized
 

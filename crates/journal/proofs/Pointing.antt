@@ -13,7 +13,7 @@ use Rattle.journal.proofs.Recovering.{as_other, both_of, half_same, holds_by, ho
 use Rattle.oplog.specs.Changes.{ChangesOnly, Cleared, Flipped, IsReady, IsSameBut, IsSameButGates, IsSameButRoot}
 use Rattle.oplog.specs.Crash.{RecoversBy, RecoversEitherWay}
 use Rattle.oplog.specs.Front.{chain, front}
-use Rattle.device_map.specs.Layout.{layout_of, device_size, part_bytes, half, image, root, other}
+use Rattle.device_map.specs.Layout.{layout_of, device_size, part_bytes, half, image, other}
 use Rattle.oplog.specs.Recovery.{in_force, named_area, recovers_as}
 use Rattle.oplog.proofs.AfterCrash.{clear_by_area, flip_by_area, image_by_area, torn_root_recovers}
 use Rattle.oplog.proofs.Ready.{ready_kept}
@@ -85,8 +85,8 @@ module _ (g : Geometry) (n : ℕ) (x : Option State) (is_area : n < 2) (w0 w1 : 
 
         pub now_ready : IsReady (layout_of g) (other n) 0 w3
         now_ready =
-            ready_kept (layout_of g) (other n) 0 root w2 w3 (omega arith) (λ is. omega (arith, is)) (omega (arith, fits, long_1, long_2, long_3))
-            (ready_kept (layout_of g) (other n) 0 (image (other n)) w1 w2 (omega arith) (λ is. omega (arith, is)) (omega (arith, fits, long_1, long_2)) cleared.ready imaged.same imaged.calm)
+            ready_kept {w = w2} (omega arith) (λ is. omega (arith, is)) (omega (arith, fits, long_1, long_2, long_3))
+            (ready_kept (omega arith) (λ is. omega (arith, is)) (omega (arith, fits, long_1, long_2)) cleared.ready imaged.same imaged.calm)
             flipped.same.same flipped.calm
 
         half_still : (front (layout_of g) (other n) w3.now ≡ front (layout_of g) (other n) w2.now) × (chain (layout_of g) (other n) w3.now ≡ chain (layout_of g) (other n) w2.now)

@@ -9,7 +9,7 @@ use Rattle.oplog.specs.Changes.{ChangesOnly, IsReady, IsSameBut}
 use Rattle.device_map.specs.Layout.{Layout, slice, layout_of, part_bytes, part_at, image, device_size, image_size}
 use Rattle.oplog.specs.Store.{Touched}
 use Rattle.oplog.proofs.Ready.{ready_beside}
-use Rattle.oplog.proofs.Slices.{same_but, same_but_both, same_but_none, image_sized, part_overlaid}
+use Rattle.oplog.proofs.Slices.{LiesIn, same_but, same_but_both, same_but_none, image_sized, part_overlaid}
 
 -- the bytes of a run
 pub run_long : (bytes : List ℕ) (from end : ℕ) → from ≤ end → end ≤ length bytes → length (slice bytes from (end - from)) ≡ end - from
@@ -37,7 +37,7 @@ module _ (g : Geometry) (area : ℕ) {start : ℕ} (is_area : area < 2) (place :
   module _ (from n : ℕ) (inside : from + n ≤ image_size g) where
     run_alone : (old c : List ℕ) → SameOutside (start + from) n old c → IsSameBut (layout_of g) (image area) old c
     run_alone old c same =
-        same_but (layout_of g) (image area) from n (start + from) old c (omega (arith, is_area)) (omega (arith, place)) (omega (arith, inside, image_sized (layout_of g) area is_area)) same
+        same_but {i = from} (omega (arith, place, inside, image_sized (layout_of g) area is_area)) same
 
     pub run_moments : (w0 w1 : Medium) → ChangesOnly w0 w1 (SameOutside (start + from) n) → ChangesOnly w0 w1 (IsSameBut (layout_of g) (image area))
     run_moments w0 w1 moments = weaker w0 w1 _ _ moments (λ c after. record { old = after.old; left = after.left; change = run_alone after.old c after.change })
@@ -48,14 +48,13 @@ module _ (g : Geometry) (area : ℕ) {start : ℕ} (is_area : area < 2) (place :
 
       pub run_ready : (h k : ℕ) → h < 2 → IsReady (layout_of g) h k w0 → IsReady (layout_of g) h k w1
       run_ready h k is_half ready =
-          ready_beside (layout_of g) h k (image area) from n (start + from) w0 w1 (omega (arith, is_area)) (λ same. omega (arith, same, is_half)) (omega (arith, place))
-          (omega (arith, inside, image_sized (layout_of g) area is_area)) touched ready
+          ready_beside {p = image area} {i = from} (λ same. omega (arith, same, is_half)) (omega (arith, place, inside, image_sized (layout_of g) area is_area)) touched ready
 
   pub run_written : (from : ℕ) (bytes : List ℕ) (w0 w1 : Medium) → from + length bytes ≤ image_size g → device_size (layout_of g) ≤ length w0.now
       → w1.now ≡ overlaid w0.now (start + from) bytes → image_in g area w1 ≡ overlaid (image_in g area w0) from bytes
   run_written from bytes w0 w1 inside whole is =
-      ap (λ (l : List ℕ). part_bytes (layout_of g) (image area) l) is
-      ∙ part_overlaid (layout_of g) (image area) from (start + from) bytes w0.now (omega (arith, is_area)) (omega (arith, place)) (omega (arith, inside, image_sized (layout_of g) area is_area)) whole
+      let lies : LiesIn (layout_of g) (image area) from (length bytes) (start + from) = omega (arith, place, inside, image_sized (layout_of g) area is_area) in
+      ap (λ (l : List ℕ). part_bytes (layout_of g) (image area) l) is ∙ part_overlaid bytes w0.now lies whole
 
 -- an empty run
 pub nothing_written : (xs : List ℕ) (from n : ℕ) (bytes : List ℕ) → n ≡ 0 → xs ≡ overlaid xs from (slice bytes from n)

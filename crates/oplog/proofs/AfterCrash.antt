@@ -1,5 +1,5 @@
 -- What a device recovers to after a crash, from the clauses of a log's calls.
-use Rattle.std.proofs.Common.{◌≡◌, ◌≢◌, ◌<◌, ℕ, Bool, true, false, cond, eqb, List, [], take, get_or, Option, refl, ◌∙◌, sym, ap, subst, arith}
+use Rattle.std.proofs.Common.{◌≡◌, ◌≢◌, ◌<◌, ℕ, Bool, true, false, cond, eqb, List, [], get_or, Option, refl, ◌∙◌, sym, ap, subst, arith}
 use Rattle.std.proofs.lemmas.Bool.{ne_eqb}
 use Rattle.disk.specs.Device.{Medium, IsSynced}
 use Rattle.disk.proofs.Leaves.{calm_left}
@@ -25,9 +25,9 @@ pub current_kept : (g : Layout) (n p : ℕ) (a c : List ℕ) → half n ≢ p �
 current_kept g n p a c apart same = ap (λ (l : List ℕ). cond (eqb (get_or l 0 0) 1) (other n) n) (same.others (half n) apart)
 
 module _ {S : Type 0} (means : Meaning S) where
-  more_by : (g : Layout) (n h : ℕ) (x : Option S) (more : List (List ℕ)) (a c : List ℕ) → n < 2 → h < 2 → HasMore g h more a c
+  more_by : {g : Layout} {n h : ℕ} {x : Option S} {more : List (List ℕ)} {a c : List ℕ} → n < 2 → h < 2 → HasMore g h more a c
       → RecoversBy means g n h x a → RecoversBy means g n h (run means x more) c
-  more_by g n h x more a c is_area is_half has recovered_before = record {
+  more_by {g} {n} {h} {more} {a} {c} is_area is_half has recovered_before = record {
     named = same_named means g h more a c is_half has ∙ recovered_before.named;
     current = ap (λ (b : ℕ). cond (eqb b 1) (other n) n) (same_chain means g h more a c is_half has n is_area) ∙ recovered_before.current;
     is = grown_as means g h more a c is_half has n is_area recovered_before.current ∙ ap (λ (y : Option S). run means y more) recovered_before.is;
@@ -39,13 +39,13 @@ module _ {S : Type 0} (means : Meaning S) where
       (λ c grew. record {
         added = grew.added;
         at_most = grew.at_most;
-        by = more_by g n h x (take grew.added more) grew.has.old c is_area is_half grew.has.change (before grew.has.old grew.has.left);
+        by = more_by is_area is_half grew.has.change (before grew.has.old grew.has.left);
       })
 
   pub all_by_area : AllByArea means
   all_by_area g n h k x more w0 w1 is_area is_half before has c left =
       let after = has.left c left in
-      more_by g n h x more after.old c is_area is_half after.change (before after.old after.left)
+      more_by is_area is_half after.change (before after.old after.left)
 
   pub image_by_area : ImageByArea means
   image_by_area g n h x w0 w1 is_area before moments =
@@ -69,9 +69,9 @@ module _ {S : Type 0} (means : Meaning S) where
         is = half_kept means g n after.old c is_area (no_chain_by n (eqb (chain g n after.old) 1) is_area recovered_before.current) after.change.same ∙ recovered_before.is;
       })
 
-  chain_by : (g : Layout) (n : ℕ) (x : Option S) (a c : List ℕ) → n < 2 → front g (other n) a ≡ [] → chain g (other n) a ≢ 1
+  chain_by : {g : Layout} {n : ℕ} {x : Option S} {a c : List ℕ} → n < 2 → front g (other n) a ≡ [] → chain g (other n) a ≢ 1
       → IsSameButChain g n a c → named_area g a ≡ n → recovers_as means g n a ≡ x → RecoversBy means g n (current_of g n c) x c
-  chain_by g n x a c is_area none no_chain change named is = record {
+  chain_by {g} {n} {a} {c} is_area none no_chain change named is = record {
     named = named_kept g (half n) a c (λ is. omega (arith, is)) change.same ∙ named;
     current = refl;
     is = chain_kept means g n a c is_area (ne_eqb (chain g (other n) a) 1 no_chain) none change ∙ is;
@@ -83,7 +83,7 @@ module _ {S : Type 0} (means : Meaning S) where
       (λ c after.
       let recovered_before = before after.old after.left in
       let none = empty after.old after.left in
-      chain_by g n x after.old c is_area none.0 none.1 after.change recovered_before.named recovered_before.is)
+      chain_by is_area none.0 none.1 after.change recovered_before.named recovered_before.is)
 
   -- at a device with nothing unsynced, of which a crash leaves what a read gives
   committed : (g : Layout) (n h : ℕ) (x : Option S) (m : Medium) → IsSynced m → RecoversBy means g n h x m.now → RecoversByNow means g n h x m
@@ -91,7 +91,7 @@ module _ {S : Type 0} (means : Meaning S) where
 
   pub chained_by_area : ChainedByArea means
   chained_by_area g n x w0 w1 is_area before empty chained =
-      let recovered_before = chain_by g n x w0.now w1.now is_area empty.0 empty.1 chained.same before.named before.is in
+      let recovered_before = chain_by is_area empty.0 empty.1 chained.same before.named before.is in
       let follows : current_of g n w1.now ≡ other n = ap (λ (b : ℕ). cond (eqb b 1) (other n) n) chained.chain in
       committed g n (other n) x w1 chained.calm (subst (λ (h : ℕ). RecoversBy means g n h x w1.now) follows recovered_before)
 

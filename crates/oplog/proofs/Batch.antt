@@ -1,5 +1,5 @@
 -- A batch of records: what a crash leaves while their bodies and then their gates are written, and what is there then.
-use Rattle.std.proofs.Common.{◌≡◌, ℕ, ◌+◌, ◌-◌, ◌*◌, ◌<◌, ◌≤◌, List, [], length, take, drop, replicate, refl, sym, ◌∙◌, ap, subst, arith}
+use Rattle.std.proofs.Common.{◌≡◌, ℕ, ◌+◌, ◌-◌, ◌*◌, ◌<◌, ◌≤◌, List, [], length, take, drop, replicate, sym, ◌∙◌, ap, subst, arith}
 use Rattle.std.proofs.lemmas.List.{length-replicate}
 use Rattle.std.specs.List.{concat}
 use Rattle.disk.specs.Device.{AreBytes, Medium, SameOutside, overlaid}
@@ -21,7 +21,7 @@ module _ (g : Layout) (h k : ℕ) (more : List (List ℕ)) (is_half : h < 2) (si
 
   -- a range of the half
   change : (i n : ℕ) (old c : List ℕ) → i + n ≤ half_size g.slots → SameOutside (part_at g (half h) + i) n old c → IsSameBut g (half h) old c
-  change i n old c inside same = same_but g (half h) i n (part_at g (half h) + i) old c (omega (arith, is_half)) refl (omega (arith, inside, size)) same
+  change i n old c inside same = same_but {i = i} (omega (arith, inside, size)) same
 
   in_half : (i n : ℕ) (old c : List ℕ) → i + n ≤ half_size g.slots → SameOutside (part_at g (half h) + i) n old c → SameOutside i n (part_bytes g (half h) old) (part_bytes g (half h) c)
   in_half i n old c inside same = within (part_at g (half h)) (part_size g (half h)) i n old c (omega (arith, inside, size)) same

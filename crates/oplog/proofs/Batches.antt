@@ -29,8 +29,8 @@ take-further xs m n =
 pub no_more : (g : Layout) (h : ℕ) (c : List ℕ) → HasMore g h [] c c
 no_more g h c = record { same = same_but_none g (half h) c; area = refl; front = sym (append-nil (front g h c)) }
 
-pub more_then : (g : Layout) (h : ℕ) (more others : List (List ℕ)) (a b c : List ℕ) → HasMore g h more a b → HasMore g h others b c → HasMore g h (more ++ others) a c
-more_then g h more others a b c first second = record {
+pub more_then : {g : Layout} {h : ℕ} {more others : List (List ℕ)} {a b c : List ℕ} → HasMore g h more a b → HasMore g h others b c → HasMore g h (more ++ others) a c
+more_then {g} {h} {more} {others} {a} {b} {c} first second = record {
   same = same_but_both g (half h) a b c first.same second.same;
   area = second.area ∙ first.area;
   front = second.front ∙ ap (λ (l : List (List ℕ)). l ++ others) first.front ∙ append_assoc (front g h a) more others;
@@ -69,7 +69,7 @@ module _ (g : Layout) (h k : ℕ) (more batch later : List (List ℕ)) (w0 w w' 
         has = record {
           old = before.old;
           left = before.left;
-          change = subst (λ (l : List (List ℕ)). HasMore g h l before.old c) are (more_then g h more (take grew.added batch) before.old grew.has.old c before.change grew.has.change);
+          change = subst (λ (l : List (List ℕ)). HasMore g h l before.old c) are (more_then before.change grew.has.change);
         };
       }))
 
@@ -77,12 +77,11 @@ module _ (g : Layout) (h k : ℕ) (more batch later : List (List ℕ)) (w0 w w' 
   batch_more moments has = record {
     moments = batch_moments moments;
     has = record {
-      has = more_then g h more batch w0.now w.now w'.now so_far.has.has has.has;
+      has = more_then so_far.has.has has.has;
       ready = let count : k + length more + length batch ≡ k + length (more ++ batch) = omega (arith, length-append more batch) in subst (λ (j : ℕ). IsReady g h j w') count has.ready;
       left = λ c left.
           let later = has.left c left in
-          let before = so_far.has.left later.old later.left in
-          record { old = before.old; left = before.left; change = more_then g h more batch before.old later.old c before.change later.change };
+          let before = so_far.has.left later.old later.left in record { old = before.old; left = before.left; change = more_then before.change later.change };
       calm = λ calm. has.calm (so_far.has.calm calm);
     };
   }

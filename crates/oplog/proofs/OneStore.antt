@@ -1,5 +1,5 @@
 -- What one write with its sync does to a half's gates or to the root zone.
-use Rattle.std.proofs.Common.{◌≡◌, ℕ, zero, suc, ◌+◌, ◌-◌, ◌<◌, ◌≤◌, cond, eqb, List, [], ◌∷◌, length, take, drop, get_or, replicate, refl, sym, ◌∙◌, ap, subst, arith}
+use Rattle.std.proofs.Common.{◌≡◌, ℕ, zero, suc, ◌+◌, ◌-◌, ◌<◌, ◌≤◌, cond, eqb, List, [], ◌∷◌, length, take, drop, get_or, replicate, sym, ◌∙◌, ap, subst, arith}
 use Rattle.std.proofs.lemmas.List.{length-replicate, take-take, drop-take, drop-replicate, get_or-take, get_or-drop, get_or-replicate}
 use Rattle.disk.specs.Device.{Medium, SameOutside}
 use Rattle.disk.specs.Moments.{CrashImagesAre}
@@ -11,7 +11,7 @@ use Rattle.device_map.specs.Layout.{Layout, slice, part_bytes, part_at, part_siz
 use Rattle.oplog.specs.Front.{open_gates, gates}
 use Rattle.oplog.specs.Changes.{IsSameButGates, IsSameButChain, IsSameButRoot, After, Cleared, Chained, Flipped}
 use Rattle.oplog.specs.Store.{Stored}
-use Rattle.oplog.proofs.Slices.{within, same_but, half_sized, half_inside}
+use Rattle.oplog.proofs.Slices.{LiesIn, within, same_but, half_sized, half_inside}
 use Rattle.oplog.proofs.Gates.{open_none}
 
 -- what a write changes at most
@@ -25,13 +25,12 @@ module _ (g : Layout) (h at : ℕ) (bytes : List ℕ) (is_half : h < 2) (place :
 
   gates_alone : (old c : List ℕ) → SameOutside at (length bytes) old c → IsSameButGates g h old c
   gates_alone old c same =
-      let at0 : at ≡ part_at g (half h) + 0 = omega (arith, place) in
-      let same' = subst (λ (a : ℕ). SameOutside a (length bytes) old c) at0 same in
-      let room : 0 + length bytes ≤ part_size g (half h) = omega (arith, few, half_sized g h is_half) in
+      let lies : LiesIn g (half h) 0 (length bytes) at = omega (arith, place, few, half_sized g h is_half) in
+      let same' = subst (λ (a : ℕ). SameOutside a (length bytes) old c) lies.place same in
       record {
-        same = same_but g (half h) 0 (length bytes) at old c (omega (arith, is_half)) at0 room same;
+        same = same_but lies same;
         records = same_drop 0 (length bytes) (part_bytes g (half h) old) (part_bytes g (half h) c)
-            (within (part_at g (half h)) (part_size g (half h)) 0 (length bytes) old c room same') (64 + g.slots) (omega (arith, few));
+            (within (part_at g (half h)) (part_size g (half h)) 0 (length bytes) old c lies.inside same') (64 + g.slots) (omega (arith, few));
       }
 
   pub clear_moments : (w0 w1 : Medium) → CrashImagesAre w0 w1 (After w0 (SameOutside {X = ℕ} at (length bytes))) → CrashImagesAre w0 w1 (After w0 (IsSameButGates g h))
@@ -72,12 +71,11 @@ module _ (g : Layout) (h at : ℕ) (bytes : List ℕ) (is_half : h < 2) (place :
 module _ (g : Layout) (h at : ℕ) (is_half : h < 2) (place : at ≡ part_at g (half h)) where
   chain_alone : (old c : List ℕ) → SameOutside at 1 old c → IsSameButChain g h old c
   chain_alone old c same =
-      let at0 : at ≡ part_at g (half h) + 0 = omega (arith, place) in
-      let same' = subst (λ (a : ℕ). SameOutside a 1 old c) at0 same in
-      let room : 0 + 1 ≤ part_size g (half h) = omega (arith, half_sized g h is_half) in
+      let lies : LiesIn g (half h) 0 1 at = omega (arith, place, half_sized g h is_half) in
+      let same' = subst (λ (a : ℕ). SameOutside a 1 old c) lies.place same in
       record {
-        same = same_but g (half h) 0 1 at old c (omega (arith, is_half)) at0 room same;
-        beside = same_drop 0 1 (part_bytes g (half h) old) (part_bytes g (half h) c) (within (part_at g (half h)) (part_size g (half h)) 0 1 old c room same') 1 (omega arith);
+        same = same_but lies same;
+        beside = same_drop 0 1 (part_bytes g (half h) old) (part_bytes g (half h) c) (within (part_at g (half h)) (part_size g (half h)) 0 1 old c lies.inside same') 1 (omega arith);
       }
 
   pub chain_moments : (w0 w1 : Medium) → CrashImagesAre w0 w1 (After w0 (SameOutside {X = ℕ} at 1)) → CrashImagesAre w0 w1 (After w0 (IsSameButChain g h))
@@ -97,7 +95,7 @@ module _ (g : Layout) (h at : ℕ) (is_half : h < 2) (place : at ≡ part_at g (
 module _ (g : Layout) (n : ℕ) where
   root_alone : (old c : List ℕ) → SameOutside 64 1 old c → IsSameButRoot g old c
   root_alone old c same = record {
-    same = same_but g root 0 1 64 old c (omega arith) refl (omega arith) same;
+    same = same_but {i = 0} (omega arith) same;
     beside = same_drop 0 1 (part_bytes g root old) (part_bytes g root c) (within 64 64 0 1 old c (omega arith) same) 1 (omega arith);
   }
 

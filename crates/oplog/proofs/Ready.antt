@@ -1,17 +1,18 @@
 -- A half stays ready while other parts of the device change, and a cleared one is ready when it is named.
-use Rattle.std.proofs.Common.{◌≡◌, ◌≢◌, ◌<◌, ◌≤◌, ◌+◌, ℕ, Bool, true, false, cond, List, length, drop, sym, ◌∙◌, ap, subst, arith}
+use Rattle.std.proofs.Common.{◌≡◌, ◌≢◌, ◌<◌, ◌≤◌, ℕ, Bool, true, false, cond, List, length, drop, sym, ◌∙◌, ap, subst, arith}
 use Rattle.std.proofs.lemmas.Bool.{eq-eqb}
 use Rattle.disk.specs.Device.{Medium, IsSynced}
 use Rattle.disk.proofs.Leaves.{calm_range}
-use Rattle.device_map.specs.Layout.{Layout, layout_of, part_at, part_size, half, root, other, device_size}
+use Rattle.device_map.specs.Layout.{Layout, layout_of, part_at, part_size, half, other, device_size}
 use Rattle.oplog.specs.Front.{open_gates, gates_in}
 use Rattle.oplog.specs.Changes.{IsSameBut, IsReady, Cleared, Chained, Flipped}
 use Rattle.oplog.specs.Log.{Log, chained, flipped}
 use Rattle.oplog.specs.Store.{Touched}
-use Rattle.oplog.proofs.Slices.{half_sized, half_inside, other_part}
+use Rattle.oplog.proofs.Slices.{LiesIn, half_sized, half_inside, other_part}
 
-pub ready_kept : (g : Layout) (h k p : ℕ) (w w' : Medium) → h < 2 → half h ≢ p → device_size g ≤ length w'.now → IsReady g h k w → IsSameBut g p w.now w'.now → IsSynced w' → IsReady g h k w'
-ready_kept g h k p w w' is_half apart fits ready same calm =
+pub ready_kept : {g : Layout} {h k p : ℕ} {w w' : Medium} → h < 2 → half h ≢ p → device_size g ≤ length w'.now → IsReady g h k w
+    → IsSameBut g p w.now w'.now → IsSynced w' → IsReady g h k w'
+ready_kept {g} {h} {k} {w'} is_half apart fits ready same calm =
     let kept = same.others (half h) apart in
     record {
       used = ap (λ (l : List ℕ). open_gates (gates_in g.slots l)) kept ∙ ready.used;
@@ -20,34 +21,34 @@ ready_kept g h k p w w' is_half apart fits ready same calm =
     }
 
 -- It stays so while a range of another part is written, synced or not.
-pub ready_beside : (g : Layout) (h k p i n at : ℕ) (w w' : Medium) → p < 6 → half h ≢ p → at ≡ part_at g p + i → i + n ≤ part_size g p → Touched at n w w' → IsReady g h k w → IsReady g h k w'
-ready_beside g h k p i n at w w' is_part apart place inside wrote ready =
-    let kept = other_part g p (half h) i n at w.now w'.now place inside apart wrote.now in
+pub ready_beside : {g : Layout} {h k p i n at : ℕ} {w w' : Medium} → half h ≢ p → LiesIn g p i n at → Touched at n w w' → IsReady g h k w → IsReady g h k w'
+ready_beside {g} {h} {k} apart lies wrote ready =
+    let kept = other_part (half h) lies apart wrote.now in
     record {
       used = ap (λ (l : List ℕ). open_gates (gates_in g.slots l)) kept ∙ ready.used;
       shut = ap (λ (l : List ℕ). drop k (gates_in g.slots l)) kept ∙ ready.shut;
-      calm = other_part g p (half h) i n at w.unsynced w'.unsynced place inside apart wrote.unsynced ∙ ready.calm;
+      calm = other_part (half h) lies apart wrote.unsynced ∙ ready.calm;
     }
 
 -- The current half was the named one, the other was cleared, and then the chain to it was opened.
-pub ready_chained : (log cleared opened : Log) (w0 w1 w2 : Medium) → log.named < 2 → cleared ≡ record log { cleared = true } → opened
+pub ready_chained : (log : Log) {cleared opened : Log} {w0 w1 w2 : Medium} → log.named < 2 → cleared ≡ record log { cleared = true } → opened
     ≡ chained cleared → device_size (layout_of log.geometry) ≤ length w2.now → Cleared (layout_of log.geometry) (other log.named) w0 w1
     → Chained (layout_of cleared.geometry) cleared.named w1 w2 → IsReady (layout_of opened.geometry) opened.current opened.used w2
-ready_chained log cleared opened w0 w1 w2 is_half first second fits clear chain =
+ready_chained log {opened} {w1} {w2} is_half first second fits clear chain =
     let is : opened ≡ chained (record log { cleared = true }) = second ∙ ap chained first in
     let chain' : Chained (layout_of log.geometry) log.named w1 w2 = subst (λ (x : Log). Chained (layout_of x.geometry) x.named w1 w2) first chain in
     subst (λ (x : Log). IsReady (layout_of x.geometry) x.current x.used w2) (sym is)
-    (ready_kept (layout_of log.geometry) (other log.named) 0 (half log.named) w1 w2 (omega arith) (λ same. omega (arith, same, is_half)) fits clear.ready chain'.same.same chain'.calm)
+    (ready_kept (omega arith) (λ same. omega (arith, same, is_half)) fits clear.ready chain'.same.same chain'.calm)
 
 -- The current half was the named one, the other was cleared, and then it was named.
-pub ready_named : (log cleared named : Log) (w0 w1 w2 : Medium) → log.current ≡ log.named → cleared ≡ record log { cleared = true } → named
+pub ready_named : (log : Log) {cleared named : Log} {w0 w1 w2 : Medium} → log.current ≡ log.named → cleared ≡ record log { cleared = true } → named
     ≡ flipped cleared → device_size (layout_of log.geometry) ≤ length w2.now → Cleared (layout_of log.geometry) (other log.named) w0 w1
     → Flipped (layout_of cleared.geometry) (other cleared.named) w1 w2 → IsReady (layout_of named.geometry) named.current named.used w2
-ready_named log cleared named w0 w1 w2 together first second fits clear flip =
+ready_named log {named} {w1} {w2} together first second fits clear flip =
     let follows : flipped (record log { cleared = true }) ≡ record log { named = other log.named; current = other log.named; used = 0; cleared = false } =
     ap (λ (t : Bool). cond t (record log { named = other log.named; current = other log.named; used = 0; cleared = false })
     (record log { named = other log.named; cleared = false })) (eq-eqb log.current log.named together) in
     let is : named ≡ record log { named = other log.named; current = other log.named; used = 0; cleared = false } = second ∙ ap flipped first ∙ follows in
     let flip' : Flipped (layout_of log.geometry) (other log.named) w1 w2 = subst (λ (x : Log). Flipped (layout_of x.geometry) (other x.named) w1 w2) first flip in
     subst (λ (x : Log). IsReady (layout_of x.geometry) x.current x.used w2) (sym is)
-    (ready_kept (layout_of log.geometry) (other log.named) 0 root w1 w2 (omega arith) (λ same. omega (arith, same)) fits clear.ready flip'.same.same flip'.calm)
+    (ready_kept (omega arith) (λ same. omega (arith, same)) fits clear.ready flip'.same.same flip'.calm)

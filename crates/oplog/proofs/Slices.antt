@@ -44,45 +44,56 @@ offset_below (s ∷ ss) p zero less = absurd (omega (arith, less))
 offset_below (s ∷ ss) zero (suc q) less = omega arith
 offset_below (s ∷ ss) (suc p) (suc q) less = omega (arith, offset_below ss p q (omega (arith, less)))
 
+-- a part ends where all of them end, or before
+ends_below : (ss : List ℕ) (p : ℕ) → offset ss p + get_or ss p 0 ≤ offset ss (length ss)
+ends_below [] p = omega arith
+ends_below (s ∷ ss) zero = omega arith
+ends_below (s ∷ ss) (suc p) = omega (arith, ends_below ss p)
+
 -- a part lies on the device
-pub part_inside : (g : Layout) (p : ℕ) → p < 6 → part_at g p + part_size g p ≤ device_size g
-part_inside g p is_part = offset_below (sizes g) p 6 is_part
+pub part_inside : (g : Layout) (p : ℕ) → part_at g p + part_size g p ≤ device_size g
+part_inside g p = ends_below (sizes g) p
+
+-- The n items from `at` on are those from place i of part p on.
+pub record LiesIn (g : Layout) (p i n at : ℕ) : Type 0 where
+  pub place : at ≡ part_at g p + i
+  pub inside : i + n ≤ part_size g p
 
 -- A change within part p, of bytes or of marks, leaves each other part.
-pub other_part : {X : Type 0} (g : Layout) (p q i n at : ℕ) (xs ys : List X) → at ≡ part_at g p + i → i + n ≤ part_size g p → q ≢ p
+pub other_part : {X : Type 0} {g : Layout} {p i n at : ℕ} {xs ys : List X} (q : ℕ) → LiesIn g p i n at → q ≢ p
     → SameOutside at n xs ys → slice ys (part_at g q) (part_size g q) ≡ slice xs (part_at g q) (part_size g q)
-other_part g p q i n at xs ys place inside differs same =
+other_part {g} {p} {n} {at} {xs} {ys} q lies differs same =
     ⊎_elim
-    (λ (less : q < p). same_before at n xs ys same (part_at g q) (part_size g q) (omega (arith, place, offset_below (sizes g) q p less)))
+    (λ (less : q < p). same_before at n xs ys same (part_at g q) (part_size g q) (omega (arith, lies, offset_below (sizes g) q p less)))
     (λ (no_less : p ≤ q).
     let more : p < q = greater p q differs no_less in
-    same_behind at n xs ys same (part_at g q) (part_size g q) (omega (arith, place, inside, offset_below (sizes g) p q more)))
+    same_behind at n xs ys same (part_at g q) (part_size g q) (omega (arith, lies, offset_below (sizes g) p q more)))
     (cases_lt q p)
   where
     greater : (p q : ℕ) → q ≢ p → p ≤ q → p < q
     greater p q differs no_less = ⊎_elim (λ (less : p < q). less) (λ (no_more : q ≤ p). absurd (differs (omega (arith, no_less, no_more)))) (cases_lt p q)
 
 -- So nothing but that part differs.
-pub same_but : (g : Layout) (p i n at : ℕ) (old c : List ℕ) → p < 6 → at ≡ part_at g p + i → i + n ≤ part_size g p → SameOutside at n old c → IsSameBut g p old c
-same_but g p i n at old c is_part place inside same = record {
+pub same_but : {g : Layout} {p i n at : ℕ} {old c : List ℕ} → LiesIn g p i n at → SameOutside at n old c → IsSameBut g p old c
+same_but {g} {p} {n} {at} {old} {c} lies same = record {
   size = same.size;
-  others = λ q differs. other_part g p q i n at old c place inside differs same;
-  rest = same_drop at n old c same (device_size g) (omega (arith, place, inside, part_inside g p is_part));
+  others = λ q differs. other_part q lies differs same;
+  rest = same_drop at n old c same (device_size g) (omega (arith, lies, part_inside g p));
 }
 
 -- Bytes that are written within a part are written into the part's own bytes.
-pub part_overlaid : (g : Layout) (p i at : ℕ) (bytes old : List ℕ) → p < 6 → at ≡ part_at g p + i → i + length bytes ≤ part_size g p
-    → device_size g ≤ length old → part_bytes g p (overlaid old at bytes) ≡ overlaid (part_bytes g p old) i bytes
-part_overlaid g p i at bytes old is_part place inside fits =
+pub part_overlaid : {g : Layout} {p i at : ℕ} (bytes old : List ℕ) → LiesIn g p i (length bytes) at → device_size g ≤ length old
+    → part_bytes g p (overlaid old at bytes) ≡ overlaid (part_bytes g p old) i bytes
+part_overlaid {g} {p} {i} {at} bytes old lies fits =
     let new = overlaid old at bytes in
-    let same : SameOutside (part_at g p + i) (length bytes) old new = subst (λ (a : ℕ). SameOutside a (length bytes) old new) place (overlaid_outside old at bytes) in
-    let ends = part_inside g p is_part in
+    let same : SameOutside (part_at g p + i) (length bytes) old new = subst (λ (a : ℕ). SameOutside a (length bytes) old new) lies.place (overlaid_outside old at bytes) in
+    let ends = part_inside g p in
     let written : slice (part_bytes g p new) i (length bytes) ≡ bytes =
-    slice_slice new (part_at g p) (part_size g p) i (length bytes) inside ∙ ap (λ (a : ℕ). slice new a (length bytes)) (sym place)
-    ∙ range-overlaid old at bytes (omega (arith, place, inside, fits, ends)) in
+    slice_slice new (part_at g p) (part_size g p) i (length bytes) lies.inside ∙ ap (λ (a : ℕ). slice new a (length bytes)) (sym lies.place)
+    ∙ range-overlaid old at bytes (omega (arith, lies, fits, ends)) in
     let size : length (part_bytes g p old) ≡ part_size g p =
     length-take-le (part_size g p) (drop (part_at g p) old) (omega (arith, length-drop (part_at g p) old, fits, ends)) in
-    put_in (part_bytes g p old) (part_bytes g p new) i bytes (omega (arith, inside, size)) (within (part_at g p) (part_size g p) i (length bytes) old new inside same) written
+    put_in (part_bytes g p old) (part_bytes g p new) i bytes (omega (arith, lies, size)) (within (part_at g p) (part_size g p) i (length bytes) old new lies.inside same) written
   where
     put_in : (xs ys : List ℕ) (i : ℕ) (bytes : List ℕ) → i + length bytes ≤ length xs → SameOutside i (length bytes) xs ys → slice ys i (length bytes) ≡ bytes → ys ≡ overlaid xs i bytes
     put_in xs ys i bytes inside same written =

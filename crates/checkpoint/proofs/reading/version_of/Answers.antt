@@ -14,7 +14,7 @@ read-requires g c =
     omega (
       arith,
       c.image_at.ensures,
-      part_inside (layout_of c.args.g.now) (image c.args.number) (omega (arith, c.requires.number)),
+      part_inside (layout_of c.args.g.now) (image c.args.number),
       image_sized (layout_of c.args.g.now) c.args.number c.requires.number,
       image_some c.args.g.now,
       c.requires.whole,

@@ -8,7 +8,7 @@ use Rattle.oplog.proofs.half.Half.front.Goals as goal
 pub returns-clause-front : goal.returns-clause-front
 returns-clause-front g c = λ k.
     c.count_open.ensures
-    ∙ front_read (layout_of c.args.self.geometry) c.args.self.number c.gate_at.result (g.D.Disk.medium c.args.disk.now).now c.read_at.new.out c.args.self.number_range
+    ∙ front_read (layout_of c.args.self.geometry) c.args.self.number c.args.self.number_range (g.D.Disk.medium c.args.disk.now).now
     c.gate_at.ensures (omega arith) (c.in_ok-read_at.ensures.reads k).ok.1
 
 pub returns-clause-within : goal.returns-clause-within

@@ -15,7 +15,7 @@ returns-clause-record g c = λ k.
     let bytes = record_at (layout_of c.self.inside.geometry) c.args.half c.args.i now in
     let few = subst (λ (log : Log). c.args.i < log.geometry.half) (sym c.self.view_is) c.requires.i in
     let read : c.read_at.new.out ≡ bytes =
-    record_read (layout_of c.self.inside.geometry) c.args.half c.args.i c.record_at.result now c.read_at.new.out c.requires.half few
+    record_read (layout_of c.self.inside.geometry) c.args.half c.requires.half now c.args.i few
     c.record_at.ensures (omega arith) (on_ok c.read_at.result _ (sym c.is_err.ensures.value ∙ c.if-is_err.false) (c.read_at.ensures.reads k).ok).1 in
     subst (λ (log : Log). IsOfRecordAt log c.args.half c.args.i (g.D.Disk.medium c.args.disk.now) c.match-logged_message.result) c.self.view_is
     (elim c.match-logged_message.branch [
