@@ -1,13 +1,13 @@
 -- Why a device is refused whose named area is sound.
-use Rattle.std.proofs.Common.{◌≡◌, ◌<◌, ◌≤◌, ◌==◌, ℕ, Bool, true, false, not, List, [], length, Option, Some, None, is_some, refl, sym, ◌∙◌, ap}
+use Rattle.std.proofs.Common.{◌≡◌, ◌<◌, ◌≤◌, ◌==◌, ℕ, Bool, true, false, not, List, [], length, Option, Some, None, is_some, refl, sym, ◌∙◌, ap, arith}
 use Rattle.affinity.specs.declared.geometry.Geometry.{Geometry}
 use Rattle.checkpoint.specs.declared.fault.OpenFault.{OpenFault}
 use Rattle.checkpoint.specs.declared.fault.OpenFault.TheVariants.{BadVersion, BadPiece, BadRecord}
 use Rattle.checkpoint.specs.Header.{HasHeader}
-use Rattle.checkpoint.specs.Loading.{NamedHolds, are_chained, image_fault, records_fault}
+use Rattle.checkpoint.specs.Loading.{NamedHolds, image_fault, records_fault}
 use Rattle.checkpoint.specs.Recovery.{means}
 use Rattle.checkpoint.specs.Refusals.{fault_if, fault_or_later, first_bad_piece, first_bad_record, refused}
-use Rattle.checkpoint.proofs.Refusing.{behind, named_sound, past_chain}
+use Rattle.checkpoint.proofs.Refusing.{behind, named_sound, one_not, past_chain}
 use Rattle.checkpoint.proofs.Walked.{image_bytes, no_bad_piece}
 use Rattle.disk.specs.Device.{AreBytes}
 use Rattle.image.specs.Image.{read}
@@ -15,6 +15,7 @@ use Rattle.image.proofs.Walk.{read_is_good}
 use Rattle.oplog.specs.Front.{chain, front}
 use Rattle.device_map.specs.Layout.{device_size, image, layout_of, other, part_bytes}
 use Rattle.oplog.specs.Recovery.{named_area, run}
+use Rattle.oplog.proofs.Kept.{named_area-below}
 use Rattle.meaning.specs.State.{State}
 
 -- the image of a device, where it is one
@@ -37,11 +38,11 @@ none_behind g h None = refl
 none_behind g h (Some x) = refl
 
 -- by the records of the named half, where there are none behind
-pub refused_alone : (g : Geometry) (c : List ℕ) (n : ℕ) (x : State) → HasHeader g c → device_size (layout_of g) ≤ length c → n
-    ≡ named_area (layout_of g) c → are_chained (layout_of g) c ≡ false → image_fault g (part_bytes (layout_of g) (image n) c) ≡ None
-    → read g (part_bytes (layout_of g) (image n) c) ≡ Some x → (chain (layout_of g) n c == 1) ≡ false → refused g c ≡ records_fault g x n (front (layout_of g) n c)
-refused_alone g c n x head long named one good decoded shut =
-    past_chain g c head long n named good x decoded one
+pub refused_alone : (g : Geometry) (c : List ℕ) {n : ℕ} {x : State} → HasHeader g c → device_size (layout_of g) ≤ length c → n ≡ named_area (layout_of g) c
+    → image_fault g (part_bytes (layout_of g) (image n) c) ≡ None → read g (part_bytes (layout_of g) (image n) c) ≡ Some x
+    → (chain (layout_of g) n c == 1) ≡ false → refused g c ≡ records_fault g x n (front (layout_of g) n c)
+refused_alone g c {n} {x} head long named good decoded shut =
+    past_chain g c head long n named good x decoded (one_not (layout_of g) c n (omega (arith, named, named_area-below (layout_of g) c)) shut)
     ∙ ap (λ (t : Bool). fault_or_later (BadRecord n) (first_bad_record g 0 (Some x) (front (layout_of g) n c)) (behind g x n c t (run (means g) (Some x) (front (layout_of g) n c)))) shut
     ∙ ap (λ (o : Option OpenFault). fault_or_later (BadRecord n) (first_bad_record g 0 (Some x) (front (layout_of g) n c)) o)
     (none_behind g (other n) (run (means g) (Some x) (front (layout_of g) n c)))

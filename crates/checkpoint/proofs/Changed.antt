@@ -7,13 +7,13 @@ use Rattle.disk.proofs.Outside.{same_all, same_both, wider}
 use Rattle.oplog.specs.Changes.{ChangesOnly}
 
 -- What changes in a range changes in a wider one.
-pub changed_within : (w0 w1 : Medium) (a k at n : ℕ) → a ≤ at → at + n ≤ a + k → ChangesOnly w0 w1 (SameOutside at n) → ChangesOnly w0 w1 (SameOutside a k)
-changed_within w0 w1 a k at n below behind moments =
+pub changed_within : {w0 w1 : Medium} {a k at n : ℕ} → a ≤ at → at + n ≤ a + k → ChangesOnly w0 w1 (SameOutside at n) → ChangesOnly w0 w1 (SameOutside a k)
+changed_within {w0} {w1} {a} {k} {at} {n} below behind moments =
     weaker w0 w1 _ _ moments (λ c after. record { old = after.old; left = after.left; change = wider at n after.old c after.change a k below behind })
 
 -- one segment after another
-pub changed_then : (w0 w1 w2 : Medium) (a k : ℕ) → ChangesOnly w0 w1 (SameOutside a k) → ChangesOnly w1 w2 (SameOutside a k) → ChangesOnly w0 w2 (SameOutside a k)
-changed_then w0 w1 w2 a k first second =
+pub changed_then : {w0 w1 w2 : Medium} {a k : ℕ} → ChangesOnly w0 w1 (SameOutside a k) → ChangesOnly w1 w2 (SameOutside a k) → ChangesOnly w0 w2 (SameOutside a k)
+changed_then {w0} {w1} {w2} {a} {k} first second =
     then w0 w1 w2 _ first
     (weaker w1 w2 _ _ second
     (λ c after.

@@ -25,9 +25,9 @@ use Rattle.meaning.proofs.Kept.{empty_is_state}
 -- ---- bytes that are somewhere
 
 -- a change beside them
-pub has_kept : (a at n : ℕ) (bytes c torn : List ℕ) → (a + length bytes ≤ at) ⊎ (at + n ≤ a) → SameOutside at n c torn → Has c a bytes → Has torn a bytes
-has_kept a at n bytes c torn (inl before) same has = same_before at n c torn same a (length bytes) before ∙ has
-has_kept a at n bytes c torn (inr behind) same has = same_behind at n c torn same a (length bytes) behind ∙ has
+pub has_kept : (a : ℕ) {at n : ℕ} {bytes c torn : List ℕ} → (a + length bytes ≤ at) ⊎ (at + n ≤ a) → SameOutside at n c torn → Has c a bytes → Has torn a bytes
+has_kept a {at} {n} {bytes} {c} {torn} (inl before) same has = same_before at n c torn same a (length bytes) before ∙ has
+has_kept a {at} {n} {bytes} {c} {torn} (inr behind) same has = same_behind at n c torn same a (length bytes) behind ∙ has
 
 -- what was written
 pub has_put : (c : List ℕ) (at : ℕ) (bytes : List ℕ) → at + length bytes ≤ length c → Has (overlaid c at bytes) at bytes
@@ -112,15 +112,15 @@ version_empty g c laid =
 
 pub laid_kept : (g : Geometry) (at n : ℕ) (c torn : List ℕ) → at + n ≤ 64 → SameOutside at n c torn → IsLaid g c → IsLaid g torn
 laid_kept g at n c torn before same laid = record {
-  root = has_kept 64 at n _ c torn (inr before) same laid.root;
-  one = has_kept (part_at (layout_of g) 3) at n _ c torn (inr (omega (arith, before))) same laid.one;
-  image = has_kept (part_at (layout_of g) 4) at n _ c torn (inr (omega (arith, before))) same laid.image;
+  root = has_kept 64 (inr before) same laid.root;
+  one = has_kept (part_at (layout_of g) 3) (inr (omega (arith, before))) same laid.one;
+  image = has_kept (part_at (layout_of g) 4) (inr (omega (arith, before))) same laid.image;
 }
 
 pub headed_kept : (g : Geometry) (c torn : List ℕ) → SameOutside 0 1 c torn → IsHeaded g c → IsHeaded g torn
 headed_kept g c torn same headed = record {
   laid = laid_kept g 0 1 c torn (omega arith) same headed.laid;
-  header = has_kept 1 0 1 (drop 1 (header_of g)) c torn (inr (omega arith)) same headed.header;
+  header = has_kept 1 (inr (omega arith)) same headed.header;
 }
 
 -- The header's bytes behind its gate are written.
@@ -177,13 +177,13 @@ laid_out g c long =
     let size_2 : length c2 ≡ length c1 = length-overlaid c1 at_1 zeros_1 in
     let size_3 : length c3 ≡ length c2 = length-overlaid c2 at_2 zeros_2 in
     let root_1 : Has c1 64 zeros_0 = has_put c 64 zeros_0 (omega (arith, long, long_0)) in
-    let root_2 : Has c2 64 zeros_0 = has_kept 64 at_1 (length zeros_1) zeros_0 c1 c2 (inl (omega (arith, long_0))) (overlaid_outside c1 at_1 zeros_1) root_1 in
-    let root_3 : Has c3 64 zeros_0 = has_kept 64 at_2 (length zeros_2) zeros_0 c2 c3 (inl (omega (arith, long_0))) (overlaid_outside c2 at_2 zeros_2) root_2 in
+    let root_2 : Has c2 64 zeros_0 = has_kept 64 (inl (omega (arith, long_0))) (overlaid_outside c1 at_1 zeros_1) root_1 in
+    let root_3 : Has c3 64 zeros_0 = has_kept 64 (inl (omega (arith, long_0))) (overlaid_outside c2 at_2 zeros_2) root_2 in
     let one_2 : Has c2 at_1 zeros_1 = has_put c1 at_1 zeros_1 (omega (arith, long, long_1, size_1)) in
-    let one_3 : Has c3 at_1 zeros_1 = has_kept at_1 at_2 (length zeros_2) zeros_1 c2 c3 (inl (omega (arith, long_1))) (overlaid_outside c2 at_2 zeros_2) one_2 in
+    let one_3 : Has c3 at_1 zeros_1 = has_kept at_1 (inl (omega (arith, long_1))) (overlaid_outside c2 at_2 zeros_2) one_2 in
     let image_3 : Has c3 at_2 zeros_2 = has_put c2 at_2 zeros_2 (omega (arith, long, long_2, size_1, size_2)) in
     record {
-      root = has_kept 64 at_2 1 zeros_0 c3 c4 (inl (omega (arith, long_0))) (overlaid_outside c3 at_2 (2 ∷ [])) root_3;
-      one = has_kept at_1 at_2 1 zeros_1 c3 c4 (inl (omega (arith, long_1))) (overlaid_outside c3 at_2 (2 ∷ [])) one_3;
+      root = has_kept 64 (inl (omega (arith, long_0))) (overlaid_outside c3 at_2 (2 ∷ [])) root_3;
+      one = has_kept at_1 (inl (omega (arith, long_1))) (overlaid_outside c3 at_2 (2 ∷ [])) one_3;
       image = version_there g c3 at_2 (omega (arith, long, size_1, size_2, size_3)) image_3;
     }

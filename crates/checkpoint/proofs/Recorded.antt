@@ -61,16 +61,16 @@ no_record g x bytes size are none = by (message_in_fields bytes) refl
         let third = and_parts (is_changing (kind m)) (is_done (reply_to g x m)) first.1 in
         no_record_says_none g bytes size are none m is (third.0, second.1) ((bytes_eq-Decides bytes (record_of m)).0 second.0)))
 
--- A record that couldn't be read gives the fault that its bytes give.
-pub read_fault : (g h : Geometry) → h ≡ g → (x : State) (half i : ℕ) (bytes : List ℕ) → length bytes ≡ 520 → AreBytes bytes → (e : LogFault)
-    → IsOfRecord h bytes (Err e) → IsAbout half i (Err e) → IsFaultOfBytes (record_fault g x half i bytes) (fault_of_log e)
-read_fault g h same x half i bytes size are Device of_it about = tt
-read_fault g h same x half i bytes size are (BadRecord a b) of_it about =
-    ap (λ (o : Option State). fault_if (is_none o) (faults.BadRecord half i) None) (no_record g x bytes size are (subst (λ (k : Geometry). IsNoRecord k bytes) same of_it))
-    ∙ (λ j. Some (faults.BadRecord (sym about.0 j) (sym about.1 j)))
+module _ {g h : Geometry} (same : h ≡ g) (x : State) (half i : ℕ) (bytes : List ℕ) where
+  -- A record that couldn't be read gives the fault that its bytes give.
+  pub read_fault : length bytes ≡ 520 → AreBytes bytes → (e : LogFault) → IsOfRecord h bytes (Err e) → IsAbout half i (Err e)
+      → IsFaultOfBytes (record_fault g x half i bytes) (fault_of_log e)
+  read_fault size are Device of_it about = tt
+  read_fault size are (BadRecord a b) of_it about =
+      ap (λ (o : Option State). fault_if (is_none o) (faults.BadRecord half i) None) (no_record g x bytes size are (subst (λ (k : Geometry). IsNoRecord k bytes) same of_it))
+      ∙ (λ j. Some (faults.BadRecord (sym about.0 j) (sym about.1 j)))
 
--- So does one that isn't carried out.
-pub not_run : (g h : Geometry) → h ≡ g → (x : State) (half i : ℕ) (m : Msg) (bytes : List ℕ) → IsMessage m → IsLogged h m → bytes ≡ record_of m → (reply_to g x m ≡ Done → ⊥)
-    → record_fault g x half i bytes ≡ Some (faults.BadRecord half i)
-not_run g h same x half i m bytes whole logged are differs =
-    ap (λ (o : Option State). fault_if (is_none o) (faults.BadRecord half i) None) (not_carried g x m bytes whole (subst (λ (k : Geometry). IsLogged k m) same logged) are differs)
+  -- So does one that isn't carried out.
+  pub not_run : (m : Msg) → IsMessage m → IsLogged h m → bytes ≡ record_of m → (reply_to g x m ≡ Done → ⊥) → record_fault g x half i bytes ≡ Some (faults.BadRecord half i)
+  not_run m whole logged are differs =
+      ap (λ (o : Option State). fault_if (is_none o) (faults.BadRecord half i) None) (not_carried g x m bytes whole (subst (λ (k : Geometry). IsLogged k m) same logged) are differs)

@@ -216,9 +216,9 @@ shown c l s is told = record {
 }
 
 -- of a tree whose geometry is that of the header
-pub loaded : (g : Geometry) (c : List ℕ) (l : Loaded) → l.tree.geometry ≡ g → HasHeader g c → refused g c ≡ None → l.area ≡ named_area (layout_of g) c
+pub loaded : {g : Geometry} {c : List ℕ} {l : Loaded} → l.tree.geometry ≡ g → HasHeader g c → refused g c ≡ None → l.area ≡ named_area (layout_of g) c
     → l.version ≡ version_in (part_bytes (layout_of g) (image l.area) c) → l.records ≡ length (in_force (layout_of g) l.area c) → holds g c ≡ Some (state_in l.tree) → IsLoaded c l
-loaded g c l same head sound area version records state = record {
+loaded {c} {l} same head sound area version records state = record {
   header = subst (λ (h : Geometry). HasHeader h c) (sym same) head;
   sound = ap (λ (h : Geometry). refused h c) same ∙ sound;
   area = area ∙ ap (λ (h : Geometry). named_area (layout_of h) c) (sym same);

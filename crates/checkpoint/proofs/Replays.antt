@@ -88,14 +88,14 @@ module _ (g : Geometry) (l : Layout) (h : ℕ) (c : List ℕ) (x0 : State) where
 
 -- ---- of a tree, a log and bytes that are the same
 
-pub apply_same : (g h : Geometry) → h ≡ g → (a b : Log) → b ≡ a → (c d : List ℕ) → d ≡ c → (x : State) (half i : ℕ)
-    → apply h x (record_at (layout b) half i d) ≡ apply g x (record_at (layout a) half i c)
-apply_same g h geometry a b log c d bytes x half i = λ j. apply (geometry j) x (record_at (layout (log j)) half i (bytes j))
+module _ {a b : Log} (log : b ≡ a) {c d : List ℕ} (bytes : d ≡ c) (half : ℕ) where
+  pub front_same : front (layout b) half d ≡ front (layout a) half c
+  front_same = λ j. front (layout (log j)) half (bytes j)
 
-pub record_fault_same : (g h : Geometry) → h ≡ g → (a b : Log) → b ≡ a → (c d : List ℕ) → d ≡ c → (x : State) (half i : ℕ) (e : OpenFault)
-    → IsFaultOfBytes (record_fault h x half i (record_at (layout b) half i d)) e → IsFaultOfBytes (record_fault g x half i (record_at (layout a) half i c)) e
-record_fault_same g h geometry a b log c d bytes x half i e =
-    subst (λ (o : Option OpenFault). IsFaultOfBytes o e) (λ j. record_fault (geometry j) x half i (record_at (layout (log j)) half i (bytes j)))
+  module _ {g h : Geometry} (geometry : h ≡ g) (x : State) (i : ℕ) where
+    pub apply_same : apply h x (record_at (layout b) half i d) ≡ apply g x (record_at (layout a) half i c)
+    apply_same = λ j. apply (geometry j) x (record_at (layout (log j)) half i (bytes j))
 
-pub front_same : (a b : Log) → b ≡ a → (c d : List ℕ) → d ≡ c → (half : ℕ) → front (layout b) half d ≡ front (layout a) half c
-front_same a b log c d bytes half = λ j. front (layout (log j)) half (bytes j)
+    pub record_fault_same : (e : OpenFault) → IsFaultOfBytes (record_fault h x half i (record_at (layout b) half i d)) e
+        → IsFaultOfBytes (record_fault g x half i (record_at (layout a) half i c)) e
+    record_fault_same e = subst (λ (o : Option OpenFault). IsFaultOfBytes o e) (λ j. record_fault (geometry j) x half i (record_at (layout (log j)) half i (bytes j)))

@@ -21,57 +21,56 @@ use Rattle.meaning.specs.State.{IsState}
 use Rattle.affinity.proofs.Preorder.{path_unique}
 
 -- the affinity that was asked for is that of the message's place
-pub placed : (g : Geometry) (m : Msg) (k : Kind) (n : List ℕ) (a : Interval) → k ≡ kind m → n ≡ four_numbers m → IsAffinityOf g (place_of g k n) a → IsAffinityOf g (place g m) a
-placed g m k n a k_is n_is there = subst (λ (l : List ℕ). IsAffinityOf g (place_of g (kind m) l) a) n_is (subst (λ (j : Kind). IsAffinityOf g (place_of g j n) a) k_is there)
+pub placed : {g : Geometry} (m : Msg) {k : Kind} {n : List ℕ} {a : Interval} → k ≡ kind m → n ≡ four_numbers m → IsAffinityOf g (place_of g k n) a → IsAffinityOf g (place g m) a
+placed {g} m {n} {a} k_is n_is there = subst (λ (l : List ℕ). IsAffinityOf g (place_of g (kind m) l) a) n_is (subst (λ (j : Kind). IsAffinityOf g (place_of g j n) a) k_is there)
 
-module _ (g : Geometry) (m : Msg) (s : Standing) (l : Parcels) (job : JobView) (is : job ≡ record { geometry = g; ticket = 0; message = m; standing = s; parcels = l })
-    (a : Interval) (there : IsAffinityOf g (place g m) a) (done : Done) (ran : IsJobRun job done) (old lent : Nodes) where
+module _ {g : Geometry} {m : Msg} {s : Standing} {l : Parcels} {job : JobView} (is : job ≡ record { geometry = g; ticket = 0; message = m; standing = s; parcels = l })
+    {a : Interval} (there : IsAffinityOf g (place g m) a) {done : Done} (ran : IsJobRun job done) {old lent : Nodes}
+    {h : Geometry} (same : g ≡ h) (took : (p : Path) → IsAffinityOf h p a → LendsAt h p s l old lent) where
   -- what was lent by the tree of a geometry that is the same
-  lends : (h : Geometry) → g ≡ h → ((p : Path) → IsAffinityOf h p a → LendsAt h p s l old lent) → LendsJob job old lent
-  lends h same took =
+  lends : LendsJob job old lent
+  lends =
       subst (λ (j : JobView). LendsJob j old lent) (sym is)
       (subst (λ (i : Geometry). (p : Path) → IsAffinityOf i p a → LendsAt i p s l old lent) (sym same) took (place g m) there)
 
   -- what was run goes back
-  pub goes_back : (h : Geometry) → g ≡ h → ((p : Path) → IsAffinityOf h p a → LendsAt h p s l old lent) → CanBePutBack g (place g m) done.parcels lent
-  goes_back h same took = subst (λ (j : JobView). CanBePutBack j.geometry (job_place j) done.parcels lent) is (ran_goes_back job done old lent (lends h same took) ran)
+  pub goes_back : CanBePutBack g (place g m) done.parcels lent
+  goes_back = subst (λ (j : JobView). CanBePutBack j.geometry (job_place j) done.parcels lent) is (ran_goes_back job done old lent lends ran)
 
-  pub fits_there : (h : Geometry) → g ≡ h → ((p : Path) → IsAffinityOf h p a → LendsAt h p s l old lent)
-      → (k : Geometry) → g ≡ k → (r : Parcels) → r ≡ done.parcels → (q : Path) → IsAffinityOf k q a → IsKindOf q r → Fits k q r
-  fits_there h same took k alike r is_done =
-      subst (λ (i : Geometry). (q : Path) → IsAffinityOf i q a → IsKindOf q r → Fits i q r) alike
-      (λ q at kind_is. subst (λ (x : Parcels). Fits g q x) (sym is_done) (subst (λ (p : Path). Fits g p done.parcels) (path_unique g (place g m) q a there at) (goes_back h same took).fits))
+  module _ {k : Geometry} (alike : g ≡ k) {r : Parcels} (is_done : r ≡ done.parcels) where
+    pub fits_there : (q : Path) → IsAffinityOf k q a → IsKindOf q r → Fits k q r
+    fits_there =
+        subst (λ (i : Geometry). (q : Path) → IsAffinityOf i q a → IsKindOf q r → Fits i q r) alike
+        (λ q at kind_is. subst (λ (x : Parcels). Fits g q x) (sym is_done) (subst (λ (p : Path). Fits g p done.parcels) (path_unique g (place g m) q a there at) goes_back.fits))
 
-  -- so a refusal to put it back can't come
-  pub goes : (h : Geometry) → g ≡ h → ((p : Path) → IsAffinityOf h p a → LendsAt h p s l old lent)
-      → (k : Geometry) → g ≡ k → (r : Parcels) → r ≡ done.parcels → ((q : Path) → IsAffinityOf k q a → IsOut q lent → IsKindOf q r → ⊥) → ⊥
-  goes h same took k alike r is_done refused =
-      let back = goes_back h same took in
-      refused (place g m) (subst (λ (i : Geometry). IsAffinityOf i (place g m) a) alike there) back.out (subst (λ (x : Parcels). IsKindOf (place g m) x) (sym is_done) back.kind)
+    -- so a refusal to put it back can't come
+    pub goes : ((q : Path) → IsAffinityOf k q a → IsOut q lent → IsKindOf q r → ⊥) → ⊥
+    goes refused =
+        refused (place g m) (subst (λ (i : Geometry). IsAffinityOf i (place g m) a) alike there) goes_back.out (subst (λ (x : Parcels). IsKindOf (place g m) x) (sym is_done) goes_back.kind)
 
-  -- the whole of it
-  module _ (new : Nodes) (h : Geometry) (same : g ≡ h) (took : (p : Path) → IsAffinityOf h p a → LendsAt h p s l old lent)
-      (k : Geometry) (alike : g ≡ k) (r : Parcels) (is_done : r ≡ done.parcels) (put : (q : Path) → IsAffinityOf k q a → RestoresAt k q r lent new) where
-    served : LendsRunsRestores job done old lent new
-    served = record {
-      taken = lends h same took;
-      ran = ran;
-      put = subst (λ (j : JobView). RestoresAt j.geometry (job_place j) done.parcels lent new) (sym is)
-          (subst (λ (x : Parcels). RestoresAt g (place g m) x lent new) is_done
-          (subst (λ (i : Geometry). (q : Path) → IsAffinityOf i q a → RestoresAt i q r lent new) (sym alike) put (place g m) there));
-    }
+    -- the whole of it
+    module _ {new : Nodes} (put : (q : Path) → IsAffinityOf k q a → RestoresAt k q r lent new) where
+      served : LendsRunsRestores job done old lent new
+      served = record {
+        taken = lends;
+        ran = ran;
+        put = subst (λ (j : JobView). RestoresAt j.geometry (job_place j) done.parcels lent new) (sym is)
+            (subst (λ (x : Parcels). RestoresAt g (place g m) x lent new) is_done
+            (subst (λ (i : Geometry). (q : Path) → IsAffinityOf i q a → RestoresAt i q r lent new) (sym alike) put (place g m) there));
+      }
 
-    pub stepped : IsSerialStep h (tree_state h old) m done.reply (tree_state h new)
-    stepped =
-        subst (λ (i : Geometry). IsSerialStep i (tree_state i old) m done.reply (tree_state i new)) same
-        (subst (λ (j : JobView). IsSerialStep j.geometry (tree_state j.geometry old) j.message done.reply (tree_state j.geometry new)) is (served_step job done old lent new served))
+      pub stepped : IsSerialStep h (tree_state h old) m done.reply (tree_state h new)
+      stepped =
+          subst (λ (i : Geometry). IsSerialStep i (tree_state i old) m done.reply (tree_state i new)) same
+          (subst (λ (j : JobView). IsSerialStep j.geometry (tree_state j.geometry old) j.message done.reply (tree_state j.geometry new)) is (served_step job done old lent new served))
 
-    pub all_in_again : IsIn h [] old → IsIn h [] new
-    all_in_again =
-        subst (λ (i : Geometry). IsIn i [] old → IsIn i [] new) same
-        (subst (λ (j : JobView). IsIn j.geometry [] old → IsIn j.geometry [] new) is (served_is_in job done old lent new served))
+      pub all_in_again : IsIn h [] old → IsIn h [] new
+      all_in_again =
+          subst (λ (i : Geometry). IsIn i [] old → IsIn i [] new) same
+          (subst (λ (j : JobView). IsIn j.geometry [] old → IsIn j.geometry [] new) is (served_is_in job done old lent new served))
 
-    pub state_again : IsMessage m → IsState h (tree_state h old) → IsState h (tree_state h new)
-    state_again =
-        subst (λ (i : Geometry). IsMessage m → IsState i (tree_state i old) → IsState i (tree_state i new)) same
-        (subst (λ (j : JobView). IsMessage j.message → IsState j.geometry (tree_state j.geometry old) → IsState j.geometry (tree_state j.geometry new)) is (served_state job done old lent new served))
+      pub state_again : IsMessage m → IsState h (tree_state h old) → IsState h (tree_state h new)
+      state_again =
+          subst (λ (i : Geometry). IsMessage m → IsState i (tree_state i old) → IsState i (tree_state i new)) same
+          (subst (λ (j : JobView). IsMessage j.message → IsState j.geometry (tree_state j.geometry old) → IsState j.geometry (tree_state j.geometry new)) is
+          (served_state job done old lent new served))

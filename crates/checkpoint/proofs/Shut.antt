@@ -41,10 +41,10 @@ stored_shut n w0 w1 some long stored =
     (λ is_open. let zero : get_or w1.now 0 0 ≡ 0 = ap (λ (l : List ℕ). get_or l 0 0) stored.now ∙ item-overlaid w0.now 0 0 0 [] some in absurd (omega (arith, zero, is_open)))
 
 -- While an open gate is shut, behind a sync: the old device, or a shut one.
-pub shutting : (w0 w1 w2 : Medium) → AreBytes w0.now → IsSynced w1 → w1.now ≡ w0.now → get_or w1.now 0 0 ≡ 1
+pub shutting : {w0 w1 w2 : Medium} → AreBytes w0.now → IsSynced w1 → w1.now ≡ w0.now → get_or w1.now 0 0 ≡ 1
     → CrashImagesAre w0 w1 (λ c. IsCrashImage w0 c ⊎ IsShut (length w0.now) c) → ChangesOnly w1 w2 (SameOutside 0 1)
     → CrashImagesAre w0 w2 (λ c. IsCrashImage w0 c ⊎ IsShut (length w0.now) c)
-shutting w0 w1 w2 are calm kept was begun moments =
+shutting {w0} {w1} {w2} are calm kept was begun moments =
     then w0 w1 w2 _ begun
     (weaker w1 w2 _ _ moments
     (λ c after.

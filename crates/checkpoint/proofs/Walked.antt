@@ -17,15 +17,15 @@ use Rattle.image.proofs.Joining.{piece_inside, whole_image}
 use Rattle.image.proofs.Numbers.{number_there}
 use Rattle.image.proofs.Walk.{good_is_read, good_is_seen}
 use Rattle.messages.specs.Messages.{AreSizedBytes as Holds}
-use Rattle.device_map.specs.Layout.{device_size, image, image_size, layout_of, part_bytes, part_at, part_size, slice}
+use Rattle.device_map.specs.Layout.{device_size, image, layout_of, part_bytes, part_at, part_size, slice}
 use Rattle.oplog.proofs.Slices.{image_sized, part_inside, slice_slice}
-use Rattle.meaning.specs.State.{State, empty, is_block_of, sum_below}
+use Rattle.meaning.specs.State.{State, empty, is_block_of}
 
 -- ---- where pieces lie
 
-pub piece_there : (g : Geometry) (number n at : ℕ) (now out : List ℕ) → number < 2 → n < piece_count g → at ≡ part_at (layout_of g) (image number) + piece_at g n
+pub piece_there : (g : Geometry) (number n : ℕ) {at : ℕ} (now : List ℕ) {out : List ℕ} → number < 2 → n < piece_count g → at ≡ part_at (layout_of g) (image number) + piece_at g n
     → out ≡ slice now at (piece_size g n) → out ≡ piece_in g (part_bytes (layout_of g) (image number) now) n
-piece_there g number n at now out is_image below place is =
+piece_there g number n now is_image below place is =
     is ∙ ap (λ (a : ℕ). slice now a (piece_size g n)) place
     ∙ sym (slice_slice now (part_at (layout_of g) (image number)) (part_size (layout_of g) (image number)) (piece_at g n) (piece_size g n)
     (omega (arith, piece_inside g n below, image_sized (layout_of g) number is_image)))
@@ -60,8 +60,8 @@ module _ (version : ℕ) (g : Geometry) (n : ℕ) (x : State) (bytes : List ℕ)
 
 -- ---- one piece
 
-module _ (g : Geometry) (bytes : List ℕ) (version n : ℕ) (ver : version ≡ version_in bytes) (below : n < piece_count g)
-    (x : State) (so_far : x ≡ decoded_before (version_in bytes) g bytes n) (out : List ℕ) (there : out ≡ piece_in g bytes n) where
+module _ (g : Geometry) (bytes : List ℕ) (n : ℕ) {version : ℕ} (ver : version ≡ version_in bytes) (below : n < piece_count g)
+    {x : State} (so_far : x ≡ decoded_before (version_in bytes) g bytes n) {out : List ℕ} (there : out ≡ piece_in g bytes n) where
   pub decoded_next : with_piece version g x n out ≡ decoded_before (version_in bytes) g bytes (n + 1)
   decoded_next = (λ i. with_piece (ver i) g (so_far i) n (there i)) ∙ ap (λ (k : ℕ). decoded_before (version_in bytes) g bytes k) (sym (add-one n))
 
@@ -109,7 +109,7 @@ good_next g bytes n good here i few =
 
 -- ---- what a step of the walk gives, by a tree's own geometry
 
-module _ (g h : Geometry) (same : h ≡ g) (number n at size : ℕ) (buffer : List ℕ) (is_image : number < 2) (below : n < piece_count g)
+module _ {g h : Geometry} (same : h ≡ g) (number n : ℕ) {at size : ℕ} (buffer : List ℕ) (is_image : number < 2) (below : n < piece_count g)
     (place : at ≡ part_at (layout_of g) (image number) + piece_at g n) (sized : size ≡ piece_size h n) where
   its_size : size ≡ piece_size g n
   its_size = sized ∙ ap (λ (k : Geometry). piece_size k n) same
@@ -127,25 +127,25 @@ module _ (g h : Geometry) (same : h ≡ g) (number n at size : ℕ) (buffer : Li
         long,
       )
 
-  pub read_there : size ≤ length buffer → (now seen out : List ℕ) → seen ≡ now → out ≡ slice seen at (length (take size buffer))
+  pub read_there : {now seen out : List ℕ} → size ≤ length buffer → seen ≡ now → out ≡ slice seen at (length (take size buffer))
       → out ≡ piece_in g (part_bytes (layout_of g) (image number) now) n
-  read_there room now seen out are is =
+  read_there {now} room are is =
       let long : length (take size buffer) ≡ piece_size g n = omega (arith, length-take size buffer, room, its_size) in
-      piece_there g number n at now out is_image below place (is ∙ (λ i. slice (are i) at (long i)))
+      piece_there g number n now is_image below place (is ∙ (λ i. slice (are i) at (long i)))
 
   pub next_place : (len : ℕ) → size ≤ length buffer → len ≡ length (take size buffer) → at + len ≡ part_at (layout_of g) (image number) + piece_at g (n + 1)
   next_place len room is =
       let more : piece_at g (n + 1) ≡ piece_at g (suc n) = ap (λ (k : ℕ). piece_at g k) (add-one n) in
       omega (arith, place, its_size, length-take size buffer, room, is, more)
 
-module _ (g h : Geometry) (same : h ≡ g) (bytes : List ℕ) (version n : ℕ) (ver : version ≡ version_in bytes) (below : n < piece_count g)
-    (x : State) (so_far : x ≡ decoded_before (version_in bytes) g bytes n) (out : List ℕ) (there : out ≡ piece_in g bytes n) where
+module _ {g h : Geometry} (same : h ≡ g) (bytes : List ℕ) (n : ℕ) {version : ℕ} (ver : version ≡ version_in bytes) (below : n < piece_count g)
+    {x : State} (so_far : x ≡ decoded_before (version_in bytes) g bytes n) {out : List ℕ} (there : out ≡ piece_in g bytes n) where
   pub good_queued : out ≡ piece_of version h (with_piece version h x n out) n → AreGood g bytes n → AreGood g bytes (n + 1)
   good_queued here good =
-      good_next g bytes n good (is_good_here g bytes version n ver below x so_far out there (subst (λ (k : Geometry). out ≡ piece_of version k (with_piece version k x n out) n) same here))
+      good_next g bytes n good (is_good_here g bytes n ver below so_far there (subst (λ (k : Geometry). out ≡ piece_of version k (with_piece version k x n out) n) same here))
 
-  pub decoded_turn : (y : State) → y ≡ with_piece version h x n out → y ≡ decoded_before (version_in bytes) g bytes (n + 1)
-  decoded_turn y is = is ∙ ap (λ (k : Geometry). with_piece version k x n out) same ∙ decoded_next g bytes version n ver below x so_far out there
+  pub decoded_turn : {y : State} → y ≡ with_piece version h x n out → y ≡ decoded_before (version_in bytes) g bytes (n + 1)
+  decoded_turn is = is ∙ ap (λ (k : Geometry). with_piece version k x n out) same ∙ decoded_next g bytes n ver below so_far there
 
   pub bad_queued : (out ≡ piece_of version h (with_piece version h x n out) n → false ≡ true) → AreGood g bytes n → (e : OpenFault) → e ≡ BadPiece n
       → IsFaultOfBytes (fault_or_later BadPiece (first_bad_piece g bytes) None) e
@@ -153,33 +153,32 @@ module _ (g h : Geometry) (same : h ≡ g) (bytes : List ℕ) (version n : ℕ) 
       subst (λ (f : OpenFault). IsFaultOfBytes (fault_or_later BadPiece (first_bad_piece g bytes) None) f) (sym is)
       (ap (λ (o : Option ℕ). fault_or_later BadPiece o None)
       (bad_piece g bytes n below good
-      (is_bad_here g bytes version n ver below x so_far out there
+      (is_bad_here g bytes n ver below so_far there
       (λ here. false≢true (bad (subst (λ (k : Geometry). out ≡ piece_of version k (with_piece version k x n out) n) (sym same) here))))))
 
-pub free_queued : (version : ℕ) (g h : Geometry) → h ≡ g → (n : ℕ) (x y : State) (out : List ℕ) → y ≡ with_piece version h x n out → AreFree g n x → AreFree g (n + 1) y
-free_queued version g h same n x y out is before =
+pub free_queued : (version : ℕ) {g h : Geometry} {n : ℕ} {x y : State} → h ≡ g → (out : List ℕ) → y ≡ with_piece version h x n out → AreFree g n x → AreFree g (n + 1) y
+free_queued version {g} {n} {x} same out is before =
     subst (λ (z : State). AreFree g (n + 1) z) (sym (is ∙ ap (λ (k : Geometry). with_piece version k x n out) same)) (free_next version g n x out before)
 
 -- ---- the whole image
 
-pub image_bytes : (g : Geometry) (number : ℕ) (now : List ℕ) → number < 2 → device_size (layout_of g) ≤ length now → AreBytes now
-    → Holds (piece_at g (piece_count g)) (part_bytes (layout_of g) (image number) now)
-image_bytes g number now is_image long are =
-    let at = part_at (layout_of g) (image number) in
-    let size = part_size (layout_of g) (image number) in (
-      length-take-le size (drop at now) (omega (arith, length-drop at now, long, part_inside (layout_of g) (image number)))
-          ∙ image_sized (layout_of g) number is_image ∙ sym (whole_image g),
-      bytes_by_recursion (part_bytes (layout_of g) (image number) now) (bytes-range at size now are),
-    )
+module _ (g : Geometry) (number : ℕ) (now : List ℕ) (is_image : number < 2) (long : device_size (layout_of g) ≤ length now) (are : AreBytes now) where
+  abbrev bytes : List ℕ
+  bytes = part_bytes (layout_of g) (image number) now
 
-pub all_read : (g : Geometry) (number : ℕ) (now : List ℕ) → number < 2 → device_size (layout_of g) ≤ length now → AreBytes now
-    → has_head (part_bytes (layout_of g) (image number) now) ≡ true → (n : ℕ) → n ≡ piece_count g → (x : State)
-    → x ≡ decoded_before (version_in (part_bytes (layout_of g) (image number) now)) g (part_bytes (layout_of g) (image number) now) n
-    → AreGood g (part_bytes (layout_of g) (image number) now) n → read g (part_bytes (layout_of g) (image number) now) ≡ Some x
-all_read g number now is_image long are head n all x decoded good =
-    let bytes = part_bytes (layout_of g) (image number) now in
-    good_is_read g bytes (image_bytes g number now is_image long are) head (subst (λ (k : ℕ). AreGood g bytes k) all good)
-    ∙ ap (λ (y : State). Some y) (sym (decoded ∙ ap (λ (k : ℕ). decoded_before (version_in bytes) g bytes k) all))
+  pub image_bytes : Holds (piece_at g (piece_count g)) bytes
+  image_bytes =
+      let at = part_at (layout_of g) (image number) in
+      let size = part_size (layout_of g) (image number) in (
+        length-take-le size (drop at now) (omega (arith, length-drop at now, long, part_inside (layout_of g) (image number)))
+            ∙ image_sized (layout_of g) number is_image ∙ sym (whole_image g),
+        bytes_by_recursion bytes (bytes-range at size now are),
+      )
+
+  pub all_read : {n : ℕ} {x : State} → has_head bytes ≡ true → n ≡ piece_count g → x ≡ decoded_before (version_in bytes) g bytes n → AreGood g bytes n → read g bytes ≡ Some x
+  all_read head all decoded good =
+      good_is_read g bytes image_bytes head (subst (λ (k : ℕ). AreGood g bytes k) all good)
+      ∙ ap (λ (y : State). Some y) (sym (decoded ∙ ap (λ (k : ℕ). decoded_before (version_in bytes) g bytes k) all))
 
 -- ---- a piece of either version
 
@@ -187,17 +186,17 @@ pub second_version : (v : ℕ) → is_version v ≡ true → (v ≡ 1 → ⊥) �
 second_version v known differs =
     ⊎_elim (λ (one : (v == 1) ≡ true). absurd (differs (eqb-true v 1 one))) (λ (two : (v == 2) ≡ true). eqb-true v 2 two) (or_cases (v == 1) (v == 2) known)
 
-pub not_taken : {A E : Type 0} (taken r : Result A E) → taken ≡ r → is_err taken ≡ true → (v w : ℕ) → v ≡ w → (P : ℕ → Type 0)
+pub not_taken : {A E : Type 0} {taken r : Result A E} {v w : ℕ} → taken ≡ r → is_err taken ≡ true → v ≡ w → (P : ℕ → Type 0)
     → (is_ok r ≡ true → P w) × (P w → is_ok r ≡ true) → (false ≡ true → P v) × (P v → false ≡ true)
-not_taken {A} {E} taken r is err v w same P good = (λ f. absurd (false≢true f), λ p. absurd (by taken err (ap (λ (s : Result A E). is_ok s) is ∙ good.1 (subst P same p))))
+not_taken {A} {E} {taken} is err same P good = (λ f. absurd (false≢true f), λ p. absurd (by taken err (ap (λ (s : Result A E). is_ok s) is ∙ good.1 (subst P same p))))
   where
     by : (s : Result A E) → is_err s ≡ true → is_ok s ≡ true → ⊥
     by (Ok a) err ok = false≢true err
     by (Err e) err ok = false≢true ok
 
-pub was_taken : {A E : Type 0} (taken r : Result A E) → taken ≡ r → is_err taken ≡ false → (v w : ℕ) → v ≡ w → (P : ℕ → Type 0)
+pub was_taken : {A E : Type 0} {taken r : Result A E} {v w : ℕ} → taken ≡ r → is_err taken ≡ false → v ≡ w → (P : ℕ → Type 0)
     → (is_ok r ≡ true → P w) × (P w → is_ok r ≡ true) → (true ≡ true → P v) × (P v → true ≡ true)
-was_taken {A} {E} taken r is fine v w same P good = (λ t. subst P (sym same) (good.0 (sym (ap (λ (s : Result A E). is_ok s) is) ∙ by taken fine)), λ p. refl)
+was_taken {A} {E} {taken} is fine same P good = (λ t. subst P (sym same) (good.0 (sym (ap (λ (s : Result A E). is_ok s) is) ∙ by taken fine)), λ p. refl)
   where
     by : (s : Result A E) → is_err s ≡ false → is_ok s ≡ true
     by (Ok a) fine = refl

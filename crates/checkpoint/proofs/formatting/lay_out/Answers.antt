@@ -8,41 +8,32 @@ use Rattle.checkpoint.proofs.formatting.lay_out.Goals as goal
 
 pub returns-in_err-write_zeros-clause-any_moment : goal.returns-in_err-write_zeros-clause-any_moment
 returns-in_err-write_zeros-clause-any_moment g c = λ k.
-    changed_within _ _ 64 _ 64 _ (omega arith) (omega (arith, c.from-front.ensures)) (c.write_zeros.ensures.any_moment k)
+    changed_within (omega arith) (omega (arith, c.from-front.ensures)) (c.write_zeros.ensures.any_moment k)
 
 pub returns-in_err-write_zeros-2-clause-any_moment : goal.returns-in_err-write_zeros-2-clause-any_moment
 returns-in_err-write_zeros-2-clause-any_moment g c = λ k.
-    changed_then _ _ _ 64 _ (changed_within _ _ 64 _ 64 _ (omega arith) (omega (arith, c.from-front.ensures)) (c.write_zeros.ensures.any_moment k))
-    (changed_within _ _ 64 _ c.half_at.result _ (omega (arith, c.half_at.ensures)) (omega (arith, c.half_at.ensures, c.from-front.ensures))
-    (c.write_zeros-2.ensures.any_moment k))
+    changed_then (changed_within (omega arith) (omega (arith, c.from-front.ensures)) (c.write_zeros.ensures.any_moment k))
+    (changed_within (omega (arith, c.half_at.ensures)) (omega (arith, c.half_at.ensures, c.from-front.ensures)) (c.write_zeros-2.ensures.any_moment k))
 
 pub returns-in_err-write_zeros-3-clause-any_moment : goal.returns-in_err-write_zeros-3-clause-any_moment
 returns-in_err-write_zeros-3-clause-any_moment g c = λ k.
-    changed_then _ _ _ 64 _ (changed_then _ _ _ 64 _ (changed_within _ _ 64 _ 64 _ (omega arith) (omega (arith, c.from-front.ensures))
-    (c.write_zeros.ensures.any_moment k)) (changed_within _ _ 64 _ c.half_at.result _ (omega (arith, c.half_at.ensures))
-    (omega (arith, c.half_at.ensures, c.from-front.ensures)) (c.write_zeros-2.ensures.any_moment k)))
-    (changed_within _ _ 64 _ c.image_at.result _ (omega (arith, c.image_at.ensures))
-    (omega (arith, c.image_at.ensures, c.image_size.ensures.size)) (c.write_zeros-3.ensures.any_moment k))
+    changed_then (changed_then (changed_within (omega arith) (omega (arith, c.from-front.ensures)) (c.write_zeros.ensures.any_moment k))
+    (changed_within (omega (arith, c.half_at.ensures)) (omega (arith, c.half_at.ensures, c.from-front.ensures)) (c.write_zeros-2.ensures.any_moment k)))
+    (changed_within (omega (arith, c.image_at.ensures)) (omega (arith, c.image_at.ensures, c.image_size.ensures.size)) (c.write_zeros-3.ensures.any_moment k))
 
 pub returns-in_err-store-clause-any_moment : goal.returns-in_err-store-clause-any_moment
 returns-in_err-store-clause-any_moment g c = λ k.
-    changed_then _ _ _ 64 _ (changed_then _ _ _ 64 _ (changed_then _ _ _ 64 _
-    (changed_within _ _ 64 _ 64 _ (omega arith) (omega (arith, c.from-front.ensures)) (c.write_zeros.ensures.any_moment k))
-    (changed_within _ _ 64 _ c.half_at.result _ (omega (arith, c.half_at.ensures)) (omega (arith, c.half_at.ensures, c.from-front.ensures))
-    (c.write_zeros-2.ensures.any_moment k))) (changed_within _ _ 64 _ c.image_at.result _ (omega (arith, c.image_at.ensures))
-    (omega (arith, c.image_at.ensures, c.image_size.ensures.size)) (c.write_zeros-3.ensures.any_moment k)))
-    (changed_within _ _ 64 _ c.image_at-2.result _ (omega (arith, c.image_at-2.ensures))
-    (omega (arith, c.image_at-2.ensures, image_some c.args.g.now)) (c.store.ensures.any_moment k))
+    changed_then (changed_then (changed_then (changed_within (omega arith) (omega (arith, c.from-front.ensures)) (c.write_zeros.ensures.any_moment k))
+    (changed_within (omega (arith, c.half_at.ensures)) (omega (arith, c.half_at.ensures, c.from-front.ensures)) (c.write_zeros-2.ensures.any_moment k)))
+    (changed_within (omega (arith, c.image_at.ensures)) (omega (arith, c.image_at.ensures, c.image_size.ensures.size)) (c.write_zeros-3.ensures.any_moment k)))
+    (changed_within (omega (arith, c.image_at-2.ensures)) (omega (arith, c.image_at-2.ensures, image_some c.args.g.now)) (c.store.ensures.any_moment k))
 
 pub returns-clause-any_moment : goal.returns-clause-any_moment
 returns-clause-any_moment g c = λ k.
-    changed_then _ _ _ 64 _ (changed_then _ _ _ 64 _ (changed_then _ _ _ 64 _
-    (changed_within _ _ 64 _ 64 _ (omega arith) (omega (arith, c.from-front.ensures)) (c.write_zeros.ensures.any_moment k))
-    (changed_within _ _ 64 _ c.half_at.result _ (omega (arith, c.half_at.ensures)) (omega (arith, c.half_at.ensures, c.from-front.ensures))
-    (c.write_zeros-2.ensures.any_moment k))) (changed_within _ _ 64 _ c.image_at.result _ (omega (arith, c.image_at.ensures))
-    (omega (arith, c.image_at.ensures, c.image_size.ensures.size)) (c.write_zeros-3.ensures.any_moment k)))
-    (changed_within _ _ 64 _ c.image_at-2.result _ (omega (arith, c.image_at-2.ensures))
-    (omega (arith, c.image_at-2.ensures, image_some c.args.g.now)) (c.store.ensures.any_moment k))
+    changed_then (changed_then (changed_then (changed_within (omega arith) (omega (arith, c.from-front.ensures)) (c.write_zeros.ensures.any_moment k))
+    (changed_within (omega (arith, c.half_at.ensures)) (omega (arith, c.half_at.ensures, c.from-front.ensures)) (c.write_zeros-2.ensures.any_moment k)))
+    (changed_within (omega (arith, c.image_at.ensures)) (omega (arith, c.image_at.ensures, c.image_size.ensures.size)) (c.write_zeros-3.ensures.any_moment k)))
+    (changed_within (omega (arith, c.image_at-2.ensures)) (omega (arith, c.image_at-2.ensures, image_some c.args.g.now)) (c.store.ensures.any_moment k))
 
 pub store-requires : goal.store-requires
 store-requires g c = omega (arith, c.image_at-2.ensures, image_some c.args.g.now, c.requires.whole, c.write_zeros.ensures.call.1, c.write_zeros-2.ensures.call.1, c.write_zeros-3.ensures.call.1)

@@ -18,7 +18,7 @@ returns-else-is_open-clause-any_moment g c = λ k.
 
 pub returns-in_err-store-clause-any_moment : goal.returns-in_err-store-clause-any_moment
 returns-in_err-store-clause-any_moment g c = λ k.
-    shutting _ _ _ (g.met.D.Disk.bytes c.args.disk.now)
+    shutting (g.met.D.Disk.bytes c.args.disk.now)
     (now_calm _ _ _ _ (c.in_ok-sync.ensures.syncs k).ok (c.in_ok-read_at.ensures.reads k).ok (c.read_at.auto.out))
     (now_kept _ _ _ _ (c.in_ok-sync.ensures.syncs k).ok (c.in_ok-read_at.ensures.reads k).ok (c.read_at.auto.out))
     (now_read _ _ _ _ (c.in_ok-sync.ensures.syncs k).ok (c.in_ok-read_at.ensures.reads k).ok (c.read_at.auto.out) ∙ c.is_open.ensures.open c.if-is_open.true)
@@ -27,7 +27,7 @@ returns-in_err-store-clause-any_moment g c = λ k.
 
 pub returns-in_ok-store-clause-any_moment : goal.returns-in_ok-store-clause-any_moment
 returns-in_ok-store-clause-any_moment g c = λ k.
-    shutting _ _ _ (g.met.D.Disk.bytes c.args.disk.now)
+    shutting (g.met.D.Disk.bytes c.args.disk.now)
     (now_calm _ _ _ _ (c.in_ok-sync.ensures.syncs k).ok (c.in_ok-read_at.ensures.reads k).ok (c.read_at.auto.out))
     (now_kept _ _ _ _ (c.in_ok-sync.ensures.syncs k).ok (c.in_ok-read_at.ensures.reads k).ok (c.read_at.auto.out))
     (now_read _ _ _ _ (c.in_ok-sync.ensures.syncs k).ok (c.in_ok-read_at.ensures.reads k).ok (c.read_at.auto.out) ∙ c.is_open.ensures.open c.if-is_open.true)

@@ -25,8 +25,8 @@ loop-n-init g c = record {
 pub read-requires : goal.read-requires
 read-requires g c =
     let below : c.loop-n.n < piece_count c.args.tree.now.geometry = omega (arith, c.loop-n-test.true, c.piece_count-n-end.ensures.count ∙ ap piece_count c.geometry-g.ensures) in
-    room_left c.args.tree.now.geometry c.geometry-g.result c.geometry-g.ensures c.args.number c.loop-n.n c.loop-n.at c.piece_size.result c.loop-n.buffer c.requires.number below
-    c.loop-n.invariant.at c.piece_size.ensures.size (length (g.D.Disk.medium c.loop-n.disk).now) (omega (arith, c.requires.parts, c.loop-n.invariant.len))
+    room_left c.geometry-g.ensures c.args.number c.loop-n.n c.loop-n.buffer c.requires.number below c.loop-n.invariant.at c.piece_size.ensures.size
+    (length (g.D.Disk.medium c.loop-n.disk).now) (omega (arith, c.requires.parts, c.loop-n.invariant.len))
 
 pub overflow_add-at-in-loop-n : goal.overflow_add-at-in-loop-n
 overflow_add-at-in-loop-n g c =
@@ -35,8 +35,8 @@ overflow_add-at-in-loop-n g c =
       arith,
       c.read.auto.out,
       g.met.D.Disk.fits c.args.disk.now,
-      room_left c.args.tree.now.geometry c.geometry-g.result c.geometry-g.ensures c.args.number c.loop-n.n c.loop-n.at c.piece_size.result c.loop-n.buffer c.requires.number below
-          c.loop-n.invariant.at c.piece_size.ensures.size (length (g.D.Disk.medium c.args.disk.now).now) c.requires.parts,
+      room_left c.geometry-g.ensures c.args.number c.loop-n.n c.loop-n.buffer c.requires.number below c.loop-n.invariant.at c.piece_size.ensures.size
+          (length (g.D.Disk.medium c.args.disk.now).now) c.requires.parts,
     )
 
 pub returns-in_err-take_piece-clause-refused : goal.returns-in_err-take_piece-clause-refused
@@ -49,42 +49,33 @@ returns-in_err-take_piece-clause-refused g c =
     let few : c.piece_size.result ≤ length c.loop-n.buffer =
     omega (arith, c.piece_size.ensures.most, ap (λ (h : Geometry). h.quota) c.geometry-g.ensures, c.requires.room, c.loop-n.auto.buffer) in
     let there =
-    read_there c.args.tree.now.geometry c.geometry-g.result c.geometry-g.ensures c.args.number c.loop-n.n c.loop-n.at c.piece_size.result c.loop-n.buffer c.requires.number below
-    c.loop-n.invariant.at c.piece_size.ensures.size few now (g.D.Disk.medium c.loop-n.disk).now c.read.new.out
+    read_there c.geometry-g.ensures c.args.number c.loop-n.n c.loop-n.buffer c.requires.number below c.loop-n.invariant.at c.piece_size.ensures.size few
     (same_bytes (g.D.Disk.medium c.args.disk.now) (g.D.Disk.medium c.loop-n.disk) (c.loop-n.invariant.untouched k)) (c.in_ok-read.ensures.bytes k) in
-    bad_queued c.args.tree.now.geometry c.loop-n.tree.geometry c.loop-n.invariant.geometry (part_bytes (layout_of c.args.tree.now.geometry) (image c.args.number) now) c.args.version c.loop-n.n
-    (c.requires.version k) below (state_in c.loop-n.tree) (c.loop-n.invariant.decoded k) c.read.new.out there c.in_err-take_piece.ensures.good.1
-    (c.loop-n.invariant.good k) _ c.in_err-take_piece.ensures.bad)
+    bad_queued c.loop-n.invariant.geometry (part_bytes (layout_of c.args.tree.now.geometry) (image c.args.number) now) c.loop-n.n (c.requires.version k) below
+    (c.loop-n.invariant.decoded k) there c.in_err-take_piece.ensures.good.1 (c.loop-n.invariant.good k) _ c.in_err-take_piece.ensures.bad)
 
 pub loop-n-preserved : goal.loop-n-preserved
 loop-n-preserved g c =
-    let now = (g.D.Disk.medium c.args.disk.now).now in
+    let bytes = part_bytes (layout_of c.args.tree.now.geometry) (image c.args.number) (g.D.Disk.medium c.args.disk.now).now in
     let below : c.loop-n.n < piece_count c.args.tree.now.geometry = omega (arith, c.loop-n-test.true, c.piece_count-n-end.ensures.count ∙ ap piece_count c.geometry-g.ensures) in
     let few : c.piece_size.result ≤ length c.loop-n.buffer =
     omega (arith, c.piece_size.ensures.most, ap (λ (h : Geometry). h.quota) c.geometry-g.ensures, c.requires.room, c.loop-n.auto.buffer) in
+    let there = λ (k : g.D.Disk.keeps).
+    read_there c.geometry-g.ensures c.args.number c.loop-n.n c.loop-n.buffer c.requires.number below c.loop-n.invariant.at c.piece_size.ensures.size few
+    (same_bytes (g.D.Disk.medium c.args.disk.now) (g.D.Disk.medium c.loop-n.disk) (c.loop-n.invariant.untouched k)) (c.in_ok-read.ensures.bytes k) in
     record {
       whole = c.in_ok-take_piece.ensures.whole;
       geometry = c.take_piece.ensures.geometry ∙ c.loop-n.invariant.geometry;
-      at = next_place c.args.tree.now.geometry c.geometry-g.result c.geometry-g.ensures c.args.number c.loop-n.n c.loop-n.at c.piece_size.result c.loop-n.buffer c.requires.number below
-          c.loop-n.invariant.at c.piece_size.ensures.size (length c.read.new.out) few c.read.auto.out;
-      free = free_queued c.args.version c.args.tree.now.geometry c.loop-n.tree.geometry c.loop-n.invariant.geometry c.loop-n.n (state_in c.loop-n.tree) (state_in c.take_piece.new.tree)
-          c.read.new.out c.in_ok-take_piece.ensures.taken c.loop-n.invariant.free;
+      at = next_place c.geometry-g.ensures c.args.number c.loop-n.n c.loop-n.buffer c.requires.number below c.loop-n.invariant.at c.piece_size.ensures.size
+          (length c.read.new.out) few c.read.auto.out;
+      free = free_queued c.args.version c.loop-n.invariant.geometry c.read.new.out c.in_ok-take_piece.ensures.taken c.loop-n.invariant.free;
       len = c.read.ensures.call.1 ∙ c.loop-n.invariant.len;
       faults = c.in_ok-read.ensures.call.0 ∙ c.loop-n.invariant.faults;
       untouched = λ k. c.read.ensures.untouched k ∙ c.loop-n.invariant.untouched k;
       decoded = λ k.
-          decoded_turn c.args.tree.now.geometry c.loop-n.tree.geometry c.loop-n.invariant.geometry (part_bytes (layout_of c.args.tree.now.geometry) (image c.args.number) now) c.args.version c.loop-n.n
-          (c.requires.version k) below (state_in c.loop-n.tree) (c.loop-n.invariant.decoded k) c.read.new.out
-          (read_there c.args.tree.now.geometry c.geometry-g.result c.geometry-g.ensures c.args.number c.loop-n.n c.loop-n.at c.piece_size.result c.loop-n.buffer c.requires.number below
-          c.loop-n.invariant.at c.piece_size.ensures.size few now (g.D.Disk.medium c.loop-n.disk).now c.read.new.out
-          (same_bytes (g.D.Disk.medium c.args.disk.now) (g.D.Disk.medium c.loop-n.disk) (c.loop-n.invariant.untouched k)) (c.in_ok-read.ensures.bytes k))
-          (state_in c.take_piece.new.tree) c.in_ok-take_piece.ensures.taken;
+          decoded_turn c.loop-n.invariant.geometry bytes c.loop-n.n (c.requires.version k) below (c.loop-n.invariant.decoded k) (there k) c.in_ok-take_piece.ensures.taken;
       good = λ k.
-          good_queued c.args.tree.now.geometry c.loop-n.tree.geometry c.loop-n.invariant.geometry (part_bytes (layout_of c.args.tree.now.geometry) (image c.args.number) now) c.args.version c.loop-n.n
-          (c.requires.version k) below (state_in c.loop-n.tree) (c.loop-n.invariant.decoded k) c.read.new.out
-          (read_there c.args.tree.now.geometry c.geometry-g.result c.geometry-g.ensures c.args.number c.loop-n.n c.loop-n.at c.piece_size.result c.loop-n.buffer c.requires.number below
-          c.loop-n.invariant.at c.piece_size.ensures.size few now (g.D.Disk.medium c.loop-n.disk).now c.read.new.out
-          (same_bytes (g.D.Disk.medium c.args.disk.now) (g.D.Disk.medium c.loop-n.disk) (c.loop-n.invariant.untouched k)) (c.in_ok-read.ensures.bytes k))
+          good_queued c.loop-n.invariant.geometry bytes c.loop-n.n (c.requires.version k) below (c.loop-n.invariant.decoded k) (there k)
           (c.in_ok-take_piece.ensures.good.0 refl) (c.loop-n.invariant.good k);
     }
 
@@ -92,7 +83,7 @@ pub returns-clause-read : goal.returns-clause-read
 returns-clause-read g c = λ k.
     let all : c.loop-n.n ≡ piece_count c.args.tree.now.geometry = omega (arith, c.loop-n-test.false, c.loop-n.auto.n-end, c.piece_count-n-end.ensures.count ∙ ap piece_count c.geometry-g.ensures) in
     all_read c.args.tree.now.geometry c.args.number (g.D.Disk.medium c.args.disk.now).now c.requires.number c.requires.parts (g.met.D.Disk.bytes c.args.disk.now) (c.requires.head k)
-    c.loop-n.n all (state_in c.loop-n.tree) (c.loop-n.invariant.decoded k) (c.loop-n.invariant.good k)
+    all (c.loop-n.invariant.decoded k) (c.loop-n.invariant.good k)
 
 pub returns-clause-good : goal.returns-clause-good
 returns-clause-good g c = λ k.

@@ -99,7 +99,7 @@ returns-clause-loaded g c = λ k.
     let decoded : read c.in_ok-g.g (part_bytes (layout_of c.in_ok-g.g) (image c.in_ok-area.area) now) ≡ Some state =
     sym (λ i. read (c.in_ok-tree.ensures.geometry i) (part_bytes (layout_of (c.in_ok-tree.ensures.geometry i)) (image c.in_ok-area.area) (second i))) ∙ c.in_ok-version.ensures.read k in
     let one = sym (ap (λ (bytes : List ℕ). are_chained (layout_of c.in_ok-g.g) bytes) third) ∙ c.in_ok-chained.ensures.sound k in
-    loaded c.in_ok-g.g now _ (c.in_ok-records.ensures.geometry ∙ geometry) (c.in_ok-g.ensures.header k)
+    loaded (c.in_ok-records.ensures.geometry ∙ geometry) (c.in_ok-g.ensures.header k)
     (not_refused c.in_ok-g.g now (c.in_ok-g.ensures.header k) c.in_ok-g.ensures.whole c.in_ok-area.area names good state decoded one
     (sym (λ i. in_force_fault (geometry i) state c.in_ok-area.area (fourth i)) ∙ c.in_ok-records.ensures.sound k))
     names

@@ -11,7 +11,7 @@ use Rattle.checkpoint.proofs.replaying.replay.Goals as goal
 pub replay_front-requires-clause-count : goal.replay_front-requires-clause-count
 replay_front-requires-clause-count g c = λ k.
     c.in_ok-count.ensures.front k
-    ∙ ap (λ (rs : List (List ℕ)). length rs) (sym (front_same c.args.log.now c.front.new.self c.in_ok-count.ensures.log _ _
+    ∙ ap (λ (rs : List (List ℕ)). length rs) (sym (front_same c.in_ok-count.ensures.log
     (same_bytes (g.D.Disk.medium c.args.disk.now) (g.D.Disk.medium c.front.new.disk) (c.front.ensures.untouched k)) c.args.half))
 
 pub returns-in_err-replay_front-clause-refused : goal.returns-in_err-replay_front-clause-refused
@@ -20,13 +20,13 @@ returns-in_err-replay_front-clause-refused g c =
     rw (p.1, p.2)
     (λ k.
     subst (λ (rs : List (List ℕ)). IsFaultOfBytes (records_fault c.args.tree.now.geometry (state_in c.args.tree.now) c.args.half rs) c.in_err-replay_front.field-0.0)
-    (front_same c.args.log.now c.front.new.self c.in_ok-count.ensures.log _ _
+    (front_same c.in_ok-count.ensures.log
     (same_bytes (g.D.Disk.medium c.args.disk.now) (g.D.Disk.medium c.front.new.disk) (c.front.ensures.untouched k)) c.args.half)
     (c.in_err-replay_front.ensures.refused k))
 
 pub returns-clause-done : goal.returns-clause-done
 returns-clause-done g c = λ k.
     ap (λ (rs : List (List ℕ)). run (means c.args.tree.now.geometry) (Some (state_in c.args.tree.now)) rs)
-    (sym (front_same c.args.log.now c.front.new.self c.in_ok-count.ensures.log _ _
+    (sym (front_same c.in_ok-count.ensures.log
     (same_bytes (g.D.Disk.medium c.args.disk.now) (g.D.Disk.medium c.front.new.disk) (c.front.ensures.untouched k)) c.args.half))
     ∙ c.in_ok-replay_front.ensures.done k

@@ -13,9 +13,8 @@ returns-in_err-replay_record-clause-refused g c =
     (λ k.
     bad_at c.args.tree.now.geometry (layout c.args.log.now) c.args.half (g.D.Disk.medium c.args.disk.now).now (state_in c.args.tree.now) c.loop-i.i (state_in c.loop-i.tree)
     (omega (arith, c.loop-i-test.true, c.requires.count k)) (c.loop-i.invariant.at k) _
-    (record_fault_same c.args.tree.now.geometry c.loop-i.tree.geometry c.loop-i.invariant.geometry c.args.log.now c.loop-i.log c.loop-i.invariant.log _ _
-    (same_bytes (g.D.Disk.medium c.args.disk.now) (g.D.Disk.medium c.loop-i.disk) (c.loop-i.invariant.untouched k)) (state_in c.loop-i.tree)
-    c.args.half c.loop-i.i _ (c.in_err-replay_record.ensures.refused k)))
+    (record_fault_same c.loop-i.invariant.log (same_bytes (g.D.Disk.medium c.args.disk.now) (g.D.Disk.medium c.loop-i.disk) (c.loop-i.invariant.untouched k)) c.args.half
+    c.loop-i.invariant.geometry (state_in c.loop-i.tree) c.loop-i.i _ (c.in_err-replay_record.ensures.refused k)))
 
 pub loop-i-preserved : goal.loop-i-preserved
 loop-i-preserved g c = record {
@@ -29,8 +28,8 @@ loop-i-preserved g c = record {
       at_next c.args.tree.now.geometry (layout c.args.log.now) c.args.half (g.D.Disk.medium c.args.disk.now).now (state_in c.args.tree.now)
       c.loop-i.i (state_in c.loop-i.tree) (state_in c.replay_record.new.tree)
       (omega (arith, c.loop-i-test.true, c.requires.count k))
-      (sym (apply_same c.args.tree.now.geometry c.loop-i.tree.geometry c.loop-i.invariant.geometry c.args.log.now c.loop-i.log c.loop-i.invariant.log _ _
-      (same_bytes (g.D.Disk.medium c.args.disk.now) (g.D.Disk.medium c.loop-i.disk) (c.loop-i.invariant.untouched k)) (state_in c.loop-i.tree) c.args.half c.loop-i.i)
+      (sym (apply_same c.loop-i.invariant.log (same_bytes (g.D.Disk.medium c.args.disk.now) (g.D.Disk.medium c.loop-i.disk) (c.loop-i.invariant.untouched k)) c.args.half
+      c.loop-i.invariant.geometry (state_in c.loop-i.tree) c.loop-i.i)
       ∙ c.in_ok-replay_record.ensures.done k)
       (c.loop-i.invariant.at k);
 }

@@ -16,7 +16,7 @@ returns-in_err-m-clause-refused g c =
     (λ k.
     let bytes = records_are_bytes (layout c.args.log.now) c.args.half c.args.i (g.D.Disk.medium c.args.disk.now).now c.requires.half c.requires.i
     c.requires.parts (g.met.D.Disk.bytes c.args.disk.now) in
-    read_fault c.args.tree.now.geometry c.args.log.now.geometry c.requires.geometry (state_in c.args.tree.now) c.args.half c.args.i _ bytes.0 bytes.1
+    read_fault c.requires.geometry (state_in c.args.tree.now) c.args.half c.args.i _ bytes.0 bytes.1
     c.in_err-m.field-0.0 (c.in_err-m.ensures.record k) c.in_err-m.ensures.about)
 
 pub returns-in-Done-clause-done : goal.returns-in-Done-clause-done
@@ -27,5 +27,5 @@ returns-in-Done-clause-done g c = λ k.
 
 pub returns-in_default-clause-refused : goal.returns-in_default-clause-refused
 returns-in_default-clause-refused g c = λ k.
-    not_run c.args.tree.now.geometry c.args.log.now.geometry c.requires.geometry (state_in c.args.tree.now) c.args.half c.args.i c.in_ok-m.m _
+    not_run c.requires.geometry (state_in c.args.tree.now) c.args.half c.args.i _ c.in_ok-m.m
     c.in_ok-m.ensures.logged.0 c.in_ok-m.ensures.logged.1 (c.in_ok-m.ensures.record k) (λ done. c.in_default.not-Done (c.step.ensures.reply ∙ done))

@@ -10,43 +10,35 @@ use Rattle.checkpoint.proofs.stepping.step.Goals as goal
 
 pub restore-requires-clause-fits : goal.restore-requires-clause-fits
 restore-requires-clause-fits c =
-    fits_there c.geometry-g.result c.args.m _ _ c.new.result c.new.ensures c.in-Some.place (placed _ _ _ _ _ c.kind.ensures c.numbers.ensures c.in-Some.ensures.placed)
-    c.run-done.result c.run-done.ensures (in_tree c.args.tree.now) (in_tree c.lend.new.self) c.args.tree.now.geometry c.geometry-g.ensures c.in-Some-lend.ensures.some
-    c.lend.new.self.geometry (c.geometry-g.ensures ∙ sym c.lend.ensures.geometry) c.into_parcels.result c.into_parcels.ensures
+    fits_there c.new.ensures (placed c.args.m c.kind.ensures c.numbers.ensures c.in-Some.ensures.placed) c.run-done.ensures c.geometry-g.ensures
+    c.in-Some-lend.ensures.some (c.geometry-g.ensures ∙ sym c.lend.ensures.geometry) c.into_parcels.ensures
 
 pub unreachable-requires-in_default-restore : goal.unreachable-requires-in_default-restore
 unreachable-requires-in_default-restore c =
-    goes c.geometry-g.result c.args.m _ _ c.new.result c.new.ensures c.in-Some.place (placed _ _ _ _ _ c.kind.ensures c.numbers.ensures c.in-Some.ensures.placed)
-    c.run-done.result c.run-done.ensures (in_tree c.args.tree.now) (in_tree c.lend.new.self) c.args.tree.now.geometry c.geometry-g.ensures c.in-Some-lend.ensures.some
-    c.lend.new.self.geometry (c.geometry-g.ensures ∙ sym c.lend.ensures.geometry) c.into_parcels.result c.into_parcels.ensures c.in_default-restore.ensures.err
+    goes c.new.ensures (placed c.args.m c.kind.ensures c.numbers.ensures c.in-Some.ensures.placed) c.run-done.ensures c.geometry-g.ensures
+    c.in-Some-lend.ensures.some (c.geometry-g.ensures ∙ sym c.lend.ensures.geometry) c.into_parcels.ensures c.in_default-restore.ensures.err
 
 pub returns-clause-reply : goal.returns-clause-reply
 returns-clause-reply c =
     c.reply-reply.ensures
-    ∙ (stepped c.geometry-g.result c.args.m _ _ c.new.result c.new.ensures c.in-Some.place (placed _ _ _ _ _ c.kind.ensures c.numbers.ensures c.in-Some.ensures.placed)
-    c.run-done.result c.run-done.ensures (in_tree c.args.tree.now) (in_tree c.lend.new.self) (in_tree c.restore.new.self) c.args.tree.now.geometry c.geometry-g.ensures c.in-Some-lend.ensures.some
-    c.lend.new.self.geometry (c.geometry-g.ensures ∙ sym c.lend.ensures.geometry) c.into_parcels.result c.into_parcels.ensures c.in-Ok.ensures.ok).reply
+    ∙ (stepped c.new.ensures (placed c.args.m c.kind.ensures c.numbers.ensures c.in-Some.ensures.placed) c.run-done.ensures c.geometry-g.ensures
+    c.in-Some-lend.ensures.some (c.geometry-g.ensures ∙ sym c.lend.ensures.geometry) c.into_parcels.ensures c.in-Ok.ensures.ok).reply
 
 pub returns-clause-state : goal.returns-clause-state
 returns-clause-state c =
     let same = c.restore.ensures.geometry ∙ c.lend.ensures.geometry in
     subst (λ (i : Geometry). tree_state i (in_tree c.restore.new.self) ≡ next_state c.args.tree.now.geometry (tree_state c.args.tree.now.geometry (in_tree c.args.tree.now)) c.args.m) (sym same)
-    (stepped c.geometry-g.result c.args.m _ _ c.new.result c.new.ensures c.in-Some.place (placed _ _ _ _ _ c.kind.ensures c.numbers.ensures c.in-Some.ensures.placed)
-    c.run-done.result c.run-done.ensures (in_tree c.args.tree.now) (in_tree c.lend.new.self) (in_tree c.restore.new.self) c.args.tree.now.geometry c.geometry-g.ensures c.in-Some-lend.ensures.some
-    c.lend.new.self.geometry (c.geometry-g.ensures ∙ sym c.lend.ensures.geometry) c.into_parcels.result c.into_parcels.ensures c.in-Ok.ensures.ok).state
+    (stepped c.new.ensures (placed c.args.m c.kind.ensures c.numbers.ensures c.in-Some.ensures.placed) c.run-done.ensures c.geometry-g.ensures
+    c.in-Some-lend.ensures.some (c.geometry-g.ensures ∙ sym c.lend.ensures.geometry) c.into_parcels.ensures c.in-Ok.ensures.ok).state
 
 pub returns-clause-whole : goal.returns-clause-whole
 returns-clause-whole c =
     let same = c.restore.ensures.geometry ∙ c.lend.ensures.geometry in
     record {
       all_in = subst (λ (i : Geometry). IsIn i [] (in_tree c.restore.new.self)) (sym same)
-          (all_in_again c.geometry-g.result c.args.m _ _ c.new.result c.new.ensures c.in-Some.place (placed _ _ _ _ _ c.kind.ensures c.numbers.ensures c.in-Some.ensures.placed)
-          c.run-done.result c.run-done.ensures (in_tree c.args.tree.now) (in_tree c.lend.new.self) (in_tree c.restore.new.self)
-          c.args.tree.now.geometry c.geometry-g.ensures c.in-Some-lend.ensures.some
-          c.lend.new.self.geometry (c.geometry-g.ensures ∙ sym c.lend.ensures.geometry) c.into_parcels.result c.into_parcels.ensures c.in-Ok.ensures.ok c.requires.whole.all_in);
+          (all_in_again c.new.ensures (placed c.args.m c.kind.ensures c.numbers.ensures c.in-Some.ensures.placed) c.run-done.ensures c.geometry-g.ensures
+          c.in-Some-lend.ensures.some (c.geometry-g.ensures ∙ sym c.lend.ensures.geometry) c.into_parcels.ensures c.in-Ok.ensures.ok c.requires.whole.all_in);
       state = subst (λ (i : Geometry). IsState i (tree_state i (in_tree c.restore.new.self))) (sym same)
-          (state_again c.geometry-g.result c.args.m _ _ c.new.result c.new.ensures c.in-Some.place (placed _ _ _ _ _ c.kind.ensures c.numbers.ensures c.in-Some.ensures.placed)
-          c.run-done.result c.run-done.ensures (in_tree c.args.tree.now) (in_tree c.lend.new.self) (in_tree c.restore.new.self)
-          c.args.tree.now.geometry c.geometry-g.ensures c.in-Some-lend.ensures.some
-          c.lend.new.self.geometry (c.geometry-g.ensures ∙ sym c.lend.ensures.geometry) c.into_parcels.result c.into_parcels.ensures c.in-Ok.ensures.ok c.know_message.ensures c.requires.whole.state);
+          (state_again c.new.ensures (placed c.args.m c.kind.ensures c.numbers.ensures c.in-Some.ensures.placed) c.run-done.ensures c.geometry-g.ensures
+          c.in-Some-lend.ensures.some (c.geometry-g.ensures ∙ sym c.lend.ensures.geometry) c.into_parcels.ensures c.in-Ok.ensures.ok c.know_message.ensures c.requires.whole.state);
     }
