@@ -35,15 +35,15 @@ refused_by (refusal.Words error) = inl refl
 refused_by refusal.OutOfMemory = inr refl
 refused_by refusal.GeometryOutOfRange = inl refl
 
-pub helped : (words : List Text) (request : Request) (end : Result (Unit {0}) Fault) (input left old new : Option (List ℕ)) → AsksNoService words → Asks words request
-    → Ends request end input left old new → EndsHelp (status_at end) × (left ≡ input)
-helped words (Plain g) end input left old new no_service asks ends = absurd (no_service asks.0)
-helped words (Format path g) end input left old new no_service asks ends = absurd (no_service asks.0)
-helped words (Show path) end input left old new no_service asks ends = absurd (no_service asks.0)
-helped words (Serve path s) end input left old new no_service asks ends = absurd (no_service asks.0)
-helped words (Help text) (Ok _) input left old new no_service asks ends = (inl refl, ends)
-helped words (Help text) (Err Write) input left old new no_service asks ends = (inr (inl refl), ends)
-helped words (Help text) (Err fault) input left old new no_service asks ends = absurd ends
+pub helped : (words : List Text) (request : Request) (end : Result (Unit {0}) Fault) {input left : Option (List ℕ)} (old new : Option (List ℕ))
+    → AsksNoService words → Asks words request → Ends request end input left old new → EndsHelp (status_at end) × (left ≡ input)
+helped words (Plain g) end old new no_service asks ends = absurd (no_service asks.0)
+helped words (Format path g) end old new no_service asks ends = absurd (no_service asks.0)
+helped words (Show path) end old new no_service asks ends = absurd (no_service asks.0)
+helped words (Serve path s) end old new no_service asks ends = absurd (no_service asks.0)
+helped words (Help text) (Ok _) old new no_service asks ends = (inl refl, ends)
+helped words (Help text) (Err Write) old new no_service asks ends = (inr (inl refl), ends)
+helped words (Help text) (Err fault) old new no_service asks ends = absurd ends
 
 -- ---- a fault has a status of its own
 
@@ -71,70 +71,64 @@ nothing_written : (g : Geometry) (input old : Option (List ℕ)) → WritesOutpu
 nothing_written g None old = tt
 nothing_written g (Some bytes) old = ([], Appends-nil old, (0, refl))
 
-pub served_nothing : (words : List Text) (g : Geometry) (why : WordRefusal) (input old : Option (List ℕ)) → AsksPlain words g → IsReason words why
+pub served_nothing : (words : List Text) {g : Geometry} (why : WordRefusal) {input old : Option (List ℕ)} → AsksPlain words g → IsReason words why
     → EndsPlain g (status_of_refusal why) input input old old
-served_nothing words g refusal.OutOfMemory input old asks reason = (Err OutOfMemory, refl, nothing_written g input old)
-served_nothing words g refusal.GeometryOutOfRange input old asks reason = absurd (reason.3 (subst AreInRange asks.2 (in_range g)))
-served_nothing words g (refusal.Words error) input old asks reason = absurd (no_mistake words error asks.0 reason)
+served_nothing words {g} refusal.OutOfMemory {input} {old} asks reason = (Err OutOfMemory, refl, nothing_written g input old)
+served_nothing words {g} refusal.GeometryOutOfRange asks reason = absurd (reason.3 (subst AreInRange asks.2 (in_range g)))
+served_nothing words (refusal.Words error) asks reason = absurd (no_mistake words error asks.0 reason)
 
-pub formatted_nothing : (words : List Text) (path : List ℕ) (g : Geometry) (why : WordRefusal) (old : Option (List ℕ)) → AsksFormat words path g → IsReason words why
+pub formatted_nothing : (words : List Text) {path : List ℕ} (g : Geometry) (why : WordRefusal) {old : Option (List ℕ)} → AsksFormat words path g → IsReason words why
     → EndsFormat g (status_of_refusal why) old old
-formatted_nothing words path g refusal.OutOfMemory old asks reason = (Err OutOfMemory, refl, refl)
-formatted_nothing words path g refusal.GeometryOutOfRange old asks reason = absurd (reason.3 (subst AreInRange asks.3 (in_range g)))
-formatted_nothing words path g (refusal.Words error) old asks reason = absurd (no_mistake words error asks.0 reason)
+formatted_nothing words g refusal.OutOfMemory asks reason = (Err OutOfMemory, refl, refl)
+formatted_nothing words g refusal.GeometryOutOfRange asks reason = absurd (reason.3 (subst AreInRange asks.3 (in_range g)))
+formatted_nothing words g (refusal.Words error) asks reason = absurd (no_mistake words error asks.0 reason)
 
-pub shown_nothing : (words : List Text) (path : List ℕ) (why : WordRefusal) (old : Option (List ℕ)) → AsksShow words path → IsReason words why
+pub shown_nothing : (words : List Text) {path : List ℕ} (why : WordRefusal) {old : Option (List ℕ)} → AsksShow words path → IsReason words why
     → EndsShow (status_of_refusal why) old old
-shown_nothing words path refusal.OutOfMemory old asks reason = (Err OutOfMemory, refl, refl)
-shown_nothing words path refusal.GeometryOutOfRange old asks reason = absurd (reason.1 asks.1)
-shown_nothing words path (refusal.Words error) old asks reason = absurd (no_mistake words error asks.0 reason)
+shown_nothing words refusal.OutOfMemory asks reason = (Err OutOfMemory, refl, refl)
+shown_nothing words refusal.GeometryOutOfRange asks reason = absurd (reason.1 asks.1)
+shown_nothing words (refusal.Words error) asks reason = absurd (no_mistake words error asks.0 reason)
 
-pub served_on_nothing : (words : List Text) (path : List ℕ) (s : Service) (why : WordRefusal) (input old : Option (List ℕ)) → AsksServe words path s
+pub served_on_nothing : (words : List Text) {path : List ℕ} {s : Service} (why : WordRefusal) {input old : Option (List ℕ)} → AsksServe words path s
     → IsReason words why → EndsServe s (status_of_refusal why) input input old old
-served_on_nothing words path s refusal.OutOfMemory input old asks reason =
+served_on_nothing words refusal.OutOfMemory asks reason =
     (Err OutOfMemory, refl, inl (record { why = file.OutOfMemory; ends = refl; unread = refl; unwritten = refl }))
-served_on_nothing words path s refusal.GeometryOutOfRange input old asks reason = absurd (reason.2 asks.1)
-served_on_nothing words path s (refusal.Words error) input old asks reason = absurd (no_mistake words error asks.0 reason)
+served_on_nothing words refusal.GeometryOutOfRange asks reason = absurd (reason.2 asks.1)
+served_on_nothing words (refusal.Words error) asks reason = absurd (no_mistake words error asks.0 reason)
 
 -- ---- what the words ask for is done
 
-pub served : (words : List Text) (request : Request) (g : Geometry) (end : Result (Unit {0}) Fault) (input left old new : Option (List ℕ)) → Asks words request → AsksPlain words g
-    → Ends request end input left old new → EndsPlain g (status_at end) input left old new
-served words (Plain h) g end input left old new given asks ends =
+pub served : (words : List Text) (request : Request) {g : Geometry} (end : Result (Unit {0}) Fault) {input left old new : Option (List ℕ)} → Asks words request
+    → AsksPlain words g → Ends request end input left old new → EndsPlain g (status_at end) input left old new
+served words (Plain h) {g} end {input} {left} {old} {new} given asks ends =
     (end, refl, subst (λ k. EndsServing k end input left old new) (geometry_same h g (given.2 ∙ sym asks.2)) ends)
-served words (Format path h) g end input left old new given asks ends = absurd (asks.1.0 given.1)
-served words (Show path) g end input left old new given asks ends = absurd (asks.1.1 given.1)
-served words (Serve path s) g end input left old new given asks ends = absurd (asks.1.2 given.1)
-served words (Help text) g end input left old new given asks ends = absurd (subst (IsAmong (kind_of text)) asks.0 given.0)
+served words (Format path h) end given asks ends = absurd (asks.1.0 given.1)
+served words (Show path) end given asks ends = absurd (asks.1.1 given.1)
+served words (Serve path s) end given asks ends = absurd (asks.1.2 given.1)
+served words (Help text) end given asks ends = absurd (subst (IsAmong (kind_of text)) asks.0 given.0)
 
-pub formatted : (words : List Text) (request : Request) (path : List ℕ) (g : Geometry) (end : Result (Unit {0}) Fault) (input left old new : Option (List ℕ)) → Asks words request
-    → AsksFormat words path g → Ends request end input left old new → EndsFormat g (status_at end) old new × (left ≡ input)
-formatted words (Plain h) path g end input left old new given asks ends = absurd (given.1.0 asks.1)
-formatted words (Format there h) path g end input left old new given asks ends =
+pub formatted : (words : List Text) (request : Request) {path : List ℕ} (g : Geometry) (end : Result (Unit {0}) Fault) {input left old new : Option (List ℕ)}
+    → Asks words request → AsksFormat words path g → Ends request end input left old new → EndsFormat g (status_at end) old new × (left ≡ input)
+formatted words (Plain h) g end given asks ends = absurd (given.1.0 asks.1)
+formatted words (Format there h) g end {old} {new} given asks ends =
     ((end, refl, subst (λ k. EndsMaking k end old new) (geometry_same h g (given.3 ∙ sym asks.3)) ends.1), ends.0)
-formatted words (Show there) path g end input left old new given asks ends =
-    let same : codes "format" ≡ codes "show" = two_names _ _ (command_of words) asks.1 given.1 in cc
-formatted words (Serve there s) path g end input left old new given asks ends =
-    let same : codes "format" ≡ codes "serve" = two_names _ _ (command_of words) asks.1 given.1 in cc
-formatted words (Help text) path g end input left old new given asks ends = absurd (subst (IsAmong (kind_of text)) asks.0 given.0)
+formatted words (Show there) g end given asks ends = let same : codes "format" ≡ codes "show" = two_names _ _ (command_of words) asks.1 given.1 in cc
+formatted words (Serve there s) g end given asks ends = let same : codes "format" ≡ codes "serve" = two_names _ _ (command_of words) asks.1 given.1 in cc
+formatted words (Help text) g end given asks ends = absurd (subst (IsAmong (kind_of text)) asks.0 given.0)
 
-pub shown : (words : List Text) (request : Request) (path : List ℕ) (end : Result (Unit {0}) Fault) (input left old new : Option (List ℕ)) → Asks words request
+pub shown : (words : List Text) (request : Request) {path : List ℕ} (end : Result (Unit {0}) Fault) {input left old new : Option (List ℕ)} → Asks words request
     → AsksShow words path → Ends request end input left old new → EndsShow (status_at end) old new × (left ≡ input)
-shown words (Plain h) path end input left old new given asks ends = absurd (given.1.1 asks.1)
-shown words (Format there h) path end input left old new given asks ends =
-    let same : codes "format" ≡ codes "show" = two_names _ _ (command_of words) given.1 asks.1 in cc
-shown words (Show there) path end input left old new given asks ends = ((end, refl, ends.1), ends.0)
-shown words (Serve there s) path end input left old new given asks ends =
-    let same : codes "show" ≡ codes "serve" = two_names _ _ (command_of words) asks.1 given.1 in cc
-shown words (Help text) path end input left old new given asks ends = absurd (subst (IsAmong (kind_of text)) asks.0 given.0)
+shown words (Plain h) end given asks ends = absurd (given.1.1 asks.1)
+shown words (Format there h) end given asks ends = let same : codes "format" ≡ codes "show" = two_names _ _ (command_of words) given.1 asks.1 in cc
+shown words (Show there) end given asks ends = ((end, refl, ends.1), ends.0)
+shown words (Serve there s) end given asks ends = let same : codes "show" ≡ codes "serve" = two_names _ _ (command_of words) asks.1 given.1 in cc
+shown words (Help text) end given asks ends = absurd (subst (IsAmong (kind_of text)) asks.0 given.0)
 
-pub served_on : (words : List Text) (request : Request) (path : List ℕ) (s : Service) (end : Result (Unit {0}) Fault) (input left old new : Option (List ℕ))
+pub served_on : (words : List Text) (request : Request) {path : List ℕ} {s : Service} (end : Result (Unit {0}) Fault) {input left old new : Option (List ℕ)}
     → Asks words request → AsksServe words path s → Ends request end input left old new → EndsServe s (status_at end) input left old new
-served_on words (Plain h) path s end input left old new given asks ends = absurd (given.1.2 asks.1)
-served_on words (Format there h) path s end input left old new given asks ends =
-    let same : codes "format" ≡ codes "serve" = two_names _ _ (command_of words) given.1 asks.1 in cc
-served_on words (Show there) path s end input left old new given asks ends =
-    let same : codes "show" ≡ codes "serve" = two_names _ _ (command_of words) given.1 asks.1 in cc
-served_on words (Serve there t) path s end input left old new given asks ends =
+served_on words (Plain h) end given asks ends = absurd (given.1.2 asks.1)
+served_on words (Format there h) end given asks ends = let same : codes "format" ≡ codes "serve" = two_names _ _ (command_of words) given.1 asks.1 in cc
+served_on words (Show there) end given asks ends = let same : codes "show" ≡ codes "serve" = two_names _ _ (command_of words) given.1 asks.1 in cc
+served_on words (Serve there t) {s} end {input} {left} {old} {new} given asks ends =
     (end, refl, subst (λ u. EndsInFile u end input left old new) (service_same ends.0 s (ends.1 ∙ ap with_few_workers given.3 ∙ sym asks.3)) ends.2)
-served_on words (Help text) path s end input left old new given asks ends = absurd (subst (IsAmong (kind_of text)) asks.0 given.0)
+served_on words (Help text) end given asks ends = absurd (subst (IsAmong (kind_of text)) asks.0 given.0)

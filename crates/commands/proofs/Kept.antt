@@ -1,5 +1,5 @@
 -- What was sent is kept: from the run behind it, and what the core promises of its device at the end.
-use Rattle.std.proofs.Common.{ℕ, List, [], ◌++◌, map, Option, subst}
+use Rattle.std.proofs.Common.{ℕ, List, ◌++◌, map, Option, subst}
 use Rattle.std.specs.Prelude.{Result, Ok, Err}
 use Rattle.checkpoint.proofs.Fine.{fine, head}
 use Rattle.disk.specs.Device.{IsCrashImage, Medium}
@@ -10,7 +10,7 @@ use Rattle.runs.specs.Stages.{events_of}
 use Rattle.meaning.specs.Serial.{fold}
 use Rattle.serving.proofs.Logged.{holds_all, written_are_kept}
 use Rattle.serving.specs.Ends.{HasServed, committed_in}
-use Rattle.serving.specs.Lines.{admitted, text, ticketed}
+use Rattle.serving.specs.Lines.{Line, admitted, text, ticketed}
 use Rattle.serving.specs.Logged.{AreInLog, HoldsLog}
 use Rattle.serving.specs.declared.server.ServeFault.{ServeFault}
 use Rattle.serving.specs.declared.server.ServeFault.TheVariants as faults
@@ -22,11 +22,11 @@ use Rattle.commands.specs.declared.faults.Fault.{Fault}
 use Rattle.commands.specs.declared.faults.Fault.TheVariants as ends
 use Rattle.commands.specs.declared.service.Service.{Service}
 
-module _ (keeps : Type 0) (s : Service) (old new : Medium) (end : Result (Unit {0}) ServeFault) (input left before written : Option (List ℕ))
+module _ {keeps : Type 0} {s : Service} {old new : Medium} {end : Result (Unit {0}) ServeFault} {input left before written : Option (List ℕ)}
     (h : HasServedBy keeps s old new end input left before written) where
-  held : (row : _) → HasServed keeps (machine_at_start s h.start) h.now row input before written → keeps → (c : List ℕ) → IsCrashImage new c
+  held : {row : List Line} → HasServed keeps (machine_at_start s h.start) h.now row input before written → keeps → (c : List ℕ) → IsCrashImage new c
       → HoldsAcknowledged old input before written c
-  held row served keep c leaves =
+  held {row} served keep c leaves =
       let g = h.start.geometry in
       let x = committed_in h.start in
       let log = went (machine_of (machine_at_start s h.start)) (events_of served.stages) in
@@ -53,21 +53,15 @@ module _ (keeps : Type 0) (s : Service) (old new : Medium) (end : Result (Unit {
       }
 
 -- whatever the end
-pub keeps_acknowledged : (keeps : Type 0) (s : Service) (old new : Medium) (end : Result (Unit {0}) ServeFault) (input left before written : Option (List ℕ))
+pub keeps_acknowledged : {keeps : Type 0} {s : Service} {old new : Medium} (end : Result (Unit {0}) ServeFault) {input left before written : Option (List ℕ)}
     → HasServedBy keeps s old new end input left before written → KeepsAcknowledged keeps old new (as_fault end) input before written
-keeps_acknowledged keeps s old new (Ok _) input left before written h =
-    held keeps s old new (Ok tt) input left before written h [] h.served.run.served
-keeps_acknowledged keeps s old new (Err faults.Device) input left before written h =
-    held keeps s old new (Err faults.Device) input left before written h h.served.run.0 h.served.run.1
-keeps_acknowledged keeps s old new (Err faults.Write) input left before written h = tt
-keeps_acknowledged keeps s old new (Err faults.Read) input left before written h =
-    held keeps s old new (Err faults.Read) input left before written h [] h.served.run
-keeps_acknowledged keeps s old new (Err faults.Exhausted) input left before written h =
-    held keeps s old new (Err faults.Exhausted) input left before written h [] h.served.run
-keeps_acknowledged keeps s old new (Err faults.NoWorkers) input left before written h =
-    held keeps s old new (Err faults.NoWorkers) input left before written h [] h.served.run
-keeps_acknowledged keeps s old new (Err faults.OutOfMemory) input left before written h =
-    held keeps s old new (Err faults.OutOfMemory) input left before written h [] h.served.run
+keeps_acknowledged (Ok _) h = held h h.served.run.served
+keeps_acknowledged (Err faults.Device) h = held h h.served.run.1
+keeps_acknowledged (Err faults.Write) h = tt
+keeps_acknowledged (Err faults.Read) h = held h h.served.run
+keeps_acknowledged (Err faults.Exhausted) h = held h h.served.run
+keeps_acknowledged (Err faults.NoWorkers) h = held h h.served.run
+keeps_acknowledged (Err faults.OutOfMemory) h = held h h.served.run
 
 -- what follows of what is so follows of it at each end
 pub told_so : {P Q : Type 0} (end : Result (Unit {0}) Fault) (before written : Option (List ℕ)) → (P → Q)

@@ -59,15 +59,15 @@ module _ (keeps : Type 0) (s : Service) (old : Medium) (start now : CoreView) (e
   }
 
 -- such a service crashes safely
-pub has_lived : (keeps : Type 0) (s : Service) (old new : Medium) (end : Result (Unit {0}) ServeFault) (input left before written : Option (List ℕ))
+pub has_lived : {keeps : Type 0} {s : Service} {old new : Medium} (end : Result (Unit {0}) ServeFault) {input left before written : Option (List ℕ)}
     → HasServedBy keeps s old new end input left before written → CrashesSafely keeps s old new (as_fault end) input left before written
-has_lived keeps s old new (Ok _) input left before written h = (Ok tt, refl, h)
-has_lived keeps s old new (Err faults.NoWorkers) input left before written h = (Err faults.NoWorkers, refl, h)
-has_lived keeps s old new (Err faults.Read) input left before written h = (Err faults.Read, refl, h)
-has_lived keeps s old new (Err faults.Write) input left before written h = (Err faults.Write, refl, h)
-has_lived keeps s old new (Err faults.Device) input left before written h = (Err faults.Device, refl, h)
-has_lived keeps s old new (Err faults.OutOfMemory) input left before written h = (Err faults.OutOfMemory, refl, h)
-has_lived keeps s old new (Err faults.Exhausted) input left before written h = (Err faults.Exhausted, refl, h)
+has_lived (Ok _) h = (Ok tt, refl, h)
+has_lived (Err faults.NoWorkers) h = (Err faults.NoWorkers, refl, h)
+has_lived (Err faults.Read) h = (Err faults.Read, refl, h)
+has_lived (Err faults.Write) h = (Err faults.Write, refl, h)
+has_lived (Err faults.Device) h = (Err faults.Device, refl, h)
+has_lived (Err faults.OutOfMemory) h = (Err faults.OutOfMemory, refl, h)
+has_lived (Err faults.Exhausted) h = (Err faults.Exhausted, refl, h)
 
 -- ---- what the device recovers to
 
@@ -91,7 +91,7 @@ recovers_for keeps now none leaves bytes = record {
 no_records : (now : CoreView) (g : Geometry) (new : Medium) → now.geometry ≡ g → new ≡ now.medium → HasEmptyLog now → HasNoRecords g new
 no_records now g new same back none = rw (back, ← same) none
 
-module _ (keeps : Type 0) (s : Service) (old new : Medium) (end : Result (Unit {0}) ServeFault) (input left before written : Option (List ℕ))
+module _ {keeps : Type 0} {s : Service} {old new : Medium} {end : Result (Unit {0}) ServeFault} {input left before written : Option (List ℕ)}
     (h : HasServedBy keeps s old new end input left before written) (no_doubt : h.now.failed ≡ false → h.now.doubt ≡ [])
     (bytes : AreBytes new.now) where
   abbrev recovered_to : RecoveredTo keeps old h.start.geometry (committed_in h.start)
@@ -117,28 +117,25 @@ module _ (keeps : Type 0) (s : Service) (old new : Medium) (end : Result (Unit {
       (went (ap (λ (c : CoreView). c.geometry) same) (ap (λ (c : CoreView). c.failed) same ∙ h.fresh.works), ap committed_in same, unread, unwritten)
 
 -- what a service promises of each of its ends
-pub ends_on_device : (keeps : Type 0) (s : Service) (old new : Medium) (end : Result (Unit {0}) ServeFault) (input left before written : Option (List ℕ))
+pub ends_on_device : {keeps : Type 0} {s : Service} {old new : Medium} (end : Result (Unit {0}) ServeFault) {input left before written : Option (List ℕ)}
     → (h : HasServedBy keeps s old new end input left before written) → (h.now.failed ≡ false → h.now.doubt ≡ []) → AreBytes new.now
     → EndsOnDevice keeps s old new (as_fault end) input left before written
-ends_on_device keeps s old new (Ok _) input left before written h no_doubt bytes =
+ends_on_device {new} (Ok _) h no_doubt bytes =
     let same = h.served.run.served.run.geometry in (
       h.served.no_workers,
       (
-        went keeps s old new (Ok tt) input left before written h no_doubt bytes same h.served.ends.1,
+        went h no_doubt bytes same h.served.ends.1,
         λ k. no_records h.now h.start.geometry new same h.given_back (h.served.emptied k),
         h.served.ends.2,
         h.served.ends.3,
       ),
     )
-ends_on_device keeps s old new (Err faults.Read) input left before written h no_doubt bytes =
-    (h.served.no_workers, (went keeps s old new (Err faults.Read) input left before written h no_doubt bytes h.served.run.run.geometry h.served.ends.1, h.served.ends.2))
-ends_on_device keeps s old new (Err faults.Exhausted) input left before written h no_doubt bytes =
-    (h.served.no_workers, (went keeps s old new (Err faults.Exhausted) input left before written h no_doubt bytes h.served.run.run.geometry h.served.ends.1, h.served.ends.3))
-ends_on_device keeps s old new (Err faults.Device) input left before written h no_doubt bytes =
-    (h.served.no_workers, (h.start.geometry, committed_in h.start, recovered_to keeps s old new (Err faults.Device) input left before written h no_doubt bytes, h.served.ends.2))
-ends_on_device keeps s old new (Err faults.Write) input left before written h no_doubt bytes =
-    (h.served.no_workers, (h.start.geometry, committed_in h.start, recovered_to keeps s old new (Err faults.Write) input left before written h no_doubt bytes))
-ends_on_device keeps s old new (Err faults.NoWorkers) input left before written h no_doubt bytes =
-    (h.served.no_workers, served_nothing keeps s old new (Err faults.NoWorkers) input left before written h no_doubt bytes h.served.ends.0 h.served.ends.1 h.served.ends.2)
-ends_on_device keeps s old new (Err faults.OutOfMemory) input left before written h no_doubt bytes =
-    (h.served.no_workers, served_nothing keeps s old new (Err faults.OutOfMemory) input left before written h no_doubt bytes h.served.ends.0 h.served.ends.1 h.served.ends.2)
+ends_on_device (Err faults.Read) h no_doubt bytes = (h.served.no_workers, (went h no_doubt bytes h.served.run.run.geometry h.served.ends.1, h.served.ends.2))
+ends_on_device (Err faults.Exhausted) h no_doubt bytes = (h.served.no_workers, (went h no_doubt bytes h.served.run.run.geometry h.served.ends.1, h.served.ends.3))
+ends_on_device (Err faults.Device) h no_doubt bytes =
+    (h.served.no_workers, (h.start.geometry, committed_in h.start, recovered_to h no_doubt bytes, h.served.ends.2))
+ends_on_device (Err faults.Write) h no_doubt bytes = (h.served.no_workers, (h.start.geometry, committed_in h.start, recovered_to h no_doubt bytes))
+ends_on_device (Err faults.NoWorkers) h no_doubt bytes =
+    (h.served.no_workers, served_nothing h no_doubt bytes h.served.ends.0 h.served.ends.1 h.served.ends.2)
+ends_on_device (Err faults.OutOfMemory) h no_doubt bytes =
+    (h.served.no_workers, served_nothing h no_doubt bytes h.served.ends.0 h.served.ends.1 h.served.ends.2)

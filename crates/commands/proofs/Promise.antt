@@ -42,10 +42,10 @@ use Rattle.commands.specs.declared.service.Service.{Service}
 -- ---- whatever a crash leaves at the end of a service
 
 -- Where a write failed, no line counts as written.
-unsent : (keeps : Type 0) (s : Service) (old new : Medium) (input left before written : Option (List ℕ))
+unsent : {keeps : Type 0} {s : Service} {old new : Medium} {input left before written : Option (List ℕ)}
     → HasServedBy keeps s old new (Err faults.Write) input left before written → keeps → (c : List ℕ) → IsCrashImage new c
     → HoldsAcknowledged old input None written c
-unsent keeps s old new input left before written h keep c leaves =
+unsent {keeps} {s} {input} h keep c leaves =
     let g = h.start.geometry in
     let x = committed_in h.start in
     let taken = h.served.run.0 in
@@ -70,51 +70,41 @@ unsent keeps s old new input left before written h keep c leaves =
       not_refused = fine g c state leaves.bytes on_device.recovers;
     }
 
-held_at : (keeps : Type 0) (s : Service) (old new : Medium) (end : Result (Unit {0}) ServeFault) (input left before written : Option (List ℕ))
+held_at : {keeps : Type 0} {s : Service} {old new : Medium} (end : Result (Unit {0}) ServeFault) {input left before written : Option (List ℕ)}
     → HasServedBy keeps s old new end input left before written → keeps → (c : List ℕ) → IsCrashImage new c
     → HoldsAcknowledged old input (unless_unsent (as_fault end) before) written c
-held_at keeps s old new (Ok _) input left before written h = keeps_acknowledged keeps s old new (Ok tt) input left before written h
-held_at keeps s old new (Err faults.Device) input left before written h =
-    keeps_acknowledged keeps s old new (Err faults.Device) input left before written h
-held_at keeps s old new (Err faults.Write) input left before written h = unsent keeps s old new input left before written h
-held_at keeps s old new (Err faults.Read) input left before written h =
-    keeps_acknowledged keeps s old new (Err faults.Read) input left before written h
-held_at keeps s old new (Err faults.Exhausted) input left before written h =
-    keeps_acknowledged keeps s old new (Err faults.Exhausted) input left before written h
-held_at keeps s old new (Err faults.NoWorkers) input left before written h =
-    keeps_acknowledged keeps s old new (Err faults.NoWorkers) input left before written h
-held_at keeps s old new (Err faults.OutOfMemory) input left before written h =
-    keeps_acknowledged keeps s old new (Err faults.OutOfMemory) input left before written h
+held_at (Ok _) h = keeps_acknowledged (Ok tt) h
+held_at (Err faults.Device) h = keeps_acknowledged (Err faults.Device) h
+held_at (Err faults.Write) h = unsent h
+held_at (Err faults.Read) h = keeps_acknowledged (Err faults.Read) h
+held_at (Err faults.Exhausted) h = keeps_acknowledged (Err faults.Exhausted) h
+held_at (Err faults.NoWorkers) h = keeps_acknowledged (Err faults.NoWorkers) h
+held_at (Err faults.OutOfMemory) h = keeps_acknowledged (Err faults.OutOfMemory) h
 
 -- What holds all that was sent recovers to where a restart goes on.
-pub recovered : (old : Medium) (input before written : Option (List ℕ)) (c : List ℕ) → HoldsAcknowledged old input before written c
+pub recovered : {old : Medium} {input before written : Option (List ℕ)} {c : List ℕ} → HoldsAcknowledged old input before written c
     → HoldsRecovered old input before written c
-recovered old input before written c h = record {
+recovered {input} {before} {written} {c} h = record {
   geometry = h.geometry;
   start = h.start;
   recovered_before = h.recovered_before;
   recovered = bytes_recover 0 h.taken h.sent h.first h.output h.kept h.holds;
 }
 
-pub leaves_recovered : (keeps : Type 0) (s : Service) (old new : Medium) (end : Result (Unit {0}) ServeFault)
-    (input left before written : Option (List ℕ)) → HasServedBy keeps s old new end input left before written
-    → LeavesRecovered keeps old new (as_fault end) input before written
-leaves_recovered keeps s old new end input left before written h = at end h
-  where
-    all : (end : Result (Unit {0}) ServeFault) → HasServedBy keeps s old new end input left before written → keeps → (c : List ℕ)
-        → IsCrashImage new c → HoldsRecovered old input (unless_unsent (as_fault end) before) written c
-    all end h keep c leaves =
-        recovered old input (unless_unsent (as_fault end) before) written c (held_at keeps s old new end input left before written h keep c leaves)
+recovered_at : {keeps : Type 0} {s : Service} {old new : Medium} (end : Result (Unit {0}) ServeFault) {input left before written : Option (List ℕ)}
+    → HasServedBy keeps s old new end input left before written → keeps → (c : List ℕ) → IsCrashImage new c
+    → HoldsRecovered old input (unless_unsent (as_fault end) before) written c
+recovered_at end h keep c leaves = recovered (held_at end h keep c leaves)
 
-    at : (end : Result (Unit {0}) ServeFault) → HasServedBy keeps s old new end input left before written
-        → LeavesRecovered keeps old new (as_fault end) input before written
-    at (Ok _) h = all (Ok tt) h
-    at (Err faults.Device) h = all (Err faults.Device) h
-    at (Err faults.Write) h = all (Err faults.Write) h
-    at (Err faults.Read) h = all (Err faults.Read) h
-    at (Err faults.Exhausted) h = all (Err faults.Exhausted) h
-    at (Err faults.NoWorkers) h = all (Err faults.NoWorkers) h
-    at (Err faults.OutOfMemory) h = all (Err faults.OutOfMemory) h
+pub leaves_recovered : {keeps : Type 0} {s : Service} {old new : Medium} (end : Result (Unit {0}) ServeFault) {input left before written : Option (List ℕ)}
+    → HasServedBy keeps s old new end input left before written → LeavesRecovered keeps old new (as_fault end) input before written
+leaves_recovered (Ok _) h = recovered_at (Ok tt) h
+leaves_recovered (Err faults.Device) h = recovered_at (Err faults.Device) h
+leaves_recovered (Err faults.Write) h = recovered_at (Err faults.Write) h
+leaves_recovered (Err faults.Read) h = recovered_at (Err faults.Read) h
+leaves_recovered (Err faults.Exhausted) h = recovered_at (Err faults.Exhausted) h
+leaves_recovered (Err faults.NoWorkers) h = recovered_at (Err faults.NoWorkers) h
+leaves_recovered (Err faults.OutOfMemory) h = recovered_at (Err faults.OutOfMemory) h
 
 -- what follows of what is so follows of it at each end
 pub opened_then : {P Q : Type 0} (end : Result (Unit {0}) Fault) → (P → Q) → UnlessUnopened end P → UnlessUnopened end Q
@@ -135,8 +125,8 @@ some_same : {x y : State} → ◌≡◌ {A = Option State} (Some x) (Some y) →
 some_same e = cc
 
 -- A device that recovers to this state was opened with this geometry, and from this state.
-opened_so : (g h : Geometry) (x y : State) (old : Medium) → holds g old.now ≡ Some x → RecoveredTo (Unit {0}) old h y → (h ≡ g) × (y ≡ x)
-opened_so g h x y old recovers recovered_before =
+opened_so : {g h : Geometry} {x y : State} {old : Medium} → holds g old.now ≡ Some x → RecoveredTo (Unit {0}) old h y → (h ≡ g) × (y ≡ x)
+opened_so {g} {h} {x} {old} recovers recovered_before =
     let same : h ≡ g = one_geometry h g old.now (recovered_before.header tt) x recovers in
     (same, some_same (sym (recovered_before.recovered_before tt) ∙ ap (λ (k : Geometry). holds k old.now) same ∙ recovers))
 
@@ -146,21 +136,20 @@ written_so None before written P Q f h = tt
 written_so (Some bytes) before written P Q f h = (h.0, h.1, f bytes h.0 h.2)
 
 -- A service that ends without fault has answered all of its input.
-serves_so : (g : Geometry) (x : State) (s : Service) (old new : Medium) (end : Result (Unit {0}) Fault)
-    (input left before written : Option (List ℕ)) → holds g old.now ≡ Some x → EndsOnDevice (Unit {0}) s old new end input left before written
-    → OnOk end (WritesOutput input before written (λ bytes out. out ≡ serial_out g x bytes))
-serves_so g x s old new (Err fault) input left before written recovers h = tt
-serves_so g x s old new (Ok done) input left before written recovers h =
-    let w = h.1.0 in
-    let own = opened_so g w.geometry x w.start old recovers w.before in
-    written_so input before written _ _
-    (λ bytes out served. served.output ∙ (λ i. serial_out (own.0 i) (own.1 i) bytes)) h.1.3
+module _ (g : Geometry) {x : State} (old : Medium) (recovers : holds g old.now ≡ Some x) where
+  serves_so : (s : Service) (new : Medium) (end : Result (Unit {0}) Fault) (input left before written : Option (List ℕ))
+      → EndsOnDevice (Unit {0}) s old new end input left before written → OnOk end (WritesOutput input before written (λ bytes out. out ≡ serial_out g x bytes))
+  serves_so s new (Err fault) input left before written h = tt
+  serves_so s new (Ok done) input left before written h =
+      let own = opened_so recovers h.1.0.before in
+      written_so input before written _ _
+      (λ bytes out served. served.output ∙ (λ i. serial_out (own.0 i) (own.1 i) bytes)) h.1.3
 
 module _ (g : Geometry) (old new : Medium) (made : holds g old.now ≡ Some empty) (c : List ℕ) (leaves : IsCrashImage new c) where
   left_so : (input before written : Option (List ℕ)) → HoldsRecovered old input before written c
       → BytesRecover g empty input before written c
   left_so input before written h =
-      let own = opened_so g h.geometry empty h.start old made h.recovered_before in
+      let own = opened_so made h.recovered_before in
       subst (λ (k : Geometry). BytesRecover k empty input before written c) own.0
       (subst (λ (y : State). BytesRecover h.geometry y input before written c) own.1 h.recovered)
 
@@ -192,7 +181,7 @@ module _ (g : Geometry) (old new : Medium) (made : holds g old.now ≡ Some empt
         → BytesRecover g empty input (unless_unsent end before) written c
     left_served end h = left_so input (unless_unsent end before) written
         (subst (λ (e : Result (Unit {0}) Fault). HoldsRecovered old input (unless_unsent e before) written c) (sym h.1)
-        (recovered old input (unless_unsent (as_fault h.0) before) written c (held_at (Unit {0}) s old new h.0 input left before written h.2 tt c leaves)))
+        (recovered_at h.0 h.2 tt c leaves))
 
     left_at : (end : Result (Unit {0}) Fault) → IsSynced old → CrashesSafely (Unit {0}) s old new end input left before written
         → EndsOnDevice (Unit {0}) s old new end input left before written → BytesRecover g empty input (unless_unsent end before) written c
@@ -208,17 +197,17 @@ module _ (g : Geometry) (old new : Medium) (made : holds g old.now ≡ Some empt
     left_at (Err (ends.Format fault)) calm h e = left_served (Err (ends.Format fault)) h
 
 -- A device that was just made was served until it was crashed, and then served again.
-pub goes_on : (g : Geometry) (s : Service) (began : Medium) (torn : Torn) (crashed : Memory) (last : Medium)
-    (first second : Result (Unit {0}) Fault) (input left before written next_input next_left next_before next_written : Option (List ℕ))
-    → holds g began.now ≡ Some empty → IsSynced began
+pub goes_on : {g : Geometry} {s : Service} {began : Medium} {torn : Torn} {crashed : Memory} (last : Medium)
+    {first second : Result (Unit {0}) Fault} {input left before written next_input : Option (List ℕ)} (next_left : Option (List ℕ))
+    {next_before next_written : Option (List ℕ)} → holds g began.now ≡ Some empty → IsSynced began
     → HasServedUntilCrash s began torn crashed first input left before written
     → EndsOnDevice (Unit {0}) s crashed.medium last second next_input next_left next_before next_written
     → GoesOn g first second input before written next_input next_before next_written
-goes_on g s began torn crashed last first second input left before written next_input next_left next_before next_written made calm h ends =
-    let one = left_at g began h.ended.medium made crashed.medium.now h.leaves s input left before written first calm h.crash_safe h.ends in
+goes_on {g} {s} {began} {crashed} last {first} {second} next_left made calm h ends =
+    let one = left_at g began h.ended.medium made crashed.medium.now h.leaves s _ _ _ _ first calm h.crash_safe h.ends in
     record {
       now = one.now;
       recovers = one.recovers;
-      whole = serves_so g empty s began h.ended.medium first input left before written made h.ends;
-      next = serves_so g one.now s crashed.medium last second next_input next_left next_before next_written one.holds_now ends;
+      whole = serves_so g began made s _ first _ _ _ _ h.ends;
+      next = serves_so g crashed.medium one.holds_now s last second _ next_left _ _ ends;
     }

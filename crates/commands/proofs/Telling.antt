@@ -10,13 +10,13 @@ use Rattle.commands.specs.declared.faults.Fault.{Fault}
 use Rattle.commands.specs.declared.faults.Fault.TheVariants.{Write}
 
 -- its lines are written, or the writer fails
-pub shows : (shown : Shown) (lines : List ℕ) (end : Result (Unit {0}) Fault) (old new : Option (List ℕ)) → lines ≡ shown_lines shown → OnOk end (Appends old new lines)
+pub shows : (shown : Shown) {lines : List ℕ} (end : Result (Unit {0}) Fault) (old new : Option (List ℕ)) → lines ≡ shown_lines shown → OnOk end (Appends old new lines)
     → IfErr end (λ fault. fault ≡ Write) → EndsShowing end old new
-shows shown lines (Ok _) old new are written fault = (shown, subst (Appends old new) are written)
-shows shown lines (Err e) old new are written fault = subst (λ f. EndsShowing (Err f) old new) (sym fault) tt
+shows shown (Ok _) old new are written fault = (shown, subst (Appends old new) are written)
+shows shown (Err e) old new are written fault = subst (λ f. EndsShowing (Err f) old new) (sym fault) tt
 
 -- the same of the device that holds this
-pub shows_bytes : (bytes : List ℕ) (shown : Shown) (lines : List ℕ) (end : Result (Unit {0}) Fault) (old new : Option (List ℕ)) → IsShown bytes shown → lines ≡ shown_lines shown
+pub shows_bytes : {bytes : List ℕ} {shown : Shown} {lines : List ℕ} (end : Result (Unit {0}) Fault) (old new : Option (List ℕ)) → IsShown bytes shown → lines ≡ shown_lines shown
     → OnOk end (Appends old new lines) → IfErr end (λ fault. fault ≡ Write) → ShowsBytes bytes end old new
-shows_bytes bytes shown lines (Ok _) old new is are written fault = (shown, is, subst (Appends old new) are written)
-shows_bytes bytes shown lines (Err e) old new is are written fault = subst (λ f. ShowsBytes bytes (Err f) old new) (sym fault) tt
+shows_bytes {shown} (Ok _) old new is are written fault = (shown, is, subst (Appends old new) are written)
+shows_bytes {bytes} (Err e) old new is are written fault = subst (λ f. ShowsBytes bytes (Err f) old new) (sym fault) tt

@@ -8,81 +8,57 @@ use Rattle.commands.proofs.program.command.Goals as goal
 
 pub returns-in-Err-clause-served : goal.returns-in-Err-clause-served
 returns-in-Err-clause-served g c = λ geometry asks.
-    let words = map string_bytes c.args.words.now in
-    rw c.report_refusal.ensures (served_nothing words geometry c.in-Err.refusal (g.R.Read.remaining c.args.r.now) (g.W.Write.contents c.args.w.now) asks c.in-Err.ensures.err)
+    rw c.report_refusal.ensures (served_nothing (map string_bytes c.args.words.now) c.in-Err.refusal asks c.in-Err.ensures.err)
 
 pub returns-in-Ok-run-clause-served : goal.returns-in-Ok-run-clause-served
 returns-in-Ok-run-clause-served g c = λ geometry asks.
-    let words = map string_bytes c.args.words.now in
-    served words c.in-Ok.request geometry (Ok c.in-Ok-run.field-0) (g.R.Read.remaining c.args.r.now) (g.R.Read.remaining c.run.new.r)
-    (g.W.Write.contents c.args.w.now) (g.W.Write.contents c.run.new.w) c.in-Ok.ensures.ok asks c.in-Ok-run.ensures
+    served (map string_bytes c.args.words.now) c.in-Ok.request (Ok c.in-Ok-run.field-0) c.in-Ok.ensures.ok asks c.in-Ok-run.ensures
 
 pub returns-in-Err-run-clause-served : goal.returns-in-Err-run-clause-served
 returns-in-Err-run-clause-served g c = λ geometry asks.
-    let words = map string_bytes c.args.words.now in
-    rw c.report.ensures
-    (served words c.in-Ok.request geometry (Err c.in-Err-run.fault) (g.R.Read.remaining c.args.r.now) (g.R.Read.remaining c.run.new.r)
-    (g.W.Write.contents c.args.w.now) (g.W.Write.contents c.run.new.w) c.in-Ok.ensures.ok asks c.in-Err-run.ensures)
+    rw c.report.ensures (served (map string_bytes c.args.words.now) c.in-Ok.request (Err c.in-Err-run.fault) c.in-Ok.ensures.ok asks c.in-Err-run.ensures)
 
 -- a device is made
 
 pub returns-in-Err-clause-formatted : goal.returns-in-Err-clause-formatted
 returns-in-Err-clause-formatted g c = λ path geometry asks.
-    let words = map string_bytes c.args.words.now in
-    rw c.report_refusal.ensures (formatted_nothing words path geometry c.in-Err.refusal (g.W.Write.contents c.args.w.now) asks c.in-Err.ensures.err, refl {a = g.R.Read.remaining c.args.r.now})
+    rw c.report_refusal.ensures (formatted_nothing (map string_bytes c.args.words.now) geometry c.in-Err.refusal asks c.in-Err.ensures.err, refl {a = g.R.Read.remaining c.args.r.now})
 
 pub returns-in-Ok-run-clause-formatted : goal.returns-in-Ok-run-clause-formatted
 returns-in-Ok-run-clause-formatted g c = λ path geometry asks.
-    let words = map string_bytes c.args.words.now in
-    formatted words c.in-Ok.request path geometry (Ok c.in-Ok-run.field-0) (g.R.Read.remaining c.args.r.now) (g.R.Read.remaining c.run.new.r)
-    (g.W.Write.contents c.args.w.now) (g.W.Write.contents c.run.new.w) c.in-Ok.ensures.ok asks c.in-Ok-run.ensures
+    formatted (map string_bytes c.args.words.now) c.in-Ok.request geometry (Ok c.in-Ok-run.field-0) c.in-Ok.ensures.ok asks c.in-Ok-run.ensures
 
 pub returns-in-Err-run-clause-formatted : goal.returns-in-Err-run-clause-formatted
 returns-in-Err-run-clause-formatted g c = λ path geometry asks.
-    let words = map string_bytes c.args.words.now in
-    rw c.report.ensures
-    (formatted words c.in-Ok.request path geometry (Err c.in-Err-run.fault) (g.R.Read.remaining c.args.r.now) (g.R.Read.remaining c.run.new.r)
-    (g.W.Write.contents c.args.w.now) (g.W.Write.contents c.run.new.w) c.in-Ok.ensures.ok asks c.in-Err-run.ensures)
+    rw c.report.ensures (formatted (map string_bytes c.args.words.now) c.in-Ok.request geometry (Err c.in-Err-run.fault) c.in-Ok.ensures.ok asks c.in-Err-run.ensures)
 
 -- a device is shown
 
 pub returns-in-Err-clause-shown : goal.returns-in-Err-clause-shown
 returns-in-Err-clause-shown g c = λ path asks.
-    let words = map string_bytes c.args.words.now in
-    rw c.report_refusal.ensures (shown_nothing words path c.in-Err.refusal (g.W.Write.contents c.args.w.now) asks c.in-Err.ensures.err, refl {a = g.R.Read.remaining c.args.r.now})
+    rw c.report_refusal.ensures (shown_nothing (map string_bytes c.args.words.now) c.in-Err.refusal asks c.in-Err.ensures.err, refl {a = g.R.Read.remaining c.args.r.now})
 
 pub returns-in-Ok-run-clause-shown : goal.returns-in-Ok-run-clause-shown
 returns-in-Ok-run-clause-shown g c = λ path asks.
-    let words = map string_bytes c.args.words.now in
-    shown words c.in-Ok.request path (Ok c.in-Ok-run.field-0) (g.R.Read.remaining c.args.r.now) (g.R.Read.remaining c.run.new.r)
-    (g.W.Write.contents c.args.w.now) (g.W.Write.contents c.run.new.w) c.in-Ok.ensures.ok asks c.in-Ok-run.ensures
+    shown (map string_bytes c.args.words.now) c.in-Ok.request (Ok c.in-Ok-run.field-0) c.in-Ok.ensures.ok asks c.in-Ok-run.ensures
 
 pub returns-in-Err-run-clause-shown : goal.returns-in-Err-run-clause-shown
 returns-in-Err-run-clause-shown g c = λ path asks.
-    let words = map string_bytes c.args.words.now in
-    rw c.report.ensures
-    (shown words c.in-Ok.request path (Err c.in-Err-run.fault) (g.R.Read.remaining c.args.r.now) (g.R.Read.remaining c.run.new.r)
-    (g.W.Write.contents c.args.w.now) (g.W.Write.contents c.run.new.w) c.in-Ok.ensures.ok asks c.in-Err-run.ensures)
+    rw c.report.ensures (shown (map string_bytes c.args.words.now) c.in-Ok.request (Err c.in-Err-run.fault) c.in-Ok.ensures.ok asks c.in-Err-run.ensures)
 
 -- a device is served
 
 pub returns-in-Err-clause-served_on : goal.returns-in-Err-clause-served_on
 returns-in-Err-clause-served_on g c = λ path s asks.
-    let words = map string_bytes c.args.words.now in
-    rw c.report_refusal.ensures (served_on_nothing words path s c.in-Err.refusal (g.R.Read.remaining c.args.r.now) (g.W.Write.contents c.args.w.now) asks c.in-Err.ensures.err)
+    rw c.report_refusal.ensures (served_on_nothing (map string_bytes c.args.words.now) c.in-Err.refusal asks c.in-Err.ensures.err)
 
 pub returns-in-Ok-run-clause-served_on : goal.returns-in-Ok-run-clause-served_on
 returns-in-Ok-run-clause-served_on g c = λ path s asks.
-    let words = map string_bytes c.args.words.now in
-    served_on words c.in-Ok.request path s (Ok c.in-Ok-run.field-0) (g.R.Read.remaining c.args.r.now) (g.R.Read.remaining c.run.new.r)
-    (g.W.Write.contents c.args.w.now) (g.W.Write.contents c.run.new.w) c.in-Ok.ensures.ok asks c.in-Ok-run.ensures
+    served_on (map string_bytes c.args.words.now) c.in-Ok.request (Ok c.in-Ok-run.field-0) c.in-Ok.ensures.ok asks c.in-Ok-run.ensures
 
 pub returns-in-Err-run-clause-served_on : goal.returns-in-Err-run-clause-served_on
 returns-in-Err-run-clause-served_on g c = λ path s asks.
-    let words = map string_bytes c.args.words.now in
-    rw c.report.ensures
-    (served_on words c.in-Ok.request path s (Err c.in-Err-run.fault) (g.R.Read.remaining c.args.r.now) (g.R.Read.remaining c.run.new.r)
-    (g.W.Write.contents c.args.w.now) (g.W.Write.contents c.run.new.w) c.in-Ok.ensures.ok asks c.in-Err-run.ensures)
+    rw c.report.ensures (served_on (map string_bytes c.args.words.now) c.in-Ok.request (Err c.in-Err-run.fault) c.in-Ok.ensures.ok asks c.in-Err-run.ensures)
 
 -- words that are refused ask for nothing
 
@@ -99,16 +75,11 @@ returns-in-Err-clause-unserved g c = λ no_service. rw c.report_refusal.ensures 
 
 pub returns-in-Ok-run-clause-unserved : goal.returns-in-Ok-run-clause-unserved
 returns-in-Ok-run-clause-unserved g c = λ no_service.
-    let words = map string_bytes c.args.words.now in
-    inl (helped words c.in-Ok.request (Ok c.in-Ok-run.field-0) (g.R.Read.remaining c.args.r.now) (g.R.Read.remaining c.run.new.r)
-    (g.W.Write.contents c.args.w.now) (g.W.Write.contents c.run.new.w) no_service c.in-Ok.ensures.ok c.in-Ok-run.ensures)
+    inl (helped (map string_bytes c.args.words.now) c.in-Ok.request (Ok c.in-Ok-run.field-0) _ _ no_service c.in-Ok.ensures.ok c.in-Ok-run.ensures)
 
 pub returns-in-Err-run-clause-unserved : goal.returns-in-Err-run-clause-unserved
 returns-in-Err-run-clause-unserved g c = λ no_service.
-    let words = map string_bytes c.args.words.now in
-    rw c.report.ensures
-    (inl (helped words c.in-Ok.request (Err c.in-Err-run.fault) (g.R.Read.remaining c.args.r.now) (g.R.Read.remaining c.run.new.r)
-    (g.W.Write.contents c.args.w.now) (g.W.Write.contents c.run.new.w) no_service c.in-Ok.ensures.ok c.in-Err-run.ensures))
+    rw c.report.ensures (inl (helped (map string_bytes c.args.words.now) c.in-Ok.request (Err c.in-Err-run.fault) _ _ no_service c.in-Ok.ensures.ok c.in-Err-run.ensures))
 
 -- the word `plain` alone asks for the standard geometry
 

@@ -45,11 +45,8 @@ returns g c =
     (subst (λ (r : Result (Unit {0}) Fault). P now.medium r) (sym c.as_fault.ensures) h) in
     record {
       ends = given_back (λ m r. EndsOnDevice keeps service old m r input left before written)
-          (ends_on_device keeps service old now.medium end input left before written by c.know_recovery.ensures.no_doubt bytes);
-      crash_safe = given_back (λ m r. CrashesSafely keeps service old m r input left before written)
-          (has_lived keeps service old now.medium end input left before written by);
-      kept = given_back (λ m r. KeepsAcknowledged keeps old m r input before written)
-          (keeps_acknowledged keeps service old now.medium end input left before written by);
-      recovers = given_back (λ m r. LeavesRecovered keeps old m r input before written)
-          (leaves_recovered keeps service old now.medium end input left before written by);
+          (ends_on_device end by c.know_recovery.ensures.no_doubt bytes);
+      crash_safe = given_back (λ m r. CrashesSafely keeps service old m r input left before written) (has_lived end by);
+      kept = given_back (λ m r. KeepsAcknowledged keeps old m r input before written) (keeps_acknowledged end by);
+      recovers = given_back (λ m r. LeavesRecovered keeps old m r input before written) (leaves_recovered end by);
     }
