@@ -104,10 +104,10 @@ run_replies g old (event ∷ events) legal =
     ∙ (λ i. k.same i ++ run_replies g event.state_after events legal.1 i)
 
 -- Whatever is left later begins with the changes that were answered.
-pub answered_left : (g : Geometry) (old : Hands) (events : List Event) (k after : ℕ) (ms : List Msg) → IsLegal g old events
-    → k ≤ after → IsLogAfter old events after ms
+pub answered_left : (g : Geometry) {old : Hands} {events : List Event} {k after : ℕ} {ms : List Msg} → IsLegal g old events → k ≤ after
+    → IsLogAfter old events after ms
     → (rest : List Msg) × (loggable old.core.logged ++ ms ≡ answered_changes old (take k events) ++ rest)
-answered_left g old events k after ms legal le log =
+answered_left g {old} {events} {k} {after} legal le log =
     let j = journal_first old events k after le in
     let first = take k events in
     let begun = loggable old.core.logged in

@@ -139,8 +139,8 @@ module _ (g : Geometry) (e : Entry) where
       ++ (entries old.ran ++ old.out))) && not (list_any comes_before old.waiting)) (sym gone)
       ∙ ap (λ l. free (entries l ++ (entries old.ran ++ old.out)) old.waiting) (sym front)
 
-pub event_clears : (g : Geometry) (old : Hands) (event : Event) (e : Entry) → IsAllowed g old event → IsSoundCoreState g old.core
+pub event_clears : {g : Geometry} (old : Hands) (event : Event) (e : Entry) → IsAllowed g old event → IsSoundCoreState g old.core
     → IsIn e old.core.waiting → IsIn e event.state_after.core.waiting
     → ((a : Replied) → IsAnswered old.core event.state_after.core a → are_related_entries g e (entry a) ≡ false)
     → is_conflict_free g event.state_after.core e ≡ is_conflict_free g old.core e
-event_clears g old event e allowed h was is off = move_clears g e old.core event.state_after.core _ (moves g old event allowed) h was is off
+event_clears {g} old event e allowed h was is off = move_clears g e old.core event.state_after.core _ (moves g old event allowed) h was is off

@@ -91,9 +91,9 @@ left_of_first g old events more k x left =
       state = left.state;
     }
 
-pub left_of_second : (g : Geometry) (old : Hands) (events more : List Event) (k : ℕ) (x : State) → IsLegal g old events
+pub left_of_second : {g : Geometry} (old : Hands) (events : List Event) {more : List Event} {k : ℕ} {x : State} → IsLegal g old events
     → IsSoundCoreState g old.core → IsLeftSince g (last old events) more k x → IsLeftSince g old (events ++ more) (length events + k) x
-left_of_second g old events more k x legal sound left =
+left_of_second {g} old events {more} legal sound left =
     let long = length-append events more in
     record {
       after = length events + left.after;

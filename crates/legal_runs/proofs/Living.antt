@@ -62,7 +62,7 @@ module _ (g : Geometry) where
   run_answered : (x : State) (start : Hands) (events : List Event) (ended : ℕ) (log : List Msg)
       → IsLogOfRun g x start events ended log → HoldsAnswered (Ran start events ended) log
   run_answered x start events ended log h =
-      let k = answered_left g start events ended h.after log h.legal h.since h.is_log in
+      let k = answered_left g h.legal h.since h.is_log in
       (k.0, ap (λ l. loggable l ++ log) (sym (none_logged start.core h.idle)) ∙ k.1)
 
   one_answered : (x : State) (incarnation : Incarnation) (log : List Msg) → IsLogOf g x incarnation log → HoldsAnswered incarnation log

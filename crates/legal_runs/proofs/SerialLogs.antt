@@ -200,18 +200,18 @@ module _ (g : Geometry) (old : Hands) (events : List Event) (legal : IsLegal g o
         )
 
 -- Whatever a crash leaves in the log when so many events have ended, it is the changes of a serial log.
-pub left_in_order : (g : Geometry) (old : Hands) (events : List Event) (k : ℕ) (ms : List Msg) → IsLegal g old events → IsIdle old.core
+pub left_in_order : (g : Geometry) {old : Hands} {events : List Event} {k : ℕ} {ms : List Msg} → IsLegal g old events → IsIdle old.core
     → old.core.doubt ≡ [] → IsLogAfter old events k ms
     → (j : ℕ) × IsSerialLog g old.core.committed (arrived (take k events))
     (went old (take k events) ++ take j (last old (take k events)).core.ran)
     × (ms ≡ loggable (went old (take k events) ++ take j (last old (take k events)).core.ran))
-left_in_order g old events k ms legal idle none log =
+left_in_order g {old} {events} {k} {ms} legal idle none log =
     crash_in_order g old (take k events) (legal_first g old events k legal) idle none (drop k events) log.some ms log.is
 
 -- What is logged later begins with all that was answered before.
-pub answered_begins : (g : Geometry) (old : Hands) (events : List Event) (k after : ℕ) → IsLegal g old events → IsIdle old.core
+pub answered_begins : (g : Geometry) (old : Hands) (events : List Event) {k after : ℕ} → IsLegal g old events → IsIdle old.core
     → k ≤ after → (rest : List Replied) × (went old (take after events) ≡ answered_messages old (take k events) ++ rest)
-answered_begins g old events k after legal idle le =
+answered_begins g old events {k} {after} legal idle le =
     let more = went_first old events k after le in
     let first = take k events in
     let logged = (last old first).core.logged in (

@@ -32,27 +32,22 @@ module _ (g : Geometry) where
       (subst (λ r. AreApart g (entries r)) (sym whole) (before_front _ (entries w.ran) w.out (before_back _ (entries w.logged) _ h.apart)))
       (subst (AreReplied g w.committed) (sym whole) h.replied)
 
-  stays_sound : (old new : CoreState) (p : Passed) → Move g old new p → new.waiting ≡ old.waiting → new.out ≡ old.out
-      → new.ran ≡ old.ran → new.logged ≡ old.logged → new.committed ≡ old.committed → new.next ≡ old.next → new.slots ≡ old.slots
-      → IsSoundCoreState g old → IsSoundCoreState g new
-  stays_sound old new p move waiting out ran logged committed next slots h =
-      let all : new.out ++ new.waiting ≡ old.out ++ old.waiting = λ i. out i ++ waiting i in
-      let holds : held new ≡ held old = λ i. entries (logged i) ++ (entries (ran i) ++ out i) in
+  pub move_sound : (old new : CoreState) (p : Passed) → Move g old new p → IsSoundCoreState g old → IsSoundCoreState g new
+  move_sound old new p (Stays s e) h =
+      let all : new.out ++ new.waiting ≡ old.out ++ old.waiting = λ i. s.out i ++ s.waiting i in
+      let holds : held new ≡ held old = λ i. entries (s.logged i) ++ (entries (s.ran i) ++ s.out i) in
       record {
         apart = subst (AreApart g) (sym holds) h.apart;
-        replied = subst (AreReplied g new.committed) (sym ran) (subst (λ x. AreReplied g x old.ran) (sym committed) h.replied);
-        ascending = subst AreAscending (sym waiting) h.ascending;
+        replied = subst (AreReplied g new.committed) (sym s.ran) (subst (λ x. AreReplied g x old.ran) (sym s.committed) h.replied);
+        ascending = subst AreAscending (sym s.waiting) h.ascending;
         once = subst AreOnce (sym all) h.once;
-        given = subst (λ n. AllByRecursion (IsGiven n) (new.out ++ new.waiting)) (sym next)
+        given = subst (λ n. AllByRecursion (IsGiven n) (new.out ++ new.waiting)) (sym s.next)
             (subst (AllByRecursion (IsGiven old.next)) (sym all) h.given);
-        room = move_room g old new p move h.room;
-        fits = subst (λ n. length new.waiting + length (held new) ≤ n) (sym slots)
+        room = move_room g old new p (Stays s e) h.room;
+        fits = subst (λ n. length new.waiting + length (held new) ≤ n) (sym s.slots)
             (subst (λ l. length new.waiting + length l ≤ old.slots) (sym holds)
-            (subst (λ l. length l + length (held old) ≤ old.slots) (sym waiting) h.fits));
+            (subst (λ l. length l + length (held old) ≤ old.slots) (sym s.waiting) h.fits));
       }
-
-  pub move_sound : (old new : CoreState) (p : Passed) → Move g old new p → IsSoundCoreState g old → IsSoundCoreState g new
-  move_sound old new p (Stays s e) h = stays_sound old new p (Stays s e) s.waiting s.out s.ran s.logged s.committed s.next s.slots h
   move_sound old new p (Arrives m fits is e) h =
       let one : Entry = (old.next, m) in
       let same = sym (append_assoc old.out old.waiting (one ∷ [])) in

@@ -51,5 +51,5 @@ module _ (start : MachineView) (new : CoreView) (hands : List Holding) (events :
       → (h : RecoversForRun g w events (length events) c) × HoldsAnswered (Ran w events (length events)) h.left.log
   holds_answered idle =
       let l = ended_so.left in
-      let k = answered_left g w events (length events) l.after l.log legal l.since l.is_log in
+      let k = answered_left g legal l.since l.is_log in
       (ended_so, (k.0, ap (λ ms. loggable ms ++ l.log) (sym (none_logged (core_state_of start.core) idle)) ∙ k.1))

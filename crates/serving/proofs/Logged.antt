@@ -56,7 +56,7 @@ module _ (keeps : Type 0) (start : MachineView) (new : CoreView) (input : Option
   holds_since : (k : ℕ) (c : List ℕ) → RecoversForRun g w events k c → HoldsLog g (committed_in start.core) (arrived events) (went w (take k events)) c
   holds_since k c s =
       let after = s.left.after in
-      let found = left_in_order g w events after s.left.log r.legal idle none s.left.is_log in
+      let found = left_in_order g r.legal idle none s.left.is_log in
       let some = take found.0 (last w (take after events)).core.ran in
       let first = went_first w events k after s.left.since in
       let whole : went w (take after events) ++ some ≡ went w (take k events) ++ (first.0 ++ some) =

@@ -12,4 +12,4 @@ pub returns-clause-left_first : goal.returns-clause-left_first
 returns-clause-left_first c = left_of_first
 
 pub returns-clause-left_second : goal.returns-clause-left_second
-returns-clause-left_second c = left_of_second
+returns-clause-left_second c = λ g old events more k x. left_of_second old events

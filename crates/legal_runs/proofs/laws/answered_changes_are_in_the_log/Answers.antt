@@ -9,4 +9,4 @@ pub returns-clause-in_order : goal.returns-clause-in_order
 returns-clause-in_order c = run_in_order
 
 pub returns-clause-crash : goal.returns-clause-crash
-returns-clause-crash c = answered_left
+returns-clause-crash c = λ g old events k after ms. answered_left g
