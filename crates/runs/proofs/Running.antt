@@ -79,14 +79,13 @@ module _ (g : Geometry) where
       earlier w (stage.event ∷ events_of stages) 1 0 c (omega arith) (later w stage.event (events_of stages) 0 c rest))
       (parted stage.event.state_after stage.medium stages safe.1 (moment m) c safe.0.later since)
 
-  from_event : (w : Hands) (m : Medium) (stages : List Stage) → AreSafe g w m stages → EndsSo w m stages → (k : ℕ) (c : List ℕ)
+  from_event : {w : Hands} (m : Medium) (stages : List Stage) → AreSafe g w m stages → EndsSo w m stages → (k : ℕ) {c : List ℕ}
       → k ≤ length stages → left_since (device_after m stages) (moment (device_after m (take k stages))) c
       → RecoversSince g w (events_of stages) k c
-  from_event w m stages safe ends zero c le since = from_start w m stages safe ends c since
-  from_event w m [] safe ends (suc k) c le since = absurd (omega (arith, le))
-  from_event w m (stage ∷ stages) safe ends (suc k) c le since =
-      later w stage.event (events_of stages) k c
-      (from_event stage.event.state_after stage.medium stages safe.1 ends k c (omega (arith, le)) since)
+  from_event {w} m stages safe ends zero {c} le since = from_start w m stages safe ends c since
+  from_event m [] safe ends (suc k) le since = absurd (omega (arith, le))
+  from_event {w} m (stage ∷ stages) safe ends (suc k) {c} le since =
+      later w stage.event (events_of stages) k c (from_event stage.medium stages safe.1 ends k (omega (arith, le)) since)
 
   -- So it recovers to a state that the run may leave.
   pub recovers_for_run : (w : Hands) (events : List Event) (k : ℕ) (c : List ℕ) → IsLegal g w events → IsSoundCoreState g w.core
@@ -109,25 +108,26 @@ module _ (g : Geometry) where
         };
       }
 
-  left_by_run : (w : Hands) (m : Medium) (stages : List Stage) → IsLegal g w (events_of stages) → IsSoundCoreState g w.core
-      → AreSafe g w m stages → EndsSo w m stages → (k : ℕ) (c : List ℕ) → k ≤ length stages
-      → left_since (device_after m stages) (moment (device_after m (take k stages))) c → RecoversForRun g w (events_of stages) k c
-  left_by_run w m stages legal sound safe ends k c le since =
-      recovers_for_run w (events_of stages) k c legal sound (from_event w m stages safe ends k c le since)
+  -- These stages led to this machine, and a crash at any moment of an event leaves what it may.
+  pub record HasPassed (w : Hands) (m : Medium) (stages : List Stage) (new : MachineView) : Type 0 where
+    pub legal : IsLegal g w (events_of stages)
+    pub safe : AreSafe g w m stages
+    pub ends : last w (events_of stages) ≡ machine_of new
+    pub geometry : new.core.geometry ≡ g
+    pub device : device_after m stages ≡ new.core.medium
 
   -- So it is where the core at the end is as it always is.
-  pub left_since_event : (w : Hands) (m : Medium) (stages : List Stage) (new : MachineView) → IsLegal g w (events_of stages) → IsSoundCoreState g w.core
-      → AreSafe g w m stages → last w (events_of stages) ≡ machine_of new → new.core.geometry ≡ g → device_after m stages ≡ new.core.medium
+  pub left_since_event : {w : Hands} {m : Medium} {stages : List Stage} {new : MachineView} → HasPassed w m stages new → IsSoundCoreState g w.core
       → (new.core.failed ≡ false → new.core.doubt ≡ []) → RecoversNow new.core → (k : ℕ) (c : List ℕ) → k ≤ length stages
       → left_since new.core.medium (moment (device_after m (take k stages))) c → RecoversForRun g w (events_of stages) k c
-  left_since_event w m stages new legal sound safe ended same device none recovers k c le since =
+  left_since_event {w} {m} {stages} {new} h sound none recovers k c le since =
       let ends : EndsSo w m stages = λ b left.
-      subst (λ (x : Hands). HoldsSome g x.core.committed (in_doubt x.core []) b) (sym ended)
-      (subst (λ (y : Geometry). HoldsSome y (core_state_of new.core).committed (in_doubt (core_state_of new.core) []) b) same
+      subst (λ (x : Hands). HoldsSome g x.core.committed (in_doubt x.core []) b) (sym h.ends)
+      (subst (λ (y : Geometry). HoldsSome y (core_state_of new.core).committed (in_doubt (core_state_of new.core) []) b) h.geometry
       (some_of new.core.geometry (core_state_of new.core).committed new.core.failed new.core.doubt [] b none
-      (recovers b (subst (λ (x : Medium). IsCrashImage x b) device left)))) in
-      left_by_run w m stages legal sound safe ends k c le
-      (subst (λ (x : Medium). left_since x (moment (device_after m (take k stages))) c) (sym device) since)
+      (recovers b (subst (λ (x : Medium). IsCrashImage x b) h.device left)))) in
+      recovers_for_run w (events_of stages) k c h.legal sound (from_event m stages h.safe ends k le
+      (subst (λ (x : Medium). left_since x (moment (device_after m (take k stages))) c) (sym h.device) since))
 
   -- ---- stages behind others
 
@@ -157,11 +157,11 @@ no_stages keeps m = record {
   any_moment = λ kept. tt;
 }
 
-pub more_stages : (keeps : Type 0) (old now new : MachineView) (asked : List Step) (came : List Outcome) (step : Step) (outcome : Outcome)
+pub more_stages : {keeps : Type 0} {old now new : MachineView} {asked : List Step} {came : List Outcome} {step : Step} {outcome : Outcome}
     → HasStages keeps old now asked came → IsMachineStep keeps now new step outcome
     → (touches_device (core_state_of now.core) step ≡ false → new.core.medium ≡ now.core.medium)
     → HasStages keeps old new (asked ++ step ∷ []) (came ++ outcome ∷ [])
-more_stages keeps old now new asked came step outcome h k quiet =
+more_stages {old} {now} {new} {asked} {came} {step} {outcome} h k quiet =
     let g = old.core.geometry in
     let event : Event = record { step = step; outcome = outcome; rose = k.rose; state_after = machine_of new } in
     let stage : Stage = record { event = event; medium = new.core.medium } in
@@ -204,17 +204,17 @@ worlds_apart : (g : Geometry) (events : List Event) → AllByRecursion (λ (even
 worlds_apart g [] sound = tt
 worlds_apart g (event ∷ events) sound = (sound.0.apart, worlds_apart g events sound.1)
 
-pub has_run : (keeps : Type 0) (old new : MachineView) (asked : List Step) (came : List Outcome)
+pub has_run : {keeps : Type 0} {old new : MachineView} {asked : List Step} {came : List Outcome}
     → IsSoundCoreState old.core.geometry (core_state_of old.core) → HasStages keeps old new asked came
     → (new.core.failed ≡ false → new.core.doubt ≡ []) → (keeps → RecoversNow new.core) → HasRun keeps old new asked came
-has_run keeps old new asked came sound h none recovers =
+has_run {old} {new} sound h none recovers =
     let g = old.core.geometry in
     let w = machine_of old in
     let events = events_of h.stages in
     record {
       ran = h;
-      crash = λ kept. left_since_event g w old.core.medium h.stages new h.run.legal sound (h.any_moment kept) h.run.ends h.geometry h.device none
-          (recovers kept);
+      crash = λ kept. left_since_event g {new = new}
+          (record { legal = h.run.legal; safe = h.any_moment kept; ends = h.run.ends; geometry = h.geometry; device = h.device }) sound none (recovers kept);
       apart = (sound.apart, worlds_apart g events (run_sound g w events h.run.legal sound));
       in_log_order = sym (run_follows g w events h.run.legal sound).told;
       in_ticket_order = λ idle reply is. contains_in _ reply
@@ -222,14 +222,14 @@ has_run keeps old new asked came sound h none recovers =
     }
 
 -- The next step of a list, whose hands are these by another name.
-pub next_stages : (keeps : Type 0) (old : MachineView) (core : CoreView) (hands lent : List Holding) (new : MachineView) (asked : List Step) (i : ℕ) (d : Step)
-    (came : List Outcome) (outcome : Outcome) → lent ≡ hands → i < length asked → i < length came
+pub next_stages : {keeps : Type 0} {old : MachineView} {core : CoreView} {hands lent : List Holding} {new : MachineView} (asked : List Step) {i : ℕ} (d : Step)
+    (came : List Outcome) {outcome : Outcome} → lent ≡ hands → (i < length asked) × (i < length came)
     → HasStages keeps old (record { core = core; hands = hands }) (take i asked) (take i came)
     → IsMachineStep keeps (record { core = core; hands = lent }) new (get_or asked i d) outcome
     → (touches_device (core_state_of core) (get_or asked i d) ≡ false → new.core.medium ≡ core.medium)
     → HasStages keeps old new (take (i + 1) asked) (take (i + 1) (set came i outcome))
-next_stages keeps old core hands lent new asked i d came outcome same in_asked in_came h k quiet =
+next_stages {keeps} {old} {core} {new} asked {i} d came {outcome} same within h k quiet =
     let step = subst (λ (l : List Holding). IsMachineStep keeps (record { core = core; hands = l }) new (get_or asked i d) outcome) same k in
-    let more = more_stages keeps old (record { core = core; hands = hands }) new (take i asked) (take i came) (get_or asked i d) outcome h step quiet in
-    subst (λ (ss : List Step). HasStages keeps old new ss (take (i + 1) (set came i outcome))) (sym (take_more asked i d in_asked))
-    (subst (λ (os : List Outcome). HasStages keeps old new (take i asked ++ get_or asked i d ∷ []) os) (sym (take_more_set came i outcome in_came)) more)
+    subst (λ (ss : List Step). HasStages keeps old new ss (take (i + 1) (set came i outcome))) (sym (take_more asked i d within.0))
+    (subst (λ (os : List Outcome). HasStages keeps old new (take i asked ++ get_or asked i d ∷ []) os) (sym (take_more_set came i outcome within.1))
+    (more_stages h step quiet))

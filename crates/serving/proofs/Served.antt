@@ -189,8 +189,8 @@ module _ (keeps : Type 0) (start now : MachineView) (idle : IsIdle (core_state_o
           device = p.device;
           failures = p.failures;
           any_moment = p.any_moment;
-          crash = λ kept. left_since_event g (machine_of start) start.core.medium p.stages now p.legal sound (p.any_moment kept) p.ends
-              p.geometry p.device none (recovers kept);
+          crash = λ kept. left_since_event g {new = now}
+              (record { legal = p.legal; safe = p.any_moment kept; ends = p.ends; geometry = p.geometry; device = p.device }) sound none (recovers kept);
         };
         sent_lines = h.sent_lines;
         known = subst (λ (l : List (ℕ × Reply)). AreKnown g l start.core.next h.taken (h.sent_lines ++ row)) (sym p.reply_pairs_are) h.serving.known;

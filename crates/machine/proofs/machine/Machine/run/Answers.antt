@@ -30,8 +30,7 @@ loop-i-preserved g c =
     let within : c.loop-i.i < length c.loop-i.outcomes = omega (arith, c.requires, c.loop-i.auto.outcomes, c.loop-i-test.true) in
     let more : HasStages g.D.Disk.keeps c.args.self.now new (take (c.loop-i.i + 1) c.args.steps.now)
     (take (c.loop-i.i + 1) (slice_set c.loop-i.outcomes c.loop-i.i c.make_step.result)) =
-    next_stages g.D.Disk.keeps c.args.self.now c.loop-i.self-inside.core c.loop-i.self-inside.hands.items c.deref_mut.result.now new
-    c.args.steps.now c.loop-i.i _ c.loop-i.outcomes c.make_step.result c.deref_mut.ensures.value c.loop-i-test.true within
+    next_stages {new = new} c.args.steps.now _ c.loop-i.outcomes c.deref_mut.ensures.value (c.loop-i-test.true, within)
     c.loop-i.invariant.ran c.make_step.ensures.step c.make_step.ensures.untouched in
     let kept : (with_items c.loop-i.self-inside.hands c.make_step.new.hands).items ≡ c.make_step.new.hands =
     with_items_is c.loop-i.self-inside.hands c.make_step.new.hands (c.make_step.auto.hands ∙ c.deref_mut.ensures.len) in
@@ -50,8 +49,7 @@ returns g c =
     let now : MachineView = record { core = c.loop-i.self-inside.core; hands = c.loop-i.self-inside.hands.items } in
     let all : take c.loop-i.i c.args.steps.now ≡ c.args.steps.now = take_all c.loop-i.i c.args.steps.now c.loop-i-test.false in
     let long : length c.loop-i.outcomes ≤ c.loop-i.i = omega (arith, c.requires, c.loop-i.auto.outcomes, c.loop-i-test.false) in
-    has_run g.D.Disk.keeps c.args.self.now now c.args.steps.now c.loop-i.outcomes
-    (subst (λ (m : MachineView). IsSoundCoreState m.core.geometry (core_state_of m.core)) c.self.view_is c.self.invariant.sound)
+    has_run (subst (λ (m : MachineView). IsSoundCoreState m.core.geometry (core_state_of m.core)) c.self.view_is c.self.invariant.sound)
     (subst (λ (os : List Outcome). HasStages g.D.Disk.keeps c.args.self.now now c.args.steps.now os) (take_all c.loop-i.i c.loop-i.outcomes long)
     (subst (λ (ss : List Step). HasStages g.D.Disk.keeps c.args.self.now now ss (take c.loop-i.i c.loop-i.outcomes)) all c.loop-i.invariant.ran))
     c.know_recovery.ensures.no_doubt c.know_recovery.ensures.now
