@@ -95,7 +95,7 @@ module _ (keeps : Type 0) (p : Parts) (k : IsCore keeps p) (x : SlotView) (behin
         waits = k.waits;
         holds = λ test. any_filter test (λ t. not (has_number x.1.affinity.number t)) p.queue.held
             ∙ k.holds (λ t. not (has_number x.1.affinity.number t) && test t)
-            ∙ any_answered test (λ t. not (has_number x.1.affinity.number t)) p.lines x behind whole (ap not (eq-eqb x.1.affinity.number x.1.affinity.number refl))
+            ∙ any_answered test (λ t. not (has_number x.1.affinity.number t)) p.lines whole (ap not (eq-eqb x.1.affinity.number x.1.affinity.number refl))
             (other_numbers g x all_logged.0 behind all_logged.1 behinds)
             (other_numbers g x all_logged.0 p.lines.ran k.placed.ran rans)
             (other_numbers g x all_logged.0 p.lines.out k.placed.out outs);

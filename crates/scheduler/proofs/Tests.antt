@@ -73,9 +73,9 @@ any_passing test q [] all = refl
 any_passing test q (x ∷ xs) all = λ i. (all.0 i && test (queued_of x)) || any_passing test q xs all.1 i
 
 -- the first of those that are logged is gone
-pub any_answered : (test q : QueuedMessage → Bool) (l : Lines) (x : SlotView) (behind : List SlotView) → l.logged ≡ x ∷ behind → q (queued_of x) ≡ false
+pub any_answered : (test q : QueuedMessage → Bool) (l : Lines) {x : SlotView} {behind : List SlotView} → l.logged ≡ x ∷ behind → q (queued_of x) ≡ false
     → AllByRecursion (λ x. q (queued_of x) ≡ true) behind → AllByRecursion (λ x. q (queued_of x) ≡ true) l.ran → AllByRecursion (λ x. q (queued_of x) ≡ true) l.out
     → held_any (λ t. q t && test t) l ≡ held_any test (record l { logged = behind })
-any_answered test q l x behind logged first behinds rans outs =
+any_answered test q l {x} {behind} logged first behinds rans outs =
     (λ i. list_any (λ x. q (queued_of x) && test (queued_of x)) (logged i) || (any_passing test q l.ran rans i || any_passing test q l.out outs i))
     ∙ (λ i. ((first i && test (queued_of x)) || any_passing test q behind behinds i) || (list_any (λ x. test (queued_of x)) l.ran || list_any (λ x. test (queued_of x)) l.out))
