@@ -444,6 +444,13 @@ impl<D: Disk> Core<D> {
         self.journal.left()
     }
 
+    /// Whether the device has failed: it has to be opened again.
+    pub fn failed(&self) -> bool
+        ensures { result ≡ self.now.failed }
+    {
+        self.journal.failed()
+    }
+
     /// Does nothing: its contract states what a crash leaves now.
     pub fn know_recovery(&self)
         ensures no_doubt { self.now.failed ≡ false → self.now.doubt ≡ [] }

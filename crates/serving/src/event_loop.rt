@@ -57,7 +57,7 @@ impl<'c, R: Read, D: Disk, L: ReplySink<D>> Session<'c, R, D, L> {
     }
 
     /// Sends all that waits, and makes the last consistency point at the end of the input: nothing waits or is held then, and the log is
-    /// empty behind it. The device works then: nothing is left to log, and a log of nothing reports whether it has failed.
+    /// empty behind it. It halts where the device has failed, which may not be known yet: a core that has failed dispatches nothing.
     fn finish(&mut self, stop: ReadEnd) -> Result<(), Halted>
         requires row { self.old.row.lines ≡ [] }
         requires none { self.old.core.left ≡ None }
@@ -66,7 +66,9 @@ impl<'c, R: Read, D: Disk, L: ReplySink<D>> Session<'c, R, D, L> {
         ensures works { OnOk result (self.new.core.failed ≡ false) }
         ensures emptied { OnOk result (stop ≡ ends_of_reading.EndOfInput → D.keeps → HasEmptyLog self.new.core) }
     {
-        self.log_what_ran()?;
+        if self.core.failed() {
+            return Err(Halted);
+        }
         self.flush_replies()?;
         match stop {
             ReadEnd::EndOfInput => or_halt(self.core.point()),

@@ -11,23 +11,22 @@ use Rattle.serving.proofs.session.Session.finish.Goals as goal
 
 pub invariant_of-self : goal.invariant_of-self
 invariant_of-self g c =
-    let old = c.self.inside.core in
+    let old = c.self-2.inside.core in
     let new = c.point.new.self in
     let quiet = point_is_quiet g.D.Disk.keeps old new c.point.ensures.geometry c.point.ensures.any_moment c.point.result
     (point_called old.geometry (core_state_of old) (core_state_of new) c.point.result c.point.ensures.state_after) c.point.ensures.counts in
-    (on_machine g.D.Disk.keeps _ _ c.self.invariant.0 _ _ (quiet _ (holds_of g.D.Disk.keeps _ _ c.self.invariant.0)) refl refl, c.self.invariant.1)
+    (on_machine g.D.Disk.keeps _ _ c.self-2.invariant.0 _ _ (quiet _ (holds_of g.D.Disk.keeps _ _ c.self-2.invariant.0)) refl refl, c.self-2.invariant.1)
 
 pub returns-in-EndOfInput-clause-moves : goal.returns-in-EndOfInput-clause-moves
 returns-in-EndOfInput-clause-moves g c =
     let sent = c.in_ok-flush_replies.ensures in
-    let logged = c.in_ok-log_what_ran.ensures in
-    let row = ap (λ (r : ReorderBufferView). r.lines) (sent.same.1 ∙ logged.same.0) ∙ c.requires.row in
-    let idle = idle_of g.D.Disk.keeps _ _ c.self.invariant.0 (ap (λ (p : SessionView). p.row.lines) c.self.view_is ∙ row) in
-    let left = ap (λ (p : SessionView). p.core.left) c.self.view_is ∙ ap (λ (k : CoreView). k.left) sent.same.0 ∙ logged.left ∙ c.requires.none in
-    let output_failed = ap (λ (p : SessionView). p.output_failed) c.self.view_is ∙ sent.moves.1 ∙ logged.moves.1 in (
-      ap (λ (p : SessionView). p.stop) c.self.view_is ∙ sent.moves.0 ∙ logged.moves.0,
+    let row = ap (λ (r : ReorderBufferView). r.lines) sent.same.1 ∙ c.requires.row in
+    let idle = idle_of g.D.Disk.keeps _ _ c.self-2.invariant.0 (ap (λ (p : SessionView). p.row.lines) c.self-2.view_is ∙ row) in
+    let left = ap (λ (p : SessionView). p.core.left) c.self-2.view_is ∙ ap (λ (k : CoreView). k.left) sent.same.0 ∙ c.requires.none in
+    let output_failed = ap (λ (p : SessionView). p.output_failed) c.self-2.view_is ∙ sent.moves.1 in (
+      ap (λ (p : SessionView). p.stop) c.self-2.view_is ∙ sent.moves.0,
       halts_so c.point.result c.or_halt.result _ _ _ c.or_halt.ensures output_failed
-          (point_fails (core_state_of c.self.inside.core) left (core_state_of c.point.new.self)
-          (core_state_of c.point.new.self ≡ record (core_state_of c.self.inside.core) { room = c.self.inside.core.geometry.half }) idle.none_held c.point.result
+          (point_fails (core_state_of c.self-2.inside.core) left (core_state_of c.point.new.self)
+          (core_state_of c.point.new.self ≡ record (core_state_of c.self-2.inside.core) { room = c.self-2.inside.core.geometry.half }) idle.none_held c.point.result
           c.point.ensures.state_after),
     )
