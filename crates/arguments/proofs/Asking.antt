@@ -11,7 +11,7 @@ use Rattle.arguments.proofs.Options.{in_range}
 use Rattle.arguments.specs.Arguments.{Asks, AreRefused, IsNamed, IsReason, findings, is_mistake}
 use Rattle.arguments.specs.declared.parsing.Request.{Request}
 use Rattle.arguments.specs.declared.parsing.Request.TheVariants.{Help, Plain, Format, Show, Serve}
-use Rattle.arguments.specs.declared.parsing.WordRefusal.TheVariants.{Words as by_words}
+use Rattle.arguments.specs.declared.parsing.ArgumentRefusal.TheVariants.{Words as by_words}
 
 -- ---- words that are wrong
 

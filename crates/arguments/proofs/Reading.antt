@@ -8,11 +8,11 @@ use Rattle.clap.specs.declared.error.kind.ErrorKind.TheVariants as kind
 use Rattle.arguments.specs.Arguments.{Asks, IsReason, IsRequested, findings, waffd, answer_by, answer_of, is_mistake}
 use Rattle.arguments.specs.declared.parsing.Request.{Request}
 use Rattle.arguments.specs.declared.parsing.Request.TheVariants.{Plain, Format, Show, Serve}
-use Rattle.arguments.specs.declared.parsing.WordRefusal.TheVariants.{GeometryOutOfRange}
-use Rattle.arguments.specs.declared.parsing.WordRefusal.{WordRefusal}
+use Rattle.arguments.specs.declared.parsing.ArgumentRefusal.TheVariants.{GeometryOutOfRange}
+use Rattle.arguments.specs.declared.parsing.ArgumentRefusal.{ArgumentRefusal}
 use Rattle.std.specs.Result.{IfErr, IfOk, MatchResult}
 
-abbrev pub Holds : List Text → Result Request WordRefusal → Type 0
+abbrev pub Holds : List Text → Result Request ArgumentRefusal → Type 0
 Holds words r = MatchResult r (Asks words) (IsReason words)
 
 among : (words : List Text) (error : Error) (k : ErrorKind) → kind_of error ≡ k → (k ≡ kind.OutOfMemory → ⊥) → HasKind (findings words) error → IsAmong (kind_of error) (findings words)
@@ -32,7 +32,7 @@ pub holds : (words : List Text) (error : Error) → HasKind (findings words) err
 holds words error h = holds_by words error (kind_of error) refl h
 
 -- and so does what the options ask for, where nothing is wrong with the words
-pub holds_requested : (words : List Text) (r : Result Request WordRefusal) → findings words ≡ [] → IsRequested (subcommand_of waffd words) r → Holds words r
+pub holds_requested : (words : List Text) (r : Result Request ArgumentRefusal) → findings words ≡ [] → IsRequested (subcommand_of waffd words) r → Holds words r
 holds_requested words (Ok (Plain g)) nothing is = (nothing, is.0, is.1)
 holds_requested words (Ok (Format path g)) nothing is = (nothing, is.0, is.1, is.2)
 holds_requested words (Ok (Show path)) nothing is = (nothing, is.0, is.1)
@@ -40,10 +40,10 @@ holds_requested words (Ok (Serve path s)) nothing is = (nothing, is.0, is.1, is.
 holds_requested words (Err GeometryOutOfRange) nothing is = (nothing, is.0, is.1, is.2)
 holds_requested words _ nothing is = absurd is
 
-pub if_ok : (words : List Text) (r : Result Request WordRefusal) → Holds words r → IfOk r (Asks words)
+pub if_ok : (words : List Text) (r : Result Request ArgumentRefusal) → Holds words r → IfOk r (Asks words)
 if_ok words (Ok request) h = h
 if_ok words (Err refusal) h = tt
 
-pub if_err : (words : List Text) (r : Result Request WordRefusal) → Holds words r → IfErr r (IsReason words)
+pub if_err : (words : List Text) (r : Result Request ArgumentRefusal) → Holds words r → IfErr r (IsReason words)
 if_err words (Ok request) h = tt
 if_err words (Err refusal) h = h

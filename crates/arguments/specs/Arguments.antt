@@ -17,8 +17,8 @@ use Rattle.clap.specs.declared.error.kind.ErrorKind.TheVariants as kind
 use Rattle.arguments.specs.declared.parsing.Request.{Request}
 use Rattle.arguments.specs.declared.parsing.Request.TheVariants.{Help, Plain, Format, Show, Serve}
 use Rattle.arguments.specs.declared.parsing.ServiceNumbers.{ServiceNumbers}
-use Rattle.arguments.specs.declared.parsing.WordRefusal.{WordRefusal}
-use Rattle.arguments.specs.declared.parsing.WordRefusal.TheVariants.{Words, OutOfMemory, GeometryOutOfRange}
+use Rattle.arguments.specs.declared.parsing.ArgumentRefusal.{ArgumentRefusal}
+use Rattle.arguments.specs.declared.parsing.ArgumentRefusal.TheVariants.{Words, OutOfMemory, GeometryOutOfRange}
 
 -- ---- the commands
 
@@ -153,12 +153,12 @@ device_at None = []
 device_at (Some command) = device_in command.1
 
 -- The geometry of these numbers, or their refusal.
-abbrev pub GivesGeometry : List ℕ → Result Geometry WordRefusal → Type 0
+abbrev pub GivesGeometry : List ℕ → Result Geometry ArgumentRefusal → Type 0
 GivesGeometry numbers (Ok g) = numbers_of g ≡ numbers
 GivesGeometry numbers (Err refusal) = (refusal ≡ GeometryOutOfRange) × (¬ (AreInRange numbers))
 
 -- The request, or its refusal, by the command.
-abbrev pub IsRequested : Option (Text × List Row) → Result Request WordRefusal → Type 0
+abbrev pub IsRequested : Option (Text × List Row) → Result Request ArgumentRefusal → Type 0
 IsRequested command (Ok (Plain g)) = IsPlain command × (numbers_of g ≡ numbers_at command)
 IsRequested command (Ok (Format path g)) = IsNamed (codes "format") command × (path.now ≡ device_at command)
     × (numbers_of g ≡ numbers_at command)
@@ -224,17 +224,17 @@ Asks words (Show path) = AsksShow words path.now
 Asks words (Serve path s) = AsksServeWith words path.now (service_numbers s)
 
 -- The words give no request for this reason. Memory may be wanting at any words.
-abbrev pub IsReason : List Text → WordRefusal → Type 0
+abbrev pub IsReason : List Text → ArgumentRefusal → Type 0
 IsReason words (Words error) = IsAmong (kind_of error) (findings words) × (is_mistake (kind_of error) ≡ true)
 IsReason words OutOfMemory = Unit {0}
 IsReason words GeometryOutOfRange = AsksOutOfRange words
 
 -- what an error of `clap` means, by its kind
-abbrev pub answer_by : Error → ErrorKind → Result Request WordRefusal
+abbrev pub answer_by : Error → ErrorKind → Result Request ArgumentRefusal
 answer_by error kind.OutOfMemory = Err OutOfMemory
 answer_by error DisplayHelp = Ok (Help error)
 answer_by error DisplayVersion = Ok (Help error)
 answer_by error _ = Err (Words error)
 
-abbrev pub answer_of : Error → Result Request WordRefusal
+abbrev pub answer_of : Error → Result Request ArgumentRefusal
 answer_of error = answer_by error (kind_of error)

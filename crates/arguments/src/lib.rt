@@ -5,4 +5,4 @@
 
 mod parsing;
 
-pub use parsing::{Request, ServiceNumbers, WordRefusal, read_words};
+pub use parsing::{ArgumentRefusal, Request, ServiceNumbers, read_arguments};

@@ -2,7 +2,7 @@
 ghost use Rattle.std.specs.Prelude.{◌≡◌, IfOk, IfErr, false, fold, map, string_bytes};
 ghost use Rattle.clap.specs.Words.{app_of, found_of, new_app, rows_of, rule_of, subcommand_rows_of, with_rule};
 ghost use Rattle.arguments.specs.Arguments.{Asks, GivesGeometry, IsReason, IsRequested, answer_of, device_in, device_rule, number_in, number_rule, numbers_in, rule_within, service_in, service_numbers, waffd, bare, plain, format, serve, with_numbers, with_service};
-ghost use Rattle.arguments.specs.declared.parsing.WordRefusal.TheVariants.{OutOfMemory};
+ghost use Rattle.arguments.specs.declared.parsing.ArgumentRefusal.TheVariants.{OutOfMemory};
 
 use affinity::{BadGeometry, Geometry};
 use clap::builder::ValueParser;
@@ -84,7 +84,7 @@ pub enum Request<'a> {
 
 /// Why the words give no request.
 #[derive(Drop)]
-pub enum WordRefusal {
+pub enum ArgumentRefusal {
     /// `clap` reports what is wrong with them.
     Words(clap::Error),
     /// There was no memory to read them.
@@ -93,23 +93,23 @@ pub enum WordRefusal {
     GeometryOutOfRange,
 }
 
-impl From<AllocError> for WordRefusal {
+impl From<AllocError> for ArgumentRefusal {
     ghost from_gives = { λ _ refusal. refusal ≡ OutOfMemory };
 
-    fn from(_error: AllocError) -> WordRefusal {
-        WordRefusal::OutOfMemory
+    fn from(_error: AllocError) -> ArgumentRefusal {
+        ArgumentRefusal::OutOfMemory
     }
 }
 
 /// What an error of `clap` means: help or the version, a mistake in the words, or want of memory.
-fn answered<'a>(error: clap::Error) -> Result<Request<'a>, WordRefusal>
+fn answered<'a>(error: clap::Error) -> Result<Request<'a>, ArgumentRefusal>
     ensures { result ≡ answer_of error }
 {
     if error.kind() == ErrorKind::OutOfMemory {
-        return Err(WordRefusal::OutOfMemory);
+        return Err(ArgumentRefusal::OutOfMemory);
     }
     if error.use_stderr() {
-        return Err(WordRefusal::Words(error));
+        return Err(ArgumentRefusal::Words(error));
     }
     Ok(Request::Help(error))
 }
@@ -259,12 +259,12 @@ fn numbers_given(options: &ArgMatches<'_>) -> [u16; 8]
 }
 
 /// The geometry that the options ask for.
-fn geometry_given(options: &ArgMatches<'_>) -> Result<Geometry, WordRefusal>
+fn geometry_given(options: &ArgMatches<'_>) -> Result<Geometry, ArgumentRefusal>
     ensures { GivesGeometry (numbers_in (rows_of (found_of options.now))) result }
 {
     match Geometry::new(numbers_given(options)) {
         Ok(geometry) => Ok(geometry),
-        Err(BadGeometry) => Err(WordRefusal::GeometryOutOfRange),
+        Err(BadGeometry) => Err(ArgumentRefusal::GeometryOutOfRange),
     }
 }
 
@@ -287,7 +287,7 @@ fn device_given<'a>(options: &ArgMatches<'a>) -> &'a str
 }
 
 /// What the words ask for, where `clap` found nothing wrong with them.
-fn requested<'a>(matches: &ArgMatches<'a>) -> Result<Request<'a>, WordRefusal>
+fn requested<'a>(matches: &ArgMatches<'a>) -> Result<Request<'a>, ArgumentRefusal>
     ensures { IsRequested (subcommand_rows_of matches.now) result }
 {
     match matches.subcommand() {
@@ -306,7 +306,10 @@ fn requested<'a>(matches: &ArgMatches<'a>) -> Result<Request<'a>, WordRefusal>
 }
 
 /// What the words ask for, the program's own name first.
-pub fn read_words<'a>(alloc: Global, words: &'a [String]) -> Result<Request<'a>, WordRefusal>
+pub fn read_arguments<'a>(
+    alloc: Global,
+    words: &'a [String],
+) -> Result<Request<'a>, ArgumentRefusal>
     ensures ok { IfOk result (Asks (map string_bytes words.now)) }
     ensures err { IfErr result (IsReason (map string_bytes words.now)) }
 {

@@ -8,7 +8,7 @@ use Rattle.messages.specs.declared.Msg.{Msg}
 use Rattle.messages.specs.Messages.{is_in_range}
 use Rattle.message.specs.Records.{message_in_fields, record_of}
 use Rattle.device_map.specs.Layout.{layout_of}
-use Rattle.oplog.specs.Recovery.{Meaning, recovers}
+use Rattle.oplog.specs.Recovery.{Decoding, recovers}
 use Rattle.meaning.specs.Serial.{is_loggable, next_state, reply_to}
 use Rattle.meaning.specs.State.{State}
 
@@ -25,7 +25,7 @@ abbrev pub apply : Geometry → State → List ℕ → Option State
 apply g x bytes = apply_decoded g x bytes (message_in_fields bytes)
 
 -- what images, records and headers mean
-abbrev pub means : Geometry → Meaning State
+abbrev pub means : Geometry → Decoding State
 means g = record { read = read g; apply = apply g; is_header = is_header g }
 
 -- the state that a device of this geometry recovers to; none where it isn't sound

@@ -23,14 +23,14 @@ use Rattle.arguments.proofs.Options.{in_range}
 use Rattle.arguments.specs.Arguments.{Asks, AsksFormat, AsksNoService, AsksPlain, AsksShow, IsReason, command_of}
 use Rattle.commands.specs.declared.faults.Fault.{Fault}
 use Rattle.commands.specs.declared.faults.Fault.TheVariants.{Read, Write, GeometryOutOfRange, OutOfMemory, Device, NoWorkers, NoTicketLeft, Format as ByFormat, Open as ByOpen}
-use Rattle.arguments.specs.declared.parsing.WordRefusal.{WordRefusal}
-use Rattle.arguments.specs.declared.parsing.WordRefusal.TheVariants as refusal
+use Rattle.arguments.specs.declared.parsing.ArgumentRefusal.{ArgumentRefusal}
+use Rattle.arguments.specs.declared.parsing.ArgumentRefusal.TheVariants as refusal
 use Rattle.arguments.specs.declared.parsing.Request.{Request}
 use Rattle.arguments.specs.declared.parsing.Request.TheVariants.{Help, Plain, Format, Show, Serve}
 
 -- ---- words that ask for no service
 
-pub refused_by : (why : WordRefusal) → EndsRefused (status_of_refusal why)
+pub refused_by : (why : ArgumentRefusal) → EndsRefused (status_of_refusal why)
 refused_by (refusal.Words error) = inl refl
 refused_by refusal.OutOfMemory = inr refl
 refused_by refusal.GeometryOutOfRange = inl refl
@@ -60,7 +60,7 @@ is_told (ByFormat fault) none = cc
 is_told (ByOpen opening.OutOfMemory) none = cc
 is_told (ByOpen fault) none = cc
 
-pub is_refused : (why : WordRefusal) → status_of_refusal why ≡ 0 → ⊥
+pub is_refused : (why : ArgumentRefusal) → status_of_refusal why ≡ 0 → ⊥
 is_refused (refusal.Words error) none = cc
 is_refused refusal.OutOfMemory none = cc
 is_refused refusal.GeometryOutOfRange none = cc
@@ -71,25 +71,25 @@ nothing_written : (g : Geometry) (input old : Option (List ℕ)) → WritesOutpu
 nothing_written g None old = tt
 nothing_written g (Some bytes) old = ([], Appends-nil old, (0, refl))
 
-pub served_nothing : (words : List Text) {g : Geometry} (why : WordRefusal) {input old : Option (List ℕ)} → AsksPlain words g → IsReason words why
+pub served_nothing : (words : List Text) {g : Geometry} (why : ArgumentRefusal) {input old : Option (List ℕ)} → AsksPlain words g → IsReason words why
     → EndsPlain g (status_of_refusal why) input input old old
 served_nothing words {g} refusal.OutOfMemory {input} {old} asks reason = (Err OutOfMemory, refl, nothing_written g input old)
 served_nothing words {g} refusal.GeometryOutOfRange asks reason = absurd (reason.3 (subst AreInRange asks.2 (in_range g)))
 served_nothing words (refusal.Words error) asks reason = absurd (no_mistake words error asks.0 reason)
 
-pub formatted_nothing : (words : List Text) {path : List ℕ} (g : Geometry) (why : WordRefusal) {old : Option (List ℕ)} → AsksFormat words path g → IsReason words why
+pub formatted_nothing : (words : List Text) {path : List ℕ} (g : Geometry) (why : ArgumentRefusal) {old : Option (List ℕ)} → AsksFormat words path g → IsReason words why
     → EndsFormat g (status_of_refusal why) old old
 formatted_nothing words g refusal.OutOfMemory asks reason = (Err OutOfMemory, refl, refl)
 formatted_nothing words g refusal.GeometryOutOfRange asks reason = absurd (reason.3 (subst AreInRange asks.3 (in_range g)))
 formatted_nothing words g (refusal.Words error) asks reason = absurd (no_mistake words error asks.0 reason)
 
-pub shown_nothing : (words : List Text) {path : List ℕ} (why : WordRefusal) {old : Option (List ℕ)} → AsksShow words path → IsReason words why
+pub shown_nothing : (words : List Text) {path : List ℕ} (why : ArgumentRefusal) {old : Option (List ℕ)} → AsksShow words path → IsReason words why
     → EndsShow (status_of_refusal why) old old
 shown_nothing words refusal.OutOfMemory asks reason = (Err OutOfMemory, refl, refl)
 shown_nothing words refusal.GeometryOutOfRange asks reason = absurd (reason.1 asks.1)
 shown_nothing words (refusal.Words error) asks reason = absurd (no_mistake words error asks.0 reason)
 
-pub served_on_nothing : (words : List Text) {path : List ℕ} {s : Service} (why : WordRefusal) {input old : Option (List ℕ)} → AsksServe words path s
+pub served_on_nothing : (words : List Text) {path : List ℕ} {s : Service} (why : ArgumentRefusal) {input old : Option (List ℕ)} → AsksServe words path s
     → IsReason words why → EndsServe s (status_of_refusal why) input input old old
 served_on_nothing words refusal.OutOfMemory asks reason =
     (Err OutOfMemory, refl, inl (record { why = file.OutOfMemory; ends = refl; unread = refl; unwritten = refl }))

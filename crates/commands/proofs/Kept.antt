@@ -4,7 +4,7 @@ use Rattle.std.specs.Prelude.{Result, Ok, Err}
 use Rattle.checkpoint.proofs.Fine.{fine, head}
 use Rattle.disk.specs.Device.{IsCrashImage, Medium}
 use Rattle.legal_runs.specs.Events.{loggable}
-use Rattle.legal_runs.specs.Runs.{went}
+use Rattle.legal_runs.specs.Runs.{logged_messages}
 use Rattle.runs.specs.Machine.{machine_of}
 use Rattle.runs.specs.Stages.{events_of}
 use Rattle.meaning.specs.Serial.{fold}
@@ -29,7 +29,7 @@ module _ {keeps : Type 0} {s : Service} {old new : Medium} {end : Result (Unit {
   held {row} served keep c leaves =
       let g = h.start.geometry in
       let x = committed_in h.start in
-      let log = went (machine_of (machine_at_start s h.start)) (events_of served.stages) in
+      let log = logged_messages (machine_of (machine_at_start s h.start)) (events_of served.stages) in
       let idle = is_idle s.slots h.start h.fresh in
       let on_device : HoldsLog g x (ticketed 0 (admitted g served.taken)) log c =
       subst (λ (t : ℕ). HoldsLog g x (ticketed t (admitted g served.taken)) log c) h.fresh.next

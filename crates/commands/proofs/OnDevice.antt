@@ -18,7 +18,7 @@ use Rattle.serving.specs.Serve.{HasEmptyLog, ServesSo}
 use Rattle.serving.specs.declared.server.ServeFault.{ServeFault}
 use Rattle.serving.specs.declared.server.ServeFault.TheVariants as faults
 use Rattle.commands.specs.Faults.{as_fault}
-use Rattle.commands.specs.Serving.{EndsOnDevice, CrashesSafely, HasNoRecords, HasServedBy, HasServedNothing, IsIncarnation, RecoversFor, RecoveredTo, Went, machine_at_start, run_behind}
+use Rattle.commands.specs.Serving.{EndsOnDevice, CrashesSafely, HasNoRecords, HasServedBy, HasServedNothing, IsIncarnation, RecoversFor, RecoveredTo, ServedDevice, machine_at_start, run_behind}
 use Rattle.commands.specs.declared.service.Service.{Service}
 
 -- no message is in a core that was just opened
@@ -103,7 +103,7 @@ module _ {keeps : Type 0} {s : Service} {old new : Medium} {end : Result (Unit {
       subst (λ (m : Medium). RecoversFor keeps m h.start.geometry (committed_in h.now)) (sym h.given_back)
       (subst (λ (g : Geometry). RecoversFor keeps h.now.medium g (committed_in h.now)) same own)
 
-  abbrev went : h.now.geometry ≡ h.start.geometry → h.now.failed ≡ false → Went keeps old new
+  abbrev went : h.now.geometry ≡ h.start.geometry → h.now.failed ≡ false → ServedDevice keeps old new
   went same works = record {
     geometry = h.start.geometry;
     start = committed_in h.start;

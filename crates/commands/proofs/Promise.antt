@@ -15,7 +15,7 @@ use Rattle.disk.specs.Moments.{left_since, moment}
 use Rattle.disk.specs.declared.torn.Torn.{Torn}
 use Rattle.journal.specs.Opening.{IsPastSync, OpeningCrashImages, RecoversAs}
 use Rattle.legal_runs.specs.Events.{loggable}
-use Rattle.legal_runs.specs.Runs.{went}
+use Rattle.legal_runs.specs.Runs.{logged_messages}
 use Rattle.runs.specs.Machine.{machine_of}
 use Rattle.runs.specs.Stages.{events_of}
 use Rattle.meaning.specs.Output.{WritesOutput, serial_out}
@@ -49,7 +49,7 @@ unsent {keeps} {s} {input} h keep c leaves =
     let g = h.start.geometry in
     let x = committed_in h.start in
     let taken = h.served.run.0 in
-    let log = went (machine_of (machine_at_start s h.start)) (events_of h.served.run.1) in
+    let log = logged_messages (machine_of (machine_at_start s h.start)) (events_of h.served.run.1) in
     let on_device : HoldsLog g x (ticketed 0 (admitted g taken)) log c =
     subst (λ (t : ℕ). HoldsLog g x (ticketed t (admitted g taken)) log c) h.fresh.next
     (holds_all keeps (machine_at_start s h.start) h.now input taken h.served.run.1 (is_idle s.slots h.start h.fresh) h.fresh.no_doubt h.served.run.2 keep c

@@ -11,8 +11,8 @@ use Rattle.commands.specs.Services.{with_few_workers}
 use Rattle.arguments.specs.Arguments.{service_numbers}
 use Rattle.arguments.specs.declared.parsing.Request.{Request}
 use Rattle.arguments.specs.declared.parsing.Request.TheVariants.{Help, Plain, Format, Show, Serve}
-use Rattle.arguments.specs.declared.parsing.WordRefusal.{WordRefusal}
-use Rattle.arguments.specs.declared.parsing.WordRefusal.TheVariants as refusal
+use Rattle.arguments.specs.declared.parsing.ArgumentRefusal.{ArgumentRefusal}
+use Rattle.arguments.specs.declared.parsing.ArgumentRefusal.TheVariants as refusal
 
 -- What was written where the request came to this end, and what is left of the input: that of its command.
 -- Help and the version read nothing. Their text, and whether it was written, is open. The service is that of the numbers that were given.
@@ -31,7 +31,7 @@ status_at (Ok _) = 0
 status_at (Err fault) = status_of fault
 
 -- the status where the words give no request
-abbrev pub status_of_refusal : WordRefusal → ℕ
+abbrev pub status_of_refusal : ArgumentRefusal → ℕ
 status_of_refusal (refusal.Words _) = 2
 status_of_refusal refusal.OutOfMemory = status_of OutOfMemory
 status_of_refusal refusal.GeometryOutOfRange = status_of GeometryOutOfRange

@@ -51,7 +51,7 @@ pub record RecoversFor (keeps : Type 0) (new : Medium) (g : Geometry) (x : State
   pub each : keeps → (c : List ℕ) → IsCrashImage new c → holds g c ≡ Some x
 
 -- The device was opened, where it recovered to the one state, and was left so that it recovers to the other.
-pub record Went (keeps : Type 0) (old new : Medium) : Type 0 where
+pub record ServedDevice (keeps : Type 0) (old new : Medium) : Type 0 where
   pub geometry : Geometry
   pub start : State
   pub end : State
@@ -66,7 +66,7 @@ HasNoRecords g m = in_force (layout_of g) (named_area (layout_of g) m.now) m.now
 
 -- Nothing was served: nothing was read or written, and the device recovers to what it recovered to.
 abbrev pub HasServedNothing : Type 0 → Medium → Medium → Option (List ℕ) → Option (List ℕ) → Option (List ℕ) → Option (List ℕ) → Type 0
-HasServedNothing keeps old new input left before written = (w : Went keeps old new) × (w.end ≡ w.start) × (left ≡ input)
+HasServedNothing keeps old new input left before written = (w : ServedDevice keeps old new) × (w.end ≡ w.start) × (left ≡ input)
     × (written ≡ before)
 
 -- What each end promises.
@@ -80,11 +80,11 @@ HasServedNothing keeps old new input left before written = (w : Went keeps old n
 abbrev pub EndsOnDevice : Type 0 → Service → Medium → Medium → Result (Unit {0}) Fault → Option (List ℕ) → Option (List ℕ) → Option (List ℕ)
     → Option (List ℕ) → Type 0
 EndsOnDevice keeps s old new (Ok _) input left before written = (s.workers ≢ 0)
-    × ((w : Went keeps old new) × (keeps → HasNoRecords w.geometry new)
+    × ((w : ServedDevice keeps old new) × (keeps → HasNoRecords w.geometry new)
     × IsAtEnd left × WritesOutput input before written (λ bytes out. AreServed w.geometry w.start w.end (lines bytes) out))
-EndsOnDevice keeps s old new (Err Read) input left before written = (s.workers ≢ 0) × ((w : Went keeps old new)
+EndsOnDevice keeps s old new (Err Read) input left before written = (s.workers ≢ 0) × ((w : ServedDevice keeps old new)
     × WritesOutput input before written (ServesWholeLines w.geometry w.start w.end left))
-EndsOnDevice keeps s old new (Err NoTicketLeft) input left before written = (s.workers ≢ 0) × ((w : Went keeps old new)
+EndsOnDevice keeps s old new (Err NoTicketLeft) input left before written = (s.workers ≢ 0) × ((w : ServedDevice keeps old new)
     × WritesOutput input before written (ServesLinesBefore w.geometry w.start w.end))
 EndsOnDevice keeps s old new (Err Device) input left before written = (s.workers ≢ 0)
     × ((g : Geometry) × (start : State) × RecoveredTo keeps old g start

@@ -19,7 +19,7 @@ pub use again::serve_again;
 pub use faults::Fault;
 pub use format::format_device;
 pub use program::command;
-pub use reports::{WRONG_WORDS, report, report_unread_words};
+pub use reports::{WRONG_ARGUMENTS, report, report_unreadable_arguments};
 pub use serial::answer_input;
 pub use serve::{serve_device, serve_on};
 pub use service::Service;

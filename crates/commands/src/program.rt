@@ -10,12 +10,12 @@ ghost use Rattle.commands.specs.declared.service.Service.{Service};
 
 use crate::faults::Fault;
 use crate::format::format_device;
-use crate::reports::{WRONG_WORDS, report};
+use crate::reports::{WRONG_ARGUMENTS, report};
 use crate::serial::answer_input;
 use crate::serve::serve_device;
 use crate::service::Service;
 use crate::show::show_device;
-use arguments::{Request, ServiceNumbers, WordRefusal, read_words};
+use arguments::{ArgumentRefusal, Request, ServiceNumbers, read_arguments};
 use std::alloc::Global;
 use std::fs::File;
 use std::io::{Read, Write};
@@ -56,16 +56,16 @@ pub fn run<T: Files<File = File> + Threads + Wait + Sync, R: Read, W: Write>(
 }
 
 /// Prints on `e` why the words give no request, and answers the exit status. A write that fails is not looked at.
-fn report_refusal<E: Write>(refusal: WordRefusal, e: &mut E) -> u8
+fn report_refusal<E: Write>(refusal: ArgumentRefusal, e: &mut E) -> u8
     ensures { result ≡ status_of_refusal refusal }
 {
     match refusal {
-        WordRefusal::Words(error) => {
+        ArgumentRefusal::Words(error) => {
             let _ = write!(e, "{error}");
-            WRONG_WORDS
+            WRONG_ARGUMENTS
         }
-        WordRefusal::OutOfMemory => report(Fault::OutOfMemory, e),
-        WordRefusal::GeometryOutOfRange => report(Fault::GeometryOutOfRange, e),
+        ArgumentRefusal::OutOfMemory => report(Fault::OutOfMemory, e),
+        ArgumentRefusal::GeometryOutOfRange => report(Fault::GeometryOutOfRange, e),
     }
 }
 
@@ -105,7 +105,7 @@ pub fn command<T: Files<File = File> + Threads + Wait + Sync, R: Read, W: Write,
         ⊎ (EndsRefused result × (r.new ≡ r.old) × (w.new ≡ w.old)) }
     ensures quiet { result ≡ 0 → e.new ≡ e.old }
 {
-    let request = match read_words(alloc, words) {
+    let request = match read_arguments(alloc, words) {
         Ok(request) => request,
         Err(refusal) => return report_refusal(refusal, e),
     };

@@ -8,7 +8,7 @@ use std::io;
 use std::io::{ErrorKind, Write};
 
 /// The exit status where the words are wrong.
-pub const WRONG_WORDS: u8 = 2;
+pub const WRONG_ARGUMENTS: u8 = 2;
 
 /// What is printed of words that are not UTF-8. `clap` prints it elsewhere, but here it takes text alone.
 const NOT_TEXT: &str = "error: invalid UTF-8 was detected in one or more arguments
@@ -26,12 +26,12 @@ pub fn report<E: Write>(fault: Fault, e: &mut E) -> u8
 
 /// Prints on `e` why the program has no words, and answers the exit status: one of them is not UTF-8,
 /// or there was no memory for them. A write that fails is not looked at.
-pub fn report_unread_words<E: Write>(error: &io::Error, e: &mut E) -> u8
+pub fn report_unreadable_arguments<E: Write>(error: &io::Error, e: &mut E) -> u8
     ensures { result ≡ status_without_words (error_kind error.now) }
 {
     if error.kind() == ErrorKind::OutOfMemory {
         return report(Fault::OutOfMemory, e);
     }
     let _ = write!(e, "{NOT_TEXT}");
-    WRONG_WORDS
+    WRONG_ARGUMENTS
 }

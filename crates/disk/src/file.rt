@@ -29,7 +29,7 @@ impl From<io::Error> for FileFault {
 pub type FileDisk = FileBacked<HostFile<File>>;
 
 impl FileBacked<HostFile<File>> {
-    /// Makes the file anew, of `len` zeros, instead of one that is there. `OutOfMemory` where the
+    /// Makes the file anew, of `len` zeros, replacing one that is there. `OutOfMemory` where the
     /// system has no memory for it, and `Device` where it refuses for anything else.
     pub fn create<R: Files<File = File>>(
         rt: &R,

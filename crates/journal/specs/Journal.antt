@@ -14,7 +14,7 @@ use Rattle.meaning.specs.State.{State}
 
 pub record JournalView : Type 0 where
   pub geometry : Geometry
-  -- how many records can still be logged before a point is due
+  -- how many more records the current half takes
   pub room : ℕ
   -- how many pieces of a cut are still to be written, while one is in progress
   pub left : Option ℕ

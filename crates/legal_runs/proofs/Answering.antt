@@ -10,8 +10,8 @@ use Rattle.meaning.specs.Serial.{is_loggable}
 use Rattle.legal_runs.specs.declared.outcomes.Outcome.{Outcome}
 use Rattle.legal_runs.specs.declared.outcomes.Outcome.TheVariants as outcomes
 use Rattle.legal_runs.specs.CoreState.{Replied, CoreState}
-use Rattle.legal_runs.specs.Events.{Hands, Event, loggable}
-use Rattle.legal_runs.specs.Runs.{IsLegal, last, goes, went, journal, answers, answered, answered_at, answered_messages, answered_changes}
+use Rattle.legal_runs.specs.Events.{MachineState, Event, loggable}
+use Rattle.legal_runs.specs.Runs.{IsLegal, last, logged_at, logged_messages, journal, answers, answered, answered_at, answered_messages, answered_changes}
 use Rattle.legal_runs.specs.Crash.{IsLogAfter, in_doubt}
 use Rattle.legal_runs.specs.Laws.{ticket_replies}
 use Rattle.legal_runs.proofs.Moves.{Passed, Move, Stays, Arrives, Grants, Backs, Logs, Answers, moves}
@@ -82,12 +82,12 @@ move_ordered g old new p o told (Answers a rest front is e) =
 
 -- ---- a run
 
-pub run_in_order : (g : Geometry) (old : Hands) (events : List Event) → IsLegal g old events
-    → old.core.logged ++ went old events ≡ answered_messages old events ++ (last old events).core.logged
+pub run_in_order : (g : Geometry) (old : MachineState) (events : List Event) → IsLegal g old events
+    → old.core.logged ++ logged_messages old events ≡ answered_messages old events ++ (last old events).core.logged
 run_in_order g old [] legal = append-nil old.core.logged
 run_in_order g old (event ∷ events) legal =
-    let gone = goes old.core event.step event.rose in
-    let later = went event.state_after events in
+    let gone = logged_at old.core event.step event.device_failed in
+    let later = logged_messages event.state_after events in
     let now = answered_at old.core event.outcome in
     sym (append_assoc old.core.logged gone later)
     ∙ ap (λ l. l ++ later) (move_ordered g old.core event.state_after.core _ event.outcome refl (moves g old event legal.0)).order
@@ -95,7 +95,7 @@ run_in_order g old (event ∷ events) legal =
     ∙ ap (λ l. now ++ l) (run_in_order g event.state_after events legal.1)
     ∙ sym (append_assoc now (answered_messages event.state_after events) (last event.state_after events).core.logged)
 
-pub run_replies : (g : Geometry) (old : Hands) (events : List Event) → IsLegal g old events
+pub run_replies : (g : Geometry) (old : MachineState) (events : List Event) → IsLegal g old events
     → ticket_replies (answered_messages old events) ≡ answered events
 run_replies g old [] legal = refl
 run_replies g old (event ∷ events) legal =
@@ -104,7 +104,7 @@ run_replies g old (event ∷ events) legal =
     ∙ (λ i. k.same i ++ run_replies g event.state_after events legal.1 i)
 
 -- Whatever is left later begins with the changes that were answered.
-pub answered_left : (g : Geometry) {old : Hands} {events : List Event} {k after : ℕ} {ms : List Msg} → IsLegal g old events → k ≤ after
+pub answered_left : (g : Geometry) {old : MachineState} {events : List Event} {k after : ℕ} {ms : List Msg} → IsLegal g old events → k ≤ after
     → IsLogAfter old events after ms
     → (rest : List Msg) × (loggable old.core.logged ++ ms ≡ answered_changes old (take k events) ++ rest)
 answered_left g {old} {events} {k} {after} legal le log =
@@ -114,7 +114,7 @@ answered_left g {old} {events} {k} {after} legal le log =
     let more = j.0 ++ take log.some (in_doubt (last old (take after events)).core (drop after events)) in
     let still = loggable (last old first).core.logged in
     let answers_first : begun ++ journal old first ≡ answered_changes old first ++ still =
-    ap (λ l. begun ++ l) (journal_is_loggable old first) ∙ sym (loggable-append old.core.logged (went old first))
+    ap (λ l. begun ++ l) (journal_is_loggable old first) ∙ sym (loggable-append old.core.logged (logged_messages old first))
     ∙ ap loggable (run_in_order g old first (legal_first g old events k legal))
     ∙ loggable-append (answered_messages old first) (last old first).core.logged in (
       still ++ more,

@@ -13,8 +13,8 @@ use Rattle.meaning.specs.Order.{serial_replies, messages, by_ticket, IsBefore}
 use Rattle.meaning.proofs.ByTicket.{by_ticket-ascending, AreAscending as AreEachLess}
 use Rattle.legal_runs.specs.CoreState.{Entry, Replied, CoreState, entries, held, are_related_entries}
 use Rattle.legal_runs.specs.Eligible.{is_conflict_free, has_room, is_eligible}
-use Rattle.legal_runs.specs.Events.{Hands, Event, grant, give_back, log}
-use Rattle.legal_runs.specs.Runs.{IsLegal, last, goes, arrives, went, arrived, answered}
+use Rattle.legal_runs.specs.Events.{MachineState, Event, grant, give_back, log}
+use Rattle.legal_runs.specs.Runs.{IsLegal, last, logged_at, arrives, logged_messages, arrived, answered}
 use Rattle.legal_runs.specs.Laws.{AreApart, AreAscending, EachBefore, IsSoundCoreState, IsIdle, ticket_replies}
 use Rattle.legal_runs.proofs.Lists.{picked, all_join, all_front, all_none, all_permuted, all_weaker, before_back, before_front, before_moved, before_one, before_past, before_push, before_join}
 use Rattle.legal_runs.proofs.Apart.{apart_turned, entries-append}
@@ -144,25 +144,25 @@ module _ (g : Geometry) (AreInStep : List Entry → List Entry → Type 0) (keep
   move_in_step old new p past all (Answers a rest front is e) h good =
       quiet new past all p.gone p.come (ap (λ p. p.gone) e) (ap (λ p. p.come) e) (subst (λ w. AreInStep all (row w past)) (sym is) good)
 
-  run_in_step : (old : Hands) (events : List Event) (past : List Replied) (all : List Entry) → IsLegal g old events
+  run_in_step : (old : MachineState) (events : List Event) (past : List Replied) (all : List Entry) → IsLegal g old events
       → IsSoundCoreState g old.core → AreInStep all (row old.core past)
-      → AreInStep (all ++ arrived events) (row (last old events).core (past ++ went old events))
+      → AreInStep (all ++ arrived events) (row (last old events).core (past ++ logged_messages old events))
   run_in_step old [] past all legal h good = quiet old.core past all [] [] refl refl good
   run_in_step old (event ∷ events) past all legal h good =
       let m = moves g old event legal.0 in
-      let p = passed old.core event.step event.outcome event.rose in
-      let gone = goes old.core event.step event.rose in
+      let p = passed old.core event.step event.outcome event.device_failed in
+      let gone = logged_at old.core event.step event.device_failed in
       let come = arrives event.step event.outcome in
       let k = run_in_step event.state_after events (past ++ gone) (all
       ++ come) legal.1 (move_sound g old.core event.state_after.core p m h) (move_in_step old.core event.state_after.core p past all m h good) in
       subst (λ l. AreInStep l (row (last event.state_after events).core (past
-      ++ (gone ++ went event.state_after events)))) (append_assoc all come (arrived events))
+      ++ (gone ++ logged_messages event.state_after events)))) (append_assoc all come (arrived events))
       (subst (λ l. AreInStep ((all ++ come)
-      ++ arrived events) (row (last event.state_after events).core l)) (append_assoc past gone (went event.state_after events)) k)
+      ++ arrived events) (row (last event.state_after events).core l)) (append_assoc past gone (logged_messages event.state_after events)) k)
 
   -- From none on, all that arrived and the row are in step.
-  pub arrivals_in_step : (old : Hands) (events : List Event) → IsLegal g old events → IsIdle old.core → AreInStep [] []
-      → AreInStep (arrived events) (row (last old events).core (went old events))
+  pub arrivals_in_step : (old : MachineState) (events : List Event) → IsLegal g old events → IsIdle old.core → AreInStep [] []
+      → AreInStep (arrived events) (row (last old events).core (logged_messages old events))
   arrivals_in_step old events legal idle start =
       let none : row old.core [] ≡ [] = λ i. entries (none_ran old.core idle i) ++ (none_out old.core idle i ++ idle.none_waits i) in
       run_in_step old events [] [] legal (idle_sound old.core idle g) (subst (AreInStep []) (sym none) start)
@@ -197,8 +197,8 @@ reordered_in_step g = record {
   };
 }
 
-pub arrivals_reordered : (g : Geometry) (old : Hands) (events : List Event) → IsLegal g old events → IsIdle old.core
-    → IsReordered g (arrived events) (row (last old events).core (went old events))
+pub arrivals_reordered : (g : Geometry) (old : MachineState) (events : List Event) → IsLegal g old events → IsIdle old.core
+    → IsReordered g (arrived events) (row (last old events).core (logged_messages old events))
 arrivals_reordered g old events legal idle =
     arrivals_in_step g (IsReordered g) (reordered_in_step g) old events legal idle
     (record { same = IsPermutation-refl []; ordered = λ ordered. ordered })
@@ -234,7 +234,7 @@ record ArrivedFrom (n : ℕ) (es : List Entry) : Type 0 where
   ascending : AreAscending es
   from : AllByRecursion (IsFrom n) es
 
-run_given : (g : Geometry) (old : Hands) (events : List Event) → IsLegal g old events → ArrivedFrom old.core.next (arrived events)
+run_given : (g : Geometry) (old : MachineState) (events : List Event) → IsLegal g old events → ArrivedFrom old.core.next (arrived events)
 run_given g old [] legal = record { ascending = tt; from = tt }
 run_given g old (event ∷ events) legal =
     let come = arrives event.step event.outcome in
@@ -251,7 +251,7 @@ run_given g old (event ∷ events) legal =
     }
 
 -- The tickets of the messages that arrive in a run ascend.
-pub run_ascending : (g : Geometry) (old : Hands) (events : List Event) → IsLegal g old events → AreAscending (arrived events)
+pub run_ascending : (g : Geometry) (old : MachineState) (events : List Event) → IsLegal g old events → AreAscending (arrived events)
 run_ascending g old events legal = (run_given g old events legal).ascending
 
 each_less : (es : List Entry) → AreAscending es → AreEachLess es
@@ -259,32 +259,32 @@ each_less [] h = tt
 each_less (e ∷ es) h = (h.0, each_less es h.1)
 
 -- So they are in order already.
-pub arrived_by_ticket : (g : Geometry) (old : Hands) (events : List Event) → IsLegal g old events
+pub arrived_by_ticket : (g : Geometry) (old : MachineState) (events : List Event) → IsLegal g old events
     → by_ticket (arrived events) ≡ arrived events
 arrived_by_ticket g old events legal = by_ticket-ascending (arrived events) (each_less (arrived events) (run_ascending g old events legal))
 
 -- ---- from a core state in which nothing waits and nothing is held
 
-module _ (g : Geometry) (old : Hands) (events : List Event) (legal : IsLegal g old events) (h : IsSoundCoreState g old.core)
+module _ (g : Geometry) (old : MachineState) (events : List Event) (legal : IsLegal g old events) (h : IsSoundCoreState g old.core)
     (idle : IsIdle old.core) where
-  good : IsAsGood g old.core.committed (by_ticket (arrived events)) (row (last old events).core (went old events))
+  good : IsAsGood g old.core.committed (by_ticket (arrived events)) (row (last old events).core (logged_messages old events))
   good =
       let x = old.core.committed in
-      subst (λ l. IsAsGood g x l (row (last old events).core (went old events))) (sym (arrived_by_ticket g old events legal))
+      subst (λ l. IsAsGood g x l (row (last old events).core (logged_messages old events))) (sym (arrived_by_ticket g old events legal))
       (arrivals_in_step g (IsAsGood g x) (good_in_step g x) old events legal idle (good_itself g x []))
 
   -- Each reply to a message that the run logs is that of the serial server to the messages by ticket.
-  pub logged_by_ticket : (p : ℕ × Reply) → IsIn p (ticket_replies (went old events)) → IsIn p (serial_replies g old.core.committed (by_ticket (arrived events)))
+  pub logged_by_ticket : (p : ℕ × Reply) → IsIn p (ticket_replies (logged_messages old events)) → IsIn p (serial_replies g old.core.committed (by_ticket (arrived events)))
   logged_by_ticket p is =
       let x = old.core.committed in
-      good.tells p (subst (IsIn p) (sym (serial_replies-append g x (entries (went old events)) _)) (in_left p _ _
+      good.tells p (subst (IsIn p) (sym (serial_replies-append g x (entries (logged_messages old events)) _)) (in_left p _ _
       (subst (IsIn p) (sym (run_follows g old events legal h).told) is)))
 
   -- So is each reply that it gives.
   pub answered_by_ticket : (p : ℕ × Reply) → IsIn p (answered events) → IsIn p (serial_replies g old.core.committed (by_ticket (arrived events)))
   answered_by_ticket p is =
-      let all : ticket_replies (went old events) ≡ answered events ++ ticket_replies (last old events).core.logged =
-      ap (λ l. ticket_replies l ++ ticket_replies (went old events)) (sym (none_logged old.core idle)) ∙ run_answers g old events legal in
+      let all : ticket_replies (logged_messages old events) ≡ answered events ++ ticket_replies (last old events).core.logged =
+      ap (λ l. ticket_replies l ++ ticket_replies (logged_messages old events)) (sym (none_logged old.core idle)) ∙ run_answers g old events legal in
       logged_by_ticket p (subst (IsIn p) (sym all) (in_left p (answered events) _ is))
 
   -- Where all was answered in the end, the committed state is the serial one too.
@@ -292,7 +292,7 @@ module _ (g : Geometry) (old : Hands) (events : List Event) (legal : IsLegal g o
       → (last old events).core.committed ≡ fold g old.core.committed (messages (by_ticket (arrived events)))
   committed_by_ticket ends =
       let new = (last old events).core in
-      let none : row new (went old events) ≡ entries (went old events) =
-      (λ i. entries (went old events) ++ (entries (none_ran new ends i) ++ (none_out new ends i ++ ends.none_waits i)))
-      ∙ append-nil (entries (went old events)) in
+      let none : row new (logged_messages old events) ≡ entries (logged_messages old events) =
+      (λ i. entries (logged_messages old events) ++ (entries (none_ran new ends i) ++ (none_out new ends i ++ ends.none_waits i)))
+      ∙ append-nil (entries (logged_messages old events)) in
       (run_follows g old events legal h).committed ∙ ap (λ l. fold g old.core.committed (messages l)) (sym none) ∙ sym good.state

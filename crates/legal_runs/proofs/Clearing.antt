@@ -8,7 +8,7 @@ use Rattle.affinity.specs.declared.geometry.Geometry.{Geometry}
 use Rattle.meaning.specs.Serial.{reply_to}
 use Rattle.legal_runs.specs.CoreState.{Entry, Replied, CoreState, entry, entries, held, are_related_entries}
 use Rattle.legal_runs.specs.Eligible.{is_conflict_free, has_room, is_eligible, next_eligible}
-use Rattle.legal_runs.specs.Events.{Hands, Event, IsAllowed, grant, give_back, out_with}
+use Rattle.legal_runs.specs.Events.{MachineState, Event, IsAllowed, grant, give_back, out_with}
 use Rattle.legal_runs.specs.Laws.{AreAscending, IsSoundCoreState, IsAnswered}
 use Rattle.legal_runs.proofs.Lists.{all_back, all_none, before_back, before_one, picked}
 use Rattle.legal_runs.proofs.Apart.{apart_turned, entries-append, held_grant, log_held}
@@ -139,7 +139,7 @@ module _ (g : Geometry) (e : Entry) where
       ++ (entries old.ran ++ old.out))) && not (list_any comes_before old.waiting)) (sym gone)
       ∙ ap (λ l. free (entries l ++ (entries old.ran ++ old.out)) old.waiting) (sym front)
 
-pub event_clears : {g : Geometry} (old : Hands) (event : Event) (e : Entry) → IsAllowed g old event → IsSoundCoreState g old.core
+pub event_clears : {g : Geometry} (old : MachineState) (event : Event) (e : Entry) → IsAllowed g old event → IsSoundCoreState g old.core
     → IsIn e old.core.waiting → IsIn e event.state_after.core.waiting
     → ((a : Replied) → IsAnswered old.core event.state_after.core a → are_related_entries g e (entry a) ≡ false)
     → is_conflict_free g event.state_after.core e ≡ is_conflict_free g old.core e

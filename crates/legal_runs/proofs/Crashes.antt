@@ -5,42 +5,42 @@ use Rattle.messages.specs.declared.Msg.{Msg}
 use Rattle.meaning.specs.State.{State}
 use Rattle.meaning.specs.Serial.{fold}
 use Rattle.legal_runs.specs.CoreState.{Replied}
-use Rattle.legal_runs.specs.Events.{Hands, Event}
-use Rattle.legal_runs.specs.Runs.{IsLegal, last, appended, goes, journal, went}
+use Rattle.legal_runs.specs.Events.{MachineState, Event}
+use Rattle.legal_runs.specs.Runs.{IsLegal, last, appended, logged_at, journal, logged_messages}
 use Rattle.legal_runs.specs.Crash.{in_doubt, IsLogAfter, IsLeftSince}
 use Rattle.legal_runs.specs.Laws.{IsSoundCoreState}
 use Rattle.legal_runs.proofs.SerialReplies.{fold-joined}
 use Rattle.legal_runs.proofs.Runs.{run_journal}
 
-pub legal_first : (g : Geometry) (old : Hands) (events : List Event) (k : ℕ) → IsLegal g old events → IsLegal g old (take k events)
+pub legal_first : (g : Geometry) (old : MachineState) (events : List Event) (k : ℕ) → IsLegal g old events → IsLegal g old (take k events)
 legal_first g old events zero legal = tt
 legal_first g old [] (suc k) legal = tt
 legal_first g old (event ∷ events) (suc k) legal = (legal.0, legal_first g event.state_after events k legal.1)
 
 -- the first events append a beginning of what more of them append
-pub journal_first : (old : Hands) (events : List Event) (k after : ℕ) → k ≤ after
+pub journal_first : (old : MachineState) (events : List Event) (k after : ℕ) → k ≤ after
     → (rest : List Msg) × (journal old (take after events) ≡ journal old (take k events) ++ rest)
 journal_first old events zero after le = (journal old (take after events), refl)
 journal_first old events (suc k) zero le = absurd (omega (arith, le))
 journal_first old [] (suc k) (suc after) le = ([], refl)
 journal_first old (event ∷ events) (suc k) (suc after) le =
     let j = journal_first event.state_after events k after (omega (arith, le)) in
-    let now = appended old.core event.step event.rose in
+    let now = appended old.core event.step event.device_failed in
     (j.0, ap (λ l. now ++ l) j.1 ∙ sym (append_assoc now (journal event.state_after (take k events)) j.0))
 
 -- and log a beginning of what more of them log
-pub went_first : (old : Hands) (events : List Event) (k after : ℕ) → k ≤ after
-    → (rest : List Replied) × (went old (take after events) ≡ went old (take k events) ++ rest)
-went_first old events zero after le = (went old (take after events), refl)
+pub went_first : (old : MachineState) (events : List Event) (k after : ℕ) → k ≤ after
+    → (rest : List Replied) × (logged_messages old (take after events) ≡ logged_messages old (take k events) ++ rest)
+went_first old events zero after le = (logged_messages old (take after events), refl)
 went_first old events (suc k) zero le = absurd (omega (arith, le))
 went_first old [] (suc k) (suc after) le = ([], refl)
 went_first old (event ∷ events) (suc k) (suc after) le =
     let j = went_first event.state_after events k after (omega (arith, le)) in
-    let now = goes old.core event.step event.rose in
-    (j.0, ap (λ l. now ++ l) j.1 ∙ sym (append_assoc now (went event.state_after (take k events)) j.0))
+    let now = logged_at old.core event.step event.device_failed in
+    (j.0, ap (λ l. now ++ l) j.1 ∙ sym (append_assoc now (logged_messages event.state_after (take k events)) j.0))
 
 -- Whatever is left, the log begins with all that was appended before.
-pub left_begins : (g : Geometry) (old : Hands) (events : List Event) (k : ℕ) (x : State) → IsLeftSince g old events k x
+pub left_begins : (g : Geometry) (old : MachineState) (events : List Event) (k : ℕ) (x : State) → IsLeftSince g old events k x
     → (rest : List Msg) × (x ≡ fold g old.core.committed (journal old (take k events) ++ rest))
 left_begins g old events k x left =
     let j = journal_first old events k left.after left.since in
@@ -51,7 +51,7 @@ left_begins g old events k x left =
     )
 
 -- It is the committed state with the first so many of the messages to be appended then.
-pub left_is_committed : (g : Geometry) (old : Hands) (events : List Event) (k : ℕ) (ms : List Msg) → IsLegal g old events
+pub left_is_committed : (g : Geometry) (old : MachineState) (events : List Event) (k : ℕ) (ms : List Msg) → IsLegal g old events
     → IsSoundCoreState g old.core → (log : IsLogAfter old events k ms)
     → fold g old.core.committed ms
     ≡ fold g (last old (take k events)).core.committed (take log.some (in_doubt (last old (take k events)).core (drop k events)))

@@ -8,7 +8,7 @@ use Rattle.meaning.specs.Serial.{is_loggable}
 use Rattle.legal_runs.specs.declared.outcomes.Step.{Step}
 use Rattle.legal_runs.specs.declared.outcomes.Step.TheVariants as steps
 use Rattle.legal_runs.specs.CoreState.{Replied, CoreState}
-use Rattle.legal_runs.specs.Events.{Hands, Event, IsAllowed, loggable}
+use Rattle.legal_runs.specs.Events.{MachineState, Event, IsAllowed, loggable}
 use Rattle.legal_runs.specs.Runs.{IsLegal, last}
 use Rattle.legal_runs.specs.Crash.{in_doubt, next_batch, to_append}
 use Rattle.legal_runs.specs.Laws.{DoubtsOnlyFailed, DoubtsWhatRan}
@@ -82,7 +82,7 @@ move_doubts_ran g old new p (Logs n is e) none = no_doubts new (ap (λ w. w.doub
 move_doubts_ran g old new p (Answers a rest front is e) none = no_doubts new (ap (λ w. w.doubt) is ∙ none)
 
 -- Where the device has failed, what ran stays where it is; else nothing was in `doubt`.
-pub event_doubts_ran : (g : Geometry) (old : Hands) (event : Event) → IsAllowed g old event → DoubtsOnlyFailed old.core
+pub event_doubts_ran : (g : Geometry) (old : MachineState) (event : Event) → IsAllowed g old event → DoubtsOnlyFailed old.core
     → DoubtsWhatRan old.core → DoubtsWhatRan event.state_after.core
 event_doubts_ran g old event allowed only h = by old.core.failed refl
   where
@@ -97,7 +97,7 @@ event_doubts_ran g old event allowed only h = by old.core.failed refl
         }
     by false sound = move_doubts_ran g old.core event.state_after.core _ (moves g old event allowed) (only sound)
 
-pub run_doubts_ran : (g : Geometry) (old : Hands) (events : List Event) → IsLegal g old events → DoubtsOnlyFailed old.core
+pub run_doubts_ran : (g : Geometry) (old : MachineState) (events : List Event) → IsLegal g old events → DoubtsOnlyFailed old.core
     → DoubtsWhatRan old.core → DoubtsWhatRan (last old events).core
 run_doubts_ran g old [] legal only h = h
 run_doubts_ran g old (event ∷ events) legal only h =

@@ -21,7 +21,7 @@ use Rattle.legal_runs.specs.declared.outcomes.ArriveRefusal.TheVariants as arriv
 use Rattle.legal_runs.specs.declared.outcomes.CoreFault.TheVariants as faults
 use Rattle.legal_runs.specs.declared.outcomes.PointRefusal.TheVariants as points
 use Rattle.legal_runs.specs.CoreState.{Entry, CoreState}
-use Rattle.legal_runs.specs.Events.{Hands, Empty, Event, IsAllowed, happens, fault, loggable, touches_device}
+use Rattle.legal_runs.specs.Events.{MachineState, Empty, Event, IsAllowed, happens, fault, loggable, touches_device}
 use Rattle.legal_runs.specs.Runs.{IsLegal, IsRun, outcomes_of, journal, last, answered_changes}
 use Rattle.legal_runs.specs.Crash.{IsLeftSince, IsLogAfter, in_doubt}
 use Rattle.legal_runs.specs.Laws.{full, DoubtsWhatRan, IsSerialLog}
@@ -44,13 +44,13 @@ opened slots x = record {
   left = None;
 }
 
-abbrev one_hand : ℕ → State → Hands
+abbrev one_hand : ℕ → State → MachineState
 one_hand slots x = record { core = opened slots x; hands = Empty ∷ [] }
 
-abbrev two_hands : ℕ → State → Hands
+abbrev two_hands : ℕ → State → MachineState
 two_hands slots x = record { core = opened slots x; hands = Empty ∷ Empty ∷ [] }
 
-abbrev three_hands : ℕ → State → Hands
+abbrev three_hands : ℕ → State → MachineState
 three_hands slots x = record { core = opened slots x; hands = Empty ∷ Empty ∷ Empty ∷ [] }
 
 -- a state with a volume and its first file
@@ -58,19 +58,19 @@ abbrev with_file : State
 with_file = fold small empty (MakeVol 0 0 ∷ Create 0 0 0 ∷ [])
 
 -- what a machine answers whose cuts have three pieces
-abbrev answers_of : Hands → List Step → List Outcome
+abbrev answers_of : MachineState → List Step → List Outcome
 answers_of w ss = outcomes_of small 3 w ss
 
 -- the events of steps during which the device doesn't fail, and the core state after them
-abbrev events_of : Hands → List Step → List Event
+abbrev events_of : MachineState → List Step → List Event
 events_of w [] = []
-events_of w (s ∷ ss) = record { step = s; outcome = (happens small 3 w s).0; rose = false; state_after = (happens small 3 w s).1 }
+events_of w (s ∷ ss) = record { step = s; outcome = (happens small 3 w s).0; device_failed = false; state_after = (happens small 3 w s).1 }
     ∷ events_of (happens small 3 w s).1 ss
 
-abbrev after : Hands → List Step → Hands
+abbrev after : MachineState → List Step → MachineState
 after w ss = last w (events_of w ss)
 
-abbrev journal_of : Hands → List Step → List Msg
+abbrev journal_of : MachineState → List Step → List Msg
 journal_of w ss = journal w (events_of w ss)
 
 -- ---- one message after the other
@@ -155,7 +155,7 @@ they_are_answered_as_they_came_back : (x y : Block) → answers_of (after (two_h
 they_are_answered_as_they_came_back x y = refl
 
 -- One record is left. What is dispatched and what ran is counted against it, and a question needs none.
-abbrev one_record : Hands
+abbrev one_record : MachineState
 one_record = record { core = record (opened 4 with_file) { room = 1 }; hands = Empty ∷ Empty ∷ Empty ∷ [] }
 
 room_is_kept_for_what_ran : (x y : Block) → answers_of one_record
@@ -203,11 +203,11 @@ room_after_a_point = refl
 -- ---- a device that fails
 
 -- a volume is to be made, and ran
-abbrev ran_one : Hands
+abbrev ran_one : MachineState
 ran_one = after (one_hand 2 empty) (steps.Arrive (MakeVol 0 0) ∷ steps.Grant ∷ steps.Run 0 ∷ steps.Back 0 ∷ [])
 
 -- The device failed while it was logged.
-abbrev failed_one : Hands
+abbrev failed_one : MachineState
 failed_one = record { core = (fault ran_one.core (steps.Log 1)).1; hands = ran_one.hands }
 
 a_failed_log_tells : (fault ran_one.core (steps.Log 1)).0 ≡ outcomes.LogFault faults.Device
@@ -241,14 +241,14 @@ a_point_with_nothing_to_write_touches_no_device = refl
 
 -- the event in which the device failed
 abbrev failed_log : Event
-failed_log = record { step = steps.Log 1; outcome = outcomes.LogFault faults.Device; rose = true; state_after = failed_one }
+failed_log = record { step = steps.Log 1; outcome = outcomes.LogFault faults.Device; device_failed = true; state_after = failed_one }
 
 failing_is_legal : IsLegal small ran_one (failed_log ∷ [])
 failing_is_legal = (record { touched = refl; core = refl; hands = refl }, tt)
 
 -- the same reported for the log of a question
 abbrev false_alarm : Event
-false_alarm = record { step = steps.Log 1; outcome = outcomes.LogFault faults.Device; rose = true; state_after = failed_one }
+false_alarm = record { step = steps.Log 1; outcome = outcomes.LogFault faults.Device; device_failed = true; state_after = failed_one }
 
 a_log_that_touches_no_device_doesnt_fail : IsAllowed small (after (one_hand 1 empty) (steps.Arrive AskSummary ∷ steps.Grant
     ∷ steps.Run 0 ∷ steps.Back 0 ∷ [])) false_alarm
@@ -257,7 +257,7 @@ a_log_that_touches_no_device_doesnt_fail h = true≢false (sym h.touched)
 
 -- an outcome that reports a failure where none was
 abbrev invented : Event
-invented = record { step = steps.Log 1; outcome = outcomes.LogFault faults.Device; rose = false; state_after = failed_one }
+invented = record { step = steps.Log 1; outcome = outcomes.LogFault faults.Device; device_failed = false; state_after = failed_one }
 
 logged_or_failed : outcomes.Logged 1 ≡ outcomes.LogFault faults.Device → ⊥
 logged_or_failed e = cc
@@ -367,7 +367,7 @@ another_reply_is_none h = refused_or_done (ap (λ (replies : List (ℕ × Reply)
 
 -- ---- runs and incarnations
 
-legal_where_no_device_fails : (w : Hands) (ss : List Step) → IsLegal small w (events_of w ss)
+legal_where_no_device_fails : (w : MachineState) (ss : List Step) → IsLegal small w (events_of w ss)
 legal_where_no_device_fails w [] = tt
 legal_where_no_device_fails w (s ∷ ss) =
     (record { to_write = 3; at_most = lit≤ tt; does = refl }, legal_where_no_device_fails (happens small 3 w s).1 ss)

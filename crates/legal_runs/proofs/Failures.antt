@@ -15,7 +15,7 @@ use Rattle.legal_runs.specs.declared.outcomes.Outcome.TheVariants as outcomes
 use Rattle.legal_runs.specs.declared.outcomes.PointRefusal.{PointRefusal}
 use Rattle.legal_runs.specs.CoreState.{Entry, Replied, CoreState, held}
 use Rattle.legal_runs.specs.Eligible.{lacks_room_alone, next_eligible}
-use Rattle.legal_runs.specs.Events.{Hand, Hands, Empty, Job, Result, Event, IsAllowed, IsFault, IsCarriedOut, arrive, answer, not_ended, unless_refused, piece_refusal, point_refusal, flip_refusal, grant_to, run_hand, result_in, back_from, is_empty, happens, fault, touches_device}
+use Rattle.legal_runs.specs.Events.{Hand, MachineState, Empty, Job, Result, Event, IsAllowed, IsFault, IsWithoutFault, arrive, answer, not_ended, unless_refused, piece_refusal, point_refusal, flip_refusal, grant_to, run_hand, result_in, back_from, is_empty, happens, fault, touches_device}
 use Rattle.legal_runs.specs.Laws.{IsStopped, reports_failure}
 
 -- ---- what happens doesn't report a failure, and a fault does
@@ -58,7 +58,7 @@ module _ (w : CoreState) (done : Outcome × CoreState) (quiet : Quiet done) wher
   flip_quiet : Refusing (flip_refusal w)
   flip_quiet = either Refusing w.failed _ _ refl (ended_quiet w.left)
 
-module _ (g : Geometry) (w : Hands) where
+module _ (g : Geometry) (w : MachineState) where
   none_quiet : (b : Bool) → reports_failure (if b then outcomes.NoRoom else outcomes.NoneEligible) ≡ false
   none_quiet true = refl
   none_quiet false = refl
@@ -105,10 +105,10 @@ fault_told w steps.Piece = refl
 fault_told w steps.Flip = refl
 
 -- A step reports that the device failed exactly where it did.
-pub failure_told : (g : Geometry) (old : Hands) (event : Event) → IsAllowed g old event → event.rose ≡ reports_failure event.outcome
-failure_told g old event h = by event.rose h
+pub failure_told : (g : Geometry) (old : MachineState) (event : Event) → IsAllowed g old event → event.device_failed ≡ reports_failure event.outcome
+failure_told g old event h = by event.device_failed h
   where
-    by : (b : Bool) → MatchBool b (IsFault old event) (IsCarriedOut g old event) → b ≡ reports_failure event.outcome
+    by : (b : Bool) → MatchBool b (IsFault old event) (IsWithoutFault g old event) → b ≡ reports_failure event.outcome
     by true f = sym (fault_told old.core event.step) ∙ ap (λ o. reports_failure o.0) f.core
     by false d = sym (happens_quiet g old d.to_write event.step) ∙ ap (λ o. reports_failure o.0) d.does
 
@@ -126,13 +126,13 @@ fault_fails w steps.Cut = refl
 fault_fails w steps.Piece = refl
 fault_fails w steps.Flip = refl
 
-pub failure_fails : (g : Geometry) (old : Hands) (event : Event) → IsAllowed g old event → event.rose ≡ true
+pub failure_fails : (g : Geometry) (old : MachineState) (event : Event) → IsAllowed g old event → event.device_failed ≡ true
     → event.state_after.core.failed ≡ true
-failure_fails g old event h rose = by event.rose h rose
+failure_fails g old event h device_failed = by event.device_failed h device_failed
   where
-    by : (b : Bool) → MatchBool b (IsFault old event) (IsCarriedOut g old event) → b ≡ true → event.state_after.core.failed ≡ true
-    by true f rose = ap (λ o. o.1.failed) (sym f.core) ∙ fault_fails old.core event.step
-    by false d rose = absurd (true≢false (sym rose))
+    by : (b : Bool) → MatchBool b (IsFault old event) (IsWithoutFault g old event) → b ≡ true → event.state_after.core.failed ≡ true
+    by true f device_failed = ap (λ o. o.1.failed) (sym f.core) ∙ fault_fails old.core event.step
+    by false d device_failed = absurd (true≢false (sym device_failed))
 
 -- ---- and for good
 
@@ -140,7 +140,7 @@ module _ (g : Geometry) (n : ℕ) (state_after : CoreState) (row : List Hand) wh
   abbrev stopped : CoreState
   stopped = record state_after { failed = true }
 
-  abbrev machine : Hands
+  abbrev machine : MachineState
   machine = record { core = stopped; hands = row }
 
   still : IsStopped stopped stopped
@@ -156,7 +156,7 @@ module _ (g : Geometry) (n : ℕ) (state_after : CoreState) (row : List Hand) wh
     left = refl;
   }
 
-  abbrev Still : Outcome × Hands → Type 0
+  abbrev Still : Outcome × MachineState → Type 0
   Still o = IsStopped stopped o.1.core
 
   grant_still : (hand : Option ℕ)
@@ -222,14 +222,14 @@ untouched state_after steps.Cut = refl
 untouched state_after steps.Piece = refl
 untouched state_after steps.Flip = refl
 
-pub failure_lasts : (g : Geometry) (old : Hands) (event : Event) → IsAllowed g old event → old.core.failed ≡ true
+pub failure_lasts : (g : Geometry) (old : MachineState) (event : Event) → IsAllowed g old event → old.core.failed ≡ true
     → IsStopped old.core event.state_after.core
-failure_lasts g old event h failed = by event.rose h
+failure_lasts g old event h failed = by event.device_failed h
   where
     is_stopped : old.core ≡ record old.core { failed = true }
     is_stopped = λ i. record old.core { failed = failed i }
 
-    by : (b : Bool) → MatchBool b (IsFault old event) (IsCarriedOut g old event) → IsStopped old.core event.state_after.core
+    by : (b : Bool) → MatchBool b (IsFault old event) (IsWithoutFault g old event) → IsStopped old.core event.state_after.core
     by true f = absurd (true≢false (sym f.touched ∙ ap (λ w. touches_device w event.step) is_stopped ∙ untouched old.core event.step))
     by false d =
         let does = ap (λ w. happens g d.to_write (record { core = w; hands = old.hands }) event.step) (sym is_stopped) ∙ d.does in

@@ -11,7 +11,7 @@ use Rattle.legal_runs.specs.declared.outcomes.Step.{Step}
 use Rattle.legal_runs.specs.declared.outcomes.Step.TheVariants as steps
 use Rattle.legal_runs.specs.CoreState.{Entry, CoreState}
 use Rattle.legal_runs.specs.Eligible.{next_eligible, pick}
-use Rattle.legal_runs.specs.Events.{Hand, Hands, Empty, Job, Result, Event, IsAllowed, IsCarriedOut, IsFault, back_from, grant_to, happens, is_empty, out_with, result_in, run_hand}
+use Rattle.legal_runs.specs.Events.{Hand, MachineState, Empty, Job, Result, Event, IsAllowed, IsWithoutFault, IsFault, back_from, grant_to, happens, is_empty, out_with, result_in, run_hand}
 use Rattle.legal_runs.specs.Laws.{full}
 use Rattle.legal_runs.specs.Runs.{IsLegal, last}
 use Rattle.legal_runs.proofs.Lists.{picked}
@@ -39,14 +39,14 @@ length-picked p xs found e =
     omega (arith, whole, rest)
 
 -- As many more or fewer are dispatched as hands are full.
-abbrev pub Tallies : Hands → Hands → Type 0
+abbrev pub Tallies : MachineState → MachineState → Type 0
 Tallies old new = length new.core.out + full old.hands ≡ length old.core.out + full new.hands
 
-module _ (g : Geometry) (w : Hands) where
-  kept : (new : Hands) → new.core.out ≡ w.core.out → new.hands ≡ w.hands → Tallies w new
+module _ (g : Geometry) (w : MachineState) where
+  kept : (new : MachineState) → new.core.out ≡ w.core.out → new.hands ≡ w.hands → Tallies w new
   kept new out hands = let o = ap length out in let h = ap full hands in omega (arith, o, h)
 
-  either : (b : Bool) (x y : Outcome × Hands) → Tallies w x.1 → Tallies w y.1 → Tallies w (if b then x else y).1
+  either : (b : Bool) (x y : Outcome × MachineState) → Tallies w x.1 → Tallies w y.1 → Tallies w (if b then x else y).1
   either true x y h j = h
   either false x y h j = j
 
@@ -89,14 +89,14 @@ module _ (g : Geometry) (w : Hands) where
   happens_tallies n (steps.Back i) = back_tallies i (slice_get w.hands i) refl
   happens_tallies n s = kept (happens g n w s).1 (happens_keeps_out g n w s refl) refl
 
-pub event_tallies : (g : Geometry) (old : Hands) (event : Event) → IsAllowed g old event → Tallies old event.state_after
-event_tallies g old event allowed = by event.rose allowed
+pub event_tallies : (g : Geometry) (old : MachineState) (event : Event) → IsAllowed g old event → Tallies old event.state_after
+event_tallies g old event allowed = by event.device_failed allowed
   where
-    by : (b : Bool) → MatchBool b (IsFault old event) (IsCarriedOut g old event) → Tallies old event.state_after
+    by : (b : Bool) → MatchBool b (IsFault old event) (IsWithoutFault g old event) → Tallies old event.state_after
     by true f = kept g old event.state_after (ap (λ (x : Outcome × CoreState). x.1.out) (sym f.core) ∙ fault_keeps_out old.core event.step) f.hands
-    by false d = subst (λ (x : Outcome × Hands). Tallies old x.1) d.does (happens_tallies g old d.to_write event.step)
+    by false d = subst (λ (x : Outcome × MachineState). Tallies old x.1) d.does (happens_tallies g old d.to_write event.step)
 
-pub last_tallies : (g : Geometry) (old : Hands) (events : List Event) → IsLegal g old events → Tallies old (last old events)
+pub last_tallies : (g : Geometry) (old : MachineState) (events : List Event) → IsLegal g old events → Tallies old (last old events)
 last_tallies g old [] legal = refl
 last_tallies g old (event ∷ events) legal =
     let first = event_tallies g old event legal.0 in
@@ -104,7 +104,7 @@ last_tallies g old (event ∷ events) legal =
     omega (arith, first, rest)
 
 -- Where no hand is full, nothing is dispatched, if nothing was.
-pub last_none_out : (g : Geometry) (old : Hands) (events : List Event) → IsLegal g old events → old.core.out ≡ []
+pub last_none_out : (g : Geometry) (old : MachineState) (events : List Event) → IsLegal g old events → old.core.out ≡ []
     → full (last old events).hands ≡ 0 → (last old events).core.out ≡ []
 last_none_out g old events legal before after =
     let tallies = last_tallies g old events legal in

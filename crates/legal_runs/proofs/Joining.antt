@@ -7,14 +7,14 @@ use Rattle.messages.specs.declared.Msg.{Msg}
 use Rattle.meaning.specs.State.{State}
 use Rattle.meaning.specs.Serial.{fold}
 use Rattle.legal_runs.specs.CoreState.{CoreState}
-use Rattle.legal_runs.specs.Events.{Hands, Event}
-use Rattle.legal_runs.specs.Runs.{IsLegal, last, goes, appended, arrives, answers, journal}
+use Rattle.legal_runs.specs.Events.{MachineState, Event}
+use Rattle.legal_runs.specs.Runs.{IsLegal, last, logged_at, appended, arrives, answers, journal}
 use Rattle.legal_runs.specs.Crash.{in_doubt, next_batch, IsLogAfter, IsLeftSince}
 use Rattle.legal_runs.specs.Laws.{IsJoined, IsSoundCoreState}
 use Rattle.legal_runs.proofs.Runs.{run_journal}
 use Rattle.legal_runs.proofs.SerialReplies.{fold-joined}
 
-pub runs_join : (g : Geometry) (old : Hands) (events more : List Event) → IsLegal g old events → IsLegal g (last old events) more
+pub runs_join : (g : Geometry) (old : MachineState) (events more : List Event) → IsLegal g old events → IsLegal g (last old events) more
     → IsJoined g old events more
 runs_join g old [] more legal on = record {
   legal = on;
@@ -29,9 +29,9 @@ runs_join g old (event ∷ events) more legal on =
     record {
       legal = (legal.0, k.legal);
       last_is = k.last_is;
-      went_is = ap (λ l. goes old.core event.step event.rose ++ l) k.went_is ∙ sym (append_assoc (goes old.core event.step event.rose) _ _);
-      journal_is = ap (λ l. appended old.core event.step event.rose ++ l) k.journal_is
-          ∙ sym (append_assoc (appended old.core event.step event.rose) _ _);
+      went_is = ap (λ l. logged_at old.core event.step event.device_failed ++ l) k.went_is ∙ sym (append_assoc (logged_at old.core event.step event.device_failed) _ _);
+      journal_is = ap (λ l. appended old.core event.step event.device_failed ++ l) k.journal_is
+          ∙ sym (append_assoc (appended old.core event.step event.device_failed) _ _);
       arrived_is = ap (λ l. arrives event.step event.outcome ++ l) k.arrived_is ∙ sym (append_assoc (arrives event.step event.outcome) _ _);
       answered_is = ap (λ l. answers event.outcome ++ l) k.answered_is ∙ sym (append_assoc (answers event.outcome) _ _);
     }
@@ -52,7 +52,7 @@ still_in_doubt w [] more (suc n) le =
     ] le
 still_in_doubt w (event ∷ rest) more (suc n) le = (le, refl)
 
-pub log_of_first : (old : Hands) (events more : List Event) (k : ℕ) (ms : List Msg) → k ≤ length events → IsLogAfter old events k ms
+pub log_of_first : (old : MachineState) (events more : List Event) (k : ℕ) (ms : List Msg) → k ≤ length events → IsLogAfter old events k ms
     → IsLogAfter old (events ++ more) k ms
 log_of_first old events more k ms le log =
     let first = sym (take-append-le k events more le) in
@@ -65,11 +65,11 @@ log_of_first old events more k ms le log =
           ∙ (λ i. journal old (first i) ++ take log.some (in_doubt (last old (first i)).core (rest i)));
     }
 
-pub log_of_second : (old : Hands) (events more : List Event) (k : ℕ) (ms : List Msg) → IsLogAfter (last old events) more k ms
+pub log_of_second : (old : MachineState) (events more : List Event) (k : ℕ) (ms : List Msg) → IsLogAfter (last old events) more k ms
     → IsLogAfter old (events ++ more) (length events + k) (journal old events ++ ms)
 log_of_second old [] more k ms log = let none : k ≡ 0 + k = omega arith in subst (λ n. IsLogAfter old more n ms) none log
 log_of_second old (event ∷ events) more k ms log =
-    let now = appended old.core event.step event.rose in
+    let now = appended old.core event.step event.device_failed in
     let later = log_of_second event.state_after events more k ms log in
     let one_more : suc (length events + k) ≡ suc (length events) + k = omega arith in
     subst (λ n. IsLogAfter old (event ∷ (events ++ more)) n ((now ++ journal event.state_after events) ++ ms)) one_more (record {
@@ -78,7 +78,7 @@ log_of_second old (event ∷ events) more k ms log =
       is = append_assoc now _ _ ∙ ap (λ l. now ++ l) later.is ∙ sym (append_assoc now _ _);
     })
 
-pub left_of_first : (g : Geometry) (old : Hands) (events more : List Event) (k : ℕ) (x : State) → IsLeftSince g old events k x
+pub left_of_first : (g : Geometry) (old : MachineState) (events more : List Event) (k : ℕ) (x : State) → IsLeftSince g old events k x
     → IsLeftSince g old (events ++ more) k x
 left_of_first g old events more k x left =
     let long = length-append events more in
@@ -91,7 +91,7 @@ left_of_first g old events more k x left =
       state = left.state;
     }
 
-pub left_of_second : {g : Geometry} (old : Hands) (events : List Event) {more : List Event} {k : ℕ} {x : State} → IsLegal g old events
+pub left_of_second : {g : Geometry} (old : MachineState) (events : List Event) {more : List Event} {k : ℕ} {x : State} → IsLegal g old events
     → IsSoundCoreState g old.core → IsLeftSince g (last old events) more k x → IsLeftSince g old (events ++ more) (length events + k) x
 left_of_second {g} old events {more} legal sound left =
     let long = length-append events more in

@@ -5,7 +5,7 @@ use Rattle.affinity.specs.declared.geometry.Geometry.{Geometry}
 use Rattle.messages.specs.declared.Msg.{Msg}
 use Rattle.meaning.specs.State.{State, empty}
 use Rattle.meaning.specs.Serial.{fold}
-use Rattle.legal_runs.specs.Events.{Hands, Event, loggable}
+use Rattle.legal_runs.specs.Events.{MachineState, Event, loggable}
 use Rattle.legal_runs.specs.Runs.{IsLegal}
 use Rattle.legal_runs.specs.Crash.{IsLeftSince}
 use Rattle.legal_runs.specs.Laws.{IsIdle}
@@ -42,7 +42,7 @@ module _ (g : Geometry) where
         ∙ ap (fold g empty) (sym (in_order-push left.logs log));
   }
 
-  pub incarnation_of_run : (start : Hands) (events : List Event) (ended : ℕ) (x : State) → IsIdle start.core → IsLegal g start events
+  pub incarnation_of_run : (start : MachineState) (events : List Event) (ended : ℕ) (x : State) → IsIdle start.core → IsLegal g start events
       → IsLeftSince g start events ended x
       → (log : List Msg) × IsLogOf g start.core.committed (Ran start events ended) log × (x ≡ fold g start.core.committed log)
   incarnation_of_run start events ended x idle legal left = (
@@ -59,7 +59,7 @@ module _ (g : Geometry) where
     left.state,
   )
 
-  run_answered : (x : State) (start : Hands) (events : List Event) (ended : ℕ) (log : List Msg)
+  run_answered : (x : State) (start : MachineState) (events : List Event) (ended : ℕ) (log : List Msg)
       → IsLogOfRun g x start events ended log → HoldsAnswered (Ran start events ended) log
   run_answered x start events ended log h =
       let k = answered_left g h.legal h.since h.is_log in

@@ -16,8 +16,8 @@ use Rattle.legal_runs.specs.declared.outcomes.PointRefusal.{PointRefusal}
 use Rattle.legal_runs.specs.declared.outcomes.PointRefusal.TheVariants as points
 use Rattle.legal_runs.specs.CoreState.{Entry, Replied, CoreState, held}
 use Rattle.legal_runs.specs.Eligible.{changes, unlogged_changes, next_eligible}
-use Rattle.legal_runs.specs.Events.{Hand, Hands, Empty, Job, Result, Event, IsAllowed, IsFault, IsCarriedOut, arrive, grant, give_back, out_with, batch, fails, loggable, log, log_some, answer, point_refusal, piece_refusal, flip_refusal, unless_refused, fewer, grant_to, run_hand, result_in, back_from, is_empty, happens, fault}
-use Rattle.legal_runs.specs.Runs.{goes, arrives, answers}
+use Rattle.legal_runs.specs.Events.{Hand, MachineState, Empty, Job, Result, Event, IsAllowed, IsFault, IsWithoutFault, arrive, grant, give_back, out_with, batch, fails, loggable, log, log_some, answer, point_refusal, piece_refusal, flip_refusal, unless_refused, fewer, grant_to, run_hand, result_in, back_from, is_empty, happens, fault}
+use Rattle.legal_runs.specs.Runs.{logged_at, arrives, answers}
 use Rattle.legal_runs.specs.Laws.{DoubtsOnlyFailed, DoubtsWhatRan}
 use Rattle.legal_runs.proofs.Apart.{length_held}
 use Rattle.legal_runs.proofs.Lists.{first_few}
@@ -48,7 +48,7 @@ abbrev pub nothing : Passed
 nothing = record { gone = []; come = []; told = [] }
 
 abbrev pub passed : CoreState → Step → Outcome → Bool → Passed
-passed w s o rose = record { gone = goes w s rose; come = arrives s o; told = answers o }
+passed w s o device_failed = record { gone = logged_at w s device_failed; come = arrives s o; told = answers o }
 
 -- what an event does to the core
 pub data Move (g : Geometry) (old new : CoreState) (p : Passed) : Type 0 where
@@ -199,10 +199,10 @@ module _ (g : Geometry) (w : CoreState) where
 
 -- ---- with the hands
 
-abbrev In : Geometry → Hands → Step → Outcome × Hands → Type 0
+abbrev In : Geometry → MachineState → Step → Outcome × MachineState → Type 0
 In g w s o = Move g w.core o.1.core (passed w.core s o.0 false)
 
-module _ (g : Geometry) (w : Hands) where
+module _ (g : Geometry) (w : MachineState) where
   no_grant_moves : (b : Bool) → In g w steps.Grant (if b then outcomes.NoRoom else outcomes.NoneEligible, w)
   no_grant_moves true = stays g w.core
   no_grant_moves false = stays g w.core
@@ -244,11 +244,11 @@ module _ (g : Geometry) (w : Hands) where
   happens_moves n steps.Flip = flip_moves g w.core (flip_refusal w.core)
 
 -- Each allowed event is a move of the core.
-pub moves : (g : Geometry) (old : Hands) (event : Event) → IsAllowed g old event
-    → Move g old.core event.state_after.core (passed old.core event.step event.outcome event.rose)
-moves g old event h = by event.rose h
+pub moves : (g : Geometry) (old : MachineState) (event : Event) → IsAllowed g old event
+    → Move g old.core event.state_after.core (passed old.core event.step event.outcome event.device_failed)
+moves g old event h = by event.device_failed h
   where
-    by : (b : Bool) → MatchBool b (IsFault old event) (IsCarriedOut g old event)
+    by : (b : Bool) → MatchBool b (IsFault old event) (IsWithoutFault g old event)
         → Move g old.core event.state_after.core (passed old.core event.step event.outcome b)
     by true f = subst (λ x. Move g old.core x.1 (passed old.core event.step x.0 true)) f.core (fault_moves g old.core event.step)
     by false d = subst (In g old event.step) d.does (happens_moves g old d.to_write event.step)

@@ -19,7 +19,7 @@ use Rattle.legal_runs.specs.declared.outcomes.PointRefusal.{PointRefusal}
 use Rattle.legal_runs.specs.declared.outcomes.Step.{Step}
 use Rattle.legal_runs.specs.declared.outcomes.Step.TheVariants as steps
 use Rattle.legal_runs.specs.CoreState.{Entry, Replied, CoreState, entry, entries, held, are_related_entries}
-use Rattle.legal_runs.specs.Events.{Hand, Hands, Empty, Job, Result, Event, IsAllowed, IsCarriedOut, IsFault, answer, arrive, batch, fault, flip_refusal, happens, loggable, piece_refusal, point_refusal, run_hand, unless_refused}
+use Rattle.legal_runs.specs.Events.{Hand, MachineState, Empty, Job, Result, Event, IsAllowed, IsWithoutFault, IsFault, answer, arrive, batch, fault, flip_refusal, happens, loggable, piece_refusal, point_refusal, run_hand, unless_refused}
 use Rattle.legal_runs.specs.Laws.{EachBefore, IsSoundCoreState, moves_what_is_out}
 use Rattle.legal_runs.proofs.Apart.{apart_turned, entries-append}
 use Rattle.legal_runs.proofs.Clearing.{all_at}
@@ -89,7 +89,7 @@ module _ (g : Geometry) where
         subst (λ (w : CoreState). SeesSame old w) (sym moved) (fold_leaves old.committed e.1 (batch old n) (batch_elsewhere old n sound is))
     move_sees old new p (Answers a rest front moved k) sound is = same_committed old new (ap (λ w. w.committed) moved)
 
-  pub event_sees : (old : Hands) (event : Event) (e : Entry) → IsAllowed g old event → IsSoundCoreState g old.core → IsIn e old.core.out
+  pub event_sees : (old : MachineState) (event : Event) (e : Entry) → IsAllowed g old event → IsSoundCoreState g old.core → IsIn e old.core.out
       → AgreeOn g (are_related (place g e.1)) event.state_after.core.committed old.core.committed
   event_sees old event e allowed sound is = move_sees e old.core event.state_after.core _ (moves g old event allowed) sound is
 
@@ -118,8 +118,8 @@ module _ (w : CoreState) where
   answer_keeps_out [] = refl
   answer_keeps_out (a ∷ as') = refl
 
-module _ (g : Geometry) (n : ℕ) (w : Hands) where
-  abbrev KeepsIn : Outcome × Hands → Type 0
+module _ (g : Geometry) (n : ℕ) (w : MachineState) where
+  abbrev KeepsIn : Outcome × MachineState → Type 0
   KeepsIn x = x.1.core.out ≡ w.core.out
 
   run_keeps_out : (i : ℕ) (hand : Option Hand) → KeepsIn (run_hand w i hand)
@@ -144,10 +144,10 @@ pub fault_keeps_out : (w : CoreState) (s : Step) → (fault w s).1.out ≡ w.out
 fault_keeps_out w (steps.Log k) = refl
 fault_keeps_out w _ = refl
 
-pub event_keeps_out : (g : Geometry) (old : Hands) (event : Event) → IsAllowed g old event → moves_what_is_out event.step ≡ false
+pub event_keeps_out : (g : Geometry) (old : MachineState) (event : Event) → IsAllowed g old event → moves_what_is_out event.step ≡ false
     → event.state_after.core.out ≡ old.core.out
-event_keeps_out g old event allowed still = by event.rose allowed
+event_keeps_out g old event allowed still = by event.device_failed allowed
   where
-    by : (b : Bool) → MatchBool b (IsFault old event) (IsCarriedOut g old event) → event.state_after.core.out ≡ old.core.out
+    by : (b : Bool) → MatchBool b (IsFault old event) (IsWithoutFault g old event) → event.state_after.core.out ≡ old.core.out
     by true f = ap (λ (x : Outcome × CoreState). x.1.out) (sym f.core) ∙ fault_keeps_out old.core event.step
-    by false d = ap (λ (x : Outcome × Hands). x.1.core.out) (sym d.does) ∙ happens_keeps_out g d.to_write old event.step still
+    by false d = ap (λ (x : Outcome × MachineState). x.1.core.out) (sym d.does) ∙ happens_keeps_out g d.to_write old event.step still

@@ -13,8 +13,8 @@ use Rattle.messages.specs.declared.Msg.{Msg}
 use Rattle.meaning.specs.State.{State}
 use Rattle.meaning.specs.Order.{IsBefore, KeepsOrder, serial_replies}
 use Rattle.legal_runs.specs.CoreState.{Entry, Replied, CoreState, entries, entry}
-use Rattle.legal_runs.specs.Events.{Hands, Event, loggable}
-use Rattle.legal_runs.specs.Runs.{IsLegal, answered_messages, arrived, journal, last, went}
+use Rattle.legal_runs.specs.Events.{MachineState, Event, loggable}
+use Rattle.legal_runs.specs.Runs.{IsLegal, answered_messages, arrived, journal, last, logged_messages}
 use Rattle.legal_runs.specs.Crash.{IsLogAfter, in_doubt}
 use Rattle.legal_runs.specs.Laws.{AreAscending, AreOnce, EachBefore, IsIdle, IsSerialLog, ticket_replies}
 use Rattle.legal_runs.proofs.Answering.{loggable-append, run_in_order}
@@ -124,20 +124,20 @@ module _ (g : Geometry) where
 
 -- ---- what a run logs, and what ran behind it
 
-module _ (g : Geometry) (old : Hands) (events : List Event) (legal : IsLegal g old events) (idle : IsIdle old.core) where
+module _ (g : Geometry) (old : MachineState) (events : List Event) (legal : IsLegal g old events) (idle : IsIdle old.core) where
   abbrev now : CoreState
   now = (last old events).core
 
   abbrev log : ℕ → List Replied
-  log j = went old events ++ take j now.ran
+  log j = logged_messages old events ++ take j now.ran
 
   -- each message that arrived is logged, ran, is dispatched or waits
-  pub none_lost : IsPermutation (arrived events) (row now (went old events))
+  pub none_lost : IsPermutation (arrived events) (row now (logged_messages old events))
   none_lost = (arrivals_reordered g old events legal idle).same
 
-  first_in_row : (j : ℕ) → row now (went old events) ≡ entries (log j) ++ (entries (drop j now.ran) ++ (now.out ++ now.waiting))
+  first_in_row : (j : ℕ) → row now (logged_messages old events) ≡ entries (log j) ++ (entries (drop j now.ran) ++ (now.out ++ now.waiting))
   first_in_row j =
-      let W = entries (went old events) in
+      let W = entries (logged_messages old events) in
       let first = entries (take j now.ran) in
       let rest = entries (drop j now.ran) ++ (now.out ++ now.waiting) in
       let split : entries now.ran ++ (now.out ++ now.waiting) ≡ first ++ rest =
@@ -145,12 +145,12 @@ module _ (g : Geometry) (old : Hands) (events : List Event) (legal : IsLegal g o
       ∙ ap (λ l. l ++ (now.out ++ now.waiting)) (entries-append (take j now.ran) (drop j now.ran))
       ∙ append_assoc first (entries (drop j now.ran)) (now.out ++ now.waiting) in
       ap (λ l. W ++ l) split ∙ sym (append_assoc W first rest)
-      ∙ ap (λ l. l ++ rest) (sym (entries-append (went old events) (take j now.ran)))
+      ∙ ap (λ l. l ++ rest) (sym (entries-append (logged_messages old events) (take j now.ran)))
 
   in_order : (j : ℕ) → ticket_replies (log j) ≡ serial_replies g old.core.committed (entries (log j))
   in_order j =
       let x = old.core.committed in
-      let W = went old events in
+      let W = logged_messages old events in
       let first = take j now.ran in
       let sound = idle_sound old.core idle g in
       let k = run_follows g old events legal sound in
@@ -168,8 +168,8 @@ module _ (g : Geometry) (old : Hands) (events : List Event) (legal : IsLegal g o
   }
 
   -- What is logged begins with what is answered.
-  pub logged_begins : went old events ≡ answered_messages old events ++ now.logged
-  logged_begins = ap (λ l. l ++ went old events) (sym (none_logged old.core idle)) ∙ run_in_order g old events legal
+  pub logged_begins : logged_messages old events ≡ answered_messages old events ++ now.logged
+  logged_begins = ap (λ l. l ++ logged_messages old events) (sym (none_logged old.core idle)) ∙ run_in_order g old events legal
 
   -- What is answered arrived.
   pub answered_came : AllByRecursion (λ a. Contains (arrived events) (entry a)) (answered_messages old events)
@@ -177,7 +177,7 @@ module _ (g : Geometry) (old : Hands) (events : List Event) (legal : IsLegal g o
       let came = all_came g old.core.committed (arrived events) (log 0) (serial_log 0) in
       all_front (λ a. Contains (arrived events) (entry a)) (answered_messages old events) now.logged
       (subst (AllByRecursion (λ a. Contains (arrived events) (entry a))) logged_begins
-      (all_front (λ a. Contains (arrived events) (entry a)) (went old events) (take 0 now.ran) came))
+      (all_front (λ a. Contains (arrived events) (entry a)) (logged_messages old events) (take 0 now.ran) came))
 
   -- ---- and what may be left of it
 
@@ -196,21 +196,21 @@ module _ (g : Geometry) (old : Hands) (events : List Event) (legal : IsLegal g o
           first.some,
           serial_log first.some,
           is ∙ (λ i. journal_is_loggable old events i ++ sym first.are i)
-              ∙ sym (loggable-append (went old events) (take first.some now.ran)),
+              ∙ sym (loggable-append (logged_messages old events) (take first.some now.ran)),
         )
 
 -- Whatever a crash leaves in the log when so many events have ended, it is the changes of a serial log.
-pub left_in_order : (g : Geometry) {old : Hands} {events : List Event} {k : ℕ} {ms : List Msg} → IsLegal g old events → IsIdle old.core
+pub left_in_order : (g : Geometry) {old : MachineState} {events : List Event} {k : ℕ} {ms : List Msg} → IsLegal g old events → IsIdle old.core
     → old.core.doubt ≡ [] → IsLogAfter old events k ms
     → (j : ℕ) × IsSerialLog g old.core.committed (arrived (take k events))
-    (went old (take k events) ++ take j (last old (take k events)).core.ran)
-    × (ms ≡ loggable (went old (take k events) ++ take j (last old (take k events)).core.ran))
+    (logged_messages old (take k events) ++ take j (last old (take k events)).core.ran)
+    × (ms ≡ loggable (logged_messages old (take k events) ++ take j (last old (take k events)).core.ran))
 left_in_order g {old} {events} {k} {ms} legal idle none log =
     crash_in_order g old (take k events) (legal_first g old events k legal) idle none (drop k events) log.some ms log.is
 
 -- What is logged later begins with all that was answered before.
-pub answered_begins : (g : Geometry) (old : Hands) (events : List Event) {k after : ℕ} → IsLegal g old events → IsIdle old.core
-    → k ≤ after → (rest : List Replied) × (went old (take after events) ≡ answered_messages old (take k events) ++ rest)
+pub answered_begins : (g : Geometry) (old : MachineState) (events : List Event) {k after : ℕ} → IsLegal g old events → IsIdle old.core
+    → k ≤ after → (rest : List Replied) × (logged_messages old (take after events) ≡ answered_messages old (take k events) ++ rest)
 answered_begins g old events {k} {after} legal idle le =
     let more = went_first old events k after le in
     let first = take k events in

@@ -7,7 +7,7 @@ use Rattle.affinity.specs.declared.geometry.Geometry.{Geometry}
 use Rattle.meaning.specs.Serial.{reply_to}
 use Rattle.legal_runs.specs.CoreState.{Entry, Replied, CoreState, entries, held}
 use Rattle.legal_runs.specs.Eligible.{is_eligible}
-use Rattle.legal_runs.specs.Events.{Hands, Event, IsAllowed, grant, give_back, log}
+use Rattle.legal_runs.specs.Events.{MachineState, Event, IsAllowed, grant, give_back, log}
 use Rattle.legal_runs.specs.Runs.{IsLegal, last}
 use Rattle.legal_runs.specs.Laws.{AreApart, AreReplied, AreAscending, AreOnce, DoubtsOnlyFailed, HasRoom, IsSoundCoreState}
 use Rattle.legal_runs.proofs.Lists.{all_join, all_front, all_back, all_weaker, all_moved, all_without, before_push, before_back, before_front, before_without, before_moved, picked}
@@ -143,17 +143,17 @@ module _ (g : Geometry) where
         fits = omega (arith, fits);
       })
 
-  pub event_sound : (old : Hands) (event : Event) → IsAllowed g old event → IsSoundCoreState g old.core → IsSoundCoreState g event.state_after.core
+  pub event_sound : (old : MachineState) (event : Event) → IsAllowed g old event → IsSoundCoreState g old.core → IsSoundCoreState g event.state_after.core
   event_sound old event allowed h = move_sound old.core event.state_after.core _ (moves g old event allowed) h
 
-  pub run_sound : (old : Hands) (events : List Event) → IsLegal g old events → IsSoundCoreState g old.core
+  pub run_sound : (old : MachineState) (events : List Event) → IsLegal g old events → IsSoundCoreState g old.core
       → AllByRecursion (λ event. IsSoundCoreState g event.state_after.core) events
   run_sound old [] legal h = tt
   run_sound old (event ∷ events) legal h =
       let k = event_sound old event legal.0 h in
       (k, run_sound event.state_after events legal.1 k)
 
-  pub last_sound : (old : Hands) (events : List Event) → IsLegal g old events → IsSoundCoreState g old.core → IsSoundCoreState g (last old events).core
+  pub last_sound : (old : MachineState) (events : List Event) → IsLegal g old events → IsSoundCoreState g old.core → IsSoundCoreState g (last old events).core
   last_sound old [] legal h = h
   last_sound old (event ∷ events) legal h = last_sound event.state_after events legal.1 (event_sound old event legal.0 h)
 
@@ -167,11 +167,11 @@ move_slots g old new p (Backs ticket found one_out is e) = ap (λ w. w.slots) is
 move_slots g old new p (Logs n is e) = ap (λ w. w.slots) is
 move_slots g old new p (Answers a rest front is e) = ap (λ w. w.slots) is
 
-pub event_slots : (g : Geometry) (old : Hands) (event : Event) → IsAllowed g old event → event.state_after.core.slots ≡ old.core.slots
+pub event_slots : (g : Geometry) (old : MachineState) (event : Event) → IsAllowed g old event → event.state_after.core.slots ≡ old.core.slots
 event_slots g old event allowed = move_slots g old.core event.state_after.core _ (moves g old event allowed)
 
 -- Whatever a run of events does, what is dispatched and what ran has room, and each message has a slot of those that there were.
-pub run_fits : (g : Geometry) (old : Hands) (events : List Event) → IsLegal g old events → IsSoundCoreState g old.core
+pub run_fits : (g : Geometry) (old : MachineState) (events : List Event) → IsLegal g old events → IsSoundCoreState g old.core
     → AllByRecursion (λ event. HasRoom old.core.slots event.state_after.core) events
 run_fits g old [] legal h = tt
 run_fits g old (event ∷ events) legal h =
@@ -191,6 +191,6 @@ move_doubts g old new p (Backs ticket found one_out is e) h = subst DoubtsOnlyFa
 move_doubts g old new p (Logs n is e) h = subst DoubtsOnlyFailed (sym is) h
 move_doubts g old new p (Answers a rest front is e) h = subst DoubtsOnlyFailed (sym is) h
 
-pub event_doubts : (g : Geometry) (old : Hands) (event : Event) → IsAllowed g old event → DoubtsOnlyFailed old.core
+pub event_doubts : (g : Geometry) (old : MachineState) (event : Event) → IsAllowed g old event → DoubtsOnlyFailed old.core
     → DoubtsOnlyFailed event.state_after.core
 event_doubts g old event allowed h = move_doubts g old.core event.state_after.core _ (moves g old event allowed) h

@@ -7,7 +7,7 @@ use Rattle.meaning.specs.Serial.{fold}
 use Rattle.legal_runs.specs.declared.outcomes.Step.{Step}
 use Rattle.legal_runs.specs.declared.outcomes.Step.TheVariants as steps
 use Rattle.legal_runs.specs.CoreState.{CoreState}
-use Rattle.legal_runs.specs.Events.{Hands, Event, batch}
+use Rattle.legal_runs.specs.Events.{MachineState, Event, batch}
 use Rattle.legal_runs.specs.Runs.{last, journal}
 
 -- what a step is to append to the log
@@ -26,13 +26,13 @@ in_doubt w events = if w.failed then w.doubt else next_batch w events
 
 -- These messages are in the log, if the crash comes after k events of a run and before the next has ended:
 -- all that were appended, and the first so many of those to be appended then (`in_doubt`).
-pub record IsLogAfter (old : Hands) (events : List Event) (k : ℕ) (ms : List Msg) : Type 0 where
+pub record IsLogAfter (old : MachineState) (events : List Event) (k : ℕ) (ms : List Msg) : Type 0 where
   pub some : ℕ
   pub at_most : some ≤ length (in_doubt (last old (take k events)).core (drop k events))
   pub is : ms ≡ journal old (take k events) ++ take some (in_doubt (last old (take k events)).core (drop k events))
 
 -- The state is one that a crash may leave, if it comes when k events or more have ended.
-pub record IsLeftSince (g : Geometry) (old : Hands) (events : List Event) (k : ℕ) (x : State) : Type 0 where
+pub record IsLeftSince (g : Geometry) (old : MachineState) (events : List Event) (k : ℕ) (x : State) : Type 0 where
   pub after : ℕ
   pub since : k ≤ after
   pub within : after ≤ length events

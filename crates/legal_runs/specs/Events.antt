@@ -119,7 +119,7 @@ pub data Hand : Type 0 where
   Job : (ticket : ℕ) → Hand
   Result : (ticket : ℕ) → Hand
 
-pub record Hands : Type 0 where
+pub record MachineState : Type 0 where
   pub core : CoreState
   pub hands : List Hand
 
@@ -128,22 +128,22 @@ is_empty Empty = true
 is_empty _ = false
 
 -- The core alone changes.
-abbrev pub in_core : Hands → Outcome × CoreState → Outcome × Hands
+abbrev pub in_core : MachineState → Outcome × CoreState → Outcome × MachineState
 in_core w x = (x.0, record w { core = x.1 })
 
 -- The eligible message with the least ticket goes to the least empty hand.
-abbrev pub grant_to : Geometry → Hands → Option ℕ → Option (Entry × List Entry) → Outcome × Hands
+abbrev pub grant_to : Geometry → MachineState → Option ℕ → Option (Entry × List Entry) → Outcome × MachineState
 grant_to g w None found = (outcomes.Idle, w)
 grant_to g w (Some hand) None = (no_grant g w.core, w)
 grant_to g w (Some hand) (Some found) =
     (outcomes.Granted hand found.0.0, record { core = grant w.core found; hands = set w.hands hand (Job found.0.0) })
 
 -- A failed core grants nothing.
-abbrev pub grant_hand : Geometry → Hands → Option ℕ → Outcome × Hands
+abbrev pub grant_hand : Geometry → MachineState → Option ℕ → Outcome × MachineState
 grant_hand g w hand = if w.core.failed && is_some hand then (outcomes.Failed, w) else grant_to g w hand (next_eligible g w.core)
 
 -- The job in the hand becomes its result.
-abbrev pub run_hand : Hands → ℕ → Option Hand → Outcome × Hands
+abbrev pub run_hand : MachineState → ℕ → Option Hand → Outcome × MachineState
 run_hand w i (Some (Job ticket)) = (outcomes.Ran, record w { hands = set w.hands i (Result ticket) })
 run_hand w i _ = (outcomes.Idle, w)
 
@@ -153,7 +153,7 @@ result_in w (Some (Result ticket)) = out_with w ticket
 result_in w _ = None
 
 -- The result's message is given back.
-abbrev pub back_from : Geometry → Hands → ℕ → Option (Entry × List Entry) → Outcome × Hands
+abbrev pub back_from : Geometry → MachineState → ℕ → Option (Entry × List Entry) → Outcome × MachineState
 back_from g w i None = (outcomes.Idle, w)
 back_from g w i (Some found) = (outcomes.Back found.0.0, record { core = give_back g w.core found; hands = set w.hands i Empty })
 
@@ -164,7 +164,7 @@ log_some g w n = if w.failed then (outcomes.LogFault faults.Failed, w) else (out
 -- ---- events
 
 -- What a step does where the device doesn't fail. A cut has n pieces to write.
-abbrev pub happens : Geometry → ℕ → Hands → Step → Outcome × Hands
+abbrev pub happens : Geometry → ℕ → MachineState → Step → Outcome × MachineState
 happens g n w (steps.Arrive m) = in_core w (arrive g w.core m)
 happens g n w steps.Grant = grant_hand g w (position is_empty w.hands)
 happens g n w (steps.Run i) = run_hand w i (slice_get w.hands i)
@@ -202,21 +202,21 @@ fault w _ = (outcomes.PointRefused points.Device, fails w)
 pub record Event : Type 0 where
   pub step : Step
   pub outcome : Outcome
-  pub rose : Bool
-  pub state_after : Hands
+  pub device_failed : Bool
+  pub state_after : MachineState
 
 -- The device failed during the step, which touched it.
-pub record IsFault (old : Hands) (event : Event) : Type 0 where
+pub record IsFault (old : MachineState) (event : Event) : Type 0 where
   pub touched : touches_device old.core event.step ≡ true
   pub core : fault old.core event.step ≡ (event.outcome, event.state_after.core)
   pub hands : event.state_after.hands ≡ old.hands
 
 -- The step did what it does; where it began a consistency point, with at most all pieces to write.
-pub record IsCarriedOut (g : Geometry) (old : Hands) (event : Event) : Type 0 where
+pub record IsWithoutFault (g : Geometry) (old : MachineState) (event : Event) : Type 0 where
   pub to_write : ℕ
   pub at_most : to_write ≤ piece_count g
   pub does : happens g to_write old event.step ≡ (event.outcome, event.state_after)
 
 -- The event may come in this core state.
-abbrev pub IsAllowed : Geometry → Hands → Event → Type 0
-IsAllowed g old event = MatchBool event.rose (IsFault old event) (IsCarriedOut g old event)
+abbrev pub IsAllowed : Geometry → MachineState → Event → Type 0
+IsAllowed g old event = MatchBool event.device_failed (IsFault old event) (IsWithoutFault g old event)

@@ -4,7 +4,7 @@ use Rattle.affinity.specs.declared.geometry.Geometry.{Geometry}
 use Rattle.messages.specs.declared.Msg.{Msg}
 use Rattle.meaning.specs.State.{State, empty}
 use Rattle.meaning.specs.Serial.{fold}
-use Rattle.legal_runs.specs.Events.{Hands, Event}
+use Rattle.legal_runs.specs.Events.{MachineState, Event}
 use Rattle.legal_runs.specs.Runs.{IsLegal, answered_changes}
 use Rattle.legal_runs.specs.Crash.{IsLogAfter}
 use Rattle.legal_runs.specs.Laws.{IsIdle}
@@ -13,10 +13,10 @@ use Rattle.legal_runs.specs.Laws.{IsIdle}
 -- had ended.
 pub data Incarnation : Type 0 where
   Unopened : Incarnation
-  Ran : (start : Hands) → (events : List Event) → (ended : ℕ) → Incarnation
+  Ran : (start : MachineState) → (events : List Event) → (ended : ℕ) → Incarnation
 
 -- The server began in state x with no message in it, and a crash may leave these messages in the log.
-pub record IsLogOfRun (g : Geometry) (x : State) (start : Hands) (events : List Event) (ended : ℕ) (log : List Msg) : Type 0 where
+pub record IsLogOfRun (g : Geometry) (x : State) (start : MachineState) (events : List Event) (ended : ℕ) (log : List Msg) : Type 0 where
   pub idle : IsIdle start.core
   pub committed : start.core.committed ≡ x
   pub legal : IsLegal g start events

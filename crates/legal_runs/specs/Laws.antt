@@ -14,8 +14,8 @@ use Rattle.legal_runs.specs.declared.outcomes.CoreFault.TheVariants as faults
 use Rattle.legal_runs.specs.declared.outcomes.PointRefusal.TheVariants as points
 use Rattle.legal_runs.specs.CoreState.{Entry, Replied, CoreState, entries, held, are_related_entries}
 use Rattle.legal_runs.specs.Eligible.{unlogged_changes}
-use Rattle.legal_runs.specs.Events.{Hand, Hands, Event, is_empty, loggable}
-use Rattle.legal_runs.specs.Runs.{IsLegal, last, went, journal, arrived, answered}
+use Rattle.legal_runs.specs.Events.{Hand, MachineState, Event, is_empty, loggable}
+use Rattle.legal_runs.specs.Runs.{IsLegal, last, logged_messages, journal, arrived, answered}
 
 -- `R` holds between each one and all behind it
 abbrev pub EachBefore : {A : Type 0} → (A → A → Type 0) → List A → Type 0
@@ -121,10 +121,10 @@ abbrev pub IsAnswered : CoreState → CoreState → Replied → Type 0
 IsAnswered old new a = old.logged ≡ a ∷ new.logged
 
 -- A run, and a run that goes on from where it ended, in one.
-pub record IsJoined (g : Geometry) (old : Hands) (events more : List Event) : Type 0 where
+pub record IsJoined (g : Geometry) (old : MachineState) (events more : List Event) : Type 0 where
   pub legal : IsLegal g old (events ++ more)
   pub last_is : last old (events ++ more) ≡ last (last old events) more
-  pub went_is : went old (events ++ more) ≡ went old events ++ went (last old events) more
+  pub went_is : logged_messages old (events ++ more) ≡ logged_messages old events ++ logged_messages (last old events) more
   pub journal_is : journal old (events ++ more) ≡ journal old events ++ journal (last old events) more
   pub arrived_is : arrived (events ++ more) ≡ arrived events ++ arrived more
   pub answered_is : answered (events ++ more) ≡ answered events ++ answered more

@@ -14,8 +14,8 @@ ghost use Rattle.meaning.specs.Order.{by_ticket, messages, serial_replies};
 ghost use Rattle.meaning.specs.Shares.{AgreeOn};
 ghost use Rattle.legal_runs.specs.CoreState.{Entry, Replied, CoreState, entries, entry, held, are_related_entries};
 ghost use Rattle.legal_runs.specs.Eligible.{is_conflict_free};
-ghost use Rattle.legal_runs.specs.Events.{Event, Hands, IsAllowed, batch, loggable};
-ghost use Rattle.legal_runs.specs.Runs.{IsLegal, answered, answered_changes, answered_messages, arrived, journal, last, went};
+ghost use Rattle.legal_runs.specs.Events.{Event, MachineState, IsAllowed, batch, loggable};
+ghost use Rattle.legal_runs.specs.Runs.{IsLegal, answered, answered_changes, answered_messages, arrived, journal, last, logged_messages};
 ghost use Rattle.legal_runs.specs.Crash.{IsLeftSince, IsLogAfter, in_doubt};
 ghost use Rattle.legal_runs.specs.Incarnations.{AreLogsOf, HoldAnswered, IsLeftByIncarnations, IsLogOf, Incarnation, Ran};
 ghost use Rattle.legal_runs.specs.Laws.{AreApart, AreAscending, AreOnce, DoubtsOnlyFailed, DoubtsWhatRan, HasRoom, IsAnswered, IsIdle};
@@ -25,40 +25,40 @@ ghost use Rattle.legal_runs.specs.Laws.{IsJoined, IsSerialLog, IsSoundCoreState,
 /// core state to a sound one.
 pub fn events_keep_core_states_sound()
     ensures idle { (g : Geometry) (w : CoreState) → IsIdle w → IsSoundCoreState g w }
-    ensures event { (g : Geometry) (old : Hands) (event : Event) → IsAllowed g old event → IsSoundCoreState g old.core
+    ensures event { (g : Geometry) (old : MachineState) (event : Event) → IsAllowed g old event → IsSoundCoreState g old.core
         → IsSoundCoreState g event.state_after.core }
 {}
 
 /// In each core state of a legal run no two of the messages that are held are at related places.
 pub fn held_messages_are_unrelated()
-    ensures { (g : Geometry) (old : Hands) (events : List Event) → IsLegal g old events → IsSoundCoreState g old.core
+    ensures { (g : Geometry) (old : MachineState) (events : List Event) → IsLegal g old events → IsSoundCoreState g old.core
         → AllByRecursion (λ event. AreApart g (held event.state_after.core)) events }
 {}
 
 /// The messages that a run logs get the replies that the serial server gives them, one after the other in
 /// log order. They are answered so, in that order, after the ones logged before.
 pub fn replies_are_in_log_order()
-    ensures replied { (g : Geometry) (old : Hands) (events : List Event) → IsLegal g old events → IsSoundCoreState g old.core
-        → ticket_replies (went old events) ≡ serial_replies g old.core.committed (entries (went old events)) }
-    ensures answered { (g : Geometry) (old : Hands) (events : List Event) → IsLegal g old events
-        → ticket_replies old.core.logged ++ ticket_replies (went old events)
+    ensures replied { (g : Geometry) (old : MachineState) (events : List Event) → IsLegal g old events → IsSoundCoreState g old.core
+        → ticket_replies (logged_messages old events) ≡ serial_replies g old.core.committed (entries (logged_messages old events)) }
+    ensures answered { (g : Geometry) (old : MachineState) (events : List Event) → IsLegal g old events
+        → ticket_replies old.core.logged ++ ticket_replies (logged_messages old events)
         ≡ answered events ++ ticket_replies (last old events).core.logged }
 {}
 
 /// The committed state is where the messages that a run logs lead, and where those of them lead that it
 /// appends to the journal.
 pub fn committed_is_what_was_logged()
-    ensures logged { (g : Geometry) (old : Hands) (events : List Event) → IsLegal g old events → IsSoundCoreState g old.core
-        → (last old events).core.committed ≡ fold g old.core.committed (messages (entries (went old events))) }
-    ensures appended { (g : Geometry) (old : Hands) (events : List Event) → IsLegal g old events → IsSoundCoreState g old.core
+    ensures logged { (g : Geometry) (old : MachineState) (events : List Event) → IsLegal g old events → IsSoundCoreState g old.core
+        → (last old events).core.committed ≡ fold g old.core.committed (messages (entries (logged_messages old events))) }
+    ensures appended { (g : Geometry) (old : MachineState) (events : List Event) → IsLegal g old events → IsSoundCoreState g old.core
         → (last old events).core.committed ≡ fold g old.core.committed (journal old events) }
-    ensures journal { (old : Hands) (events : List Event) → journal old events ≡ loggable (went old events) }
+    ensures journal { (old : MachineState) (events : List Event) → journal old events ≡ loggable (logged_messages old events) }
 {}
 
 /// A legal run goes on by every legal run from where it ended: they are one run. What it logs, appends,
 /// takes in and answers is what the two do, one after the other.
 pub fn legal_runs_join()
-    ensures { (g : Geometry) (old : Hands) (events more : List Event) → IsLegal g old events → IsLegal g (last old events) more
+    ensures { (g : Geometry) (old : MachineState) (events more : List Event) → IsLegal g old events → IsLegal g (last old events) more
         → IsJoined g old events more }
 {}
 
@@ -66,7 +66,7 @@ pub fn legal_runs_join()
 /// a slot for each message, of as many as there were in the beginning. So a log always has room for what
 /// it appends.
 pub fn room_and_slots_are_enough()
-    ensures run { (g : Geometry) (old : Hands) (events : List Event) → IsLegal g old events → IsSoundCoreState g old.core
+    ensures run { (g : Geometry) (old : MachineState) (events : List Event) → IsLegal g old events → IsSoundCoreState g old.core
         → AllByRecursion (λ event. HasRoom old.core.slots event.state_after.core) events }
     ensures log { (g : Geometry) (w : CoreState) (n : ℕ) → IsSoundCoreState g w → length (batch w n) ≤ w.room }
 {}
@@ -76,14 +76,14 @@ pub fn room_and_slots_are_enough()
 /// so no two have one. Where nothing waits and nothing is held in the end, the committed state is the serial
 /// server's too.
 pub fn replies_are_by_ticket()
-    ensures tickets { (g : Geometry) (old : Hands) (events : List Event) → IsLegal g old events → AreAscending (arrived events) }
-    ensures logged { (g : Geometry) (old : Hands) (events : List Event) → IsLegal g old events → IsIdle old.core
-        → (reply : ℕ × Reply) → Contains (ticket_replies (went old events)) reply
+    ensures tickets { (g : Geometry) (old : MachineState) (events : List Event) → IsLegal g old events → AreAscending (arrived events) }
+    ensures logged { (g : Geometry) (old : MachineState) (events : List Event) → IsLegal g old events → IsIdle old.core
+        → (reply : ℕ × Reply) → Contains (ticket_replies (logged_messages old events)) reply
         → Contains (serial_replies g old.core.committed (by_ticket (arrived events))) reply }
-    ensures answered { (g : Geometry) (old : Hands) (events : List Event) → IsLegal g old events → IsIdle old.core
+    ensures answered { (g : Geometry) (old : MachineState) (events : List Event) → IsLegal g old events → IsIdle old.core
         → (reply : ℕ × Reply) → Contains (answered events) reply
         → Contains (serial_replies g old.core.committed (by_ticket (arrived events))) reply }
-    ensures committed { (g : Geometry) (old : Hands) (events : List Event) → IsLegal g old events → IsIdle old.core
+    ensures committed { (g : Geometry) (old : MachineState) (events : List Event) → IsLegal g old events → IsIdle old.core
         → IsIdle (last old events).core
         → (last old events).core.committed ≡ fold g old.core.committed (messages (by_ticket (arrived events))) }
 {}
@@ -92,12 +92,12 @@ pub fn replies_are_by_ticket()
 /// that arrived are those that were logged, those that ran and are not logged yet, those that are dispatched and
 /// those that wait. So whatever is answered arrived. A ticket has one message.
 pub fn messages_are_neither_lost_nor_doubled()
-    ensures all { (g : Geometry) (old : Hands) (events : List Event) → IsLegal g old events → IsIdle old.core
-        → IsPermutation (arrived events) (entries (went old events) ++ (entries (last old events).core.ran
+    ensures all { (g : Geometry) (old : MachineState) (events : List Event) → IsLegal g old events → IsIdle old.core
+        → IsPermutation (arrived events) (entries (logged_messages old events) ++ (entries (last old events).core.ran
         ++ ((last old events).core.out ++ (last old events).core.waiting))) }
-    ensures answered { (g : Geometry) (old : Hands) (events : List Event) → IsLegal g old events → IsIdle old.core
+    ensures answered { (g : Geometry) (old : MachineState) (events : List Event) → IsLegal g old events → IsIdle old.core
         → AllByRecursion (λ a. Contains (arrived events) (entry a)) (answered_messages old events) }
-    ensures ticket { (g : Geometry) (old : Hands) (events : List Event) (e d : Entry) → IsLegal g old events
+    ensures ticket { (g : Geometry) (old : MachineState) (events : List Event) (e d : Entry) → IsLegal g old events
         → Contains (arrived events) e → Contains (arrived events) d → e.0 ≡ d.0 → e ≡ d }
 {}
 
@@ -105,8 +105,8 @@ pub fn messages_are_neither_lost_nor_doubled()
 /// that ran after it, is a serial log of what arrived. Each message of a serial log arrived; where tickets ascend
 /// as messages arrive, no two of them have one, and it stays a serial log where more arrive.
 pub fn what_ran_is_a_serial_log()
-    ensures run { (g : Geometry) (old : Hands) (events : List Event) (j : ℕ) → IsLegal g old events → IsIdle old.core
-        → IsSerialLog g old.core.committed (arrived events) (went old events ++ take j (last old events).core.ran) }
+    ensures run { (g : Geometry) (old : MachineState) (events : List Event) (j : ℕ) → IsLegal g old events → IsIdle old.core
+        → IsSerialLog g old.core.committed (arrived events) (logged_messages old events ++ take j (last old events).core.ran) }
     ensures came { (g : Geometry) (x : State) (arrivals : List Entry) (log : List Replied) → IsSerialLog g x arrivals log
         → AllByRecursion (λ a. Contains arrivals (entry a)) log }
     ensures once { (g : Geometry) (x : State) (arrivals : List Entry) (log : List Replied) → IsSerialLog g x arrivals log
@@ -118,7 +118,7 @@ pub fn what_ran_is_a_serial_log()
 /// Only an answer makes a waiting message conflict-free, and only one to a message at a place related to its
 /// own. Whatever else comes, a message that waits on stays conflict-free, or stays not so.
 pub fn only_answers_clear()
-    ensures { (g : Geometry) (old : Hands) (event : Event) (e : Entry) → IsAllowed g old event → IsSoundCoreState g old.core
+    ensures { (g : Geometry) (old : MachineState) (event : Event) (e : Entry) → IsAllowed g old event → IsSoundCoreState g old.core
         → Contains old.core.waiting e → Contains event.state_after.core.waiting e
         → ((a : Replied) → IsAnswered old.core event.state_after.core a → are_related_entries g e (entry a) ≡ false)
         → is_conflict_free g event.state_after.core e ≡ is_conflict_free g old.core e }
@@ -127,24 +127,25 @@ pub fn only_answers_clear()
 /// A step reports that the device failed exactly where it failed during the step, and then it has failed for
 /// good: dispatched messages are still given back, and logged ones are answered, but nothing else comes.
 pub fn failures_are_reported_and_last()
-    ensures told { (g : Geometry) (old : Hands) (event : Event) → IsAllowed g old event → event.rose ≡ reports_failure event.outcome }
-    ensures failed { (g : Geometry) (old : Hands) (event : Event) → IsAllowed g old event → event.rose ≡ true
+    ensures told { (g : Geometry) (old : MachineState) (event : Event) → IsAllowed g old event
+        → event.device_failed ≡ reports_failure event.outcome }
+    ensures failed { (g : Geometry) (old : MachineState) (event : Event) → IsAllowed g old event → event.device_failed ≡ true
         → event.state_after.core.failed ≡ true }
-    ensures lasts { (g : Geometry) (old : Hands) (event : Event) → IsAllowed g old event → old.core.failed ≡ true
+    ensures lasts { (g : Geometry) (old : MachineState) (event : Event) → IsAllowed g old event → old.core.failed ≡ true
         → IsStopped old.core event.state_after.core }
 {}
 
 /// Messages come into `doubt` only where the device fails.
 pub fn only_a_failure_leaves_doubt()
-    ensures { (g : Geometry) (old : Hands) (event : Event) → IsAllowed g old event → DoubtsOnlyFailed old.core
+    ensures { (g : Geometry) (old : MachineState) (event : Event) → IsAllowed g old event → DoubtsOnlyFailed old.core
         → DoubtsOnlyFailed event.state_after.core }
 {}
 
 /// In `doubt` are the changes among the first m of those that ran, and so are the first of them.
 pub fn what_is_in_doubt_ran()
-    ensures event { (g : Geometry) (old : Hands) (event : Event) → IsAllowed g old event → DoubtsOnlyFailed old.core
+    ensures event { (g : Geometry) (old : MachineState) (event : Event) → IsAllowed g old event → DoubtsOnlyFailed old.core
         → DoubtsWhatRan old.core → DoubtsWhatRan event.state_after.core }
-    ensures run { (g : Geometry) (old : Hands) (events : List Event) → IsLegal g old events → old.core.doubt ≡ []
+    ensures run { (g : Geometry) (old : MachineState) (events : List Event) → IsLegal g old events → old.core.doubt ≡ []
         → DoubtsWhatRan (last old events).core }
     ensures first { (w : CoreState) (k : ℕ) → DoubtsWhatRan w
         → (j : ℕ) × (j ≤ length w.ran) × (loggable (take j w.ran) ≡ take k w.doubt) }
@@ -154,9 +155,9 @@ pub fn what_is_in_doubt_ran()
 /// appended leads, with more after it. If it comes before the next one has ended, it is the state that was
 /// committed then, with the first m of the messages to be appended then (`in_doubt`).
 pub fn a_crash_leaves_what_was_appended()
-    ensures begins { (g : Geometry) (old : Hands) (events : List Event) (k : ℕ) (x : State) → IsLeftSince g old events k x
+    ensures begins { (g : Geometry) (old : MachineState) (events : List Event) (k : ℕ) (x : State) → IsLeftSince g old events k x
         → (rest : List Msg) × (x ≡ fold g old.core.committed (journal old (take k events) ++ rest)) }
-    ensures committed { (g : Geometry) (old : Hands) (events : List Event) (k : ℕ) (ms : List Msg) → IsLegal g old events
+    ensures committed { (g : Geometry) (old : MachineState) (events : List Event) (k : ℕ) (ms : List Msg) → IsLegal g old events
         → IsSoundCoreState g old.core → (log : IsLogAfter old events k ms) → fold g old.core.committed ms
         ≡ fold g (last old (take k events)).core.committed (take log.some (in_doubt (last old (take k events)).core (drop k events))) }
 {}
@@ -165,13 +166,13 @@ pub fn a_crash_leaves_what_was_appended()
 /// it may leave in the log of the second, it may leave of both, after all that the first appended. The same holds of the state that it
 /// may leave: of that of the second if the first is legal and began in a sound core state.
 pub fn a_crash_may_come_in_either_run()
-    ensures log_first { (old : Hands) (events more : List Event) (k : ℕ) (ms : List Msg) → k ≤ length events
+    ensures log_first { (old : MachineState) (events more : List Event) (k : ℕ) (ms : List Msg) → k ≤ length events
         → IsLogAfter old events k ms → IsLogAfter old (events ++ more) k ms }
-    ensures log_second { (old : Hands) (events more : List Event) (k : ℕ) (ms : List Msg) → IsLogAfter (last old events) more k ms
+    ensures log_second { (old : MachineState) (events more : List Event) (k : ℕ) (ms : List Msg) → IsLogAfter (last old events) more k ms
         → IsLogAfter old (events ++ more) (length events + k) (journal old events ++ ms) }
-    ensures left_first { (g : Geometry) (old : Hands) (events more : List Event) (k : ℕ) (x : State) → IsLeftSince g old events k x
+    ensures left_first { (g : Geometry) (old : MachineState) (events more : List Event) (k : ℕ) (x : State) → IsLeftSince g old events k x
         → IsLeftSince g old (events ++ more) k x }
-    ensures left_second { (g : Geometry) (old : Hands) (events more : List Event) (k : ℕ) (x : State) → IsLegal g old events
+    ensures left_second { (g : Geometry) (old : MachineState) (events more : List Event) (k : ℕ) (x : State) → IsLegal g old events
         → IsSoundCoreState g old.core → IsLeftSince g (last old events) more k x
         → IsLeftSince g old (events ++ more) (length events + k) x }
 {}
@@ -179,11 +180,11 @@ pub fn a_crash_may_come_in_either_run()
 /// What a run answers is a beginning of what was logged before and in it, in log order. So whatever a crash leaves, if it comes
 /// later, the log begins with every change that was answered.
 pub fn answered_changes_are_in_the_log()
-    ensures told { (g : Geometry) (old : Hands) (events : List Event) → IsLegal g old events
+    ensures told { (g : Geometry) (old : MachineState) (events : List Event) → IsLegal g old events
         → ticket_replies (answered_messages old events) ≡ answered events }
-    ensures in_order { (g : Geometry) (old : Hands) (events : List Event) → IsLegal g old events
-        → old.core.logged ++ went old events ≡ answered_messages old events ++ (last old events).core.logged }
-    ensures crash { (g : Geometry) (old : Hands) (events : List Event) (k after : ℕ) (ms : List Msg) → IsLegal g old events
+    ensures in_order { (g : Geometry) (old : MachineState) (events : List Event) → IsLegal g old events
+        → old.core.logged ++ logged_messages old events ≡ answered_messages old events ++ (last old events).core.logged }
+    ensures crash { (g : Geometry) (old : MachineState) (events : List Event) (k after : ℕ) (ms : List Msg) → IsLegal g old events
         → k ≤ after → IsLogAfter old events after ms
         → (rest : List Msg) × (loggable old.core.logged ++ ms ≡ answered_changes old (take k events) ++ rest) }
 {}
@@ -193,38 +194,38 @@ pub fn answered_changes_are_in_the_log()
 /// of those that ran after it. What was logged begins with all that was answered by then, or before. The first
 /// of those in `doubt` in the end, however many, are the changes among the first of those that ran.
 pub fn a_crash_leaves_a_serial_log()
-    ensures left { (g : Geometry) (old : Hands) (events : List Event) (k : ℕ) (ms : List Msg) → IsLegal g old events → IsIdle old.core
-        → old.core.doubt ≡ [] → IsLogAfter old events k ms
+    ensures left { (g : Geometry) (old : MachineState) (events : List Event) (k : ℕ) (ms : List Msg) → IsLegal g old events
+        → IsIdle old.core → old.core.doubt ≡ [] → IsLogAfter old events k ms
         → (j : ℕ) × IsSerialLog g old.core.committed (arrived (take k events))
-        (went old (take k events) ++ take j (last old (take k events)).core.ran)
-        × (ms ≡ loggable (went old (take k events) ++ take j (last old (take k events)).core.ran)) }
-    ensures begins { (g : Geometry) (old : Hands) (events : List Event) (k after : ℕ) → IsLegal g old events → IsIdle old.core
-        → k ≤ after → (rest : List Replied) × (went old (take after events) ≡ answered_messages old (take k events) ++ rest) }
-    ensures doubt { (g : Geometry) (old : Hands) (events : List Event) (k : ℕ) → IsLegal g old events → IsIdle old.core
+        (logged_messages old (take k events) ++ take j (last old (take k events)).core.ran)
+        × (ms ≡ loggable (logged_messages old (take k events) ++ take j (last old (take k events)).core.ran)) }
+    ensures begins { (g : Geometry) (old : MachineState) (events : List Event) (k after : ℕ) → IsLegal g old events → IsIdle old.core
+        → k ≤ after → (rest : List Replied) × (logged_messages old (take after events) ≡ answered_messages old (take k events) ++ rest) }
+    ensures doubt { (g : Geometry) (old : MachineState) (events : List Event) (k : ℕ) → IsLegal g old events → IsIdle old.core
         → old.core.doubt ≡ []
-        → (j : ℕ) × IsSerialLog g old.core.committed (arrived events) (went old events ++ take j (last old events).core.ran)
+        → (j : ℕ) × IsSerialLog g old.core.committed (arrived events) (logged_messages old events ++ take j (last old events).core.ran)
         × (loggable (take j (last old events).core.ran) ≡ take k (last old events).core.doubt) }
 {}
 
 /// Whatever comes, what a dispatched message can read of the committed state stays as it is: what is at its place, below it and
 /// above it.
 pub fn what_is_out_sees_no_change()
-    ensures { (g : Geometry) (old : Hands) (event : Event) (e : Entry) → IsAllowed g old event → IsSoundCoreState g old.core
+    ensures { (g : Geometry) (old : MachineState) (event : Event) (e : Entry) → IsAllowed g old event → IsSoundCoreState g old.core
         → Contains old.core.out e → AgreeOn g (are_related (place g e.1)) event.state_after.core.committed old.core.committed }
 {}
 
 /// Only a grant dispatches a message, and only a return gives one back.
 pub fn only_grants_and_returns_change_what_is_out()
-    ensures { (g : Geometry) (old : Hands) (event : Event) → IsAllowed g old event → moves_what_is_out event.step ≡ false
+    ensures { (g : Geometry) (old : MachineState) (event : Event) → IsAllowed g old event → moves_what_is_out event.step ≡ false
         → event.state_after.core.out ≡ old.core.out }
 {}
 
 /// The number of dispatched messages grows and falls with that of full hands. So nothing is dispatched in the end where nothing was
 /// in the beginning and every hand is empty in the end.
 pub fn what_is_out_is_in_hands()
-    ensures number { (g : Geometry) (old : Hands) (events : List Event) → IsLegal g old events
+    ensures number { (g : Geometry) (old : MachineState) (events : List Event) → IsLegal g old events
         → length (last old events).core.out + full old.hands ≡ length old.core.out + full (last old events).hands }
-    ensures none { (g : Geometry) (old : Hands) (events : List Event) → IsLegal g old events → old.core.out ≡ []
+    ensures none { (g : Geometry) (old : MachineState) (events : List Event) → IsLegal g old events → old.core.out ≡ []
         → full (last old events).hands ≡ 0 → (last old events).core.out ≡ [] }
 {}
 
@@ -235,7 +236,7 @@ pub fn incarnations_follow_one_another()
     ensures next { (g : Geometry) (incarnations : List Incarnation) (incarnation : Incarnation) (x : State) (log : List Msg)
         → IsLeftByIncarnations g incarnations x
         → IsLogOf g x incarnation log → IsLeftByIncarnations g (incarnations ++ incarnation ∷ []) (fold g x log) }
-    ensures run { (g : Geometry) (start : Hands) (events : List Event) (ended : ℕ) (x : State) → IsIdle start.core
+    ensures run { (g : Geometry) (start : MachineState) (events : List Event) (ended : ℕ) (x : State) → IsIdle start.core
         → IsLegal g start events → IsLeftSince g start events ended x
         → (log : List Msg) × IsLogOf g start.core.committed (Ran start events ended) log × (x ≡ fold g start.core.committed log) }
     ensures answered { (g : Geometry) (x : State) (incarnations : List Incarnation) (logs : List (List Msg))

@@ -7,7 +7,7 @@ use Rattle.messages.specs.declared.Msg.{Msg}
 use Rattle.messages.specs.declared.Msg.TheVariants.{Write}
 use Rattle.messages.specs.Lines.{block_in_word}
 use Rattle.message.specs.declared.heads.Head.{Head}
-use Rattle.message.specs.declared.heads.Head.TheVariants.{NoMessage, Asks, Writes, SetsLabel}
+use Rattle.message.specs.declared.heads.Head.TheVariants.{NoMessage, WithoutData, Writes, SetsLabel}
 use Rattle.messages.specs.Messages.{kind, four_numbers}
 use Rattle.message.specs.Records.{assembled}
 
@@ -18,23 +18,23 @@ has_data kinds.SetLabel = true
 has_data _ = false
 
 -- the message of a kind and four numbers, where it has no data
-abbrev pub asking : Kind → List ℕ → Msg
-asking k ns = assembled k (slice_index ns 0) (slice_index ns 1) (slice_index ns 2) (slice_index ns 3) []
+abbrev pub message_without_data : Kind → List ℕ → Msg
+message_without_data k ns = assembled k (slice_index ns 0) (slice_index ns 1) (slice_index ns 2) (slice_index ns 3) []
 
 -- the `write` of four numbers and a block
 abbrev pub writing : List ℕ → Block → Msg
 writing ns content = Write (slice_index ns 0) (slice_index ns 1) (slice_index ns 2) (slice_index ns 3) content
 
 -- The message is the one of this kind and these numbers, with 0 for each number that it doesn't have.
-pub record IsAsked (k : Kind) (ns : List ℕ) (m : Option Msg) : Type 0 where
-  pub said : m ≡ Some (asking k ns)
-  pub kind_is : kind (asking k ns) ≡ k
-  pub numbers_are : four_numbers (asking k ns) ≡ ns
+pub record IsWithoutData (k : Kind) (ns : List ℕ) (m : Option Msg) : Type 0 where
+  pub said : m ≡ Some (message_without_data k ns)
+  pub kind_is : kind (message_without_data k ns) ≡ k
+  pub numbers_are : four_numbers (message_without_data k ns) ≡ ns
   pub without_data : has_data k ≡ false
 
 -- What a head is, by the message that a line spells. Of a `setlabel` it has the kind alone.
 abbrev pub IsHead : Head → Option Msg → Type 0
 IsHead NoMessage m = m ≡ None
-IsHead (Asks k ns) m = IsAsked k ns m
+IsHead (WithoutData k ns) m = IsWithoutData k ns m
 IsHead (Writes ns digits) m = m ≡ option_map (writing ns) (block_in_word digits.now)
 IsHead SetsLabel m = IfSome m (λ m. kind m ≡ kinds.SetLabel)

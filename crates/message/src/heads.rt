@@ -7,7 +7,7 @@ ghost use Rattle.messages.specs.Lines.{words, block_in_word, bytes_in_word};
 ghost use Rattle.messages.specs.Grammar.{message_of, of_kind, of_volume, of_file, of_block, of_data};
 ghost use Rattle.messages.specs.Messages.{filled};
 ghost use Rattle.message.specs.Heads.{IsHead, writing};
-ghost use Rattle.message.specs.declared.heads.Head.TheVariants.{NoMessage, Asks};
+ghost use Rattle.message.specs.declared.heads.Head.TheVariants.{NoMessage, WithoutData};
 
 use crate::LONGEST_LINE;
 use crate::decoding::decode_to_slice;
@@ -25,7 +25,7 @@ pub enum Head<'a> {
     NoMessage,
     /// The line is a message without data, of this kind and with these numbers. Each that it
     /// doesn't have is 0.
-    Asks(Kind, [u16; 4]),
+    WithoutData(Kind, [u16; 4]),
     /// The line is a `write` with these numbers, if these bytes are the digits of a block.
     Writes([u16; 4], &'a [u8]),
     /// The line begins as a `setlabel` and is no other message: `parse_line` finds whether it is one.
@@ -56,7 +56,7 @@ fn head_of_word(kind: Kind) -> Head<'static>
     ensures { IsHead result (of_kind kind []) }
 {
     match kind {
-        Kind::Summary => Head::Asks(Kind::Summary, [0, 0, 0, 0]),
+        Kind::Summary => Head::WithoutData(Kind::Summary, [0, 0, 0, 0]),
         _ => Head::NoMessage,
     }
 }
@@ -66,35 +66,35 @@ fn head_of_kind(kind: Kind, line: &[u8]) -> Head<'_>
     ensures { IsHead result (of_kind kind (words line.now)) }
 {
     match kind {
-        Kind::MakeVol => asked(Kind::MakeVol, volume_asked(line)),
-        Kind::DropVol => asked(Kind::DropVol, volume_asked(line)),
-        Kind::Create => asked(Kind::Create, file_asked(line)),
-        Kind::Delete => asked(Kind::Delete, file_asked(line)),
-        Kind::Seal => asked(Kind::Seal, volume_asked(line)),
-        Kind::Unseal => asked(Kind::Unseal, volume_asked(line)),
-        Kind::Write => write_asked(line),
-        Kind::Punch => asked(Kind::Punch, block_asked(line)),
-        Kind::Read => asked(Kind::Read, block_asked(line)),
-        Kind::List => asked(Kind::List, volume_asked(line)),
-        Kind::Usage => asked(Kind::Usage, volume_asked(line)),
+        Kind::MakeVol => head_without_data(Kind::MakeVol, volume_arguments(line)),
+        Kind::DropVol => head_without_data(Kind::DropVol, volume_arguments(line)),
+        Kind::Create => head_without_data(Kind::Create, file_arguments(line)),
+        Kind::Delete => head_without_data(Kind::Delete, file_arguments(line)),
+        Kind::Seal => head_without_data(Kind::Seal, volume_arguments(line)),
+        Kind::Unseal => head_without_data(Kind::Unseal, volume_arguments(line)),
+        Kind::Write => head_of_write(line),
+        Kind::Punch => head_without_data(Kind::Punch, block_arguments(line)),
+        Kind::Read => head_without_data(Kind::Read, block_arguments(line)),
+        Kind::List => head_without_data(Kind::List, volume_arguments(line)),
+        Kind::Usage => head_without_data(Kind::Usage, volume_arguments(line)),
         Kind::Summary => Head::NoMessage,
         Kind::SetLabel => Head::SetsLabel,
-        Kind::Label => asked(Kind::Label, volume_asked(line)),
+        Kind::Label => head_without_data(Kind::Label, volume_arguments(line)),
     }
 }
 
 /// The head with these numbers, where there are any.
-fn asked(kind: Kind, numbers: Option<[u16; 4]>) -> Head<'static>
-    ensures { MatchOption numbers (result ≡ NoMessage) (λ ns. result ≡ Asks kind ns) }
+fn head_without_data(kind: Kind, numbers: Option<[u16; 4]>) -> Head<'static>
+    ensures { MatchOption numbers (result ≡ NoMessage) (λ ns. result ≡ WithoutData kind ns) }
 {
     match numbers {
-        Some(numbers) => Head::Asks(kind, numbers),
+        Some(numbers) => Head::WithoutData(kind, numbers),
         None => Head::NoMessage,
     }
 }
 
 /// The numbers of an aggregate and a volume, and zeros.
-fn volume_asked(line: &[u8]) -> Option<[u16; 4]>
+fn volume_arguments(line: &[u8]) -> Option<[u16; 4]>
     ensures value { (make : ℕ → ℕ → Msg) → of_volume make (words line.now)
         ≡ option_map (λ ns. make (slice_index ns 0) (slice_index ns 1)) result }
     ensures zeros { IfSome result (λ ns. filled (slice_index ns 0 ∷ slice_index ns 1 ∷ []) ≡ ns) }
@@ -104,7 +104,7 @@ fn volume_asked(line: &[u8]) -> Option<[u16; 4]>
 }
 
 /// The numbers of an aggregate, a volume and a file, and a zero.
-fn file_asked(line: &[u8]) -> Option<[u16; 4]>
+fn file_arguments(line: &[u8]) -> Option<[u16; 4]>
     ensures value { (make : ℕ → ℕ → ℕ → Msg) → of_file make (words line.now)
         ≡ option_map (λ ns. make (slice_index ns 0) (slice_index ns 1) (slice_index ns 2)) result }
     ensures zeros { IfSome result (λ ns.
@@ -115,7 +115,7 @@ fn file_asked(line: &[u8]) -> Option<[u16; 4]>
 }
 
 /// The numbers of an aggregate, a volume, a file and a block.
-fn block_asked(line: &[u8]) -> Option<[u16; 4]>
+fn block_arguments(line: &[u8]) -> Option<[u16; 4]>
     ensures value { (make : ℕ → ℕ → ℕ → ℕ → Msg) → of_block make (words line.now)
         ≡ option_map (λ ns. make (slice_index ns 0) (slice_index ns 1) (slice_index ns 2)
         (slice_index ns 3)) result }
@@ -127,7 +127,7 @@ fn block_asked(line: &[u8]) -> Option<[u16; 4]>
 }
 
 /// The head of a `write`.
-fn write_asked(line: &[u8]) -> Head<'_>
+fn head_of_write(line: &[u8]) -> Head<'_>
     ensures { IsHead result (of_data write (words line.now)) }
 {
     match write_parts(line) {

@@ -6,7 +6,7 @@ use Rattle.disk.proofs.Leaves.{calm_left}
 use Rattle.disk.proofs.Moments.{weaker}
 use Rattle.device_map.specs.Layout.{Layout, part_bytes, root, half, image, other}
 use Rattle.oplog.specs.Front.{chain, front}
-use Rattle.oplog.specs.Recovery.{Meaning, named_area, current_of, run, recovers_as}
+use Rattle.oplog.specs.Recovery.{Decoding, named_area, current_of, run, recovers_as}
 use Rattle.oplog.specs.Changes.{IsSameBut, IsSameButChain, HasMore}
 use Rattle.oplog.specs.Crash.{RecoversBy, RecoversByNow, AppendRecovers, AllByArea, ImageByArea, ClearByArea, ChainByArea, ChainedByArea, TornRootRecovers, FlipByArea}
 use Rattle.oplog.proofs.Kept.{same_named, same_chain, grown_as, root_kept, half_kept, image_kept, chain_kept}
@@ -24,7 +24,7 @@ named_kept g p a c apart same = ap (λ (l : List ℕ). cond (eqb (get_or l 0 0) 
 pub current_kept : (g : Layout) (n p : ℕ) (a c : List ℕ) → half n ≢ p → IsSameBut g p a c → current_of g n c ≡ current_of g n a
 current_kept g n p a c apart same = ap (λ (l : List ℕ). cond (eqb (get_or l 0 0) 1) (other n) n) (same.others (half n) apart)
 
-module _ {S : Type 0} (means : Meaning S) where
+module _ {S : Type 0} (means : Decoding S) where
   more_by : {g : Layout} {n h : ℕ} {x : Option S} {more : List (List ℕ)} {a c : List ℕ} → n < 2 → h < 2 → HasMore g h more a c
       → RecoversBy means g n h x a → RecoversBy means g n h (run means x more) c
   more_by {g} {n} {h} {more} {a} {c} is_area is_half has recovered_before = record {

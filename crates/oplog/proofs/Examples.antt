@@ -6,7 +6,7 @@ use Rattle.disk.proofs.Leaves.{calm_left}
 use Rattle.device_map.specs.Layout.{Layout}
 use Rattle.oplog.specs.Front.{open_gates, front}
 use Rattle.oplog.specs.Changes.{Grew}
-use Rattle.oplog.specs.Recovery.{Meaning, named_area, in_force, current, recovers}
+use Rattle.oplog.specs.Recovery.{Decoding, named_area, in_force, current, recovers}
 
 -- ---- the front ends at the first gate that isn't 1
 second_is_not_open : open_gates (1 ∷ 77 ∷ 1 ∷ 0 ∷ []) ≡ 1
@@ -54,7 +54,7 @@ torn_root : named_area g (device 77 0 0 (0 ∷ 0 ∷ 0 ∷ 0 ∷ []) (0 ∷ 0 �
 torn_root = refl
 
 -- What a device recovers to, where an image holds its first byte and a record adds its kind.
-abbrev counting : Meaning ℕ
+abbrev counting : Decoding ℕ
 counting = record { read = λ bytes. Some (length (take 1 bytes)); apply = λ x r. Some (x + length (take 1 r)); is_header = λ bytes. true }
 
 abbrev recovered_before : List ℕ → Option ℕ

@@ -4,7 +4,7 @@ use Rattle.std.proofs.lemmas.Bool.{cases_eq}
 use Rattle.std.proofs.lemmas.List.{append_assoc, append-nil, drop-drop, get_or-take}
 use Rattle.device_map.specs.Layout.{Layout, part_bytes, device_size, header, root, half, image, other}
 use Rattle.oplog.specs.Front.{chain, front, front_in, open_gates, rows}
-use Rattle.oplog.specs.Recovery.{Meaning, named_area, current_of, in_force, run, is_laid_out, recovers_as}
+use Rattle.oplog.specs.Recovery.{Decoding, named_area, current_of, in_force, run, is_laid_out, recovers_as}
 use Rattle.oplog.specs.Changes.{IsSameBut, IsSameButChain, HasMore}
 
 named_below : (t : Bool) → cond t 1 0 < 2
@@ -33,7 +33,7 @@ front_beside slots old new beside =
     let records : drop (64 + slots) new ≡ drop (64 + slots) old = subst (λ (k : ℕ). drop k new ≡ drop k old) count (from (63 + slots)) in
     λ i. rows 520 (open_gates (take slots (from 63 i))) (records i)
 
-module _ {S : Type 0} (means : Meaning S) where
+module _ {S : Type 0} (means : Decoding S) where
   pub run-append : (x : Option S) (rs ss : List (List ℕ)) → run means x (rs ++ ss) ≡ run means (run means x rs) ss
   run-append None rs ss = refl
   run-append (Some x) [] ss = refl

@@ -6,10 +6,10 @@ use Rattle.disk.specs.Device.{Medium, IsCrashImage}
 use Rattle.disk.specs.Moments.{CrashImagesAre}
 use Rattle.device_map.specs.Layout.{Layout, image, other}
 use Rattle.oplog.specs.Front.{chain, front}
-use Rattle.oplog.specs.Recovery.{Meaning, named_area, current_of, recovers_as, run}
+use Rattle.oplog.specs.Recovery.{Decoding, named_area, current_of, recovers_as, run}
 use Rattle.oplog.specs.Changes.{After, Grew, HasAll, IsSameBut, IsSameButGates, IsSameButChain, IsSameButRoot, Chained, Flipped}
 
-module _ {S : Type 0} (means : Meaning S) where
+module _ {S : Type 0} (means : Decoding S) where
   -- These bytes recover to x by area n, which they name, with half h as their current one. Where h is n it is by that
   -- area alone, and else both fronts are in force.
   pub record RecoversBy (g : Layout) (n h : ℕ) (x : Option S) (c : List ℕ) : Type 0 where

@@ -25,12 +25,12 @@ current g c = current_of g (named_area g c) c
 -- The words of the layer above: the state that an image's bytes hold, what becomes of a state by the record with these
 -- bytes, and whether bytes are a header. `read` and `apply` are none where the bytes are no image, and no record that can
 -- be there.
-pub record Meaning (S : Type 0) : Type 0 where
+pub record Decoding (S : Type 0) : Type 0 where
   pub read : List ℕ → Option S
   pub apply : S → List ℕ → Option S
   pub is_header : List ℕ → Bool
 
-module _ {S : Type 0} (means : Meaning S) where
+module _ {S : Type 0} (means : Decoding S) where
   -- these records, one after the other
   abbrev pub run : Option S → List (List ℕ) → Option S
   run None rs = None

@@ -18,9 +18,9 @@ use messages::Msg;
 const OPEN_GATES: [u8; BATCH] = [1; BATCH];
 
 /// What lies before the records of a half, at most.
-const LARGEST_FRONT: usize = CHAIN_AREA + MOST_RECORDS;
+const MOST_BYTES_BEFORE_RECORDS: usize = CHAIN_AREA + MOST_RECORDS;
 
-const ZEROS: [u8; LARGEST_FRONT] = [0; LARGEST_FRONT];
+const ZEROS: [u8; MOST_BYTES_BEFORE_RECORDS] = [0; MOST_BYTES_BEFORE_RECORDS];
 
 /// A row of zeros, at most 1,088.
 fn zeros(count: usize) -> &'static [u8]

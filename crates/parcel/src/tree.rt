@@ -44,7 +44,7 @@ impl Tree {
         })
     }
 
-    /// The numbers of the server.
+    /// The geometry.
     pub fn geometry(&self) -> Geometry
         ensures { result ≡ self.now.geometry }
     {

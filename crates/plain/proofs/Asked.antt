@@ -4,14 +4,14 @@ use Rattle.affinity.specs.declared.geometry.Geometry.{Geometry}
 use Rattle.affinity.specs.declared.kinds.Kind.{Kind}
 use Rattle.affinity.specs.declared.kinds.Kind.TheVariants as kinds
 use Rattle.messages.specs.Messages.{kind, IsMessage}
-use Rattle.message.specs.Heads.{asking, has_data, IsAsked}
+use Rattle.message.specs.Heads.{message_without_data, has_data, IsWithoutData}
 use Rattle.meaning.specs.State.{State}
 use Rattle.meaning.specs.Serial.{refusal}
 use Rattle.meaning.specs.ByKind.{refusal_by}
 use Rattle.meaning.proofs.ByKind.{refusal_by_kind}
 
 -- a message without data has no bytes to be right
-pub asking_is_message : (k : Kind) (ns : List ℕ) → has_data k ≡ false → IsMessage (asking k ns)
+pub asking_is_message : (k : Kind) (ns : List ℕ) → has_data k ≡ false → IsMessage (message_without_data k ns)
 asking_is_message kinds.MakeVol ns h = tt
 asking_is_message kinds.DropVol ns h = tt
 asking_is_message kinds.Create ns h = tt
@@ -27,8 +27,8 @@ asking_is_message kinds.Summary ns h = tt
 asking_is_message kinds.SetLabel ns h = cc h
 asking_is_message kinds.Label ns h = tt
 
-pub refusal_asked : (g : Geometry) (x : State) (k : Kind) (ns : List ℕ) → IsAsked k ns (Some (asking k ns)) → refusal_by g x k ns ≡ refusal g x (asking k ns)
+pub refusal_asked : (g : Geometry) (x : State) (k : Kind) (ns : List ℕ) → IsWithoutData k ns (Some (message_without_data k ns)) → refusal_by g x k ns ≡ refusal g x (message_without_data k ns)
 refusal_asked g x k ns h =
     ap (λ j. refusal_by g x j ns) (sym h.kind_is)
-    ∙ ap (λ ms. refusal_by g x (kind (asking k ns)) ms) (sym h.numbers_are)
-    ∙ refusal_by_kind g x (asking k ns)
+    ∙ ap (λ ms. refusal_by g x (kind (message_without_data k ns)) ms) (sym h.numbers_are)
+    ∙ refusal_by_kind g x (message_without_data k ns)

@@ -6,7 +6,7 @@ ghost use Rattle.messages.specs.Grammar.{message_of};
 ghost use Rattle.message.specs.Reader.{unread, is_drained, source, KnowsEnd};
 ghost use Rattle.message.specs.Waiting.{FitsReply, so_far};
 ghost use Rattle.messages.specs.Lines.{block_in_word};
-ghost use Rattle.message.specs.Heads.{IsAsked, asking, writing};
+ghost use Rattle.message.specs.Heads.{IsWithoutData, message_without_data, writing};
 ghost use Rattle.affinity.specs.Kind.{is_changing};
 ghost use Rattle.meaning.specs.ByKind.{reply_when};
 ghost use Rattle.meaning.specs.State.{State, empty};
@@ -65,15 +65,15 @@ fn answer_change(
     server: &mut Server,
     out: &mut ReplyBuffer,
 ) -> Result<(), AllocError>
-    requires asked { IsAsked kind numbers (Some (asking kind numbers)) }
+    requires asked { IsWithoutData kind numbers (Some (message_without_data kind numbers)) }
     requires changes { is_changing kind ≡ true }
     requires sound { IsConsistent g.now server.old }
     requires room { FitsReply out.old }
     ensures sound { IsConsistent g.now server.new }
     ensures state { OnOk result (server_state server.new
-        ≡ next_state g.now (server_state server.old) (asking kind numbers)) }
+        ≡ next_state g.now (server_state server.old) (message_without_data kind numbers)) }
     ensures added { OnOk result (out.new ≡ out.old
-        ++ reply_line (reply_to g.now (server_state server.old) (asking kind numbers))) }
+        ++ reply_line (reply_to g.now (server_state server.old) (message_without_data kind numbers))) }
     ensures out_of_memory { OnErr result (out.new ≡ out.old) }
 {
     let why = server.carry_out(g, kind, numbers)?;
@@ -101,14 +101,14 @@ fn answer_question(
     server: &Server,
     out: &mut ReplyBuffer,
 )
-    requires asked { IsAsked kind numbers (Some (asking kind numbers)) }
+    requires asked { IsWithoutData kind numbers (Some (message_without_data kind numbers)) }
     requires asks { is_changing kind ≡ false }
     requires sound { IsConsistent g.now server.now }
     requires room { FitsReply out.old }
     ensures state { server_state server.now
-        ≡ next_state g.now (server_state server.now) (asking kind numbers) }
+        ≡ next_state g.now (server_state server.now) (message_without_data kind numbers) }
     ensures added { out.new ≡ out.old
-        ++ reply_line (reply_to g.now (server_state server.now) (asking kind numbers)) }
+        ++ reply_line (reply_to g.now (server_state server.now) (message_without_data kind numbers)) }
 {
     if let Some(content) = server.block_by(g, kind, numbers) {
         out.add_block(content);
@@ -141,7 +141,7 @@ fn add_whole_reply(
     requires sound { IsConsistent g.now server.now }
     requires room { FitsReply out.old }
     ensures { out.new ≡ out.old
-        ++ reply_line (accepted_reply g.now (server_state server.now) (asking kind numbers)) }
+        ++ reply_line (accepted_reply g.now (server_state server.now) (message_without_data kind numbers)) }
 {
     out.add_reply(&server.reply_by(g, kind, numbers));
 }
@@ -201,21 +201,21 @@ fn answer_spelled(
 }
 
 /// Answers a message without data.
-fn answer_asked(
+fn answer_without_data(
     g: &Geometry,
     kind: Kind,
     numbers: [u16; 4],
     server: &mut Server,
     out: &mut ReplyBuffer,
 ) -> Result<(), AllocError>
-    requires asked { IsAsked kind numbers (Some (asking kind numbers)) }
+    requires asked { IsWithoutData kind numbers (Some (message_without_data kind numbers)) }
     requires sound { IsConsistent g.now server.old }
     requires room { FitsReply out.old }
     ensures sound { IsConsistent g.now server.new }
     ensures state { OnOk result (server_state server.new
-        ≡ next_state g.now (server_state server.old) (asking kind numbers)) }
+        ≡ next_state g.now (server_state server.old) (message_without_data kind numbers)) }
     ensures added { OnOk result (out.new ≡ out.old
-        ++ reply_line (reply_to g.now (server_state server.old) (asking kind numbers))) }
+        ++ reply_line (reply_to g.now (server_state server.old) (message_without_data kind numbers))) }
     ensures out_of_memory { OnErr result (out.new ≡ out.old) }
 {
     if changing(kind) {
@@ -247,7 +247,7 @@ fn answer_line(
             out.add_no_message();
             Ok(())
         }
-        Head::Asks(kind, numbers) => answer_asked(g, kind, numbers, server, out),
+        Head::WithoutData(kind, numbers) => answer_without_data(g, kind, numbers, server, out),
         Head::Writes(numbers, digits) => answer_write(g, numbers, digits, server, out),
         Head::SetsLabel => answer_spelled(g, line, server, out),
     }

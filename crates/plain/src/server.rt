@@ -2,7 +2,7 @@
 
 ghost use Rattle.std.specs.Prelude.{◌≡◌, true, Some, IfOk, OnOk, OnErr};
 ghost use Rattle.affinity.specs.Kind.{is_changing};
-ghost use Rattle.message.specs.Heads.{IsAsked, asking, writing};
+ghost use Rattle.message.specs.Heads.{IsWithoutData, message_without_data, writing};
 ghost use Rattle.meaning.specs.ByKind.{reply_when};
 ghost use Rattle.affinity.specs.declared.geometry.Geometry.{Geometry};
 ghost use Rattle.meaning.specs.State.{empty};
@@ -87,11 +87,11 @@ impl Server {
         kind: Kind,
         numbers: [u16; 4],
     ) -> Result<Option<Refusal>, AllocError>
-        requires asked { IsAsked kind numbers (Some (asking kind numbers)) }
+        requires asked { IsWithoutData kind numbers (Some (message_without_data kind numbers)) }
         requires changes { is_changing kind ≡ true }
         requires sound { IsConsistent g.now self.old }
-        ensures reply { IfOk result (λ why. reply_to g.now (server_state self.old) (asking kind numbers) ≡ reply_when why) }
-        ensures state { OnOk result (server_state self.new ≡ next_state g.now (server_state self.old) (asking kind numbers)) }
+        ensures reply { IfOk result (λ why. reply_to g.now (server_state self.old) (message_without_data kind numbers) ≡ reply_when why) }
+        ensures state { OnOk result (server_state self.new ≡ next_state g.now (server_state self.old) (message_without_data kind numbers)) }
         ensures sound { IsConsistent g.now self.new }
     {
         match self.refusal_by(g, kind, numbers) {

@@ -7,7 +7,7 @@ use Rattle.journal.specs.Journal.{HoldsSome}
 use Rattle.legal_runs.proofs.Answering.{answered_left}
 use Rattle.legal_runs.proofs.Idle.{none_logged}
 use Rattle.legal_runs.specs.Crash.{in_doubt}
-use Rattle.legal_runs.specs.Events.{Event, Hands, loggable}
+use Rattle.legal_runs.specs.Events.{Event, MachineState, loggable}
 use Rattle.legal_runs.specs.Laws.{IsIdle, IsSoundCoreState}
 use Rattle.legal_runs.specs.Incarnations.{HoldsAnswered, Ran}
 use Rattle.legal_runs.specs.Runs.{IsLegal, last}
@@ -25,11 +25,11 @@ module _ (start : MachineView) (new : CoreView) (hands : List Holding) (events :
   abbrev g : Geometry
   g = start.core.geometry
 
-  abbrev w : Hands
+  abbrev w : MachineState
   w = machine_of start
 
   base : HoldsSome g (last w events).core.committed (in_doubt (last w events).core []) c
-  base = subst (λ (x : Hands). HoldsSome g x.core.committed (in_doubt x.core []) c) (sym ends)
+  base = subst (λ (x : MachineState). HoldsSome g x.core.committed (in_doubt x.core []) c) (sym ends)
       (subst (λ (y : Geometry). HoldsSome y (core_state_of new).committed (in_doubt (core_state_of new) []) c) same
       (some_of new.geometry (core_state_of new).committed new.failed new.doubt [] c none (recovers c left)))
 

@@ -16,7 +16,7 @@ use Rattle.legal_runs.proofs.Outs.{event_keeps_out, event_sees}
 use Rattle.legal_runs.proofs.Sound.{event_sound}
 use Rattle.legal_runs.specs.Crash.{to_append}
 use Rattle.legal_runs.specs.Eligible.{next_eligible}
-use Rattle.legal_runs.specs.Events.{Event, Hand, Hands, IsAllowed, answer, arrive, back_from, give_back, grant, grant_hand, grant_to, happens, is_empty, no_grant, out_with, result_in, run_hand}
+use Rattle.legal_runs.specs.Events.{Event, Hand, MachineState, IsAllowed, answer, arrive, back_from, give_back, grant, grant_hand, grant_to, happens, is_empty, no_grant, out_with, result_in, run_hand}
 use Rattle.legal_runs.specs.Events.{Job as JobIn, Result as ResultIn}
 use Rattle.legal_runs.specs.Laws.{moves_what_is_out}
 use Rattle.legal_runs.specs.CoreState.{Entry, CoreState}
@@ -70,7 +70,7 @@ module _ (keeps : Type 0) (old new : CoreView) (none : old.failed ≡ false → 
   pub arrive_step : (m : Msg) (r : Result ℕ ArriveRefusal) → (arrive_outcome r, core_state_of new) ≡ arrive old.geometry (core_state_of old) m
       → IsCoreStep keeps old new (steps.Arrive m) (arrive_outcome r)
   arrive_step m r e = record {
-    rose = false;
+    device_failed = false;
     called = arrive_called old.geometry (core_state_of old) (core_state_of new) m r e;
     geometry = geometry;
     failures = ap (λ (m : Medium). m.faults) same;
@@ -80,7 +80,7 @@ module _ (keeps : Type 0) (old new : CoreView) (none : old.failed ≡ false → 
   pub answer_step : (r : Option (ℕ × Reply)) → (answer_outcome r, core_state_of new) ≡ answer (core_state_of old) old.logged
       → IsCoreStep keeps old new steps.Answer (answer_outcome r)
   answer_step r e = record {
-    rose = false;
+    device_failed = false;
     called = answer_called old.geometry (core_state_of old) (core_state_of new) r e;
     geometry = geometry;
     failures = ap (λ (m : Medium). m.faults) same;
@@ -93,18 +93,18 @@ module _ (keeps : Type 0) (old new : CoreView) (hands : List Holding) (step : St
     (h : HoldsJobs old.geometry (core_state_of old) hands) (k : IsCoreStep keeps old new step outcome) where
   pub core_step : IsMachineStep keeps (record { core = old; hands = hands }) (record { core = new; hands = hands }) step outcome
   core_step = record {
-    rose = k.rose;
+    device_failed = k.device_failed;
     allowed = k.called (map hand_of hands);
     geometry = k.geometry;
     failures = k.failures;
     any_moment = k.any_moment;
   }
 
-  abbrev was : Hands
+  abbrev was : MachineState
   was = record { core = core_state_of old; hands = map hand_of hands }
 
   abbrev event : Event
-  event = record { step = step; outcome = outcome; rose = k.rose; state_after = record { core = core_state_of new; hands = map hand_of hands } }
+  event = record { step = step; outcome = outcome; device_failed = k.device_failed; state_after = record { core = core_state_of new; hands = map hand_of hands } }
 
   pub core_holds : moves_what_is_out step ≡ false → HoldsJobs new.geometry (core_state_of new) hands
   core_holds still =
@@ -125,7 +125,7 @@ module _ (keeps : Type 0) (old new : CoreView) (hands after : List Holding) (ste
       ≡ (outcome, machine_of (record { core = new; hands = after }))
       → IsMachineStep keeps (record { core = old; hands = hands }) (record { core = new; hands = after }) step outcome
   quiet_step does = record {
-    rose = false;
+    device_failed = false;
     allowed = record { to_write = 0; at_most = omega arith; does = does };
     geometry = geometry;
     failures = ap (λ (m : Medium). m.faults) same;
@@ -154,11 +154,11 @@ position_within hands hand at = (position-Some (λ h. is_empty (hand_of h)) hand
 
 -- ---- a grant
 
-module _ (g : Geometry) (n : ℕ) (w : Hands) where
+module _ (g : Geometry) (n : ℕ) (w : MachineState) where
   grant_idle : position is_empty w.hands ≡ None → happens g n w steps.Grant ≡ (outcomes.Idle, w)
   grant_idle none = ap (λ (hand : Option ℕ). grant_hand g w hand) none ∙ by w.core.failed
     where
-      by : (b : Bool) → ◌≡◌ {A = Outcome × Hands} (if b && false then (outcomes.Failed, w) else (outcomes.Idle, w)) (outcomes.Idle, w)
+      by : (b : Bool) → ◌≡◌ {A = Outcome × MachineState} (if b && false then (outcomes.Failed, w) else (outcomes.Idle, w)) (outcomes.Idle, w)
       by true = refl
       by false = refl
 
@@ -192,7 +192,7 @@ module _ (keeps : Type 0) (old new : CoreView) (hands : List Holding)
   abbrev StepsTo : List Holding → Step → Outcome → Type 0
   StepsTo after step outcome = IsMachineStep keeps (record { core = old; hands = hands }) (record { core = new; hands = after }) step outcome
 
-  abbrev w : Hands
+  abbrev w : MachineState
   w = machine_of (record { core = old; hands = hands })
 
   at_hand : (hand : ℕ) → position (λ h. is_empty (hand_of h)) hands ≡ Some hand → position is_empty w.hands ≡ Some hand
@@ -237,7 +237,7 @@ module _ (keeps : Type 0) (old new : CoreView) (hands : List Holding)
         let event : Event = record {
           step = steps.Grant;
           outcome = outcomes.Granted hand job.ticket;
-          rose = false;
+          device_failed = false;
           state_after = machine_of (record { core = new; hands = set hands hand (has.Job job) });
         } in
         let allowed : IsAllowed g w event = record { to_write = 0; at_most = omega arith; does = granted } in
@@ -268,7 +268,7 @@ module _ (keeps : Type 0) (old new : CoreView) (hands : List Holding)
 -- ---- a hand that isn't there
 
 module _ (g : Geometry) (n : ℕ) (core : CoreState) (hands : List Holding) (i : ℕ) where
-  abbrev at_i : Hands
+  abbrev at_i : MachineState
   at_i = record { core = core; hands = map hand_of hands }
 
   past : length hands ≤ i → slice_get (map hand_of hands) i ≡ None
@@ -313,7 +313,7 @@ module _ (keeps : Type 0) (core : CoreView) (hands : List Holding) (none : core.
   abbrev g : Geometry
   g = core.geometry
 
-  abbrev held_now : Hands
+  abbrev held_now : MachineState
   held_now = machine_of (record { core = core; hands = hands })
 
   abbrev Moves : List Holding → Step → Outcome → Type 0
@@ -400,7 +400,7 @@ module _ (keeps : Type 0) (core : CoreView) (hands : List Holding) (none : core.
       back_event = record {
         step = steps.Back i;
         outcome = outcomes.Back done.ticket;
-        rose = false;
+        device_failed = false;
         state_after = machine_of (record { core = new; hands = emptied });
       }
 

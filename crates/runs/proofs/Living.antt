@@ -13,7 +13,7 @@ use Rattle.disk.specs.Device.{AreBytes, IsSynced, IsCrashImage, Medium}
 use Rattle.disk.specs.Moments.{left_since, moment}
 use Rattle.journal.specs.Opening.{IsPastSync, OpeningCrashImages, RecoversAs}
 use Rattle.legal_runs.proofs.Living.{all_answered, incarnation_of_run, next_incarnation, no_incarnation}
-use Rattle.legal_runs.specs.Events.{Event, Hands}
+use Rattle.legal_runs.specs.Events.{Event, MachineState}
 use Rattle.legal_runs.specs.Incarnations.{IsLeftByIncarnations, Incarnation, Ran, Unopened}
 use Rattle.legal_runs.specs.Runs.{IsLegal}
 use Rattle.runs.specs.Incarnations.{DeviceIncarnation, HasIncarnations, HaveGeometry, IsIncarnationOf, IsOfGeometry, IsPassedOn, IsRunIncarnation, LeftByLast, RecoversForIncarnations, incarnations_of}
@@ -57,14 +57,14 @@ module _ (g : Geometry) where
     nothing_more c h = record { state = h.state; is = h.is; left = next_incarnation g incarnations Unopened h.state [] h.left refl }
 
     -- The header gives the numbers, and there is one for all incarnations.
-    run_geometry : (start : Hands) (events : List Event) (k : ℕ) → IsRunIncarnation l start events k → l.geometry ≡ g
+    run_geometry : (start : MachineState) (events : List Event) (k : ℕ) → IsRunIncarnation l start events k → l.geometry ≡ g
     run_geometry start events k run = one_geometry l.geometry g l.began.now run.header at_first.state at_first.is
 
     of_geometry : (incarnation : Incarnation) → IsIncarnationOf l incarnation → IsOfGeometry g l.geometry incarnation
     of_geometry Unopened h = tt
     of_geometry (Ran start events k) h = run_geometry start events k h
 
-    run_left : (start : Hands) (events : List Event) (k : ℕ) → IsRunIncarnation l start events k → (c : List ℕ) → left_since l.ended l.since c
+    run_left : (start : MachineState) (events : List Event) (k : ℕ) → IsRunIncarnation l start events k → (c : List ℕ) → left_since l.ended l.since c
         → Recovers (incarnations ++ Ran start events k ∷ []) c
     run_left start events k run c since =
         let one = run_geometry start events k run in

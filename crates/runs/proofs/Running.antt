@@ -15,7 +15,7 @@ use Rattle.legal_runs.proofs.Joining.{runs_join}
 use Rattle.legal_runs.proofs.Runs.{run_follows}
 use Rattle.legal_runs.proofs.Sound.{run_sound}
 use Rattle.legal_runs.specs.Crash.{IsLogAfter, in_doubt}
-use Rattle.legal_runs.specs.Events.{Event, Hands, IsAllowed, touches_device}
+use Rattle.legal_runs.specs.Events.{Event, MachineState, IsAllowed, touches_device}
 use Rattle.legal_runs.specs.Laws.{AreApart, IsSoundCoreState}
 use Rattle.legal_runs.specs.Runs.{IsLegal, IsRun, journal, last}
 use Rattle.legal_runs.specs.CoreState.{held}
@@ -34,11 +34,11 @@ use Rattle.scheduler.specs.CoreView.{CoreView, RecoversNow, core_state_of}
 -- ---- what a crash of a run leaves
 
 -- These bytes recover to what was committed after so many events, with the first so many of what was to be appended then (`in_doubt`).
-abbrev pub RecoversAt : Geometry → Hands → List Event → List ℕ → ℕ → Type 0
+abbrev pub RecoversAt : Geometry → MachineState → List Event → List ℕ → ℕ → Type 0
 RecoversAt g w events c j = HoldsSome g (last w (take j events)).core.committed (in_doubt (last w (take j events)).core (drop j events)) c
 
 -- At some such place from event k on.
-pub record RecoversSince (g : Geometry) (w : Hands) (events : List Event) (k : ℕ) (c : List ℕ) : Type 0 where
+pub record RecoversSince (g : Geometry) (w : MachineState) (events : List Event) (k : ℕ) (c : List ℕ) : Type 0 where
   pub at : ℕ
   pub since : k ≤ at
   pub within : at ≤ length events
@@ -46,19 +46,19 @@ pub record RecoversSince (g : Geometry) (w : Hands) (events : List Event) (k : �
 
 module _ (g : Geometry) where
   -- what a crash leaves when all events have ended
-  abbrev EndsSo : Hands → Medium → List Stage → Type 0
+  abbrev EndsSo : MachineState → Medium → List Stage → Type 0
   EndsSo w m stages = (c : List ℕ) → IsCrashImage (device_after m stages) c
       → HoldsSome g (last w (events_of stages)).core.committed (in_doubt (last w (events_of stages)).core []) c
 
-  later : (w : Hands) (event : Event) (events : List Event) (k : ℕ) (c : List ℕ) → RecoversSince g event.state_after events k c
+  later : (w : MachineState) (event : Event) (events : List Event) (k : ℕ) (c : List ℕ) → RecoversSince g event.state_after events k c
       → RecoversSince g w (event ∷ events) (suc k) c
   later w event events k c h = record { at = suc h.at; since = omega (arith, h.since); within = omega (arith, h.within); recovers = h.recovers }
 
-  earlier : (w : Hands) (events : List Event) (k j : ℕ) (c : List ℕ) → j ≤ k → RecoversSince g w events k c → RecoversSince g w events j c
+  earlier : (w : MachineState) (events : List Event) (k j : ℕ) (c : List ℕ) → j ≤ k → RecoversSince g w events k c → RecoversSince g w events j c
   earlier w events k j c le h = record { at = h.at; since = omega (arith, h.since, le); within = h.within; recovers = h.recovers }
 
   -- It was left before the run, or at some moment of it.
-  parted : (w : Hands) (m : Medium) (stages : List Stage) → AreSafe g w m stages → (t : ℕ) (c : List ℕ) → t ≤ moment m
+  parted : (w : MachineState) (m : Medium) (stages : List Stage) → AreSafe g w m stages → (t : ℕ) (c : List ℕ) → t ≤ moment m
       → left_since (device_after m stages) t c → left_since m t c ⊎ RecoversSince g w (events_of stages) 0 c
   parted w m [] safe t c early since = inl since
   parted w m (stage ∷ stages) safe t c early since =
@@ -69,7 +69,7 @@ module _ (g : Geometry) where
       inr (earlier w (stage.event ∷ events_of stages) 1 0 c (omega arith) (later w stage.event (events_of stages) 0 c rest)))
       (parted stage.event.state_after stage.medium stages safe.1 t c (omega (arith, early, safe.0.later)) since)
 
-  from_start : (w : Hands) (m : Medium) (stages : List Stage) → AreSafe g w m stages → EndsSo w m stages → (c : List ℕ)
+  from_start : (w : MachineState) (m : Medium) (stages : List Stage) → AreSafe g w m stages → EndsSo w m stages → (c : List ℕ)
       → left_since (device_after m stages) (moment m) c → RecoversSince g w (events_of stages) 0 c
   from_start w m [] safe ends c since = record { at = 0; since = omega arith; within = omega arith; recovers = ends c (only_now m c since) }
   from_start w m (stage ∷ stages) safe ends c since =
@@ -79,7 +79,7 @@ module _ (g : Geometry) where
       earlier w (stage.event ∷ events_of stages) 1 0 c (omega arith) (later w stage.event (events_of stages) 0 c rest))
       (parted stage.event.state_after stage.medium stages safe.1 (moment m) c safe.0.later since)
 
-  from_event : {w : Hands} (m : Medium) (stages : List Stage) → AreSafe g w m stages → EndsSo w m stages → (k : ℕ) {c : List ℕ}
+  from_event : {w : MachineState} (m : Medium) (stages : List Stage) → AreSafe g w m stages → EndsSo w m stages → (k : ℕ) {c : List ℕ}
       → k ≤ length stages → left_since (device_after m stages) (moment (device_after m (take k stages))) c
       → RecoversSince g w (events_of stages) k c
   from_event {w} m stages safe ends zero {c} le since = from_start w m stages safe ends c since
@@ -88,7 +88,7 @@ module _ (g : Geometry) where
       later w stage.event (events_of stages) k c (from_event stage.medium stages safe.1 ends k (omega (arith, le)) since)
 
   -- So it recovers to a state that the run may leave.
-  pub recovers_for_run : (w : Hands) (events : List Event) (k : ℕ) (c : List ℕ) → IsLegal g w events → IsSoundCoreState g w.core
+  pub recovers_for_run : (w : MachineState) (events : List Event) (k : ℕ) (c : List ℕ) → IsLegal g w events → IsSoundCoreState g w.core
       → RecoversSince g w events k c → RecoversForRun g w events k c
   recovers_for_run w events k c legal sound h =
       let first = take h.at events in
@@ -109,7 +109,7 @@ module _ (g : Geometry) where
       }
 
   -- These stages led to this machine, and a crash at any moment of an event leaves what it may.
-  pub record HasPassed (w : Hands) (m : Medium) (stages : List Stage) (new : MachineView) : Type 0 where
+  pub record HasPassed (w : MachineState) (m : Medium) (stages : List Stage) (new : MachineView) : Type 0 where
     pub legal : IsLegal g w (events_of stages)
     pub safe : AreSafe g w m stages
     pub ends : last w (events_of stages) ≡ machine_of new
@@ -117,12 +117,12 @@ module _ (g : Geometry) where
     pub device : device_after m stages ≡ new.core.medium
 
   -- So it is where the core at the end is as it always is.
-  pub left_since_event : {w : Hands} {m : Medium} {stages : List Stage} {new : MachineView} → HasPassed w m stages new → IsSoundCoreState g w.core
+  pub left_since_event : {w : MachineState} {m : Medium} {stages : List Stage} {new : MachineView} → HasPassed w m stages new → IsSoundCoreState g w.core
       → (new.core.failed ≡ false → new.core.doubt ≡ []) → RecoversNow new.core → (k : ℕ) (c : List ℕ) → k ≤ length stages
       → left_since new.core.medium (moment (device_after m (take k stages))) c → RecoversForRun g w (events_of stages) k c
   left_since_event {w} {m} {stages} {new} h sound none recovers k c le since =
       let ends : EndsSo w m stages = λ b left.
-      subst (λ (x : Hands). HoldsSome g x.core.committed (in_doubt x.core []) b) (sym h.ends)
+      subst (λ (x : MachineState). HoldsSome g x.core.committed (in_doubt x.core []) b) (sym h.ends)
       (subst (λ (y : Geometry). HoldsSome y (core_state_of new.core).committed (in_doubt (core_state_of new.core) []) b) h.geometry
       (some_of new.core.geometry (core_state_of new.core).committed new.core.failed new.core.doubt [] b none
       (recovers b (subst (λ (x : Medium). IsCrashImage x b) h.device left)))) in
@@ -131,7 +131,7 @@ module _ (g : Geometry) where
 
   -- ---- stages behind others
 
-  pub safe-append : (w : Hands) (m : Medium) (xs ys : List Stage) → AreSafe g w m xs
+  pub safe-append : (w : MachineState) (m : Medium) (xs ys : List Stage) → AreSafe g w m xs
       → AreSafe g (last w (events_of xs)) (device_after m xs) ys → AreSafe g w m (xs ++ ys)
   safe-append w m [] ys h k = k
   safe-append w m (s ∷ xs) ys h k = (h.0, safe-append s.event.state_after s.medium xs ys h.1 k)
@@ -140,8 +140,8 @@ pub after-append : (m : Medium) (xs ys : List Stage) → device_after m (xs ++ y
 after-append m [] ys = refl
 after-append m (s ∷ xs) ys = after-append s.medium xs ys
 
-told-push : (w : Hands) (m : Medium) (stages : List Stage) (stage : Stage) → TouchesAgree w m stages
-    → CountsFailure stage.event.rose (device_after m stages).faults stage.medium.faults
+told-push : (w : MachineState) (m : Medium) (stages : List Stage) (stage : Stage) → TouchesAgree w m stages
+    → CountsFailure stage.event.device_failed (device_after m stages).faults stage.medium.faults
     → (touches_device (last w (events_of stages)).core stage.event.step ≡ false → stage.medium ≡ device_after m stages)
     → TouchesAgree w m (stages ++ stage ∷ [])
 told-push w m [] stage told counts quiet = (counts, quiet, tt)
@@ -163,13 +163,13 @@ pub more_stages : {keeps : Type 0} {old now new : MachineView} {asked : List Ste
     → HasStages keeps old new (asked ++ step ∷ []) (came ++ outcome ∷ [])
 more_stages {old} {now} {new} {asked} {came} {step} {outcome} h k quiet =
     let g = old.core.geometry in
-    let event : Event = record { step = step; outcome = outcome; rose = k.rose; state_after = machine_of new } in
+    let event : Event = record { step = step; outcome = outcome; device_failed = k.device_failed; state_after = machine_of new } in
     let stage : Stage = record { event = event; medium = new.core.medium } in
     let events = events_of h.stages in
     let device = device_after old.core.medium h.stages in
     let here : last (machine_of old) events ≡ machine_of now = h.run.ends in
     let allowed : IsAllowed g (last (machine_of old) events) event =
-    subst (λ (x : Hands). IsAllowed g x event) (sym here)
+    subst (λ (x : MachineState). IsAllowed g x event) (sym here)
     (subst (λ (y : Geometry). IsAllowed y (machine_of now) event) h.geometry k.allowed) in
     let joined = runs_join g (machine_of old) events (event ∷ []) h.run.legal (allowed, tt) in
     let pushed : events_of (h.stages ++ stage ∷ []) ≡ events ++ event ∷ [] = map-append (λ (s : Stage). s.event) h.stages (stage ∷ []) in
@@ -184,11 +184,11 @@ more_stages {old} {now} {new} {asked} {came} {step} {outcome} h k quiet =
       run = subst (IsRun g (machine_of old) (machine_of new) (asked ++ step ∷ []) (came ++ outcome ∷ [])) (sym pushed) run;
       device = after-append old.core.medium h.stages (stage ∷ []);
       told = told-push (machine_of old) old.core.medium h.stages stage h.told
-          (subst (λ (m : Medium). CountsFailure k.rose m.faults new.core.medium.faults) (sym h.device) k.failures)
-          (λ none. quiet (ap (λ (x : Hands). touches_device x.core step) (sym here) ∙ none) ∙ sym h.device);
+          (subst (λ (m : Medium). CountsFailure k.device_failed m.faults new.core.medium.faults) (sym h.device) k.failures)
+          (λ none. quiet (ap (λ (x : MachineState). touches_device x.core step) (sym here) ∙ none) ∙ sym h.device);
       geometry = k.geometry ∙ h.geometry;
       any_moment = λ kept. safe-append g (machine_of old) old.core.medium h.stages (stage ∷ []) (h.any_moment kept) (
-        subst (λ (x : Hands). CrashImagesAre device new.core.medium (HoldsSome g x.core.committed (in_doubt x.core (event ∷ [])))) (sym here)
+        subst (λ (x : MachineState). CrashImagesAre device new.core.medium (HoldsSome g x.core.committed (in_doubt x.core (event ∷ [])))) (sym here)
             (subst (λ (y : Geometry). CrashImagesAre device new.core.medium (HoldsSome y (core_state_of now.core).committed (in_doubt (core_state_of now.core) (event ∷ []))))
             h.geometry
             (subst (λ (m : Medium). CrashImagesAre m new.core.medium (HoldsSome now.core.geometry (core_state_of now.core).committed
@@ -200,7 +200,7 @@ more_stages {old} {now} {new} {asked} {came} {step} {outcome} h k quiet =
 -- ---- the whole run
 
 worlds_apart : (g : Geometry) (events : List Event) → AllByRecursion (λ (event : Event). IsSoundCoreState g event.state_after.core) events
-    → AllByRecursion (λ (w : Hands). AreApart g (held w.core)) (map (λ e. e.state_after) events)
+    → AllByRecursion (λ (w : MachineState). AreApart g (held w.core)) (map (λ e. e.state_after) events)
 worlds_apart g [] sound = tt
 worlds_apart g (event ∷ events) sound = (sound.0.apart, worlds_apart g events sound.1)
 

@@ -8,7 +8,7 @@ use Rattle.checkpoint.specs.Recovery.{holds}
 use Rattle.disk.specs.Device.{Medium, AreBytes, IsSynced}
 use Rattle.disk.specs.Moments.{moment, left_since}
 use Rattle.journal.specs.Opening.{OpeningCrashImages}
-use Rattle.legal_runs.specs.Events.{Event, Hands}
+use Rattle.legal_runs.specs.Events.{Event, MachineState}
 use Rattle.legal_runs.specs.Laws.{IsIdle}
 use Rattle.legal_runs.specs.Incarnations.{AreLogsOf, HoldAnswered, Incarnation, Ran, Unopened, in_order}
 use Rattle.legal_runs.specs.Runs.{IsLegal}
@@ -18,7 +18,7 @@ use Rattle.meaning.specs.Serial.{fold}
 use Rattle.meaning.specs.State.{empty}
 
 -- An incarnation of a device: the device when it was opened, and as the last call left it; since which moment the crash may have come;
--- the numbers of the server that was opened; and the same by its messages alone (`Incarnation`).
+-- the geometry of the device that was opened; and the same by its messages alone (`Incarnation`).
 pub record DeviceIncarnation : Type 0 where
   pub began : Medium
   pub ended : Medium
@@ -34,7 +34,7 @@ IsPassedOn m t next =
 
 -- It was opened, with the numbers of its header, as a server in which no message is; a run was made, and the crash came when so
 -- many events or more had ended.
-pub record IsRunIncarnation (l : DeviceIncarnation) (start : Hands) (events : List Event) (k : ℕ) : Type 0 where
+pub record IsRunIncarnation (l : DeviceIncarnation) (start : MachineState) (events : List Event) (k : ℕ) : Type 0 where
   pub header : HasHeader l.geometry l.began.now
   pub recovered_before : holds l.geometry l.began.now ≡ Some start.core.committed
   pub idle : IsIdle start.core

@@ -3,9 +3,9 @@ use Rattle.std.specs.Prelude.{◌≡◌, ℕ, ◌≤◌, false, List, [], ◌∷
 use Rattle.std.specs.List.{AllByRecursion, Contains}
 use Rattle.affinity.specs.declared.geometry.Geometry.{Geometry}
 use Rattle.disk.specs.Moments.{moment, left_since}
-use Rattle.legal_runs.specs.Events.{Event, Hand, Hands, Empty, Job, Result}
+use Rattle.legal_runs.specs.Events.{Event, Hand, MachineState, Empty, Job, Result}
 use Rattle.legal_runs.specs.Laws.{AreApart, IsIdle, IsSoundCoreState, ticket_replies}
-use Rattle.legal_runs.specs.Runs.{IsLegal, IsRun, answered, arrived, last, went}
+use Rattle.legal_runs.specs.Runs.{IsLegal, IsRun, answered, arrived, last, logged_messages}
 use Rattle.legal_runs.specs.CoreState.{CoreState, entries, held}
 use Rattle.legal_runs.specs.declared.outcomes.Outcome.{Outcome}
 use Rattle.legal_runs.specs.declared.outcomes.Step.{Step}
@@ -27,7 +27,7 @@ hand_of (has.Job job) = Job job.ticket
 hand_of (has.Result done) = Result done.ticket
 
 -- the machine of the definitions
-abbrev pub machine_of : MachineView → Hands
+abbrev pub machine_of : MachineView → MachineState
 machine_of m = record { core = core_state_of m.core; hands = map hand_of m.hands }
 
 -- ---- what every machine keeps
@@ -74,11 +74,12 @@ pub record HasRun (keeps : Type 0) (old new : MachineView) (asked : List Step) (
       → left_since new.core.medium (moment (device_after old.core.medium (take k ran.stages))) c
       → RecoversForRun old.core.geometry (machine_of old) (events_of ran.stages) k c
   -- In each core state, the first one too, no two of the messages that are held are at related places.
-  pub apart : AllByRecursion (λ (w : Hands). AreApart old.core.geometry (held w.core))
+  pub apart : AllByRecursion (λ (w : MachineState). AreApart old.core.geometry (held w.core))
       (machine_of old ∷ map (λ e. e.state_after) (events_of ran.stages))
   -- What was logged has the replies that the serial server gives, in log order.
-  pub in_log_order : ticket_replies (went (machine_of old) (events_of ran.stages))
-      ≡ serial_replies old.core.geometry (core_state_of old.core).committed (entries (went (machine_of old) (events_of ran.stages)))
+  pub in_log_order : ticket_replies (logged_messages (machine_of old) (events_of ran.stages))
+      ≡ serial_replies old.core.geometry (core_state_of old.core).committed
+      (entries (logged_messages (machine_of old) (events_of ran.stages)))
   -- Where nothing waited or was held, each answer is also the one where all that arrived come by ticket.
   pub in_ticket_order : IsIdle (core_state_of old.core) → (reply : ℕ × Reply) → Contains (answered (events_of ran.stages)) reply
       → Contains (serial_replies old.core.geometry (core_state_of old.core).committed (by_ticket (arrived (events_of ran.stages)))) reply

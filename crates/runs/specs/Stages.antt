@@ -6,7 +6,7 @@ use Rattle.disk.specs.Device.{Medium}
 use Rattle.disk.specs.Moments.{CrashImagesAre}
 use Rattle.journal.specs.Journal.{HoldsSome}
 use Rattle.legal_runs.specs.Crash.{IsLeftSince, in_doubt}
-use Rattle.legal_runs.specs.Events.{Event, Hands, touches_device}
+use Rattle.legal_runs.specs.Events.{Event, MachineState, touches_device}
 use Rattle.meaning.specs.State.{State}
 use Rattle.scheduler.specs.Calls.{CountsFailure}
 
@@ -24,22 +24,22 @@ device_after m (stage ∷ stages) = device_after stage.medium stages
 
 -- A crash at any moment of an event leaves the state that was committed before it, with the first so many of the messages that the
 -- event is to append, or, in a failed core state, of those that were to be appended when the device failed.
-abbrev pub AreSafe : Geometry → Hands → Medium → List Stage → Type 0
+abbrev pub AreSafe : Geometry → MachineState → Medium → List Stage → Type 0
 AreSafe g w m [] = Unit {0}
 AreSafe g w m (stage ∷ stages) =
     CrashImagesAre m stage.medium (HoldsSome g w.core.committed (in_doubt w.core (stage.event ∷ [])))
     × AreSafe g stage.event.state_after stage.medium stages
 
 -- Each event reports whether the device failed in it, and left the device alone where its step touches none.
-abbrev pub TouchesAgree : Hands → Medium → List Stage → Type 0
+abbrev pub TouchesAgree : MachineState → Medium → List Stage → Type 0
 TouchesAgree w m [] = Unit {0}
 TouchesAgree w m (stage ∷ stages) =
-    CountsFailure stage.event.rose m.faults stage.medium.faults
+    CountsFailure stage.event.device_failed m.faults stage.medium.faults
     × (touches_device w.core stage.event.step ≡ false → stage.medium ≡ m)
     × TouchesAgree stage.event.state_after stage.medium stages
 
 -- These bytes recover to a state that a crash of a run may leave, if it comes when k events or more have ended.
-pub record RecoversForRun (g : Geometry) (start : Hands) (events : List Event) (k : ℕ) (c : List ℕ) : Type 0 where
+pub record RecoversForRun (g : Geometry) (start : MachineState) (events : List Event) (k : ℕ) (c : List ℕ) : Type 0 where
   pub state : State
   pub is : holds g c ≡ Some state
   pub left : IsLeftSince g start events k state

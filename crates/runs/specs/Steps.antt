@@ -13,18 +13,19 @@ use Rattle.scheduler.specs.CoreView.{CoreView, RecoversThroughout, core_state_of
 -- The step had this outcome: it was an event, at each moment of which a crash leaves what was committed, with the first so many
 -- of the messages that were to be appended when the device failed, or that it is to append.
 pub record IsMachineStep (keeps : Type 0) (old new : MachineView) (step : Step) (outcome : Outcome) : Type 0 where
-  pub rose : Bool
+  pub device_failed : Bool
   pub allowed : IsAllowed old.core.geometry (machine_of old)
-      (record { step = step; outcome = outcome; rose = rose; state_after = machine_of new })
+      (record { step = step; outcome = outcome; device_failed = device_failed; state_after = machine_of new })
   pub geometry : new.core.geometry ≡ old.core.geometry
-  pub failures : CountsFailure rose old.core.medium.faults new.core.medium.faults
+  pub failures : CountsFailure device_failed old.core.medium.faults new.core.medium.faults
   pub any_moment : keeps → CrashImagesAre old.core.medium new.core.medium (HoldsSome old.core.geometry (core_state_of old.core).committed
-      (in_doubt (core_state_of old.core) (record { step = step; outcome = outcome; rose = rose; state_after = machine_of new } ∷ [])))
+      (in_doubt (core_state_of old.core)
+      (record { step = step; outcome = outcome; device_failed = device_failed; state_after = machine_of new } ∷ [])))
 
 -- The same of a core, whatever the hands have.
 pub record IsCoreStep (keeps : Type 0) (old new : CoreView) (step : Step) (outcome : Outcome) : Type 0 where
-  pub rose : Bool
-  pub called : IsCalled old.geometry (core_state_of old) (core_state_of new) step outcome rose
+  pub device_failed : Bool
+  pub called : IsCalled old.geometry (core_state_of old) (core_state_of new) step outcome device_failed
   pub geometry : new.geometry ≡ old.geometry
-  pub failures : CountsFailure rose old.medium.faults new.medium.faults
+  pub failures : CountsFailure device_failed old.medium.faults new.medium.faults
   pub any_moment : keeps → RecoversThroughout (to_append (core_state_of old) step) old new

@@ -1,4 +1,4 @@
-//! What holds of a device over many incarnations: the law for which all this is made. No function here does anything; its
+//! What holds of a device over many incarnations: the law of incarnations. No function here does anything; its
 //! contract is the law.
 ghost use Rattle.std.specs.Prelude.{◌≡◌, ℕ, List, Some, None, length};
 ghost use Rattle.disk.specs.Device.{IsCrashImage};

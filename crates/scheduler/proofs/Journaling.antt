@@ -46,8 +46,9 @@ still_standing keeps p k keep ms new same =
         (subst (λ ds. HoldsSome p.journal.geometry (core_state_in p).committed ds c) (k.no_doubt e) h))
 
 -- an event leads to a sound core state
-pub called_sound : (g : Geometry) (old new : CoreState) (step : Step) (outcome : Outcome) (rose : Bool) → IsCalled g old new step outcome rose → IsSoundCoreState g old → IsSoundCoreState g new
-called_sound g old new step outcome rose called sound = event_sound g (record { core = old; hands = [] }) _ (called []) sound
+pub called_sound : (g : Geometry) (old new : CoreState) (step : Step) (outcome : Outcome) (device_failed : Bool) → IsCalled g old new step outcome device_failed
+    → IsSoundCoreState g old → IsSoundCoreState g new
+called_sound g old new step outcome device_failed called sound = event_sound g (record { core = old; hands = [] }) _ (called []) sound
 
 abbrev pub with_journal : Parts → ℕ → Option ℕ → Bool → DirtyPieces → Medium → Parts
 with_journal p room left failed dirty medium = record p { journal = record p.journal { room = room; left = left; failed = failed; dirty = dirty; medium = medium } }

@@ -5,7 +5,7 @@ use Rattle.affinity.specs.Path.{are_related}
 use Rattle.affinity.specs.declared.geometry.Geometry.{Geometry}
 use Rattle.legal_runs.proofs.Elements.{in_contained}
 use Rattle.legal_runs.proofs.Outs.{event_sees}
-use Rattle.legal_runs.specs.Events.{Event, Hands, IsAllowed}
+use Rattle.legal_runs.specs.Events.{Event, MachineState, IsAllowed}
 use Rattle.legal_runs.specs.Laws.{IsSoundCoreState}
 use Rattle.legal_runs.specs.CoreState.{Entry, CoreState}
 use Rattle.messages.specs.Messages.{place}
@@ -21,7 +21,7 @@ use Rattle.meaning.specs.Shares.{AgreeOn}
 use Rattle.scheduler.specs.Jobs.{IsJobOf, IsResultOf}
 
 -- what a message in flight can read of the committed state stays
-event_leaves : (g : Geometry) (e : Entry) (old : Hands) (event : Event) → IsAllowed g old event → IsSoundCoreState g old.core
+event_leaves : (g : Geometry) (e : Entry) (old : MachineState) (event : Event) → IsAllowed g old event → IsSoundCoreState g old.core
     → Contains old.core.out e → AgreeOn g (are_related (place g e.1)) event.state_after.core.committed old.core.committed
 event_leaves g e old event allowed sound there = event_sees g old event e allowed sound (in_contained old.core.out e there)
 
@@ -37,7 +37,7 @@ ran_gives g w job done is ran = subst (λ (h : Geometry). IsResultOf h w done) i
     serial : IsSerialStepOf job done w.committed
     serial = serial_run job done w.committed ran is.lent
 
-pub job_stays : (g : Geometry) (old : Hands) (event : Event) (job : JobView) → IsAllowed g old event → IsSoundCoreState g old.core → IsJobOf g old.core job
+pub job_stays : (g : Geometry) (old : MachineState) (event : Event) (job : JobView) → IsAllowed g old event → IsSoundCoreState g old.core → IsJobOf g old.core job
     → Contains event.state_after.core.out (job.ticket, job.message) → IsJobOf g event.state_after.core job
 job_stays g old event job allowed sound is there = record {
   geometry = is.geometry;
@@ -47,7 +47,7 @@ job_stays g old event job allowed sound is there = record {
       (agree-sym (event_leaves g (job.ticket, job.message) old event allowed sound is.is_out)));
 }
 
-pub result_stays : (g : Geometry) (old : Hands) (event : Event) (done : Done) → IsAllowed g old event → IsSoundCoreState g old.core → IsResultOf g old.core done
+pub result_stays : (g : Geometry) (old : MachineState) (event : Event) (done : Done) → IsAllowed g old event → IsSoundCoreState g old.core → IsResultOf g old.core done
     → Contains event.state_after.core.out (done.ticket, done.message) → IsResultOf g event.state_after.core done
 result_stays g old event done allowed sound is there = record {
   is_out = there;

@@ -71,13 +71,13 @@ IsPieceStep old new (Err refusal) = (piece_refusal old ≡ Some refusal) × (new
 -- ---- how often the device failed
 
 -- whether the device failed during the call
-abbrev pub log_rose : Result ℕ CoreFault → Bool
-log_rose (Err faults.Device) = true
-log_rose _ = false
+abbrev pub log_device_failed : Result ℕ CoreFault → Bool
+log_device_failed (Err faults.Device) = true
+log_device_failed _ = false
 
-abbrev pub point_rose : {T : Type 0} → Result T PointRefusal → Bool
-point_rose (Err points.Device) = true
-point_rose _ = false
+abbrev pub point_device_failed : {T : Type 0} → Result T PointRefusal → Bool
+point_device_failed (Err points.Device) = true
+point_device_failed _ = false
 
 -- A call adds one to the count of failures exactly where the device failed during it.
 abbrev pub CountsFailure : Bool → ℕ → ℕ → Type 0
@@ -88,9 +88,9 @@ CountsFailure false old new = new ≡ old
 
 -- The call was this event: it may come whatever the hands hold, and leaves them so.
 abbrev pub IsCalled : Geometry → CoreState → CoreState → Step → Outcome → Bool → Type 0
-IsCalled g old new step outcome rose = (hands : List Hand)
+IsCalled g old new step outcome device_failed = (hands : List Hand)
     → IsAllowed g (record { core = old; hands = hands })
-    (record { step = step; outcome = outcome; rose = rose; state_after = record { core = new; hands = hands } })
+    (record { step = step; outcome = outcome; device_failed = device_failed; state_after = record { core = new; hands = hands } })
 
 abbrev pub arrive_outcome : Result ℕ ArriveRefusal → Outcome
 arrive_outcome (Ok ticket) = outcomes.Ticket ticket

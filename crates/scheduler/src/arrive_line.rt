@@ -2,7 +2,7 @@
 
 ghost use Rattle.std.specs.Prelude.{◌≡◌, Some, false};
 ghost use Rattle.messages.specs.Grammar.{message_of};
-ghost use Rattle.message.specs.Heads.{asking, has_data};
+ghost use Rattle.message.specs.Heads.{message_without_data, has_data};
 ghost use Rattle.scheduler.specs.Calls.{ArrivesByLine};
 
 use crate::Core;
@@ -13,9 +13,9 @@ use message::{Head, head_of_line, parse_line, read_block};
 use messages::{Block, Msg};
 
 /// The message of a kind without data and its numbers. It is made where it lies: no room for a block is moved.
-fn asked(kind: Kind, numbers: [u16; 4]) -> Msg
+fn message_without_data(kind: Kind, numbers: [u16; 4]) -> Msg
     requires { has_data kind ≡ false }
-    ensures { result ≡ asking kind numbers }
+    ensures { result ≡ message_without_data kind numbers }
 {
     let [a, v, f, b] = numbers;
     match kind {
@@ -58,8 +58,8 @@ impl<D: Disk> Core<D> {
     {
         match head_of_line(line) {
             Head::NoMessage => Ok(None),
-            Head::Asks(kind, numbers) => {
-                let message = asked(kind, numbers);
+            Head::WithoutData(kind, numbers) => {
+                let message = message_without_data(kind, numbers);
                 self.arrive_spelled(&message)
             }
             Head::Writes(numbers, digits) => {

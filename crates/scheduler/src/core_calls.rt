@@ -19,7 +19,7 @@ ghost use Rattle.oplog.specs.Costs.{Takes, batches};
 ghost use Rattle.device_map.specs.Layout.{layout_of};
 ghost use Rattle.oplog.specs.Recovery.{in_force, named_area};
 ghost use Rattle.meaning.specs.State.{State};
-ghost use Rattle.scheduler.specs.Calls.{CountsFailure, IsGranted, IsLogStep, IsPieceStep, IsPointStep, answer_outcome, arrive_outcome, log_rose, point_rose};
+ghost use Rattle.scheduler.specs.Calls.{CountsFailure, IsGranted, IsLogStep, IsPieceStep, IsPointStep, answer_outcome, arrive_outcome, log_device_failed, point_device_failed};
 ghost use Rattle.arena.specs.Row.{chain_at};
 ghost use Rattle.scheduler.specs.Slots.{HasChains};
 ghost use Rattle.scheduler.specs.Jobs.{IsResultOf};
@@ -277,7 +277,7 @@ impl<D: Disk> Core<D> {
     pub fn log(&mut self, n: usize) -> Result<usize, CoreFault>
         ensures state_after { IsLogStep self.old.geometry (core_state_of self.old) (core_state_of self.new) n result }
         ensures geometry { self.new.geometry ≡ self.old.geometry }
-        ensures counts { CountsFailure (log_rose result) self.old.medium.faults self.new.medium.faults }
+        ensures counts { CountsFailure (log_device_failed result) self.old.medium.faults self.new.medium.faults }
 
         // A crash at any moment of the call leaves what was committed, with the first m of what is appended.
         ensures any_moment { D.keeps → RecoversThroughout (batch (core_state_of self.old) n) self.old self.new }
@@ -340,7 +340,7 @@ impl<D: Disk> Core<D> {
         ensures state_after { IsPointStep (core_state_of self.old) (core_state_of self.new) (point_refusal (core_state_of self.old))
             (core_state_of self.new ≡ record (core_state_of self.old) { room = self.old.geometry.half }) result }
         ensures geometry { self.new.geometry ≡ self.old.geometry }
-        ensures counts { CountsFailure (point_rose result) self.old.medium.faults self.new.medium.faults }
+        ensures counts { CountsFailure (point_device_failed result) self.old.medium.faults self.new.medium.faults }
 
         // A crash at any moment of the call leaves what was committed.
         ensures any_moment { D.keeps → RecoversThroughout [] self.old self.new }
@@ -365,7 +365,7 @@ impl<D: Disk> Core<D> {
             ((n : ℕ) × (n ≤ piece_count self.old.geometry)
             × (core_state_of self.new ≡ record (core_state_of self.old) { room = self.old.geometry.half; left = Some n })) result }
         ensures geometry { self.new.geometry ≡ self.old.geometry }
-        ensures counts { CountsFailure (point_rose result) self.old.medium.faults self.new.medium.faults }
+        ensures counts { CountsFailure (point_device_failed result) self.old.medium.faults self.new.medium.faults }
         ensures any_moment { D.keeps → RecoversThroughout [] self.old self.new }
         ensures beyond { D.keeps → KeepsBeyond (layout_of self.old.geometry) self.old.medium self.new.medium }
         ensures takes { D.keeps → Takes result 4 self.old.medium self.new.medium }
@@ -385,7 +385,7 @@ impl<D: Disk> Core<D> {
     pub fn piece(&mut self) -> Result<usize, PointRefusal>
         ensures state_after { IsPieceStep (core_state_of self.old) (core_state_of self.new) result }
         ensures geometry { self.new.geometry ≡ self.old.geometry }
-        ensures counts { CountsFailure (point_rose result) self.old.medium.faults self.new.medium.faults }
+        ensures counts { CountsFailure (point_device_failed result) self.old.medium.faults self.new.medium.faults }
         ensures any_moment { D.keeps → RecoversThroughout [] self.old self.new }
         ensures beyond { D.keeps → KeepsBeyond (layout_of self.old.geometry) self.old.medium self.new.medium }
         ensures takes { self.old.left ≢ Some 0 → D.keeps → Takes result 1 self.old.medium self.new.medium }
@@ -408,7 +408,7 @@ impl<D: Disk> Core<D> {
         ensures state_after { IsPointStep (core_state_of self.old) (core_state_of self.new) (flip_refusal (core_state_of self.old))
             (core_state_of self.new ≡ record (core_state_of self.old) { left = None }) result }
         ensures geometry { self.new.geometry ≡ self.old.geometry }
-        ensures counts { CountsFailure (point_rose result) self.old.medium.faults self.new.medium.faults }
+        ensures counts { CountsFailure (point_device_failed result) self.old.medium.faults self.new.medium.faults }
         ensures any_moment { D.keeps → RecoversThroughout [] self.old self.new }
         ensures beyond { D.keeps → KeepsBeyond (layout_of self.old.geometry) self.old.medium self.new.medium }
         ensures takes { D.keeps → Takes result 3 self.old.medium self.new.medium }

@@ -3,7 +3,7 @@
 
 ghost use Rattle.std.specs.List.{Contains};
 ghost use Rattle.affinity.specs.declared.geometry.Geometry.{Geometry};
-ghost use Rattle.legal_runs.specs.Events.{Event, Hands, IsAllowed};
+ghost use Rattle.legal_runs.specs.Events.{Event, MachineState, IsAllowed};
 ghost use Rattle.legal_runs.specs.Laws.{IsSoundCoreState};
 ghost use Rattle.legal_runs.specs.CoreState.{CoreState};
 ghost use Rattle.parcel.specs.Run.{JobView, IsJobRun};
@@ -13,9 +13,9 @@ ghost use Rattle.scheduler.specs.Jobs.{IsJobOf, IsResultOf};
 /// What a job is, and what comes of it, stays so while other events come, as long as it is in flight.
 pub fn jobs_stay()
     ensures ran { (g : Geometry) (w : CoreState) (job : JobView) (done : Done) → IsJobOf g w job → IsJobRun job done → IsResultOf g w done }
-    ensures job { (g : Geometry) (old : Hands) (event : Event) (job : JobView) → IsAllowed g old event → IsSoundCoreState g old.core
+    ensures job { (g : Geometry) (old : MachineState) (event : Event) (job : JobView) → IsAllowed g old event → IsSoundCoreState g old.core
         → IsJobOf g old.core job → Contains event.state_after.core.out (job.ticket, job.message) → IsJobOf g event.state_after.core job }
-    ensures result { (g : Geometry) (old : Hands) (event : Event) (done : Done) → IsAllowed g old event → IsSoundCoreState g old.core
+    ensures result { (g : Geometry) (old : MachineState) (event : Event) (done : Done) → IsAllowed g old event → IsSoundCoreState g old.core
         → IsResultOf g old.core done → Contains event.state_after.core.out (done.ticket, done.message)
         → IsResultOf g event.state_after.core done }
 {}

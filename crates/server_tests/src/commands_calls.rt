@@ -1,5 +1,5 @@
 //! Calls of the program over memory: which words it takes, what it prints of them, and where.
-use commands::{Fault, command, report, report_unread_words};
+use commands::{Fault, command, report, report_unreadable_arguments};
 use std::alloc::{AllocError, Global};
 use std::cell::Cell;
 use std::fs::File;
@@ -485,7 +485,7 @@ fn words_that_are_no_text_are_wrong_words(rt: HostRuntime) -> Result<(), Fail> {
     ];
     for (kind, status, told) in rows {
         let mut faults = Vec::new(rt.alloc());
-        let found = report_unread_words(&io::Error::from(kind), &mut faults);
+        let found = report_unreadable_arguments(&io::Error::from(kind), &mut faults);
         expect_told(found, faults.as_slice(), status, told)?;
     }
     Ok(())

@@ -45,7 +45,7 @@ impl Gate for Holding {
 /// Messages of which some are held until the one behind them is answered.
 #[derive(Clone, Copy)]
 struct AtOnce {
-    /// The numbers of the server.
+    /// The geometry of the server.
     numbers: [u16; 8],
     lines: &'static [u8],
     workers: usize,

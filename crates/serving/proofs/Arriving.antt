@@ -3,7 +3,7 @@ use Rattle.std.proofs.Common.{◌≡◌, ◌≢◌, ℕ, ◌+◌, true, false, L
 use Rattle.std.specs.Prelude.{Bool, Result, Ok, Err, if◌then◌else◌, not, nat_le, ◌==◌, ◌^◌, ◌-◌, length}
 use Rattle.affinity.specs.declared.geometry.Geometry.{Geometry}
 use Rattle.legal_runs.proofs.Elements.{in_contained}
-use Rattle.legal_runs.specs.Events.{Hands, arrive}
+use Rattle.legal_runs.specs.Events.{MachineState, arrive}
 use Rattle.legal_runs.specs.Laws.{IsIdle}
 use Rattle.legal_runs.specs.CoreState.{Entry, CoreState, held}
 use Rattle.legal_runs.specs.declared.outcomes.ArriveRefusal.{ArriveRefusal}
@@ -54,7 +54,7 @@ module _ {keeps : Type 0} {start old : MachineView} {taken : List (List ℕ)} {s
 
   -- the ticket that the core gives next
   pub next_is : old.core.next ≡ next_ticket start.core.next (admitted g taken)
-  next_is = ap (λ (w : Hands). w.core.next) (sym s.passes.ends) ∙ run_next g _ (events_of s.passes.stages) s.passes.legal
+  next_is = ap (λ (w : MachineState). w.core.next) (sym s.passes.ends) ∙ run_next g _ (events_of s.passes.stages) s.passes.legal
       ∙ ap (λ (es : List Entry). next_ticket start.core.next (messages es)) s.passes.come_are
       ∙ ap (next_ticket start.core.next) (messages-ticketed start.core.next (admitted g taken))
 

@@ -6,7 +6,7 @@ use Rattle.std.proofs.lemmas.Bool.{true≢false}
 use Rattle.std.proofs.lemmas.List.{length-replicate}
 use Rattle.legal_runs.proofs.Full.{last_none_out}
 use Rattle.legal_runs.proofs.Idle.{idle_sound, none_out}
-use Rattle.legal_runs.specs.Events.{Hands}
+use Rattle.legal_runs.specs.Events.{MachineState}
 use Rattle.legal_runs.specs.Laws.{IsIdle, full}
 use Rattle.runs.specs.Machine.{MachineView, hand_of as hand_in, machine_of}
 use Rattle.runs.specs.Stages.{events_of}
@@ -103,9 +103,9 @@ module _ {keeps : Type 0} {s : Start} {p : SessionView} (u : SessionInvariant ke
         let none : full (machine_of now).hands ≡ 0 =
         ap (λ (l : List (Option JobView)). full (map hand_in (map lent_hand l))) home ∙ all_empty (length p.dispatch_seat.lent) in
         record {
-          none_out = ap (λ (w : Hands). w.core.out) (sym r.ends)
+          none_out = ap (λ (w : MachineState). w.core.out) (sym r.ends)
               ∙ last_none_out start.core.geometry (machine_of start) (events_of r.stages) r.legal (none_out (core_state_of start.core) u.idle)
-              (ap (λ (w : Hands). full w.hands) r.ends ∙ none);
+              (ap (λ (w : MachineState). full w.hands) r.ends ∙ none);
           none_logged = answered;
         }
 
@@ -314,7 +314,7 @@ first_at keeps {o} {core} {dispatch_seat} {row} {left} {input} {sent} {drained} 
     let start = start_machine s in
     begins_at keeps o s _ r.is (record {
       idle = r.idle;
-      sure = r.sure;
+      none_in_doubt = r.none_in_doubt;
       fits = r.fits;
       holds = holds_first core dispatch_seat.lent places unused.none_lent r.idle;
       places = places_first dispatch_seat.lent places unused.none_lent ∙ sym unused.slots;

@@ -6,7 +6,7 @@ use Rattle.affinity.specs.declared.geometry.Geometry.{Geometry}
 use Rattle.meaning.specs.Serial.{reply_to}
 use Rattle.legal_runs.specs.CoreState.{Replied, CoreState, entries, held}
 use Rattle.legal_runs.specs.Eligible.{is_eligible}
-use Rattle.legal_runs.specs.Events.{Hands, Event, give_back}
+use Rattle.legal_runs.specs.Events.{MachineState, Event, give_back}
 use Rattle.legal_runs.specs.Runs.{IsLegal, answered, answers, arrived, arrives, last}
 use Rattle.serving.specs.Runs.{inside}
 use Rattle.legal_runs.proofs.Apart.{held_grant, length_held, log_held}
@@ -46,7 +46,7 @@ move_counts g old new p (Answers a rest front is e) =
     subst (Counts old new) (sym e) (subst (λ w. inside w + 1 ≡ inside old + 0) (sym is) (omega (arith, was)))
 
 -- What waits or is held at the end and what was answered is what waited or was held in the beginning and what arrived.
-pub run_counts : (g : Geometry) (old : Hands) (events : List Event) → IsLegal g old events
+pub run_counts : (g : Geometry) (old : MachineState) (events : List Event) → IsLegal g old events
     → inside (last old events).core + length (answered events) ≡ inside old.core + length (arrived events)
 run_counts g old [] legal = omega arith
 run_counts g old (event ∷ events) legal =

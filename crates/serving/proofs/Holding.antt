@@ -6,7 +6,7 @@ use Rattle.checkpoint.proofs.Fine.{fine, head}
 use Rattle.disk.specs.Device.{IsCrashImage}
 use Rattle.legal_runs.specs.Events.{loggable}
 use Rattle.legal_runs.proofs.Lists.{all_join}
-use Rattle.legal_runs.specs.Runs.{answered, went}
+use Rattle.legal_runs.specs.Runs.{answered, logged_messages}
 use Rattle.runs.specs.Machine.{machine_of}
 use Rattle.runs.specs.Stages.{events_of}
 use Rattle.meaning.specs.Output.{joined}
@@ -41,8 +41,8 @@ module _ {keeps : Type 0} {s : Start} {sent later : Option (List ℕ)} {now : Co
   holds_sent kept c left =
       let h = served_on in
       let g = s.core.geometry in
-      let log = went (machine_of (start_machine s)) (events_of h.stages) in
-      let held = holds_all keeps (start_machine s) now s.input h.taken h.stages m.idle m.sure h.run kept c left in
+      let log = logged_messages (machine_of (start_machine s)) (events_of h.stages) in
+      let held = holds_all keeps (start_machine s) now s.input h.taken h.stages m.idle m.none_in_doubt h.run kept c left in
       let state = fold g (committed_in s.core) (loggable (log ++ held.more)) in
       record {
         taken = h.taken;

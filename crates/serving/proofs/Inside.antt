@@ -7,7 +7,7 @@ use Rattle.std.proofs.lemmas.List.{length-append}
 use Rattle.affinity.specs.declared.geometry.Geometry.{Geometry}
 use Rattle.legal_runs.proofs.Elements.{in_contained}
 use Rattle.legal_runs.proofs.SerialReplies.{IsIn}
-use Rattle.legal_runs.specs.Events.{Hands}
+use Rattle.legal_runs.specs.Events.{MachineState}
 use Rattle.legal_runs.specs.Laws.{IsIdle}
 use Rattle.legal_runs.specs.Runs.{answered, arrived, last}
 use Rattle.legal_runs.specs.CoreState.{CoreState, held}
@@ -143,7 +143,7 @@ module _ {keeps : Type 0} {start now : MachineView} (idle : IsIdle (core_state_o
       let g = start.core.geometry in
       let n = start.core.next in
       let counts = run_counts g (machine_of start) (events_of p.stages) p.legal in
-      let ends : inside (core_state_of now.core) ≡ inside (last (machine_of start) (events_of p.stages)).core = ap (λ (w : Hands). inside w.core) (sym p.ends) in
+      let ends : inside (core_state_of now.core) ≡ inside (last (machine_of start) (events_of p.stages)).core = ap (λ (w : MachineState). inside w.core) (sym p.ends) in
       let come : length (arrived (events_of p.stages)) ≡ length (admitted g taken) = ap length p.come_are ∙ length-ticketed n (admitted g taken) in
       let reply_pairs : length (answered (events_of p.stages)) ≡ length s.reply_pairs = ap length p.reply_pairs_are in
       let none = idle_inside (core_state_of start.core) idle in

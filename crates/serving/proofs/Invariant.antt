@@ -152,7 +152,7 @@ module _ (keeps : Type 0) where
         let q : SessionView = record p { core = core; dispatch_seat = dispatch_seat } in
         goes_to q (λ s u. record {
           idle = u.idle;
-          sure = u.sure;
+          none_in_doubt = u.none_in_doubt;
           fits = u.fits;
           holds = k.holds;
           places = places ∙ u.places ∙ ap (λ (z : _). z.slots) (sym bench);
@@ -177,7 +177,7 @@ module _ (keeps : Type 0) where
         let q : SessionView = record p { core = core; row = row } in
         goes_to q (λ s u. record {
           idle = u.idle;
-          sure = u.sure;
+          none_in_doubt = u.none_in_doubt;
           fits = subst (λ (n : ℕ). n ≤ s.core.slots) (sym slots) u.fits;
           holds = k.0;
           places = u.places;
@@ -205,7 +205,7 @@ module _ (keeps : Type 0) where
         let q : SessionView = record p { row = row; out = out } in
         goes_to q (λ s u. record {
           idle = u.idle;
-          sure = u.sure;
+          none_in_doubt = u.none_in_doubt;
           fits = subst (λ (n : ℕ). n ≤ s.core.slots) (sym slots) u.fits;
           holds = u.holds;
           places = u.places;
@@ -240,7 +240,7 @@ module _ (keeps : Type 0) where
         let q : SessionView = record p { out = out; sent = sent; outstanding = n } in
         goes_to q (λ s u. record {
           idle = u.idle;
-          sure = u.sure;
+          none_in_doubt = u.none_in_doubt;
           fits = u.fits;
           holds = u.holds;
           places = u.places;
@@ -269,7 +269,7 @@ module _ (keeps : Type 0) where
         let q : SessionView = record p { sent = sent; output_failed = true } in
         goes_to q (λ s u. record {
           idle = u.idle;
-          sure = u.sure;
+          none_in_doubt = u.none_in_doubt;
           fits = u.fits;
           holds = u.holds;
           places = u.places;
@@ -294,7 +294,7 @@ module _ (keeps : Type 0) where
       let h = k.2 in
       record {
         idle = u.idle;
-        sure = u.sure;
+        none_in_doubt = u.none_in_doubt;
         next = h.waiting;
         row = p.row.lines;
         served = has_served keeps (start_machine s) (machine p) u.idle none recovers
@@ -325,7 +325,7 @@ module _ (keeps : Type 0) where
     reads_next : (s : Start) → SessionInvariant keeps s p → Holds (machine next) → SessionProgress keeps s next left drained → SessionInvariant keeps s next
     reads_next s u holds gone = record {
       idle = u.idle;
-      sure = u.sure;
+      none_in_doubt = u.none_in_doubt;
       fits = subst (λ (n : ℕ). n ≤ s.core.slots) (sym slots) u.fits;
       holds = holds;
       places = u.places;
@@ -382,7 +382,7 @@ module _ (keeps : Type 0) where
         let sent = known_unless p.output_failed p.sent in
         record {
           idle = u.idle;
-          sure = u.sure;
+          none_in_doubt = u.none_in_doubt;
           fits = subst (λ (n : ℕ). n ≤ s.core.slots) (sym slots) u.fits;
           holds = k.holds;
           places = u.places;

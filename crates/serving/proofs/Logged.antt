@@ -15,9 +15,9 @@ use Rattle.legal_runs.proofs.Crashes.{went_first}
 use Rattle.legal_runs.proofs.Elements.{contains_in, holds_of, in_contained}
 use Rattle.legal_runs.proofs.SerialLogs.{answered_came, left_in_order, logged_begins, one_message, still_serial}
 use Rattle.legal_runs.proofs.SerialReplies.{IsIn, in_left, in_right}
-use Rattle.legal_runs.specs.Events.{Event, Hands, loggable}
+use Rattle.legal_runs.specs.Events.{Event, MachineState, loggable}
 use Rattle.legal_runs.specs.Laws.{AreAscending, IsIdle, IsSerialLog, ticket_replies}
-use Rattle.legal_runs.specs.Runs.{answered, answered_messages, arrived, arrives, last, went}
+use Rattle.legal_runs.specs.Runs.{answered, answered_messages, arrived, arrives, last, logged_messages}
 use Rattle.legal_runs.specs.CoreState.{Entry, Replied, entry}
 use Rattle.runs.specs.Machine.{MachineView, machine_of}
 use Rattle.runs.specs.Stages.{Stage, RecoversForRun, device_after, events_of}
@@ -46,25 +46,25 @@ module _ (keeps : Type 0) (start : MachineView) (new : CoreView) (input : Option
   abbrev g : Geometry
   g = start.core.geometry
 
-  abbrev w : Hands
+  abbrev w : MachineState
   w = machine_of start
 
   abbrev events : List Event
   events = events_of stages
 
   -- What recovers to a state of the run since event k holds all that was logged by then.
-  holds_since : (k : ℕ) (c : List ℕ) → RecoversForRun g w events k c → HoldsLog g (committed_in start.core) (arrived events) (went w (take k events)) c
+  holds_since : (k : ℕ) (c : List ℕ) → RecoversForRun g w events k c → HoldsLog g (committed_in start.core) (arrived events) (logged_messages w (take k events)) c
   holds_since k c s =
       let after = s.left.after in
       let found = left_in_order g r.legal idle none s.left.is_log in
       let some = take found.0 (last w (take after events)).core.ran in
       let first = went_first w events k after s.left.since in
-      let whole : went w (take after events) ++ some ≡ went w (take k events) ++ (first.0 ++ some) =
-      ap (λ (l : List Replied). l ++ some) first.1 ∙ append_assoc (went w (take k events)) first.0 some in
+      let whole : logged_messages w (take after events) ++ some ≡ logged_messages w (take k events) ++ (first.0 ++ some) =
+      ap (λ (l : List Replied). l ++ some) first.1 ∙ append_assoc (logged_messages w (take k events)) first.0 some in
       let all = arrived_parted events after in
-      let serial : IsSerialLog g (committed_in start.core) (arrived events) (went w (take after events) ++ some) =
-      subst (λ (es : List Entry). IsSerialLog g (committed_in start.core) es (went w (take after events) ++ some)) all
-      (still_serial g (committed_in start.core) (arrived (take after events)) (arrived (drop after events)) (went w (take after events) ++ some)
+      let serial : IsSerialLog g (committed_in start.core) (arrived events) (logged_messages w (take after events) ++ some) =
+      subst (λ (es : List Entry). IsSerialLog g (committed_in start.core) es (logged_messages w (take after events) ++ some)) all
+      (still_serial g (committed_in start.core) (arrived (take after events)) (arrived (drop after events)) (logged_messages w (take after events) ++ some)
       (subst AreAscending (sym all) (run_ascending g w events r.legal)) found.1) in
       record {
         more = first.0 ++ some;
@@ -76,14 +76,14 @@ module _ (keeps : Type 0) (start : MachineView) (new : CoreView) (input : Option
   -- So does what a crash leaves since event k ended.
   pub holds_logged : keeps → (k : ℕ) (c : List ℕ) → k ≤ length stages
       → left_since new.medium (moment (device_after start.core.medium (take k stages))) c
-      → HoldsLog g (committed_in start.core) (ticketed start.core.next (admitted g taken)) (went w (take k events)) c
+      → HoldsLog g (committed_in start.core) (ticketed start.core.next (admitted g taken)) (logged_messages w (take k events)) c
   holds_logged kept k c le since =
-      subst (λ (es : List Entry). HoldsLog g (committed_in start.core) es (went w (take k events)) c) r.arrived_are
+      subst (λ (es : List Entry). HoldsLog g (committed_in start.core) es (logged_messages w (take k events)) c) r.arrived_are
       (holds_since k c (r.crash kept k c le since))
 
   -- And in the end all that was logged.
   pub holds_all : keeps → (c : List ℕ) → IsCrashImage new.medium c
-      → HoldsLog g (committed_in start.core) (ticketed start.core.next (admitted g taken)) (went w events) c
+      → HoldsLog g (committed_in start.core) (ticketed start.core.next (admitted g taken)) (logged_messages w events) c
   holds_all kept c left =
       let n = length stages in
       let at_end : device_after start.core.medium (take n stages) ≡ new.medium =
@@ -91,7 +91,7 @@ module _ (keeps : Type 0) (start : MachineView) (new : CoreView) (input : Option
       let since : left_since new.medium (moment (device_after start.core.medium (take n stages))) c =
       subst (λ (m : Medium). left_since new.medium (moment m) c) (sym at_end) (counts_now new.medium (moment new.medium) c (omega arith) left) in
       let long : length events ≤ n = omega (arith, length-map stages (λ (s : Stage). s.event)) in
-      subst (λ (es : List Event). HoldsLog g (committed_in start.core) (ticketed start.core.next (admitted g taken)) (went w es) c) (take_all n events long)
+      subst (λ (es : List Event). HoldsLog g (committed_in start.core) (ticketed start.core.next (admitted g taken)) (logged_messages w es) c) (take_all n events long)
       (holds_logged kept n c (omega arith) since)
 
 -- ---- the lines
@@ -135,7 +135,7 @@ said_of (a ∷ as') p is = ⊎_elim
 module _ (keeps : Type 0) (start : MachineView) (new : CoreView) (row : List Line) (input before written : Option (List ℕ))
     (idle : IsIdle (core_state_of start.core)) (h : HasServed keeps start new row input before written) where
   abbrev run_log : List Replied
-  run_log = went (machine_of start) (events_of h.stages)
+  run_log = logged_messages (machine_of start) (events_of h.stages)
 
   -- A message of the input that was sent a reply by its ticket was logged with it.
   was_logged : (ticket : ℕ) (m : Msg) (reply : Reply) → IsIn (ticket, m) (ticketed start.core.next (admitted start.core.geometry h.taken))

@@ -3,7 +3,7 @@ use Rattle.std.proofs.Common.{◌≡◌, ℕ, Bool, List, [], ◌∷◌, ◌++�
 use Rattle.std.specs.Prelude.{OnErr, drop, length, if◌then◌else◌}
 use Rattle.affinity.specs.declared.geometry.Geometry.{Geometry}
 use Rattle.legal_runs.proofs.Failures.{failure_lasts}
-use Rattle.legal_runs.specs.Events.{Event, Hands, batch}
+use Rattle.legal_runs.specs.Events.{Event, MachineState, batch}
 use Rattle.legal_runs.specs.Laws.{moves_what_is_out}
 use Rattle.legal_runs.specs.Runs.{IsLegal, answers, arrives, last}
 use Rattle.legal_runs.specs.CoreState.{Entry, CoreState}
@@ -19,7 +19,7 @@ use Rattle.runs.specs.Machine.{MachineView, machine_of}
 use Rattle.runs.specs.Steps.{IsCoreStep, IsMachineStep}
 use Rattle.runs.specs.declared.hands.Holding.{Holding}
 use Rattle.messages.specs.declared.Reply.{Reply}
-use Rattle.scheduler.specs.Calls.{CountsFailure, IsCalled, IsLogStep, log_rose, log_outcome, point_rose, step_outcome}
+use Rattle.scheduler.specs.Calls.{CountsFailure, IsCalled, IsLogStep, log_device_failed, log_outcome, point_device_failed, step_outcome}
 use Rattle.scheduler.specs.CoreView.{CoreView, RecoversThroughout, core_state_of}
 use Rattle.serving.specs.Lines.{Line, admitted, ticketed}
 use Rattle.serving.specs.Progress.{ServingProgress}
@@ -32,7 +32,7 @@ counted false old new h = h ∙ sym (add-zero old)
 
 module _ {keeps : Type 0} {old new : MachineView} {step : Step} {outcome : Outcome} (k : IsMachineStep keeps old new step outcome) where
   abbrev event : Event
-  event = record { step = step; outcome = outcome; rose = k.rose; state_after = machine_of new }
+  event = record { step = step; outcome = outcome; device_failed = k.device_failed; state_after = machine_of new }
 
   -- A step is a segment of a run.
   pub step_passes : RunsBetween keeps old new (arrives step outcome) (answers outcome)
@@ -44,7 +44,7 @@ module _ {keeps : Type 0} {old new : MachineView} {step : Step} {outcome : Outco
     come_are = append-nil (arrives step outcome);
     reply_pairs_are = append-nil (answers outcome);
     device = refl;
-    failures = counted k.rose old.core.medium.faults new.core.medium.faults k.failures;
+    failures = counted k.device_failed old.core.medium.faults new.core.medium.faults k.failures;
     any_moment = λ kept. (k.any_moment kept, tt);
   }
 
@@ -71,7 +71,7 @@ quiet_goes_on {keeps} {start} {new} p h =
     }
 
 -- A failed device has failed for good.
-run_fails : (g : Geometry) (old : Hands) (events : List Event) → IsLegal g old events → old.core.failed ≡ true
+run_fails : (g : Geometry) (old : MachineState) (events : List Event) → IsLegal g old events → old.core.failed ≡ true
     → (last old events).core.failed ≡ true
 run_fails g old [] legal failed = failed
 run_fails g old (event ∷ events) legal failed = run_fails g event.state_after events legal.1 (failure_lasts g old event legal.0 failed).failed
@@ -79,7 +79,7 @@ run_fails g old (event ∷ events) legal failed = run_fails g event.state_after 
 pub still_failed : {keeps : Type 0} {old new : MachineView} {come : List Entry} {reply_pairs : List (ℕ × Reply)} → RunsBetween keeps old new come reply_pairs
     → old.core.failed ≡ true → new.core.failed ≡ true
 still_failed {old} p failed =
-    ap (λ (w : Hands). w.core.failed) (sym p.ends) ∙ run_fails old.core.geometry (machine_of old) _ p.legal failed
+    ap (λ (w : MachineState). w.core.failed) (sym p.ends) ∙ run_fails old.core.geometry (machine_of old) _ p.legal failed
 
 -- A step of the core alone, in which nothing arrives or is answered, and nothing is dispatched or collected.
 pub core_is_quiet : {keeps : Type 0} {old new : CoreView} {hands : List Holding} (step : Step) (outcome : Outcome) → IsCoreStep keeps old new step outcome
@@ -129,32 +129,32 @@ no_answer_of_point made none (Err why) = refl
 
 module _ (keeps : Type 0) (old new : CoreView) (geometry : new.geometry ≡ old.geometry) where
   abbrev IsStepOf : Step → Outcome → Bool → Type 0
-  IsStepOf step outcome rose = IsCalled old.geometry (core_state_of old) (core_state_of new) step outcome rose → CountsFailure rose old.medium.faults new.medium.faults
+  IsStepOf step outcome device_failed = IsCalled old.geometry (core_state_of old) (core_state_of new) step outcome device_failed → CountsFailure device_failed old.medium.faults new.medium.faults
       → (hands : List Holding) → Holds (record { core = old; hands = hands })
       → IsInternal keeps (record { core = old; hands = hands }) (record { core = new; hands = hands })
 
   pub log_is_quiet : (n : ℕ) (r : Result ℕ CoreFault) → (keeps → RecoversThroughout (batch (core_state_of old) n) old new)
-      → IsStepOf (steps.Log n) (log_outcome r) (log_rose r)
+      → IsStepOf (steps.Log n) (log_outcome r) (log_device_failed r)
   log_is_quiet n r moments called counts hands h = core_is_quiet (steps.Log n) (log_outcome r)
-      (record { rose = log_rose r; called = called; geometry = geometry; failures = counts; any_moment = moments }) refl refl (no_answer_of_log r) h
+      (record { device_failed = log_device_failed r; called = called; geometry = geometry; failures = counts; any_moment = moments }) refl refl (no_answer_of_log r) h
 
   module _ (moments : keeps → RecoversThroughout [] old new) where
-    pub point_is_quiet : (r : Result (Unit {0}) PointRefusal) → IsStepOf steps.Point (step_outcome (λ _. outcomes.Pointed) r) (point_rose r)
+    pub point_is_quiet : (r : Result (Unit {0}) PointRefusal) → IsStepOf steps.Point (step_outcome (λ _. outcomes.Pointed) r) (point_device_failed r)
     point_is_quiet r called counts hands h = core_is_quiet steps.Point (step_outcome (λ _. outcomes.Pointed) r)
-        (record { rose = point_rose r; called = called; geometry = geometry; failures = counts; any_moment = moments }) refl refl
+        (record { device_failed = point_device_failed r; called = called; geometry = geometry; failures = counts; any_moment = moments }) refl refl
         (no_answer_of_point (λ _. outcomes.Pointed) (λ _. refl) r) h
 
-    pub cut_is_quiet : (r : Result (Unit {0}) PointRefusal) → IsStepOf steps.Cut (step_outcome (λ _. outcomes.Cut) r) (point_rose r)
+    pub cut_is_quiet : (r : Result (Unit {0}) PointRefusal) → IsStepOf steps.Cut (step_outcome (λ _. outcomes.Cut) r) (point_device_failed r)
     cut_is_quiet r called counts hands h = core_is_quiet steps.Cut (step_outcome (λ _. outcomes.Cut) r)
-        (record { rose = point_rose r; called = called; geometry = geometry; failures = counts; any_moment = moments }) refl refl
+        (record { device_failed = point_device_failed r; called = called; geometry = geometry; failures = counts; any_moment = moments }) refl refl
         (no_answer_of_point (λ _. outcomes.Cut) (λ _. refl) r) h
 
-    pub piece_is_quiet : (r : Result ℕ PointRefusal) → IsStepOf steps.Piece (step_outcome outcomes.Left r) (point_rose r)
+    pub piece_is_quiet : (r : Result ℕ PointRefusal) → IsStepOf steps.Piece (step_outcome outcomes.Left r) (point_device_failed r)
     piece_is_quiet r called counts hands h = core_is_quiet steps.Piece (step_outcome outcomes.Left r)
-        (record { rose = point_rose r; called = called; geometry = geometry; failures = counts; any_moment = moments }) refl refl
+        (record { device_failed = point_device_failed r; called = called; geometry = geometry; failures = counts; any_moment = moments }) refl refl
         (no_answer_of_point outcomes.Left (λ _. refl) r) h
 
-    pub flip_is_quiet : (r : Result (Unit {0}) PointRefusal) → IsStepOf steps.Flip (step_outcome (λ _. outcomes.Flipped) r) (point_rose r)
+    pub flip_is_quiet : (r : Result (Unit {0}) PointRefusal) → IsStepOf steps.Flip (step_outcome (λ _. outcomes.Flipped) r) (point_device_failed r)
     flip_is_quiet r called counts hands h = core_is_quiet steps.Flip (step_outcome (λ _. outcomes.Flipped) r)
-        (record { rose = point_rose r; called = called; geometry = geometry; failures = counts; any_moment = moments }) refl refl
+        (record { device_failed = point_device_failed r; called = called; geometry = geometry; failures = counts; any_moment = moments }) refl refl
         (no_answer_of_point (λ _. outcomes.Flipped) (λ _. refl) r) h

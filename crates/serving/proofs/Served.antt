@@ -10,7 +10,7 @@ use Rattle.runs.proofs.Running.{left_since_event}
 use Rattle.legal_runs.proofs.Arrivals.{answered_by_ticket, arrived_by_ticket, committed_by_ticket}
 use Rattle.legal_runs.proofs.Idle.{idle_sound}
 use Rattle.legal_runs.proofs.SerialReplies.{IsIn}
-use Rattle.legal_runs.specs.Events.{Hands}
+use Rattle.legal_runs.specs.Events.{MachineState}
 use Rattle.legal_runs.specs.Laws.{IsIdle, IsSoundCoreState}
 use Rattle.legal_runs.specs.CoreState.{Entry}
 use Rattle.legal_runs.specs.Runs.{arrived}
@@ -66,8 +66,8 @@ module _ (keeps : Type 0) (start now : MachineView) (idle : IsIdle (core_state_o
     leads : IsIdle (core_state_of now.core) → committed_in now.core ≡ state_after_lines g x taken
     leads ends =
         let e = s.passes.ends in
-        ap (λ (w : Hands). w.core.committed) (sym e)
-        ∙ committed_by_ticket g (machine_of start) (events_of s.passes.stages) s.passes.legal sound idle (subst (λ (w : Hands). IsIdle w.core) (sym e) ends)
+        ap (λ (w : MachineState). w.core.committed) (sym e)
+        ∙ committed_by_ticket g (machine_of start) (events_of s.passes.stages) s.passes.legal sound idle (subst (λ (w : MachineState). IsIdle w.core) (sym e) ends)
         ∙ ap (λ (es : List Entry). fold g x (messages es)) by_line
         ∙ ap (fold g x) (messages-ticketed start.core.next (admitted g taken))
         ∙ asked_leads_there g x taken

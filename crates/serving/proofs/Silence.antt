@@ -6,7 +6,7 @@ use Rattle.std.proofs.lemmas.Bool.{true≢false}
 use Rattle.std.proofs.lemmas.List.{length-map}
 use Rattle.affinity.specs.declared.geometry.Geometry.{Geometry}
 use Rattle.legal_runs.proofs.Elements.{in_contained}
-use Rattle.legal_runs.specs.Events.{Hands}
+use Rattle.legal_runs.specs.Events.{MachineState}
 use Rattle.legal_runs.specs.Runs.{answered, arrived}
 use Rattle.legal_runs.specs.CoreState.{Entry}
 use Rattle.runs.specs.Machine.{machine_of}
@@ -64,8 +64,8 @@ module _ (keeps : Type 0) (s : Start) (sent : Option (List ℕ)) (now : CoreView
       let g = s.core.geometry in
       let first = idle_inside (core_state_of s.core) m.idle in
       let count = run_counts g (machine_of (start_machine s)) events r.legal in
-      let at_end = ap (λ (w : Hands). inside w.core) r.ends in
-      let next_at_end = ap (λ (w : Hands). w.core.next) r.ends in
+      let at_end = ap (λ (w : MachineState). inside w.core) r.ends in
+      let next_at_end = ap (λ (w : MachineState). w.core.next) r.ends in
       let next = run_next g (machine_of (start_machine s)) events r.legal in
       let tickets = next_counts s.core.next (messages (arrived events)) in
       let many = length-map (arrived events) (λ (e : Entry). e.1) in

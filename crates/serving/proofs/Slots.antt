@@ -4,7 +4,7 @@ use Rattle.std.specs.Prelude.{if◌then◌else◌, nat_le, not, ◌==◌, ◌^�
 use Rattle.std.proofs.lemmas.Bool.{leb-true}
 use Rattle.affinity.specs.declared.geometry.Geometry.{Geometry}
 use Rattle.legal_runs.proofs.Moves.{Answers, Arrives, Backs, Grants, Logs, Move, Passed, Stays, moves}
-use Rattle.legal_runs.specs.Events.{Event, Hands, arrive}
+use Rattle.legal_runs.specs.Events.{Event, MachineState, arrive}
 use Rattle.legal_runs.specs.Laws.{IsIdle}
 use Rattle.legal_runs.specs.Runs.{IsLegal, last}
 use Rattle.legal_runs.specs.CoreState.{Entry, CoreState}
@@ -27,7 +27,7 @@ pub passes_count : {keeps : Type 0} {old new : MachineView} {come : List Entry} 
     → inside (core_state_of new.core) + length reply_pairs ≡ inside (core_state_of old.core) + length come
 passes_count {old} {new} p =
     let run = run_counts old.core.geometry (machine_of old) (events_of p.stages) p.legal in
-    let ends : inside (last (machine_of old) (events_of p.stages)).core ≡ inside (core_state_of new.core) = ap (λ (w : Hands). inside w.core) p.ends in
+    let ends : inside (last (machine_of old) (events_of p.stages)).core ≡ inside (core_state_of new.core) = ap (λ (w : MachineState). inside w.core) p.ends in
     let came = ap length p.come_are in
     let tells = ap length p.reply_pairs_are in
     omega (arith, run, ends, came, tells)
@@ -42,7 +42,7 @@ move_slots g old new p (Backs ticket found one_out is e) = ap (λ (w : CoreState
 move_slots g old new p (Logs n is e) = ap (λ (w : CoreState). w.slots) is
 move_slots g old new p (Answers a rest front is e) = ap (λ (w : CoreState). w.slots) is
 
-run_slots : (g : Geometry) (old : Hands) (events : List Event) → IsLegal g old events → (last old events).core.slots ≡ old.core.slots
+run_slots : (g : Geometry) (old : MachineState) (events : List Event) → IsLegal g old events → (last old events).core.slots ≡ old.core.slots
 run_slots g old [] legal = refl
 run_slots g old (event ∷ events) legal =
     run_slots g event.state_after events legal.1 ∙ move_slots g old.core event.state_after.core _ (moves g old event legal.0)
@@ -50,7 +50,7 @@ run_slots g old (event ∷ events) legal =
 pub passes_slots : {keeps : Type 0} {old new : MachineView} {come : List Entry} {reply_pairs : List (ℕ × Reply)} → RunsBetween keeps old new come reply_pairs
     → new.core.slots ≡ old.core.slots
 passes_slots {old} p =
-    ap (λ (w : Hands). w.core.slots) (sym p.ends) ∙ run_slots old.core.geometry (machine_of old) (events_of p.stages) p.legal
+    ap (λ (w : MachineState). w.core.slots) (sym p.ends) ∙ run_slots old.core.geometry (machine_of old) (events_of p.stages) p.legal
 
 -- ---- a slot for the next
 

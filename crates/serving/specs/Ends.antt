@@ -62,7 +62,7 @@ pub record HasRunLines (keeps : Type 0) (start : MachineView) (new : CoreView)
   pub arrived_are : arrived (events_of stages) ≡ ticketed start.core.next (admitted start.core.geometry taken)
   pub device : device_after start.core.medium stages ≡ new.medium
   -- the device failed as often as the events say
-  pub failures : new.medium.faults ≡ start.core.medium.faults + count_by (λ e. e.rose) (events_of stages)
+  pub failures : new.medium.faults ≡ start.core.medium.faults + count_by (λ e. e.device_failed) (events_of stages)
   -- what a crash leaves at each crash point of each event
   pub any_moment : keeps → AreSafe start.core.geometry (machine_of start) start.core.medium stages
   -- For every k: a crash at any moment since event k ended leaves a device that recovers to a state which the run may leave.

@@ -48,7 +48,7 @@ pub record HoldsSent (s : Start) (sent : Option (List ℕ)) (bytes : List ℕ) :
 pub record MaySendFrom (keeps : Type 0) (s : Start) (sent : Option (List ℕ)) (now : CoreView) (bytes : List ℕ) : Type 0 where
   -- at the start nothing was waiting, held or in `doubt`
   pub idle : IsIdle (core_state_of s.core)
-  pub sure : s.core.doubt ≡ []
+  pub none_in_doubt : s.core.doubt ≡ []
   pub next : List Line
   pub row : List Line
   pub served : HasServed keeps (start_machine s) now (next ++ row) s.input s.before sent

@@ -38,7 +38,7 @@ pub record RunsBetween (keeps : Type 0) (old new : MachineView) (come : List Ent
   pub reply_pairs_are : answered (events_of stages) ≡ reply_pairs
   pub device : device_after old.core.medium stages ≡ new.core.medium
   -- the device failed as often as the events say
-  pub failures : new.core.medium.faults ≡ old.core.medium.faults + count_by (λ e. e.rose) (events_of stages)
+  pub failures : new.core.medium.faults ≡ old.core.medium.faults + count_by (λ e. e.device_failed) (events_of stages)
   -- what a crash leaves at each crash point of each event
   pub any_moment : keeps → AreSafe old.core.geometry (machine_of old) old.core.medium stages
 

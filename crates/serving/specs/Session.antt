@@ -95,7 +95,7 @@ ReadsOrHasEnded keeps s p (Some stop) = HasEndedReading keeps s p stop
 pub record SessionInvariant (keeps : Type 0) (s : Start) (p : SessionView) : Type 0 where
   -- nothing was in the core or its `doubt` at the start, and the reorder buffer has no more places than the core has slots
   pub idle : IsIdle (core_state_of s.core)
-  pub sure : s.core.doubt ≡ []
+  pub none_in_doubt : s.core.doubt ≡ []
   pub fits : p.row.slots ≤ s.core.slots
   -- the machine holds what it should
   pub holds : Holds (machine p)
@@ -115,7 +115,7 @@ pub record CanBegin (start : Option Start) (core : CoreView) (places : ℕ) (inp
   pub is : start ≡ Some (record { core = core; places = places; input = input; before = sent })
   pub idle : IsIdle (core_state_of core)
   pub works : core.failed ≡ false
-  pub sure : core.doubt ≡ []
+  pub none_in_doubt : core.doubt ≡ []
   pub none : row.lines ≡ []
   pub fits : row.slots ≤ core.slots
 

@@ -36,7 +36,7 @@ impl CheckpointTrigger {
 
     /// A consistency point was to begin, with this answer of the core. It has begun, or will where no message is held any more; else the
     /// device has failed.
-    fn begin(&mut self, cut: Result<(), PointRefusal>) -> Result<(), Halted>
+    fn note_cut(&mut self, cut: Result<(), PointRefusal>) -> Result<(), Halted>
         ensures { BeginsOrWaits cut result }
     {
         match cut {
@@ -86,7 +86,7 @@ impl<'c, R: Read, D: Disk, L: ReplySink<D>> Session<'c, R, D, L> {
         ensures begun { OnOk result (held (core_state_of self.new.core) ≡ [] → (n : ℕ) × (self.new.core.left ≡ Some n)) }
     {
         let cut = self.core.cut();
-        self.trigger.begin(cut)
+        self.trigger.note_cut(cut)
     }
 
     /// Where no job is in flight and no message may be dispatched or read: takes the consistency point in progress a step on, or begins

@@ -37,7 +37,7 @@ impl<'c, R: Read, D: Disk, L: ReplySink<D>> Session<'c, R, D, L> {
         ensures { EndsBy self.new (Err result) }
     {
         self.drain_workers(rt);
-        // A device that has failed logs nothing, and one that fails now changes nothing any more.
+        // A device that has failed logs nothing. Where it fails here, the end that is reported is the same.
         let _logged = self.log_what_ran();
         match self.answer_and_flush(rt) {
             Ok(()) => ServeFault::Device,

@@ -9,7 +9,7 @@ ghost use Rattle.disk.specs.Device.{IsCrashImage};
 ghost use Rattle.disk.specs.Moments.{left_since, moment};
 ghost use Rattle.legal_runs.specs.Events.{arrive};
 ghost use Rattle.legal_runs.specs.Laws.{IsIdle};
-ghost use Rattle.legal_runs.specs.Runs.{went};
+ghost use Rattle.legal_runs.specs.Runs.{logged_messages};
 ghost use Rattle.legal_runs.specs.CoreState.{Entry};
 ghost use Rattle.legal_runs.specs.declared.outcomes.ArriveRefusal.TheVariants as arrivals;
 ghost use Rattle.legal_runs.specs.declared.outcomes.Outcome.TheVariants as outcomes;
@@ -115,15 +115,16 @@ pub fn what_was_sent_is_on_the_device<D: Disk>()
         → IsIdle (core_state_of start.core) → start.core.doubt ≡ [] → HasRunLines D.keeps start new input taken stages → D.keeps
         → (k : ℕ) (c : List ℕ) → k ≤ length stages → left_since new.medium (moment (device_after start.core.medium (take k stages))) c
         → HoldsLog start.core.geometry (committed_in start.core) (ticketed start.core.next (admitted start.core.geometry taken))
-        (went (machine_of start) (take k (events_of stages))) c }
+        (logged_messages (machine_of start) (take k (events_of stages))) c }
     ensures left { (start : MachineView) (new : CoreView) (input : Option (List ℕ)) (taken : List (List ℕ)) (stages : List Stage)
         → IsIdle (core_state_of start.core) → start.core.doubt ≡ [] → HasRunLines D.keeps start new input taken stages → D.keeps
         → (c : List ℕ) → IsCrashImage new.medium c
         → HoldsLog start.core.geometry (committed_in start.core) (ticketed start.core.next (admitted start.core.geometry taken))
-        (went (machine_of start) (events_of stages)) c }
+        (logged_messages (machine_of start) (events_of stages)) c }
     ensures sent { (start : MachineView) (new : CoreView) (row : List Line) (input before written : Option (List ℕ))
         → IsIdle (core_state_of start.core) → (h : HasServed D.keeps start new row input before written)
-        → AreInLog start.core.geometry (went (machine_of start) (events_of h.stages)) start.core.next h.taken (map text h.sent_lines) }
+        → AreInLog start.core.geometry (logged_messages (machine_of start) (events_of h.stages)) start.core.next h.taken
+        (map text h.sent_lines) }
 {}
 
 /// What may be sent is on the device: once it is sent, whatever a crash leaves of the device, as it was then, holds all that was sent.

@@ -3,7 +3,7 @@
 
 mod streams;
 
-use commands::{command, report_unread_words};
+use commands::{command, report_unreadable_arguments};
 use std::process::ExitCode;
 use std::{env, io};
 use streams::take_stream_numbers;
@@ -25,7 +25,7 @@ fn main(rt: HostRuntime) -> ExitCode {
             &mut rt.stdout(),
             &mut rt.stderr(),
         ),
-        Err(error) => report_unread_words(&error, &mut rt.stderr()),
+        Err(error) => report_unreadable_arguments(&error, &mut rt.stderr()),
     };
     ExitCode::from(status)
 }

@@ -7,7 +7,7 @@ use affinity::Geometry;
 use disk::Disk;
 
 impl<D: Disk> Journal<D> {
-    /// How many records can still be logged before a point is due.
+    /// How many more records the current half takes.
     pub fn room(&self) -> usize
         ensures room { result ≡ self.now.room }
         ensures sound { self.now.failed ≡ false → D.keeps → IsCommitted self.now }
@@ -22,7 +22,7 @@ impl<D: Disk> Journal<D> {
         self.left
     }
 
-    /// The numbers of the server.
+    /// The geometry of the device.
     pub fn geometry(&self) -> Geometry
         ensures { result ≡ self.now.geometry }
     {

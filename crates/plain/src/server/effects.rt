@@ -3,7 +3,7 @@
 ghost use Rattle.std.specs.Prelude.{◌≡◌, OnOk, OnErr, None, false};
 ghost use Rattle.affinity.specs.declared.geometry.Geometry.{Geometry};
 ghost use Rattle.messages.specs.declared.Msg.{Msg};
-ghost use Rattle.message.specs.Heads.{asking, has_data};
+ghost use Rattle.message.specs.Heads.{message_without_data, has_data};
 ghost use Rattle.meaning.specs.Serial.{refusal, effect};
 ghost use Rattle.plain.specs.Server.{server_state, IsCounted, IsConsistent};
 
@@ -99,9 +99,9 @@ impl Server {
         numbers: [u16; 4],
     ) -> Result<(), AllocError>
         requires without_data { has_data kind ≡ false }
-        requires passed { refusal g.now (server_state self.old) (asking kind numbers) ≡ None }
+        requires passed { refusal g.now (server_state self.old) (message_without_data kind numbers) ≡ None }
         requires sound { IsConsistent g.now self.old }
-        ensures state { OnOk result (server_state self.new ≡ effect (server_state self.old) (asking kind numbers)) }
+        ensures state { OnOk result (server_state self.new ≡ effect (server_state self.old) (message_without_data kind numbers)) }
         ensures unchanged { OnErr result (server_state self.new ≡ server_state self.old) }
         ensures counted { IsCounted g.now self.new }
     {

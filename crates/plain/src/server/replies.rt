@@ -6,7 +6,7 @@ ghost use Rattle.messages.specs.declared.Msg.{Msg};
 ghost use Rattle.messages.specs.declared.Reply.TheVariants.{Block as shows, Hole};
 ghost use Rattle.affinity.specs.Kind.{is_changing};
 ghost use Rattle.affinity.specs.declared.kinds.Kind.TheVariants as kinds;
-ghost use Rattle.message.specs.Heads.{asking};
+ghost use Rattle.message.specs.Heads.{message_without_data};
 ghost use Rattle.meaning.specs.Serial.{refusal, accepted_reply, step};
 ghost use Rattle.plain.specs.Server.{server_state, IsConsistent};
 
@@ -79,7 +79,7 @@ impl Server {
     pub(crate) fn reply_by(&self, g: &Geometry, kind: Kind, numbers: [u16; 4]) -> Reply
         requires asks { is_changing kind ≡ false }
         requires sound { IsConsistent g.now self.now }
-        ensures { result ≡ accepted_reply g.now (server_state self.now) (asking kind numbers) }
+        ensures { result ≡ accepted_reply g.now (server_state self.now) (message_without_data kind numbers) }
     {
         let [a, v, f, b] = numbers;
         match kind {
@@ -98,9 +98,9 @@ impl Server {
     pub(crate) fn block_by(&self, g: &Geometry, kind: Kind, numbers: [u16; 4]) -> Option<&Block>
         requires sound { IsConsistent g.now self.now }
         ensures shown { IfSome result (λ content.
-            step g.now (server_state self.now) (asking kind numbers) ≡ (shows content.now, server_state self.now)) }
+            step g.now (server_state self.now) (message_without_data kind numbers) ≡ (shows content.now, server_state self.now)) }
         ensures hole { IfNone result (kind ≡ kinds.Read
-            → accepted_reply g.now (server_state self.now) (asking kind numbers) ≡ Hole) }
+            → accepted_reply g.now (server_state self.now) (message_without_data kind numbers) ≡ Hole) }
     {
         let [a, v, f, b] = numbers;
         match kind {

@@ -1,6 +1,6 @@
 -- A message that passes its tests has its effect, which is the next state and again a state in range.
 use Rattle.std.proofs.Common.{◌≡◌, None, ap, sym, ◌∙◌, subst}
-use Rattle.message.specs.Heads.{asking}
+use Rattle.message.specs.Heads.{message_without_data}
 use Rattle.meaning.specs.State.{IsState}
 use Rattle.meaning.specs.Serial.{refusal, accepted_reply, effect, outcome}
 use Rattle.plain.specs.Server.{server_state}
@@ -11,7 +11,7 @@ use Rattle.plain.proofs.server.Server.carry_out.Goals as goal
 pub returns-in_ok-apply_by-in-None-clause-sound : goal.returns-in_ok-apply_by-in-None-clause-sound
 returns-in_ok-apply_by-in-None-clause-sound c =
     let g = c.args.g.now in
-    let m = asking c.args.kind c.args.numbers in
+    let m = message_without_data c.args.kind c.args.numbers in
     let x = server_state c.args.self.now in
     let passed : refusal g x m ≡ None = sym (c.in-None.ensures ∙ refusal_asked g x c.args.kind c.args.numbers c.requires.asked) in
     record {

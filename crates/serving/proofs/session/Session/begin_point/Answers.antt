@@ -23,8 +23,8 @@ returns-clause-moves g c =
     let new = c.cut-cut.new.self in
     let left = ap (λ (p : SessionView). p.core.left) c.self.view_is ∙ c.requires.none in (
       ap (λ (p : SessionView). p.stop) c.self.view_is,
-      halts (core_state_of old) left (core_state_of new) _ (c.self.inside.output_failed ≡ false) c.cut-cut.result c.begin.result
-          c.cut-cut.ensures.state_after c.begin.ensures (ap (λ (p : SessionView). p.output_failed) c.self.view_is),
+      halts (core_state_of old) left (core_state_of new) _ (c.self.inside.output_failed ≡ false) c.cut-cut.result c.note_cut.result
+          c.cut-cut.ensures.state_after c.note_cut.ensures (ap (λ (p : SessionView). p.output_failed) c.self.view_is),
     )
 
 pub returns-clause-begun : goal.returns-clause-begun
@@ -33,4 +33,4 @@ returns-clause-begun g c =
     let new = c.cut-cut.new.self in
     let left = ap (λ (p : SessionView). p.core.left) c.self.view_is ∙ c.requires.none in
     begins (core_state_of old) left (core_state_of new) _ {begun = (n : ℕ) × (new.left ≡ Some n)} (λ m. (m.0, ap (λ (w : CoreState). w.left) m.2))
-    c.cut-cut.result c.begin.result c.cut-cut.ensures.state_after c.begin.ensures
+    c.cut-cut.result c.note_cut.result c.cut-cut.ensures.state_after c.note_cut.ensures

@@ -3,7 +3,7 @@ use Rattle.std.proofs.Common.{◌≡◌, map, string_bytes, subst, true, refl, [
 use Rattle.clap.specs.Words.{App, HasKind, fault_of, is_simple, is_simple_and_free, subcommand_of, subcommand_rows_of}
 use Rattle.arguments.specs.Arguments.{IsRequested, findings, waffd}
 use Rattle.arguments.proofs.Reading.{Holds, holds, holds_requested, if_err, if_ok}
-use Rattle.arguments.proofs.parsing.read_words.Goals as goal
+use Rattle.arguments.proofs.parsing.read_arguments.Goals as goal
 
 -- clap took the words, and the options give the rest
 taken : (c : goal.Joined-matches) → Holds (map string_bytes c.args.words.now) c.requested.result
