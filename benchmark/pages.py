@@ -111,7 +111,7 @@ def of_others(figures):
            f"stop {shown['records']} records in force, and {shown['ms']} ms to the next first reply.")
     lines = [f"{mix} {number(figures.median({'part': 'plain', 'mix': mix}, 'waffd', 'cpu us'))} "
              f"({figures.ratio({'part': 'plain', 'mix': mix}, 'serial', 'waffd', 'cpu us'):.2f})" for mix in PLAIN]
-    yield f"- `plain`, processor time a line in microseconds (part of the speed of `benchmark/serial.rs`): {listed(lines)}."
+    yield f"- `plain`, processor time a line in microseconds (its speed in multiples of that of `benchmark/serial.rs`): {listed(lines)}."
     trips = [f"{number(figures.median({'part': 'bench', 'workers': n}, 'waffd', 'us'))} "
              f"({figures.ratio({'part': 'bench', 'workers': n}, 'waffd', 'mutex', 'us'):.2f})" for n in WORKERS]
     yield (f"- A job's round trip through the bench with {listed([str(n) for n in WORKERS])} workers, microseconds by the clock (times "

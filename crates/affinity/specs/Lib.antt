@@ -1,4 +1,4 @@
--- The words of affinities: geometries, paths, kinds of messages, and where each message belongs.
+-- Definitions of affinities: geometries, paths, kinds of messages, and where each message belongs.
 pub mod Geometry
 pub mod Interval
 pub mod Kind

@@ -1,4 +1,4 @@
--- The words of an arena: lists of slots, the row that contracts see, and how it is kept.
+-- Definitions of an arena: lists of slots, what contracts see of it (`Row`), and how it is kept.
 pub mod Lists
 pub mod Row
 pub mod Lends

@@ -1,2 +1,2 @@
--- The words of what a command line asks for.
+-- Definitions of what a command line asks for.
 pub mod Arguments

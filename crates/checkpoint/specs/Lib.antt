@@ -1,4 +1,4 @@
--- The words of a device's header, of recovery and its refusals, of loading and of formatting.
+-- Definitions of a device's header, of recovery and its refusals, of loading and of formatting.
 pub mod Header
 pub mod Recovery
 pub mod Refusals

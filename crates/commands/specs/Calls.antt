@@ -14,8 +14,8 @@ use Rattle.arguments.specs.declared.parsing.Request.TheVariants.{Help, Plain, Fo
 use Rattle.arguments.specs.declared.parsing.ArgumentRefusal.{ArgumentRefusal}
 use Rattle.arguments.specs.declared.parsing.ArgumentRefusal.TheVariants as refusal
 
--- What was written where the request came to this end, and what is left of the input: that of its command.
--- Help and the version read nothing. Their text, and whether it was written, is open. The service is that of the numbers that were given.
+-- How a request ends, as its command does: `input` and `left` are what the reader had before and after, `old` and `new` what the output
+-- had. Help and the version read nothing; their text, and whether it was written, is open. The service has the numbers that were given.
 abbrev pub Ends : Request → Result (Unit {0}) Fault → Option (List ℕ) → Option (List ℕ) → Option (List ℕ) → Option (List ℕ) → Type 0
 Ends (Help text) (Ok _) input left old new = left ≡ input
 Ends (Help text) (Err Write) input left old new = left ≡ input

@@ -1,4 +1,4 @@
--- The words of the commands: how each ends, what it prints, and what a service promises over a crash.
+-- Definitions of the commands: how each ends, what it prints, and what a service promises over a crash.
 pub mod Faults
 pub mod Lines
 pub mod Ends

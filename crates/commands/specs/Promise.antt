@@ -9,7 +9,7 @@ use Rattle.commands.specs.Serving.{RecoveredTo}
 use Rattle.commands.specs.declared.faults.Fault.{Fault}
 use Rattle.commands.specs.declared.faults.Fault.TheVariants.{Write, Open}
 
--- Where a write failed it is open what was written, as where it isn't known what was there before.
+-- what the output held before, or `None` where a write failed: then nothing is known of what was written
 abbrev pub unless_unsent : Result (Unit {0}) Fault → Option (List ℕ) → Option (List ℕ)
 unless_unsent (Err Write) before = None
 unless_unsent _ before = before
@@ -34,12 +34,12 @@ pub record HoldsRecovered (old : Medium) (input before written : Option (List �
   pub recovered_before : RecoveredTo (Unit {0}) old geometry start
   pub recovered : BytesRecover geometry start input before written bytes
 
--- So it is at each end, unless the device could not be opened.
+-- P, unless the device could not be opened
 abbrev pub UnlessUnopened : Result (Unit {0}) Fault → Type 0 → Type 0
 UnlessUnopened (Err (Open fault)) P = Unit {0}
 UnlessUnopened _ P = P
 
--- So does whatever a crash leaves when a service has come to this end.
+-- What a crash leaves when a service has come to this end recovers so, unless the device could not be opened.
 abbrev pub LeavesRecovered : Type 0 → Medium → Medium → Result (Unit {0}) Fault → Option (List ℕ) → Option (List ℕ)
     → Option (List ℕ) → Type 0
 LeavesRecovered keeps old new end input before written = UnlessUnopened end

@@ -1,2 +1,2 @@
--- The words of the map of a device.
+-- Definitions of the map of a device.
 pub mod Layout

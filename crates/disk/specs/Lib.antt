@@ -1,4 +1,4 @@
--- The words of a device: its calls, what a crash leaves at each moment, and devices of a file and in memory.
+-- Definitions of a device: its calls, what a crash leaves at each moment, and devices of a file and in memory.
 pub mod BackingFile
 pub mod Device
 pub mod InjectedFault

@@ -5,7 +5,7 @@ ghost use Rattle.disk.specs.Device.{Medium, AreBytes, Reads, Writes, Syncs, IsDe
 
 use crate::DiskFault;
 
-/// A row of bytes of one length, that a crash may tear.
+/// An array of bytes, whose length no call changes, and which a crash may tear.
 pub trait Disk {
     /// The device as contracts see it: what a read gives, what a crash may leave now, what it might have left at
     /// each earlier moment, and how often the device has failed.
@@ -35,7 +35,7 @@ pub trait Disk {
         ensures call { IsDeviceCall result (medium self.old) (medium self.new) }
         ensures writes { keeps → Writes at bytes.now result (medium self.old) (medium self.new) };
 
-    /// Makes what was written last. At `Ok` a crash leaves what a read gives. After `Device` what was not synced
+    /// Makes what was written durable. At `Ok` a crash leaves what a read gives. After `Device` what was not synced
     /// still is not.
     fn sync(&mut self) -> Result<(), DiskFault>
         ensures inside { IsErrOf result OutOfRange → ⊥ }

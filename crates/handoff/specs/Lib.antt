@@ -1,2 +1,2 @@
--- The definition of what a dispatcher has lent.
+-- Definitions of what a dispatcher has lent.
 pub mod Lent

@@ -1,4 +1,4 @@
--- The words of an image: its pieces, how a state is written as one, and which pieces a message may change.
+-- Definitions of an image: its pieces, how a state is written as one, and which pieces a message may change.
 pub mod Pieces
 pub mod Image
 pub mod Touched

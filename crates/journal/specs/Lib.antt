@@ -1,4 +1,4 @@
--- The words of a journal: its calls, dirty flags, images and costs, and what it keeps, from its opening on.
+-- Definitions of a journal: its calls, dirty flags, images and costs, and what it keeps, from its opening on.
 pub mod DirtyPieces
 pub mod Journal
 pub mod Extents

@@ -222,7 +222,7 @@ impl<D: Disk> Journal<D> {
         ensures not_bad { IsNotBad result }
         ensures counts { CountsLogFault result self.old.medium.faults self.new.medium.faults }
     {
-        freeze(tree, &self.named_dirty, &mut self.frozen); // messages go on behind it
+        freeze(tree, &self.named_dirty, &mut self.frozen); // later messages don't change it
         if let Err(fault) = cut_on(&mut self.halves, &mut self.disk) {
             self.failed = true;
             return Err(fault);

@@ -21,7 +21,7 @@ fn write_head(bytes: &mut [u8])
 }
 
 /// Makes bytes the image of what a whole tree holds. All extents but the dirty ones are there already: only the dirty ones
-/// are spelled.
+/// are encoded.
 pub(crate) fn freeze(tree: &Tree, dirty: &[bool], bytes: &mut [u8])
     requires whole { IsWholeTree tree.now }
     requires dirty { length dirty.now ≡ piece_count tree.now.geometry }

@@ -21,7 +21,7 @@ use disk::Disk;
 use oplog::{Halves, LogFault};
 
 /// Makes a point into the area that isn't named, with this image of what the device recovers to. Of the image only the
-/// dirty extents are written: all others are on the device already.
+/// dirty extents (a piece each; the first with the image's head) are written: all others are on the device already.
 pub(crate) fn point_on<D: Disk>(
     halves: &mut Halves,
     disk: &mut D,

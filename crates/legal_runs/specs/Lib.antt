@@ -1,4 +1,4 @@
--- The words of legal runs: core states, events, what may come when, and incarnations that end with a crash.
+-- Definitions of legal runs: core states, events, what may come when, and incarnations that end with a crash.
 pub mod CoreState
 pub mod Eligible
 pub mod Events

@@ -1,4 +1,4 @@
--- The words of the serial server: its states, what each message means there, and the laws of steps.
+-- Definitions of the serial server: its states, what each message means there, and the laws of steps.
 pub mod State
 pub mod Serial
 pub mod Shares

@@ -1,4 +1,4 @@
--- The words of records, heads of messages, and readers and writers of lines.
+-- Definitions of records, heads of messages, and readers and writers of lines.
 pub mod Digits
 pub mod Records
 pub mod Heads

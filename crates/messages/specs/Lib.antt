@@ -1,4 +1,4 @@
--- The words of messages and replies, and which lines spell which.
+-- Definitions of messages and replies, and which lines spell which.
 pub mod Messages
 pub mod Lines
 pub mod Grammar

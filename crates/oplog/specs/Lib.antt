@@ -1,4 +1,4 @@
--- The words of a log: its front, its calls and their costs, and what a device recovers to after a crash.
+-- Definitions of a log: its front, its calls and their costs, and what a device recovers to after a crash.
 pub mod Front
 pub mod Recovery
 pub mod Changes

@@ -1,4 +1,4 @@
--- The words of the tree of parcels: its nodes and levels, lending and restoring, running a message, and pieces.
+-- Definitions of the tree of parcels: its nodes and levels, lending and restoring, running a message, and pieces.
 pub mod Volume
 pub mod Shown
 pub mod Fits

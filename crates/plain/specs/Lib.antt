@@ -1,2 +1,2 @@
--- The words of the maps that the serial server keeps.
+-- Definitions of the maps that the serial server keeps.
 pub mod Server

@@ -1,2 +1,2 @@
--- The definitions of a reorder buffer of lines that were read and not retired yet.
+-- Definitions of a reorder buffer of lines that were read and not retired yet.
 pub mod ReorderBuffer

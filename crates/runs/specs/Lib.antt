@@ -1,4 +1,4 @@
--- The words of runs on a device: machines, their steps and hands, stages, and incarnations.
+-- Definitions of runs on a device: machines, their steps and hands, stages, and incarnations.
 pub mod Stages
 pub mod Hands
 pub mod Machine

@@ -1,4 +1,4 @@
--- The definitions of a core: its calls, its core state and its jobs, and what a crash leaves of its device.
+-- Definitions of a core: its calls, its core state and its jobs, and what a crash leaves of its device.
 pub mod CoreView
 pub mod Jobs
 pub mod Calls

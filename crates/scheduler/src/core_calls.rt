@@ -100,7 +100,7 @@ pub(crate) fn one_if(is_so: bool) -> usize
     if is_so { 1 } else { 0 }
 }
 
-// Whether a message is held: in flight, ran or logged.
+// Whether a message is held: in flight, ran or logged (chains 1, 2 and 3 of `slot.rt`).
 fn holds_any(slots: &Arena<Slot>) -> bool
     requires { HasChains slots.now }
     ensures { result ≡ nat_lt 0 (length (chain_at slots.now 3) + (length (chain_at slots.now 2) + length (chain_at slots.now 1))) }

@@ -11,9 +11,9 @@ use run_queue::{QueuedMessage, RunQueue};
 pub enum Granted {
     /// The message was dispatched as this job.
     Job(Job),
-    /// No message is eligible, and none lacks room alone.
+    /// No message is eligible, and none lacks only room in the log.
     NoneEligible,
-    /// No message is eligible, and some message lacks room in the log alone.
+    /// No message is eligible, and some message lacks only room in the log.
     NoRoom,
     /// Nothing is dispatched, since the device has failed.
     Failed,

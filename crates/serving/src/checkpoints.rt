@@ -90,7 +90,7 @@ impl<'c, R: Read, D: Disk, L: ReplySink<D>> Session<'c, R, D, L> {
     }
 
     /// Where no job is in flight and no message may be dispatched or read: takes the consistency point in progress a step on, or begins
-    /// one where it is due or a message lacks room in the log alone. Whether it did either.
+    /// one where it is due or a message lacks only room in the log. Whether it did either.
     pub(crate) fn step_point(&mut self, lacks_room: bool) -> Result<bool, Halted>
         ensures moves { IsSessionStep self.old self.new result }
     {

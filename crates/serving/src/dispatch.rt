@@ -28,15 +28,15 @@ const PATIENCE: usize = 16384;
 /// After how many looks other threads may go first, if they wait for a processor.
 const LOOKS: usize = 32;
 
-/// What was collected in one iteration, and what kept messages from being dispatched. Collecting ends since the count falls; a count
-/// that begins elsewhere makes a longer or a shorter batch, which no contract forbids.
+/// What was collected in one iteration, and what kept messages from being dispatched. `left` falls with each message, so collecting ends;
+/// no contract says that it begins at `BATCH`.
 #[derive(Clone, Copy)]
 struct Batch {
     /// How many more messages may be collected before what ran is logged.
     left: usize,
     /// Whether one of them changed something, so that it has to be written to the log.
     changed: bool,
-    /// Whether some message lacked room in the log alone, when messages were dispatched last.
+    /// Whether some message lacked only room in the log, when messages were dispatched last.
     lacks_room: bool,
 }
 
@@ -83,7 +83,7 @@ enum Dispatched {
     Job,
     /// None is eligible, and none waits only for room in the log.
     NoneEligible,
-    /// No message is eligible, and some message lacks room in the log alone.
+    /// No message is eligible, and some message lacks only room in the log.
     NoRoom,
     /// Nothing is dispatched, since the device has failed.
     Failed,
@@ -153,8 +153,8 @@ impl<'c, R: Read, D: Disk, L: ReplySink<D>> Session<'c, R, D, L> {
         Dispatched::Job
     }
 
-    /// Dispatches messages, unless a consistency point is due by the number of records: whether one lacks room in the log
-    /// alone. None is dispatched where the device has failed, as the next log reports.
+    /// Dispatches messages, unless a consistency point is due by the number of records: whether one lacks only room in the
+    /// log. None is dispatched where the device has failed, as the next log reports.
     fn dispatch_ready(&mut self) -> bool
         ensures as_before { KeepsEnds self.old self.new }
     {
@@ -247,7 +247,7 @@ impl<'c, R: Read, D: Disk, L: ReplySink<D>> Session<'c, R, D, L> {
     }
 
     /// Logs what ran in one go, answers it, and retires the lines that are next in order. A consistency point in progress
-    /// goes on by one step behind each answer.
+    /// goes on by one step after each answer.
     fn log_and_reply<W: GatedRuntime>(&mut self, rt: &W) -> Result<(), Halted>
         ensures moves { IsSessionStep self.old self.new result }
     {

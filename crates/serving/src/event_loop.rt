@@ -45,7 +45,7 @@ impl<'c, R: Read, D: Disk, L: ReplySink<D>> Session<'c, R, D, L> {
         }
     }
 
-    /// Why no more is read, where that is so, each line that was read is retired, and no consistency point is in progress.
+    /// Why the loop ends, once no more is read, each line that was read is retired, and no consistency point is in progress.
     fn ended(&self) -> Option<ReadEnd>
         ensures { IfSome result (λ stop. (self.now.stop ≡ Some stop) × (self.now.row.lines ≡ []) × (self.now.core.left ≡ None)) }
     {
@@ -56,8 +56,8 @@ impl<'c, R: Read, D: Disk, L: ReplySink<D>> Session<'c, R, D, L> {
         }
     }
 
-    /// Sends all that waits, and makes the last consistency point at the end of the input: nothing waits or is held then, and the log is
-    /// empty behind it. It halts where the device has failed, which may not be known yet: a core that has failed dispatches nothing.
+    /// Sends all that waits, and at the end of the input makes the last consistency point: nothing waits or is held then, and the log is
+    /// empty after it. It halts where the device has failed.
     fn finish(&mut self, stop: ReadEnd) -> Result<(), Halted>
         requires row { self.old.row.lines ≡ [] }
         requires none { self.old.core.left ≡ None }

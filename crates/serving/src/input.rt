@@ -17,9 +17,9 @@ use reorder_buffer::{Line, ReorderBuffer};
 use scheduler::Core;
 use std::io::Read;
 
-/// Takes a line of these bytes into the reorder buffer, and its message, if it is one, into the core. One that is out of range takes no
-/// ticket. Or its message is refused, and this is why no more is read. Where the reorder buffer has a place for the line, the core has a
-/// slot for its message.
+/// Takes the line of these bytes into the reorder buffer, and its message, if it is one in range, into the core; one out of range takes no
+/// ticket. `Err` is why no more is read: the core refuses the message for another reason, and the line isn't taken in. Where the reorder
+/// buffer has a place for the line, the core has a slot for its message.
 fn take<D: Disk>(core: &mut Core<D>, row: &mut ReorderBuffer, line: &[u8]) -> Result<(), ReadEnd>
     requires room { length row.old.lines < row.old.slots }
     requires order { AreConsecutive (with_tickets row.old.lines ++ Pending core.old.next ∷ []) }

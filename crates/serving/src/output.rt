@@ -84,7 +84,7 @@ impl<'c, R: Read, D: Disk, L: ReplySink<D>> Session<'c, R, D, L> {
         }
     }
 
-    /// Sends all that waits where the longest answer has no room behind it.
+    /// Sends all that waits if the longest answer has no room after it.
     fn flush_if_full(&mut self) -> Result<(), Halted>
         ensures moves { IsSessionStep self.old self.new result }
         ensures same { (self.new.core ≡ self.old.core) × (self.new.row ≡ self.old.row) × (self.new.dispatch_seat ≡ self.old.dispatch_seat) }

@@ -66,7 +66,8 @@ struct Room {
     ghost none_lent: { dispatch_seat.lent ≡ replicate bench.slots None },
 }
 
-// Takes the memory for lines of which at most `slots` are outstanding, and lays a bench with a place for each worker.
+// Takes the memory for lines of which at most `slots` are outstanding, and lays a bench with a place for each
+// worker (contracts call the places `bench.slots`).
 fn take_room(alloc: Global, slots: usize, workers: usize) -> Result<Room, AllocError>
     requires { workers ≤ 64 }
     ensures row { IfOk result (λ room. room.row.slots ≡ slots) }
@@ -233,6 +234,7 @@ trait Beginning {
     ghost name: { GName };
 }
 
+// For the one call in `serve`: its proof (`proofs/server/serve/Invariants.antt`) gives the start and the loan in place of these.
 impl Beginning for Brand {
     ghost use Rattle.std.specs.Prelude.{None};
 

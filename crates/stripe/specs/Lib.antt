@@ -1,4 +1,4 @@
--- The words of a stripe: its blocks, how they are kept, and their entries as bytes.
+-- Definitions of a stripe: its blocks, how they are kept, and their entries as bytes.
 pub mod Stripe
 pub mod Index
 pub mod Entries

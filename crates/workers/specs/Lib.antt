@@ -1,4 +1,4 @@
--- The definitions of a bench: its one rule, the steps that keep it, and the seats that clauses see.
+-- Definitions of a bench: its one rule, the steps that keep it, and the seats that clauses see.
 pub mod JobCell
 pub mod Rule
 pub mod Steps
