@@ -11,7 +11,7 @@ use clap::{Arg, ArgMatches, Command, value_parser};
 use std::alloc::{AllocError, Global};
 
 /// What `--version` prints behind the program's name: its version, and the kit and the logic with which it is proved. The letter behind the
-/// kit's number, its revision, is left out, as revisions of one logic prove the same.
+/// kit's number, its revision, is left out: two are in use, with one logic.
 const VERSION: &str = "0.1.0 (proved with rattle-kit-13, logic dac8208d650f15bf)";
 
 // What help prints of the commands.
