@@ -35,7 +35,7 @@ fn are_logged(g: &Geometry, messages: &[Msg]) -> bool
 /// Clears the half that isn't named, and names it.
 fn change_halves<D: Disk>(disk: &mut D, log: &mut Halves) -> Result<(), LogFault>
     requires sound { log.old.failed ≡ false }
-    requires together { log.old.current ≡ log.old.named }
+    requires current_is_named { log.old.current ≡ log.old.named }
     requires whole { HasParts log.old (D.medium disk.old) }
     ensures ready { OnOk result (D.keeps → IsReadyFor log.new (D.medium disk.new)) }
     ensures geometry { log.new.geometry ≡ log.old.geometry }
@@ -50,7 +50,7 @@ fn change_halves<D: Disk>(disk: &mut D, log: &mut Halves) -> Result<(), LogFault
 /// Clears the half that isn't named, and opens the chain to it.
 fn chain_halves<D: Disk>(disk: &mut D, log: &mut Halves) -> Result<(), LogFault>
     requires sound { log.old.failed ≡ false }
-    requires together { log.old.current ≡ log.old.named }
+    requires current_is_named { log.old.current ≡ log.old.named }
     requires half { log.old.named < 2 }
     requires whole { HasParts log.old (D.medium disk.old) }
     ensures ready { OnOk result (D.keeps → IsReadyFor log.new (D.medium disk.new)) }

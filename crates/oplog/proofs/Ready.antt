@@ -44,10 +44,10 @@ ready_chained log {opened} {w1} {w2} is_half first second fits clear chain =
 pub ready_named : (log : Log) {cleared named : Log} {w0 w1 w2 : Medium} → log.current ≡ log.named → cleared ≡ record log { cleared = true } → named
     ≡ flipped cleared → device_size (layout_of log.geometry) ≤ length w2.now → Cleared (layout_of log.geometry) (other log.named) w0 w1
     → Flipped (layout_of cleared.geometry) (other cleared.named) w1 w2 → IsReady (layout_of named.geometry) named.current named.used w2
-ready_named log {named} {w1} {w2} together first second fits clear flip =
+ready_named log {named} {w1} {w2} current_is_named first second fits clear flip =
     let follows : flipped (record log { cleared = true }) ≡ record log { named = other log.named; current = other log.named; used = 0; cleared = false } =
     ap (λ (t : Bool). cond t (record log { named = other log.named; current = other log.named; used = 0; cleared = false })
-    (record log { named = other log.named; cleared = false })) (eq-eqb log.current log.named together) in
+    (record log { named = other log.named; cleared = false })) (eq-eqb log.current log.named current_is_named) in
     let is : named ≡ record log { named = other log.named; current = other log.named; used = 0; cleared = false } = second ∙ ap flipped first ∙ follows in
     let flip' : Flipped (layout_of log.geometry) (other log.named) w1 w2 = subst (λ (x : Log). Flipped (layout_of x.geometry) (other x.named) w1 w2) first flip in
     subst (λ (x : Log). IsReady (layout_of x.geometry) x.current x.used w2) (sym is)

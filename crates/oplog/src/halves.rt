@@ -168,7 +168,7 @@ impl Halves {
     /// The named half is the current one.
     pub fn clear_other<D: Disk>(&mut self, disk: &mut D) -> Result<(), LogFault>
         requires sound { self.old.failed ≡ false }
-        requires alone { self.old.current ≡ self.old.named }
+        requires current_is_named { self.old.current ≡ self.old.named }
         requires whole { HasParts self.old (D.medium disk.old) }
         ensures any_moment { D.keeps → Clears self.old (D.medium disk.old) (D.medium disk.new) }
         ensures cleared { OnOk result (D.keeps →
@@ -194,7 +194,7 @@ impl Halves {
     /// The other half becomes current, with room for all records. It was cleared since it was last named or current.
     pub fn open_chain<D: Disk>(&mut self, disk: &mut D) -> Result<(), LogFault>
         requires sound { self.old.failed ≡ false }
-        requires alone { self.old.current ≡ self.old.named }
+        requires current_is_named { self.old.current ≡ self.old.named }
         requires cleared { self.old.cleared ≡ true }
         requires whole { HasParts self.old (D.medium disk.old) }
         ensures any_moment { D.keeps → Chains self.old (D.medium disk.old) (D.medium disk.new) }
