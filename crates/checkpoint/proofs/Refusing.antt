@@ -288,16 +288,16 @@ header_half n (BadRecord h i) is = absurd is
 -- ---- want of memory
 
 -- The header alone takes none.
-pub took_none : (e : OpenFault) → IsOfHeader e → e ≢ OutOfMemory
-took_none Device is same = cc
-took_none OutOfMemory is same = is
-took_none NotFormatted is same = cc
-took_none BadGeometry is same = cc
-took_none TooShort is same = cc
-took_none BadVersion is same = is
-took_none (BadPiece k) is same = is
-took_none BadChain is same = is
-took_none (BadRecord h i) is same = is
+pub never_out_of_memory : (e : OpenFault) → IsOfHeader e → e ≢ OutOfMemory
+never_out_of_memory Device is same = cc
+never_out_of_memory OutOfMemory is same = is
+never_out_of_memory NotFormatted is same = cc
+never_out_of_memory BadGeometry is same = cc
+never_out_of_memory TooShort is same = cc
+never_out_of_memory BadVersion is same = is
+never_out_of_memory (BadPiece k) is same = is
+never_out_of_memory BadChain is same = is
+never_out_of_memory (BadRecord h i) is same = is
 
 -- Behind the header, any refusal is one of a device with all its parts.
 pub behind_header : {T : Type 0} (r : Result T OpenFault) (keeps : Type 0) (c : List ℕ) → (keeps → IsDevice c) → IfErr r (λ e. e ≡ OutOfMemory → keeps → IsDevice c)

@@ -70,7 +70,7 @@ pub(crate) fn read_pieces<D: Disk>(
         (part_bytes (layout_of tree.old.geometry) (image number) (D.medium disk.old).now) ≡ None) }
     ensures refused { IfErr result (λ e. D.keeps → IsFaultOfBytes (fault_or_later BadPiece (first_bad_piece tree.old.geometry
         (part_bytes (layout_of tree.old.geometry) (image number) (D.medium disk.old).now)) None) e) }
-    ensures took_none { IfErr result (λ e. e ≢ OutOfMemory) }
+    ensures never_out_of_memory { IfErr result (λ e. e ≢ OutOfMemory) }
     ensures whole { OnOk result (IsWholeTree tree.new) }
     ensures geometry { tree.new.geometry ≡ tree.old.geometry }
     ensures untouched { D.keeps → moments (D.medium disk.new) ≡ moments (D.medium disk.old) }

@@ -80,7 +80,7 @@ fn read_image<D: Disk>(
         (part_bytes (layout_of tree.old.geometry) (image area) (D.medium disk.old).now) ≡ None) }
     ensures refused { IfErr result (λ e. D.keeps → IsFaultOfBytes (image_fault tree.old.geometry
         (part_bytes (layout_of tree.old.geometry) (image area) (D.medium disk.old).now)) e) }
-    ensures took_none { IfErr result (λ e. e ≢ OutOfMemory) }
+    ensures never_out_of_memory { IfErr result (λ e. e ≢ OutOfMemory) }
     ensures whole { OnOk result (IsWholeTree tree.new) }
     ensures geometry { OnOk result (tree.new.geometry ≡ tree.old.geometry) }
     ensures untouched { D.keeps → moments (D.medium disk.new) ≡ moments (D.medium disk.old) }
@@ -100,7 +100,7 @@ fn chain_of<D: Disk>(disk: &mut D, g: &Geometry, area: usize) -> Result<bool, Op
     ensures sound { OnOk result (D.keeps → are_chained (layout_of g.now) (D.medium disk.old).now ≡ false) }
     ensures refused { IfErr result (λ e. D.keeps →
         IsFaultOfBytes (fault_if (are_chained (layout_of g.now) (D.medium disk.old).now) BadChain None) e) }
-    ensures took_none { IfErr result (λ e. e ≢ OutOfMemory) }
+    ensures never_out_of_memory { IfErr result (λ e. e ≢ OutOfMemory) }
     ensures untouched { D.keeps → moments (D.medium disk.new) ≡ moments (D.medium disk.old) }
     ensures call { IsOpeningCall result (D.medium disk.old) (D.medium disk.new) }
 {
@@ -157,7 +157,7 @@ pub fn load_named<D: Disk>(
     ensures refused { IfErr result (λ e. D.keeps → IsRefused (D.medium disk.old).now e) }
     ensures half { IfErr result (λ e. D.keeps →
         IsOfHalf (named_area (layout_of tree.old.geometry) (D.medium disk.old).now) e) }
-    ensures took_none { IfErr result (λ e. e ≢ OutOfMemory) }
+    ensures never_out_of_memory { IfErr result (λ e. e ≢ OutOfMemory) }
     ensures whole { OnOk result (IsWholeTree tree.new) }
     ensures geometry { OnOk result (tree.new.geometry ≡ tree.old.geometry) }
     ensures untouched { D.keeps → moments (D.medium disk.new) ≡ moments (D.medium disk.old) }

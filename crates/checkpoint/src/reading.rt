@@ -79,7 +79,7 @@ pub(crate) fn version_of<D: Disk>(
         has_head (part_bytes (layout_of g.now) (image number) (D.medium disk.old).now) ≡ true) }
     ensures refused { IfErr result (λ e. D.keeps → IsFaultOfBytes (fault_if (not (has_head
         (part_bytes (layout_of g.now) (image number) (D.medium disk.old).now))) BadVersion None) e) }
-    ensures took_none { IfErr result (λ e. e ≢ OutOfMemory) }
+    ensures never_out_of_memory { IfErr result (λ e. e ≢ OutOfMemory) }
     ensures untouched { D.keeps → moments (D.medium disk.new) ≡ moments (D.medium disk.old) }
     ensures call { IsOpeningCall result (D.medium disk.old) (D.medium disk.new) }
 {

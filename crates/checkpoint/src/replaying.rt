@@ -37,7 +37,7 @@ fn replay_record<D: Disk>(
         ≡ Some (state_in tree.new)) }
     ensures refused { IfErr result (λ e. D.keeps → IsFaultOfBytes (record_fault tree.old.geometry (state_in tree.old)
         half i (record_at (layout log.old) half i (D.medium disk.old).now)) e) }
-    ensures took_none { IfErr result (λ e. e ≢ OutOfMemory) }
+    ensures never_out_of_memory { IfErr result (λ e. e ≢ OutOfMemory) }
     ensures whole { OnOk result (IsWholeTree tree.new) }
     ensures geometry { OnOk result (tree.new.geometry ≡ tree.old.geometry) }
     ensures log { OnOk result (log.new ≡ log.old) }
@@ -71,7 +71,7 @@ fn replay_front<D: Disk>(
         (front (layout log.old) half (D.medium disk.old).now) ≡ Some (state_in tree.new)) }
     ensures refused { IfErr result (λ e. D.keeps → IsFaultOfBytes (records_fault tree.old.geometry
         (state_in tree.old) half (front (layout log.old) half (D.medium disk.old).now)) e) }
-    ensures took_none { IfErr result (λ e. e ≢ OutOfMemory) }
+    ensures never_out_of_memory { IfErr result (λ e. e ≢ OutOfMemory) }
     ensures whole { OnOk result (IsWholeTree tree.new) }
     ensures geometry { OnOk result (tree.new.geometry ≡ tree.old.geometry) }
     ensures log { OnOk result (log.new ≡ log.old) }
@@ -104,7 +104,7 @@ pub fn replay<D: Disk>(
         (front (layout log.old) half (D.medium disk.old).now) ≡ Some (state_in tree.new)) }
     ensures refused { IfErr result (λ e. D.keeps → IsFaultOfBytes (records_fault tree.old.geometry
         (state_in tree.old) half (front (layout log.old) half (D.medium disk.old).now)) e) }
-    ensures took_none { IfErr result (λ e. e ≢ OutOfMemory) }
+    ensures never_out_of_memory { IfErr result (λ e. e ≢ OutOfMemory) }
     ensures whole { OnOk result (IsWholeTree tree.new) }
     ensures geometry { OnOk result (tree.new.geometry ≡ tree.old.geometry) }
     ensures log { OnOk result (log.new ≡ log.old) }

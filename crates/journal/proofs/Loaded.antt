@@ -20,7 +20,7 @@ use Rattle.image.proofs.Reading.{read_again}
 use Rattle.journal.specs.declared.opening.Parts.{Parts}
 use Rattle.journal.specs.Journal.{JournalView}
 use Rattle.journal.specs.DirtyPieces.{opened_dirty}
-use Rattle.journal.specs.Keeping.{held_of}
+use Rattle.journal.specs.Keeping.{journal_view_of}
 use Rattle.journal.specs.Opening.{IsOpened}
 use Rattle.journal.specs.Parts.{AreLoaded, AreUnloaded, IsMade, IsMadeOf, KeepsRoom}
 use Rattle.journal.specs.Steps.{IsAlone, IsPointed, IsUnfinished, pointed, run_on}
@@ -135,13 +135,13 @@ pub record HasRoom (g : Geometry) (p : Parts) : Type 0 where
 -- loaded with this log, of parts that had the room that it asks for
 pub are_loaded : {p q : Parts} {log : Log} {m : Medium} → q.halves ≡ log → log.failed ≡ false → log.current ≡ log.named → IsWholeTree q.tree
     → q.tree.geometry ≡ log.geometry → KeepsRoom p q → HasRoom log.geometry p → device_size (layout_of log.geometry) ≤ length m.now → AreLoaded q m
-are_loaded {q} {log} {m} is_log fine together tree geometry kept room whole =
+are_loaded {q} {log} {m} is_log fine current_is_named tree geometry kept room whole =
     let same : q.halves.geometry ≡ log.geometry = ap (λ (l : Log). l.geometry) is_log in
     record {
       tree = tree;
       geometry = geometry ∙ sym same;
       fine = ap (λ (l : Log). l.failed) is_log ∙ fine;
-      together = ap (λ (l : Log). l.current) is_log ∙ together ∙ sym (ap (λ (l : Log). l.named) is_log);
+      current_is_named = ap (λ (l : Log). l.current) is_log ∙ current_is_named ∙ sym (ap (λ (l : Log). l.named) is_log);
       whole = subst (λ (h : Geometry). device_size (layout_of h) ≤ length m.now) (sym same) whole;
       frozen = kept.frozen ∙ room.frozen ∙ sym (ap image_size same);
       named_dirty = (λ i. length (kept.named_dirty i).items) ∙ room.named_dirty ∙ sym (ap piece_count same);
@@ -160,7 +160,7 @@ made {p} {q} {r} {w3} taken same room loaded room' tree log long =
     record {
       geometry = is ∙ sym loaded.geometry ∙ sym (λ i. (tree i).geometry);
       fine = ap (λ (l : Log). l.failed) log ∙ loaded.fine;
-      together = ap (λ (l : Log). l.current) log ∙ sym (ap (λ (l : Log). l.named) log);
+      current_is_named = ap (λ (l : Log). l.current) log ∙ sym (ap (λ (l : Log). l.named) log);
       used = ap (λ (l : Log). l.used) log;
       whole =
           subst (λ (h : Geometry). device_size (layout_of h) ≤ length w3.now) (sym is)
@@ -175,7 +175,7 @@ made {p} {q} {r} {w3} taken same room loaded room' tree log long =
 -- ---- in the words of contracts
 
 pub opened : (p : Parts) (old m : Medium) (j : JournalView) → IsMade p m → IsMadeOf old.now p m → IsWholeTree p.tree → j
-    ≡ held_of p.halves p.named_dirty.items p.other_dirty.items None false m → IsOpened old j (state_in p.tree)
+    ≡ journal_view_of p.halves p.named_dirty.items p.other_dirty.items None false m → IsOpened old j (state_in p.tree)
 opened p old m j made is whole same =
     subst (λ (h : JournalView). IsOpened old h (state_in p.tree)) (sym same)
     (record {

@@ -15,7 +15,7 @@ use Rattle.image.proofs.Untouched.{piece_stays}
 use Rattle.meaning.proofs.Kept.{step_kept}
 use Rattle.std.specs.List.{AllByRecursion}
 use Rattle.journal.specs.Journal.{AreCarriedOut, HoldsSome, IsCommitted, records_in}
-use Rattle.journal.specs.Keeping.{IsCutOr, IsFresh, IsCutState, IsSoundJournal, coming, held_of}
+use Rattle.journal.specs.Keeping.{IsCutOr, IsFresh, IsCutState, IsSoundJournal, coming, journal_view_of}
 use Rattle.journal.specs.DirtyPieces.{AreBothTouched, DirtiesTouched}
 use Rattle.journal.specs.Steps.{RecoversByArea, run_on}
 use Rattle.journal.specs.Extents.{AgreeOnClean, image_in, extent_of}
@@ -94,7 +94,7 @@ fresh_more {g} {x} ms old new bytes is_state out touched fresh y is n few clean 
 
 -- the journal's facts, in the words of contracts
 pub committed_of : {log : Log} {frozen : List ℕ} {named others due a b : List Bool} {left : Option ℕ} {failed : Bool} {m : Medium}
-    → IsSoundJournal log frozen named others due left m → IsCommitted (held_of log a b left failed m)
+    → IsSoundJournal log frozen named others due left m → IsCommitted (journal_view_of log a b left failed m)
 committed_of {log} {m} sound = record {
   some = sound.some;
   each = λ c gone. holds_by log.geometry log.named log.current (holds log.geometry m.now) c (sound.recovers c gone);

@@ -60,8 +60,8 @@ frozen_right {log} {named} {y} {dirty} {bytes} alone sound is same same' same'' 
 module _ {log : Log} {frozen frozen' : List ℕ} {named others due : List Bool} {left : Option ℕ} {w0 : Medium} {y : State} (alone : left ≡ None)
     (placed' : IsCutState log due left) (sound' : IsSoundJournal log frozen named others due left w0)
     (is : holds log.geometry w0.now ≡ Some y) (is_state : IsState log.geometry y) (spelled : frozen' ≡ image_of 2 log.geometry y) (are : AreBytes w0.now) where
-  pub together : log.current ≡ log.named
-  together = subst (λ (l : Option ℕ). IsCutState log due l) alone placed'
+  pub current_is_named : log.current ≡ log.named
+  current_is_named = subst (λ (l : Option ℕ). IsCutState log due l) alone placed'
 
   sound : IsSoundJournal log frozen named others due None w0
   sound = subst (λ (l : Option ℕ). IsSoundJournal log frozen named others due l w0) alone sound'
@@ -72,7 +72,7 @@ module _ {log : Log} {frozen frozen' : List ℕ} {named others due : List Bool} 
   pub is_alone : IsAlone log w0
   is_alone = record {
     some = sound.some;
-    recovers = subst (λ (h : ℕ). RecoversByArea log.geometry log.named h (holds log.geometry w0.now) w0) together sound.recovers;
+    recovers = subst (λ (h : ℕ). RecoversByArea log.geometry log.named h (holds log.geometry w0.now) w0) current_is_named sound.recovers;
   }
 
   pub reads : read log.geometry frozen' ≡ holds log.geometry w0.now

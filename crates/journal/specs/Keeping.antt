@@ -65,8 +65,8 @@ pub record IsSoundJournal (log : Log) (frozen : List ℕ) (named others due : Li
   pub others_fresh : IsFresh log.geometry (holds log.geometry m.now) others (coming log frozen left m)
   pub by_cut : IsCutOr log frozen due left m
 
-abbrev pub held_of : Log → List Bool → List Bool → Option ℕ → Bool → Medium → JournalView
-held_of log named others left failed m = record {
+abbrev pub journal_view_of : Log → List Bool → List Bool → Option ℕ → Bool → Medium → JournalView
+journal_view_of log named others left failed m = record {
   geometry = log.geometry;
   room = log.geometry.half - log.used;
   left = left;

@@ -55,7 +55,7 @@ pub record AreLoaded (p : Parts) (m : Medium) : Type 0 where
   pub tree : IsWholeTree p.tree
   pub geometry : p.tree.geometry ≡ p.halves.geometry
   pub fine : p.halves.failed ≡ false
-  pub together : p.halves.current ≡ p.halves.named
+  pub current_is_named : p.halves.current ≡ p.halves.named
   pub whole : HasParts p.halves m
   pub frozen : length p.frozen.items ≡ image_size p.halves.geometry
   pub named_dirty : length p.named_dirty.items ≡ piece_count p.halves.geometry
@@ -73,7 +73,7 @@ pub record KeepsRoom (old new : Parts) : Type 0 where
 pub record IsMade (p : Parts) (m : Medium) : Type 0 where
   pub geometry : p.halves.geometry ≡ p.tree.geometry
   pub fine : p.halves.failed ≡ false
-  pub together : p.halves.current ≡ p.halves.named
+  pub current_is_named : p.halves.current ≡ p.halves.named
   pub used : p.halves.used ≡ 0
   pub whole : HasParts p.halves m
   pub frozen : length p.frozen.items ≡ image_size p.halves.geometry

@@ -62,13 +62,13 @@ impl<D: Disk> Model for Journal<D> {
     ghost use Rattle.std.specs.Prelude.{◌≡◌, ◌≤◌, false, length};
     ghost use Rattle.image.specs.Pieces.{piece_count};
     ghost use Rattle.journal.specs.Journal.{JournalView};
-    ghost use Rattle.journal.specs.Keeping.{AreCleanBefore, IsCutState, IsSoundJournal, held_of};
+    ghost use Rattle.journal.specs.Keeping.{AreCleanBefore, IsCutState, IsSoundJournal, journal_view_of};
     ghost use Rattle.oplog.specs.Calls.{HasParts};
     ghost use Rattle.device_map.specs.Layout.{image_size};
 
     ghost Value = { JournalView };
 
-    ghost view = { λ j. held_of j.halves j.named_dirty.items j.other_dirty.items j.left j.failed (D.medium j.disk) };
+    ghost view = { λ j. journal_view_of j.halves j.named_dirty.items j.other_dirty.items j.left j.failed (D.medium j.disk) };
 
     ghost invariant = { λ j. HasParts j.halves (D.medium j.disk)
         × (j.halves.used ≤ j.halves.geometry.half)
@@ -83,7 +83,7 @@ impl<D: Disk> Model for Journal<D> {
 }
 
 impl<D: Disk> Journal<D> {
-    ghost use Rattle.journal.specs.Keeping.{IsSoundJournal, held_of};
+    ghost use Rattle.journal.specs.Keeping.{IsSoundJournal, journal_view_of};
     ghost use Rattle.oplog.specs.Calls.{HasParts};
     ghost use Rattle.device_map.specs.Layout.{image_size};
 
@@ -97,7 +97,7 @@ impl<D: Disk> Journal<D> {
         due: Vec<bool>,
     ) -> Journal<D>
         requires fine { halves.failed ≡ false }
-        requires together { halves.current ≡ halves.named }
+        requires current_is_named { halves.current ≡ halves.named }
         requires used { halves.used ≤ halves.geometry.half }
         requires whole { HasParts halves (D.medium disk) }
         requires frozen { length frozen.items ≡ image_size halves.geometry }
@@ -105,7 +105,7 @@ impl<D: Disk> Journal<D> {
         requires other_dirty { length other_dirty.items ≡ piece_count halves.geometry }
         requires due { length due.items ≡ piece_count halves.geometry }
         requires sound { D.keeps → IsSoundJournal halves frozen.items named_dirty.items other_dirty.items due.items None (D.medium disk) }
-        ensures { result ≡ held_of halves named_dirty.items other_dirty.items None false (D.medium disk) }
+        ensures { result ≡ journal_view_of halves named_dirty.items other_dirty.items None false (D.medium disk) }
     {
         Journal {
             disk,
@@ -158,7 +158,7 @@ impl<D: Disk> Journal<D> {
     /// Writes an image of what is committed, which a whole tree holds, and begins a new log.
     pub fn point(&mut self, tree: &Tree) -> Result<(), LogFault>
         requires sound { self.old.failed ≡ false }
-        requires alone { self.old.left ≡ None }
+        requires no_cut { self.old.left ≡ None }
         requires geometry { tree.now.geometry ≡ self.old.geometry }
         requires whole { IsWholeTree tree.now }
         requires state { D.keeps → committed self.old ≡ Some (state_in tree.now) }
@@ -199,7 +199,7 @@ impl<D: Disk> Journal<D> {
     /// other half from now on, after those in force. As many pieces are left to write as are dirty in the other image.
     pub fn cut(&mut self, tree: &Tree) -> Result<(), LogFault>
         requires sound { self.old.failed ≡ false }
-        requires alone { self.old.left ≡ None }
+        requires no_cut { self.old.left ≡ None }
         requires geometry { tree.now.geometry ≡ self.old.geometry }
         requires whole { IsWholeTree tree.now }
         requires state { D.keeps → committed self.old ≡ Some (state_in tree.now) }

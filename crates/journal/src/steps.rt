@@ -32,7 +32,7 @@ pub(crate) fn point_on<D: Disk>(
     requires size { length bytes.now ≡ image_size halves.old.geometry }
     requires dirty { length dirty.now ≡ piece_count halves.old.geometry }
     requires whole { HasParts halves.old (D.medium disk.old) }
-    requires together { halves.old.current ≡ halves.old.named }
+    requires current_is_named { halves.old.current ≡ halves.old.named }
     requires alone { D.keeps → IsAlone halves.old (D.medium disk.old) }
     requires image { D.keeps →
         read halves.old.geometry bytes.now ≡ holds halves.old.geometry (D.medium disk.old).now }
@@ -64,7 +64,7 @@ pub(crate) fn point_on<D: Disk>(
 pub(crate) fn cut_on<D: Disk>(halves: &mut Halves, disk: &mut D) -> Result<(), LogFault>
     requires sound { halves.old.failed ≡ false }
     requires whole { HasParts halves.old (D.medium disk.old) }
-    requires together { halves.old.current ≡ halves.old.named }
+    requires current_is_named { halves.old.current ≡ halves.old.named }
     requires alone { D.keeps → IsAlone halves.old (D.medium disk.old) }
     ensures any_moment { D.keeps →
         RecoversStill halves.old.geometry (D.medium disk.old) (D.medium disk.new) }
@@ -126,7 +126,7 @@ pub(crate) fn finish_on<D: Disk>(
     requires dirty { length dirty.now ≡ piece_count halves.old.geometry }
     requires all { AreAllDirty halves.old.geometry dirty.now }
     requires whole { HasParts halves.old (D.medium disk.old) }
-    requires together { halves.old.current ≡ halves.old.named }
+    requires current_is_named { halves.old.current ≡ halves.old.named }
     requires unfinished { D.keeps → IsUnfinished halves.old bytes.now (D.medium disk.old) }
     ensures any_moment { D.keeps →
         RecoversStill halves.old.geometry (D.medium disk.old) (D.medium disk.new) }

@@ -12,7 +12,7 @@ use Rattle.device_map.specs.Layout.{image, layout_of, part_bytes}
 use Rattle.oplog.specs.Log.{Log}
 use Rattle.oplog.specs.Recovery.{in_force, named_area, run}
 use Rattle.parcel.specs.Tree.{state_in}
-use Rattle.checkpoint.proofs.Refusing.{behind_header, chain_refused, image_refused, loaded, not_refused, records_refused, recovers_for, took_none}
+use Rattle.checkpoint.proofs.Refusing.{behind_header, chain_refused, image_refused, loaded, not_refused, records_refused, recovers_for, never_out_of_memory}
 use Rattle.checkpoint.proofs.Replays.{same_bytes}
 use Rattle.checkpoint.proofs.loading.load.Goals as goal
 
@@ -127,4 +127,4 @@ returns-in_err-records-clause-memory g c =
 pub returns-in_err-g-clause-memory : goal.returns-in_err-g-clause-memory
 returns-in_err-g-clause-memory g c =
     let p = err_from_is_err_and c.from_residual.result c.from_residual.ensures.1 in
-    rw (p.1, p.2) (λ is. absurd (took_none c.in_err-g.field-0.0 c.in_err-g.ensures.by_header is))
+    rw (p.1, p.2) (λ is. absurd (never_out_of_memory c.in_err-g.field-0.0 c.in_err-g.ensures.by_header is))

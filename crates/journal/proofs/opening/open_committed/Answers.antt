@@ -8,7 +8,7 @@ use Rattle.checkpoint.specs.Loading.{IsOfHalf}
 use Rattle.checkpoint.specs.Recovery.{holds}
 use Rattle.checkpoint.specs.Refusals.{refused}
 use Rattle.checkpoint.proofs.OneGeometry.{same_geometry}
-use Rattle.checkpoint.proofs.Refusing.{behind_header, header_half, took_none}
+use Rattle.checkpoint.proofs.Refusing.{behind_header, header_half, never_out_of_memory}
 use Rattle.checkpoint.proofs.Replays.{same_bytes}
 use Rattle.journal.specs.Costs.{finish_takes}
 use Rattle.journal.specs.Parts.{IsMadeOf}
@@ -138,7 +138,7 @@ returns-clause-made_of g c = λ k.
 pub returns-in_err-g-clause-memory : goal.returns-in_err-g-clause-memory
 returns-in_err-g-clause-memory g c =
     let p = err_from_is_err_and c.from_residual.result c.from_residual.ensures.1 in
-    rw (p.1, p.2) (λ is. absurd (took_none c.in_err-g.field-0.0 c.in_err-g.ensures.by_header is))
+    rw (p.1, p.2) (λ is. absurd (never_out_of_memory c.in_err-g.field-0.0 c.in_err-g.ensures.by_header is))
 
 pub returns-in_err-parts-clause-memory : goal.returns-in_err-parts-clause-memory
 returns-in_err-parts-clause-memory g c =

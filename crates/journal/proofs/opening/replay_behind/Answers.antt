@@ -67,7 +67,7 @@ returns-in_err-replay-clause-behind g c =
     (subst (λ (rs : List (List ℕ)). IsFaultOfBytes (records_fault c.args.parts.now.halves.geometry x (other c.args.parts.now.halves.named) rs) c.in_err-replay.field-0.0) finished.front
     (subst (λ (o : Option OpenFault). IsFaultOfBytes o c.in_err-replay.field-0.0) (λ i. records_fault (geometry i) (held' i) (half i) (front (layout_of (log i)) (half i) w1)) fault)) in
     let alike = leaves_now w0 w2 _ (same _ _ _ _ (c.finish_cut.ensures.alike k) only) w2.now (itself w2.now w2.unsynced (g.met.D.Disk.bytes c.replay.new.disk)) in
-    bad_half (first_bad_record c.args.parts.now.tree.geometry 0 (Some x) rs) _ c.in_err-replay.ensures.took_none
+    bad_half (first_bad_record c.args.parts.now.tree.geometry 0 (Some x) rs) _ c.in_err-replay.ensures.never_out_of_memory
     (subst (λ (o : Option OpenFault). IsFaultOfBytes o c.in_err-replay.field-0.0) (λ i. records_fault (c.finish_cut.ensures.tree i).geometry (held' i) (half i) rs) fault)
     (c.requires.holds k).header why
     (record {

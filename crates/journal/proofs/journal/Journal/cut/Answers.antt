@@ -8,7 +8,7 @@ use Rattle.image.specs.Image.{image_of}
 use Rattle.image.specs.Pieces.{piece_count}
 use Rattle.journal.specs.Journal.{JournalView, records, records_in, committed}
 use Rattle.journal.specs.Images.{KeepsImages}
-use Rattle.journal.specs.Keeping.{IsCutState, held_of}
+use Rattle.journal.specs.Keeping.{IsCutState, journal_view_of}
 use Rattle.journal.specs.DirtyPieces.{all_clean, count_dirty, cut_dirty}
 use Rattle.journal.specs.Steps.{cut_now}
 use Rattle.journal.proofs.Logging.{committed_of, sound_along}
@@ -32,37 +32,37 @@ returns-clause-any_moment g c = λ k.
 pub returns-clause-committed : goal.returns-clause-committed
 returns-clause-committed g c = λ k.
     let fine : c.self.inside.failed ≡ false = ap (λ (h : JournalView). h.failed) c.self.view_is ∙ c.requires.sound in
-    let alone : c.self.inside.left ≡ None = ap (λ (h : JournalView). h.left) c.self.view_is ∙ c.requires.alone in
+    let no_cut : c.self.inside.left ≡ None = ap (λ (h : JournalView). h.left) c.self.view_is ∙ c.requires.no_cut in
     let geometry : c.args.tree.now.geometry ≡ c.self.inside.halves.geometry = c.requires.geometry ∙ sym (ap (λ (h : JournalView). h.geometry) c.self.view_is) in
     let is_state = subst (λ (x : Geometry). IsState x (state_in c.args.tree.now)) geometry c.requires.whole.state in
     let w0 = g.D.Disk.medium c.self.inside.disk in
     let is : holds c.self.inside.halves.geometry w0.now ≡ Some (state_in c.args.tree.now) = ap committed c.self.view_is ∙ c.requires.state k in
-    let right = frozen_right alone (c.self.invariant.7 fine k) is geometry c.deref.ensures.value c.deref_mut.ensures.value in
+    let right = frozen_right no_cut (c.self.invariant.7 fine k) is geometry c.deref.ensures.value c.deref_mut.ensures.value in
     let spelled : c.freeze.new.bytes ≡ image_of 2 c.self.inside.halves.geometry (state_in c.args.tree.now) = c.freeze.ensures.image right
     ∙ ap (λ (x : Geometry). image_of 2 x (state_in c.args.tree.now)) geometry in
     let w1 = g.D.Disk.medium c.cut_on.new.disk in
     let begun = c.in_default.ensures.begun k in
     ap (λ (x : Geometry). holds x w1.now) c.cut_on.ensures.geometry
-    ∙ cut_committed alone (c.self.invariant.6 fine).1 (c.self.invariant.7 fine k) is is_state spelled (g.met.D.Disk.bytes c.self.inside.disk)
+    ∙ cut_committed no_cut (c.self.invariant.6 fine).1 (c.self.invariant.7 fine k) is is_state spelled (g.met.D.Disk.bytes c.self.inside.disk)
     (g.met.D.Disk.bytes c.cut_on.new.disk) begun ∙ ap committed c.self.view_is
 
 pub returns-clause-sound : goal.returns-clause-sound
 returns-clause-sound g c = λ k.
     let fine : c.self.inside.failed ≡ false = ap (λ (h : JournalView). h.failed) c.self.view_is ∙ c.requires.sound in
-    let alone : c.self.inside.left ≡ None = ap (λ (h : JournalView). h.left) c.self.view_is ∙ c.requires.alone in
+    let no_cut : c.self.inside.left ≡ None = ap (λ (h : JournalView). h.left) c.self.view_is ∙ c.requires.no_cut in
     let geometry : c.args.tree.now.geometry ≡ c.self.inside.halves.geometry = c.requires.geometry ∙ sym (ap (λ (h : JournalView). h.geometry) c.self.view_is) in
     let is_state = subst (λ (x : Geometry). IsState x (state_in c.args.tree.now)) geometry c.requires.whole.state in
     let frozen = whole_put c.self.inside.frozen.len c.freeze.new.bytes c.self.inside.frozen.items
     (c.freeze.ensures.size ∙ ap length c.deref_mut.ensures.value) (c.freeze.ensures.size ∙ c.deref_mut.ensures.len) in
     let w0 = g.D.Disk.medium c.self.inside.disk in
     let is : holds c.self.inside.halves.geometry w0.now ≡ Some (state_in c.args.tree.now) = ap committed c.self.view_is ∙ c.requires.state k in
-    let right = frozen_right alone (c.self.invariant.7 fine k) is geometry c.deref.ensures.value c.deref_mut.ensures.value in
+    let right = frozen_right no_cut (c.self.invariant.7 fine k) is geometry c.deref.ensures.value c.deref_mut.ensures.value in
     let spelled : c.freeze.new.bytes ≡ image_of 2 c.self.inside.halves.geometry (state_in c.args.tree.now) = c.freeze.ensures.image right
     ∙ ap (λ (x : Geometry). image_of 2 x (state_in c.args.tree.now)) geometry in
     let begun = c.in_default.ensures.begun k in
     committed_of
     (sound_along c.in_default.ensures.log frozen refl refl refl
-    (cut_sound alone (c.self.invariant.6 fine).1 (c.self.invariant.7 fine k) is is_state spelled (g.met.D.Disk.bytes c.self.inside.disk) (g.met.D.Disk.bytes c.cut_on.new.disk)
+    (cut_sound no_cut (c.self.invariant.6 fine).1 (c.self.invariant.7 fine k) is is_state spelled (g.met.D.Disk.bytes c.self.inside.disk) (g.met.D.Disk.bytes c.cut_on.new.disk)
     {others' = whole_items c.swap.new.y.len c.clear_dirty.new.dirty c.swap.new.y.items} (ap (λ v. v.items) c.swap.ensures.x_after) begun))
 
 pub returns-clause-begun : goal.returns-clause-begun
@@ -77,10 +77,10 @@ returns-clause-begun g c =
     let long : length c.deref_mut-2.result.now ≡ length c.self.inside.other_dirty.items =
     ap length c.deref_mut-2.ensures.value ∙ ap (λ v. length v.items) c.swap.ensures.y_after ∙ c.self.invariant.5 ∙ sym c.self.invariant.4 in
     let others = put ∙ c.clear_dirty.ensures ∙ ap (λ (n : ℕ). replicate n false) long in
-    ap (λ (l : Log). held_of l named (whole_items c.swap.new.y.len c.clear_dirty.new.dirty c.swap.new.y.items) (Some c.count_dirty.result) c.self.inside.failed w1) c.in_default.ensures.log
-    ∙ ap (λ (l : List Bool). held_of (cut_now c.self.inside.halves) named l (Some c.count_dirty.result) c.self.inside.failed w1) others
-    ∙ ap (λ (n : ℕ). held_of (cut_now c.self.inside.halves) named (all_clean c.self.inside.other_dirty.items) (Some n) c.self.inside.failed w1) count
-    ∙ ap (λ (n : ℕ). record (held_of (cut_now c.self.inside.halves) named (all_clean c.self.inside.other_dirty.items)
+    ap (λ (l : Log). journal_view_of l named (whole_items c.swap.new.y.len c.clear_dirty.new.dirty c.swap.new.y.items) (Some c.count_dirty.result) c.self.inside.failed w1) c.in_default.ensures.log
+    ∙ ap (λ (l : List Bool). journal_view_of (cut_now c.self.inside.halves) named l (Some c.count_dirty.result) c.self.inside.failed w1) others
+    ∙ ap (λ (n : ℕ). journal_view_of (cut_now c.self.inside.halves) named (all_clean c.self.inside.other_dirty.items) (Some n) c.self.inside.failed w1) count
+    ∙ ap (λ (n : ℕ). record (journal_view_of (cut_now c.self.inside.halves) named (all_clean c.self.inside.other_dirty.items)
     (Some (count_dirty c.self.inside.other_dirty.items)) c.self.inside.failed w1) { room = n }) all
     ∙ ap (λ (h : JournalView). record h { room = h.geometry.half; left = Some (count_dirty h.dirty.others); dirty = cut_dirty h.dirty; medium = w1 }) c.self.view_is
 
@@ -102,7 +102,7 @@ returns-clause-images g c = λ k.
 pub invariant_of-self-2 : goal.invariant_of-self-2
 invariant_of-self-2 g c =
     let fine : c.self.inside.failed ≡ false = ap (λ (h : JournalView). h.failed) c.self.view_is ∙ c.requires.sound in
-    let alone : c.self.inside.left ≡ None = ap (λ (h : JournalView). h.left) c.self.view_is ∙ c.requires.alone in
+    let no_cut : c.self.inside.left ≡ None = ap (λ (h : JournalView). h.left) c.self.view_is ∙ c.requires.no_cut in
     let geometry : c.args.tree.now.geometry ≡ c.self.inside.halves.geometry = c.requires.geometry ∙ sym (ap (λ (h : JournalView). h.geometry) c.self.view_is) in
     let is_state = subst (λ (x : Geometry). IsState x (state_in c.args.tree.now)) geometry c.requires.whole.state in
     let frozen = whole_put c.self.inside.frozen.len c.freeze.new.bytes c.self.inside.frozen.items
@@ -120,19 +120,19 @@ invariant_of-self-2 g c =
           ∙ ap (λ v. length v.items) c.swap.ensures.y_after ∙ c.self.invariant.5 ∙ sym (ap piece_count same),
       ap (λ v. length v.items) c.swap.ensures.x_after ∙ c.self.invariant.4 ∙ sym (ap piece_count same),
       (λ fine.
-          let placed = subst (λ (o : Option ℕ). IsCutState c.self.inside.halves c.self.inside.due.items o) alone (c.self.invariant.6 fine).1 in (
+          let placed = subst (λ (o : Option ℕ). IsCutState c.self.inside.halves c.self.inside.due.items o) no_cut (c.self.invariant.6 fine).1 in (
             ap (λ (l : Log). l.failed) log ∙ (c.self.invariant.6 fine).0,
             (ap (λ (l : Log). l.current) log ∙ sym (ap (λ (l : Log). other l.named) log), sym (c.count_dirty.ensures ∙ ap count_dirty c.deref-2.ensures.value)),
           )),
       (λ fine k.
           let w0 = g.D.Disk.medium c.self.inside.disk in
           let is : holds c.self.inside.halves.geometry w0.now ≡ Some (state_in c.args.tree.now) = ap committed c.self.view_is ∙ c.requires.state k in
-          let right = frozen_right alone (c.self.invariant.7 fine k) is geometry c.deref.ensures.value c.deref_mut.ensures.value in
+          let right = frozen_right no_cut (c.self.invariant.7 fine k) is geometry c.deref.ensures.value c.deref_mut.ensures.value in
           let spelled : c.freeze.new.bytes ≡ image_of 2 c.self.inside.halves.geometry (state_in c.args.tree.now) = c.freeze.ensures.image right
           ∙ ap (λ (x : Geometry). image_of 2 x (state_in c.args.tree.now)) geometry in
           let begun = c.in_default.ensures.begun k in
           sound_along c.in_default.ensures.log frozen refl refl refl
-          (cut_sound alone (c.self.invariant.6 fine).1 (c.self.invariant.7 fine k) is is_state spelled (g.met.D.Disk.bytes c.self.inside.disk)
+          (cut_sound no_cut (c.self.invariant.6 fine).1 (c.self.invariant.7 fine k) is is_state spelled (g.met.D.Disk.bytes c.self.inside.disk)
           (g.met.D.Disk.bytes c.cut_on.new.disk) (ap (λ v. v.items) c.swap.ensures.x_after) begun)),
       omega arith,
       (λ i few. absurd (omega (arith, few))),

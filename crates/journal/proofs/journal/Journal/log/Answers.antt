@@ -5,7 +5,7 @@ use Rattle.checkpoint.specs.Recovery.{holds}
 use Rattle.disk.specs.Moments.{CrashImagesAre}
 use Rattle.image.specs.Pieces.{piece_count}
 use Rattle.journal.specs.Journal.{AreCarriedOut, JournalView, HoldsSome, records, records_in, committed}
-use Rattle.journal.specs.Keeping.{IsCutState, held_of}
+use Rattle.journal.specs.Keeping.{IsCutState, journal_view_of}
 use Rattle.journal.specs.DirtyPieces.{AreBothTouched}
 use Rattle.journal.proofs.Logging.{log_kept, log_moments, log_records, log_told, placed_used, committed_of, sound_along, touched_along}
 use Rattle.journal.proofs.Rows.{same_dirty, whole_items, whole_put}
@@ -95,8 +95,8 @@ returns-clause-none g c = λ none.
     (touched_along c.args.messages.now same c.deref_mut.ensures.value first c.dirty_touched.ensures.touched) in
     let others = same_dirty c.self.inside.halves.geometry c.args.messages.now _ _ none c.self.invariant.4 (ap length second ∙ c.dirty_touched-2.ensures.size ∙ ap length c.deref_mut-2.ensures.value)
     (touched_along c.args.messages.now same c.deref_mut-2.ensures.value second c.dirty_touched-2.ensures.touched) in
-    (λ i. held_of (log i) (named i) (others i) c.self.inside.left c.self.inside.failed (g.D.Disk.medium (c.append.ensures.none none i)))
-    ∙ ap (λ (n : ℕ). held_of (record c.self.inside.halves { used = n }) c.self.inside.named_dirty.items c.self.inside.other_dirty.items
+    (λ i. journal_view_of (log i) (named i) (others i) c.self.inside.left c.self.inside.failed (g.D.Disk.medium (c.append.ensures.none none i)))
+    ∙ ap (λ (n : ℕ). journal_view_of (record c.self.inside.halves { used = n }) c.self.inside.named_dirty.items c.self.inside.other_dirty.items
     c.self.inside.left c.self.inside.failed (g.D.Disk.medium c.self.inside.disk)) used
     ∙ c.self.view_is
 

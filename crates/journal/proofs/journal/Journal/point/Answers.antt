@@ -27,52 +27,52 @@ use Rattle.journal.proofs.journal.Journal.point.Goals as goal
 pub point_on-requires-clause-alone : goal.point_on-requires-clause-alone
 point_on-requires-clause-alone g c = λ k.
     let fine : c.self.inside.failed ≡ false = ap (λ (h : JournalView). h.failed) c.self.view_is ∙ c.requires.sound in
-    let alone : c.self.inside.left ≡ None = ap (λ (h : JournalView). h.left) c.self.view_is ∙ c.requires.alone in
+    let no_cut : c.self.inside.left ≡ None = ap (λ (h : JournalView). h.left) c.self.view_is ∙ c.requires.no_cut in
     let geometry : c.args.tree.now.geometry ≡ c.self.inside.halves.geometry = c.requires.geometry ∙ sym (ap (λ (h : JournalView). h.geometry) c.self.view_is) in
     let is_state = subst (λ (x : Geometry). IsState x (state_in c.args.tree.now)) geometry c.requires.whole.state in
     let w0 = g.D.Disk.medium c.self.inside.disk in
     let is : holds c.self.inside.halves.geometry w0.now ≡ Some (state_in c.args.tree.now) = ap committed c.self.view_is ∙ c.requires.state k in
-    let right = frozen_right alone (c.self.invariant.7 fine k) is geometry c.deref.ensures.value c.deref_mut.ensures.value in
+    let right = frozen_right no_cut (c.self.invariant.7 fine k) is geometry c.deref.ensures.value c.deref_mut.ensures.value in
     let spelled : c.freeze.new.bytes ≡ image_of 2 c.self.inside.halves.geometry (state_in c.args.tree.now) = c.freeze.ensures.image right
     ∙ ap (λ (x : Geometry). image_of 2 x (state_in c.args.tree.now)) geometry in
-    is_alone alone (c.self.invariant.6 fine).1 (c.self.invariant.7 fine k) is
+    is_alone no_cut (c.self.invariant.6 fine).1 (c.self.invariant.7 fine k) is
     is_state spelled (g.met.D.Disk.bytes c.self.inside.disk)
 
 pub point_on-requires-clause-image : goal.point_on-requires-clause-image
 point_on-requires-clause-image g c = λ k.
     let fine : c.self.inside.failed ≡ false = ap (λ (h : JournalView). h.failed) c.self.view_is ∙ c.requires.sound in
-    let alone : c.self.inside.left ≡ None = ap (λ (h : JournalView). h.left) c.self.view_is ∙ c.requires.alone in
+    let no_cut : c.self.inside.left ≡ None = ap (λ (h : JournalView). h.left) c.self.view_is ∙ c.requires.no_cut in
     let geometry : c.args.tree.now.geometry ≡ c.self.inside.halves.geometry = c.requires.geometry ∙ sym (ap (λ (h : JournalView). h.geometry) c.self.view_is) in
     let is_state = subst (λ (x : Geometry). IsState x (state_in c.args.tree.now)) geometry c.requires.whole.state in
     let frozen = whole_put c.self.inside.frozen.len c.freeze.new.bytes c.self.inside.frozen.items
     (c.freeze.ensures.size ∙ ap length c.deref_mut.ensures.value) (c.freeze.ensures.size ∙ c.deref_mut.ensures.len) in
     let w0 = g.D.Disk.medium c.self.inside.disk in
     let is : holds c.self.inside.halves.geometry w0.now ≡ Some (state_in c.args.tree.now) = ap committed c.self.view_is ∙ c.requires.state k in
-    let right = frozen_right alone (c.self.invariant.7 fine k) is geometry c.deref.ensures.value c.deref_mut.ensures.value in
+    let right = frozen_right no_cut (c.self.invariant.7 fine k) is geometry c.deref.ensures.value c.deref_mut.ensures.value in
     let spelled : c.freeze.new.bytes ≡ image_of 2 c.self.inside.halves.geometry (state_in c.args.tree.now) = c.freeze.ensures.image right
     ∙ ap (λ (x : Geometry). image_of 2 x (state_in c.args.tree.now)) geometry in
     ap (read c.self.inside.halves.geometry) (c.deref-2.ensures.value ∙ frozen)
-    ∙ reads alone (c.self.invariant.6 fine).1 (c.self.invariant.7 fine k) is
+    ∙ reads no_cut (c.self.invariant.6 fine).1 (c.self.invariant.7 fine k) is
     is_state spelled (g.met.D.Disk.bytes c.self.inside.disk)
 
 pub point_on-requires-clause-clean : goal.point_on-requires-clause-clean
 point_on-requires-clause-clean g c = λ k.
     let fine : c.self.inside.failed ≡ false = ap (λ (h : JournalView). h.failed) c.self.view_is ∙ c.requires.sound in
-    let alone : c.self.inside.left ≡ None = ap (λ (h : JournalView). h.left) c.self.view_is ∙ c.requires.alone in
+    let no_cut : c.self.inside.left ≡ None = ap (λ (h : JournalView). h.left) c.self.view_is ∙ c.requires.no_cut in
     let geometry : c.args.tree.now.geometry ≡ c.self.inside.halves.geometry = c.requires.geometry ∙ sym (ap (λ (h : JournalView). h.geometry) c.self.view_is) in
     let is_state = subst (λ (x : Geometry). IsState x (state_in c.args.tree.now)) geometry c.requires.whole.state in
     let frozen = whole_put c.self.inside.frozen.len c.freeze.new.bytes c.self.inside.frozen.items
     (c.freeze.ensures.size ∙ ap length c.deref_mut.ensures.value) (c.freeze.ensures.size ∙ c.deref_mut.ensures.len) in
     let w0 = g.D.Disk.medium c.self.inside.disk in
     let is : holds c.self.inside.halves.geometry w0.now ≡ Some (state_in c.args.tree.now) = ap committed c.self.view_is ∙ c.requires.state k in
-    let right = frozen_right alone (c.self.invariant.7 fine k) is geometry c.deref.ensures.value c.deref_mut.ensures.value in
+    let right = frozen_right no_cut (c.self.invariant.7 fine k) is geometry c.deref.ensures.value c.deref_mut.ensures.value in
     let spelled : c.freeze.new.bytes ≡ image_of 2 c.self.inside.halves.geometry (state_in c.args.tree.now) = c.freeze.ensures.image right
     ∙ ap (λ (x : Geometry). image_of 2 x (state_in c.args.tree.now)) geometry in
     subst (λ (l : List ℕ). AgreeOnClean c.self.inside.halves.geometry c.deref-3.result.now
     (image_in c.self.inside.halves.geometry (other c.self.inside.halves.named) w0) l) (sym (c.deref-2.ensures.value ∙ frozen))
     (subst (λ (l : List Bool). AgreeOnClean c.self.inside.halves.geometry l
     (image_in c.self.inside.halves.geometry (other c.self.inside.halves.named) w0) c.freeze.new.bytes) (sym c.deref-3.ensures.value)
-    (agrees alone (c.self.invariant.6 fine).1 (c.self.invariant.7 fine k) is
+    (agrees no_cut (c.self.invariant.6 fine).1 (c.self.invariant.7 fine k) is
     is_state spelled (g.met.D.Disk.bytes c.self.inside.disk)))
 
 pub returns-in-Err-clause-any_moment : goal.returns-in-Err-clause-any_moment
@@ -86,20 +86,20 @@ returns-clause-any_moment g c = λ k.
 pub returns-clause-committed : goal.returns-clause-committed
 returns-clause-committed g c = λ k.
     let fine : c.self.inside.failed ≡ false = ap (λ (h : JournalView). h.failed) c.self.view_is ∙ c.requires.sound in
-    let alone : c.self.inside.left ≡ None = ap (λ (h : JournalView). h.left) c.self.view_is ∙ c.requires.alone in
+    let no_cut : c.self.inside.left ≡ None = ap (λ (h : JournalView). h.left) c.self.view_is ∙ c.requires.no_cut in
     let geometry : c.args.tree.now.geometry ≡ c.self.inside.halves.geometry = c.requires.geometry ∙ sym (ap (λ (h : JournalView). h.geometry) c.self.view_is) in
     let is_state = subst (λ (x : Geometry). IsState x (state_in c.args.tree.now)) geometry c.requires.whole.state in
     let frozen = whole_put c.self.inside.frozen.len c.freeze.new.bytes c.self.inside.frozen.items
     (c.freeze.ensures.size ∙ ap length c.deref_mut.ensures.value) (c.freeze.ensures.size ∙ c.deref_mut.ensures.len) in
     let w0 = g.D.Disk.medium c.self.inside.disk in
     let is : holds c.self.inside.halves.geometry w0.now ≡ Some (state_in c.args.tree.now) = ap committed c.self.view_is ∙ c.requires.state k in
-    let right = frozen_right alone (c.self.invariant.7 fine k) is geometry c.deref.ensures.value c.deref_mut.ensures.value in
+    let right = frozen_right no_cut (c.self.invariant.7 fine k) is geometry c.deref.ensures.value c.deref_mut.ensures.value in
     let spelled : c.freeze.new.bytes ≡ image_of 2 c.self.inside.halves.geometry (state_in c.args.tree.now) = c.freeze.ensures.image right
     ∙ ap (λ (x : Geometry). image_of 2 x (state_in c.args.tree.now)) geometry in
     let w1 = g.D.Disk.medium c.point_on.new.disk in
     let made = subst (λ (l : List ℕ). IsPointed c.self.inside.halves l w0 w1) (c.deref-2.ensures.value ∙ frozen) (c.in_default.ensures.pointed k) in
     ap (λ (x : Geometry). holds x w1.now) c.point_on.ensures.geometry
-    ∙ point_committed alone (c.self.invariant.6 fine).1 (c.self.invariant.7 fine k) is is_state spelled (g.met.D.Disk.bytes c.self.inside.disk)
+    ∙ point_committed no_cut (c.self.invariant.6 fine).1 (c.self.invariant.7 fine k) is is_state spelled (g.met.D.Disk.bytes c.self.inside.disk)
     (g.met.D.Disk.bytes c.point_on.new.disk) made ∙ ap committed c.self.view_is
 
 pub returns-clause-emptied : goal.returns-clause-emptied
@@ -114,13 +114,13 @@ returns-clause-emptied g c = λ k.
 pub returns-clause-version : goal.returns-clause-version
 returns-clause-version g c = λ k.
     let fine : c.self.inside.failed ≡ false = ap (λ (h : JournalView). h.failed) c.self.view_is ∙ c.requires.sound in
-    let alone : c.self.inside.left ≡ None = ap (λ (h : JournalView). h.left) c.self.view_is ∙ c.requires.alone in
+    let no_cut : c.self.inside.left ≡ None = ap (λ (h : JournalView). h.left) c.self.view_is ∙ c.requires.no_cut in
     let geometry : c.args.tree.now.geometry ≡ c.self.inside.halves.geometry = c.requires.geometry ∙ sym (ap (λ (h : JournalView). h.geometry) c.self.view_is) in
     let frozen = whole_put c.self.inside.frozen.len c.freeze.new.bytes c.self.inside.frozen.items
     (c.freeze.ensures.size ∙ ap length c.deref_mut.ensures.value) (c.freeze.ensures.size ∙ c.deref_mut.ensures.len) in
     let w0 = g.D.Disk.medium c.self.inside.disk in
     let is : holds c.self.inside.halves.geometry w0.now ≡ Some (state_in c.args.tree.now) = ap committed c.self.view_is ∙ c.requires.state k in
-    let right = frozen_right alone (c.self.invariant.7 fine k) is geometry c.deref.ensures.value c.deref_mut.ensures.value in
+    let right = frozen_right no_cut (c.self.invariant.7 fine k) is geometry c.deref.ensures.value c.deref_mut.ensures.value in
     let spelled : c.freeze.new.bytes ≡ image_of 2 c.self.inside.halves.geometry (state_in c.args.tree.now) = c.freeze.ensures.image right
     ∙ ap (λ (x : Geometry). image_of 2 x (state_in c.args.tree.now)) geometry in
     let w1 = g.D.Disk.medium c.point_on.new.disk in
@@ -132,27 +132,27 @@ returns-clause-version g c = λ k.
 pub returns-clause-sound : goal.returns-clause-sound
 returns-clause-sound g c = λ k.
     let fine : c.self.inside.failed ≡ false = ap (λ (h : JournalView). h.failed) c.self.view_is ∙ c.requires.sound in
-    let alone : c.self.inside.left ≡ None = ap (λ (h : JournalView). h.left) c.self.view_is ∙ c.requires.alone in
+    let no_cut : c.self.inside.left ≡ None = ap (λ (h : JournalView). h.left) c.self.view_is ∙ c.requires.no_cut in
     let geometry : c.args.tree.now.geometry ≡ c.self.inside.halves.geometry = c.requires.geometry ∙ sym (ap (λ (h : JournalView). h.geometry) c.self.view_is) in
     let is_state = subst (λ (x : Geometry). IsState x (state_in c.args.tree.now)) geometry c.requires.whole.state in
     let frozen = whole_put c.self.inside.frozen.len c.freeze.new.bytes c.self.inside.frozen.items
     (c.freeze.ensures.size ∙ ap length c.deref_mut.ensures.value) (c.freeze.ensures.size ∙ c.deref_mut.ensures.len) in
     let w0 = g.D.Disk.medium c.self.inside.disk in
     let is : holds c.self.inside.halves.geometry w0.now ≡ Some (state_in c.args.tree.now) = ap committed c.self.view_is ∙ c.requires.state k in
-    let right = frozen_right alone (c.self.invariant.7 fine k) is geometry c.deref.ensures.value c.deref_mut.ensures.value in
+    let right = frozen_right no_cut (c.self.invariant.7 fine k) is geometry c.deref.ensures.value c.deref_mut.ensures.value in
     let spelled : c.freeze.new.bytes ≡ image_of 2 c.self.inside.halves.geometry (state_in c.args.tree.now) = c.freeze.ensures.image right
     ∙ ap (λ (x : Geometry). image_of 2 x (state_in c.args.tree.now)) geometry in
     let w1 = g.D.Disk.medium c.point_on.new.disk in
     let made = subst (λ (l : List ℕ). IsPointed c.self.inside.halves l w0 w1) (c.deref-2.ensures.value ∙ frozen) (c.in_default.ensures.pointed k) in
     committed_of
-    (sound_along c.in_default.ensures.log frozen refl refl alone
-    (point_sound alone (c.self.invariant.6 fine).1 (c.self.invariant.7 fine k) is is_state spelled (g.met.D.Disk.bytes c.self.inside.disk)
+    (sound_along c.in_default.ensures.log frozen refl refl no_cut
+    (point_sound no_cut (c.self.invariant.6 fine).1 (c.self.invariant.7 fine k) is is_state spelled (g.met.D.Disk.bytes c.self.inside.disk)
     (g.met.D.Disk.bytes c.point_on.new.disk) {named' = c.swap_dirty.new.named.items} (ap (λ v. v.items) c.swap_dirty.ensures.kept) made))
 
 pub invariant_of-self-2 : goal.invariant_of-self-2
 invariant_of-self-2 g c =
     let fine : c.self.inside.failed ≡ false = ap (λ (h : JournalView). h.failed) c.self.view_is ∙ c.requires.sound in
-    let alone : c.self.inside.left ≡ None = ap (λ (h : JournalView). h.left) c.self.view_is ∙ c.requires.alone in
+    let no_cut : c.self.inside.left ≡ None = ap (λ (h : JournalView). h.left) c.self.view_is ∙ c.requires.no_cut in
     let geometry : c.args.tree.now.geometry ≡ c.self.inside.halves.geometry = c.requires.geometry ∙ sym (ap (λ (h : JournalView). h.geometry) c.self.view_is) in
     let is_state = subst (λ (x : Geometry). IsState x (state_in c.args.tree.now)) geometry c.requires.whole.state in
     let frozen = whole_put c.self.inside.frozen.len c.freeze.new.bytes c.self.inside.frozen.items
@@ -167,18 +167,18 @@ invariant_of-self-2 g c =
       c.self.invariant.5 ∙ sym (ap piece_count same),
       (λ fine. (
         ap (λ (l : Log). l.failed) log ∙ (c.self.invariant.6 fine).0,
-        subst (λ (o : Option ℕ). IsCutState c.point_on.new.halves c.self.inside.due.items o) (sym alone) (ap (λ (l : Log). l.current) log ∙ sym (ap (λ (l : Log). l.named) log)),
+        subst (λ (o : Option ℕ). IsCutState c.point_on.new.halves c.self.inside.due.items o) (sym no_cut) (ap (λ (l : Log). l.current) log ∙ sym (ap (λ (l : Log). l.named) log)),
       )),
       (λ fine k.
           let w0 = g.D.Disk.medium c.self.inside.disk in
           let is : holds c.self.inside.halves.geometry w0.now ≡ Some (state_in c.args.tree.now) = ap committed c.self.view_is ∙ c.requires.state k in
-          let right = frozen_right alone (c.self.invariant.7 fine k) is geometry c.deref.ensures.value c.deref_mut.ensures.value in
+          let right = frozen_right no_cut (c.self.invariant.7 fine k) is geometry c.deref.ensures.value c.deref_mut.ensures.value in
           let spelled : c.freeze.new.bytes ≡ image_of 2 c.self.inside.halves.geometry (state_in c.args.tree.now) = c.freeze.ensures.image right
           ∙ ap (λ (x : Geometry). image_of 2 x (state_in c.args.tree.now)) geometry in
           let w1 = g.D.Disk.medium c.point_on.new.disk in
           let made = subst (λ (l : List ℕ). IsPointed c.self.inside.halves l w0 w1) (c.deref-2.ensures.value ∙ frozen) (c.in_default.ensures.pointed k) in
-          sound_along c.in_default.ensures.log frozen refl refl alone
-          (point_sound alone (c.self.invariant.6 fine).1 (c.self.invariant.7 fine k) is is_state spelled (g.met.D.Disk.bytes c.self.inside.disk)
+          sound_along c.in_default.ensures.log frozen refl refl no_cut
+          (point_sound no_cut (c.self.invariant.6 fine).1 (c.self.invariant.7 fine k) is is_state spelled (g.met.D.Disk.bytes c.self.inside.disk)
           (g.met.D.Disk.bytes c.point_on.new.disk) (ap (λ v. v.items) c.swap_dirty.ensures.kept) made)),
       c.self.invariant.8,
       c.self.invariant.9,
