@@ -14,9 +14,9 @@ use Rattle.messages.specs.declared.Reply.{Reply}
 use Rattle.messages.specs.declared.Reply.TheVariants.{Done}
 use Rattle.parcel.specs.Tree.{TreeView}
 use Rattle.scheduler.proofs.Answering.{answer_core, answer_front, with_answer}
-use Rattle.scheduler.proofs.Lines.{TakenLines, line_taken}
+use Rattle.scheduler.proofs.Chains.{TakenSlot, slot_taken}
 use Rattle.scheduler.specs.Parts.{IsCore, Parts, parts, core_state_in}
-use Rattle.scheduler.specs.Slots.{HasChains, SlotView, line, no_slot, place_at}
+use Rattle.scheduler.specs.Slots.{HasChains, SlotView, slots_on, no_slot, place_at}
 use Rattle.scheduler.specs.declared.slot.Slot.{Slot}
 use Rattle.run_queue.specs.RunQueue.{RunQueueView, without_number}
 
@@ -40,12 +40,12 @@ module _ (keeps : Type 0) (row : Row Slot) (replies : List Reply) (tree : TreeVi
   abbrev behind : List SlotView
   behind = map (place_at row replies) (without slot (chain_at row 3))
 
-  whole : p.lines.logged ≡ x ∷ behind
+  whole : p.phases.logged ≡ x ∷ behind
   whole = ap (map (place_at row replies)) (chain-front row slot 3 is.parted first)
       ∙ (λ i. (slot, unwrap_or (value i) no_slot, get_or replies slot Done) ∷ behind)
 
-  lines : TakenLines row (after_take row slot) replies 3 behind
-  lines = line_taken row replies is 3 x behind whole slot refl
+  taken_slot : TakenSlot row (after_take row slot) replies 3 behind
+  taken_slot = slot_taken row replies is 3 x behind whole slot refl
 
   abbrev turned : RunQueueView
   turned = record queue { held = without_number taken.affinity.number queue.held }
@@ -55,27 +55,27 @@ module _ (keeps : Type 0) (row : Row Slot) (replies : List Reply) (tree : TreeVi
 
   after_is : after ≡ with_answer p behind (suc p.free) taken.affinity.number
   after_is = λ i. record (with_answer p behind (suc p.free) taken.affinity.number) {
-    lines = record {
-      waiting = lines.stays 0 (λ same. omega (arith, same)) i;
-      out = lines.stays 1 (λ same. omega (arith, same)) i;
-      ran = lines.stays 2 (λ same. omega (arith, same)) i;
-      logged = lines.left i;
+    phases = record {
+      waiting = taken_slot.stays 0 (λ same. omega (arith, same)) i;
+      out = taken_slot.stays 1 (λ same. omega (arith, same)) i;
+      ran = taken_slot.stays 2 (λ same. omega (arith, same)) i;
+      logged = taken_slot.left i;
     };
-    free = lines.free i;
-    capacity = lines.size i;
+    free = taken_slot.free i;
+    capacity = taken_slot.size i;
   }
 
   pub answer_call_core : IsCore keeps after
   answer_call_core = subst (IsCore keeps) (sym after_is) (answer_core keeps p k x behind whole (suc p.free) refl)
 
   pub answer_call_chains : IsParted (after_take row slot) → HasChains (after_take row slot)
-  answer_call_chains parted = record { parted = parted; four = lines.four ∙ is.four }
+  answer_call_chains parted = record { parted = parted; four = taken_slot.four ∙ is.four }
 
   pub answer_call_size : capacity_of (after_take row slot) ≡ capacity_of row
-  answer_call_size = lines.size
+  answer_call_size = taken_slot.size
 
-  pub answer_call_ran : length (line (after_take row slot) replies 2) ≡ length (line row replies 2)
-  answer_call_ran = ap length (lines.stays 2 (λ same. omega (arith, same)))
+  pub answer_call_ran : length (slots_on (after_take row slot) replies 2) ≡ length (slots_on row replies 2)
+  answer_call_ran = ap length (taken_slot.stays 2 (λ same. omega (arith, same)))
 
   pub answer_call_state : (outcomes.Answered taken.ticket (get_or replies slot Done), core_state_in after) ≡ answer (core_state_in p) (core_state_in p).logged
   answer_call_state =

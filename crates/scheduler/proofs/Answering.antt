@@ -52,12 +52,12 @@ entries_of (y ∷ ys) = ap (λ es. entry_of y ∷ es) (entries_of ys)
 
 abbrev pub with_answer : Parts → List SlotView → ℕ → ℕ → Parts
 with_answer p logged free number = record p {
-  lines = record p.lines { logged = logged };
+  phases = record p.phases { logged = logged };
   free = free;
   queue = record p.queue { held = without_number number p.queue.held };
 }
 
-module _ (keeps : Type 0) (p : Parts) (k : IsCore keeps p) (x : SlotView) (behind : List SlotView) (whole : p.lines.logged ≡ x ∷ behind) (free : ℕ)
+module _ (keeps : Type 0) (p : Parts) (k : IsCore keeps p) (x : SlotView) (behind : List SlotView) (whole : p.phases.logged ≡ x ∷ behind) (free : ℕ)
     (is_free : free ≡ suc p.free) where
   abbrev after : Parts
   after = with_answer p behind free x.1.affinity.number
@@ -71,8 +71,8 @@ module _ (keeps : Type 0) (p : Parts) (k : IsCore keeps p) (x : SlotView) (behin
   pub answer_front : (core_state_in p).logged ≡ replied_of x ∷ (core_state_in after).logged
   answer_front = ap (map replied_of) whole
 
-  apart_rest : AllByRecursion (λ d. are_related_entries g (entry_of x) d ≡ false) (entries (map replied_of behind) ++ (entries (map replied_of p.lines.ran) ++ map entry_of p.lines.out))
-  apart_rest = (subst (λ l. AreApart g (entries l ++ (entries (map replied_of p.lines.ran) ++ map entry_of p.lines.out))) answer_front k.sound.apart).0
+  apart_rest : AllByRecursion (λ d. are_related_entries g (entry_of x) d ≡ false) (entries (map replied_of behind) ++ (entries (map replied_of p.phases.ran) ++ map entry_of p.phases.out))
+  apart_rest = (subst (λ l. AreApart g (entries l ++ (entries (map replied_of p.phases.ran) ++ map entry_of p.phases.out))) answer_front k.sound.apart).0
 
   T : Entry → Type 0
   T d = are_related_entries g (entry_of x) d ≡ false
@@ -84,9 +84,9 @@ module _ (keeps : Type 0) (p : Parts) (k : IsCore keeps p) (x : SlotView) (behin
       let rest = all_back (λ d. are_related_entries g (entry_of x) d ≡ false) (entries (map replied_of behind)) _ apart_rest in
       let behinds = subst (AllByRecursion (λ d. are_related_entries g (entry_of x) d ≡ false)) (entries_of behind)
       (all_front (λ d. are_related_entries g (entry_of x) d ≡ false) (entries (map replied_of behind)) _ apart_rest) in
-      let rans = subst (AllByRecursion (λ d. are_related_entries g (entry_of x) d ≡ false)) (entries_of p.lines.ran)
-      (all_front (λ d. are_related_entries g (entry_of x) d ≡ false) (entries (map replied_of p.lines.ran)) _ rest) in
-      let outs = all_back (λ d. are_related_entries g (entry_of x) d ≡ false) (entries (map replied_of p.lines.ran)) _ rest in
+      let rans = subst (AllByRecursion (λ d. are_related_entries g (entry_of x) d ≡ false)) (entries_of p.phases.ran)
+      (all_front (λ d. are_related_entries g (entry_of x) d ≡ false) (entries (map replied_of p.phases.ran)) _ rest) in
+      let outs = all_back (λ d. are_related_entries g (entry_of x) d ≡ false) (entries (map replied_of p.phases.ran)) _ rest in
       record {
         claimed = omega (arith, count, claimed, is_free);
         placed = record { waiting = k.placed.waiting; out = k.placed.out; ran = k.placed.ran; logged = all_logged.1 };
@@ -95,10 +95,10 @@ module _ (keeps : Type 0) (p : Parts) (k : IsCore keeps p) (x : SlotView) (behin
         waits = k.waits;
         holds = λ test. any_filter test (λ t. not (has_number x.1.affinity.number t)) p.queue.held
             ∙ k.holds (λ t. not (has_number x.1.affinity.number t) && test t)
-            ∙ any_answered test (λ t. not (has_number x.1.affinity.number t)) p.lines whole (ap not (eq-eqb x.1.affinity.number x.1.affinity.number refl))
+            ∙ any_answered test (λ t. not (has_number x.1.affinity.number t)) p.phases whole (ap not (eq-eqb x.1.affinity.number x.1.affinity.number refl))
             (other_numbers g x all_logged.0 behind all_logged.1 behinds)
-            (other_numbers g x all_logged.0 p.lines.ran k.placed.ran rans)
-            (other_numbers g x all_logged.0 p.lines.out k.placed.out outs);
+            (other_numbers g x all_logged.0 p.phases.ran k.placed.ran rans)
+            (other_numbers g x all_logged.0 p.phases.out k.placed.out outs);
         unlogged_is = k.unlogged_is;
         sound = move_sound g (core_state_in p) (core_state_in after) _ (Answers (replied_of x) (map replied_of behind) answer_front refl refl) k.sound;
         geometry = k.geometry;

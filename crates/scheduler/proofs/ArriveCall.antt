@@ -21,9 +21,9 @@ use Rattle.parcel.specs.Tree.{TreeView}
 use Rattle.scheduler.proofs.Arriving.{arrival_core, arrival_state, has_slot, with_arrival}
 use Rattle.scheduler.proofs.Choosing.{any_map}
 use Rattle.scheduler.proofs.Counting.{count_of}
-use Rattle.scheduler.proofs.Lines.{JoinedLines, line_joined}
+use Rattle.scheduler.proofs.Chains.{JoinedSlot, slot_joined}
 use Rattle.scheduler.specs.Parts.{IsCore, IsPlaced, Parts, entry_of, parts, queued_of, core_state_in}
-use Rattle.scheduler.specs.Slots.{HasChains, SlotView, line, place_at}
+use Rattle.scheduler.specs.Slots.{HasChains, SlotView, slots_on, place_at}
 use Rattle.scheduler.specs.declared.slot.Slot.{Slot}
 use Rattle.run_queue.specs.RunQueue.{CameBefore, RunQueueView, has_slot as has_slot_of}
 
@@ -35,11 +35,11 @@ first_free : (free : List ℕ) (value : Slot) (i : ℕ) → slot_from free value
 first_free [] value i e = absurd (cc)
 first_free (j ∷ rest) value i e = (rest, ap (λ (n : ℕ). n ∷ rest) (let same : j ≡ i = cc in same))
 
-off_line : (row : Row Slot) (replies : List Reply) (i : ℕ) (xs : List ℕ) → times i xs ≡ 0 → list_any (λ y. y.0 == i) (map (place_at row replies) xs) ≡ false
-off_line row replies i [] none = refl
-off_line row replies i (x ∷ xs) none = elim (eqb_tells x i) [
+not_among : (row : Row Slot) (replies : List Reply) (i : ℕ) (xs : List ℕ) → times i xs ≡ 0 → list_any (λ y. y.0 == i) (map (place_at row replies) xs) ≡ false
+not_among row replies i [] none = refl
+not_among row replies i (x ∷ xs) none = elim (eqb_tells x i) [
   | inl e ↦ absurd (let some = times-cons_is i x xs e.1 in omega (arith, some, none))
-  | inr n ↦ (λ z. n.0 z || off_line row replies i xs (sym (times-cons_other i x xs n.1) ∙ none) z)
+  | inr n ↦ (λ z. n.0 z || not_among row replies i xs (sym (times-cons_other i x xs n.1) ∙ none) z)
 ]
 
 -- a number that isn't this one
@@ -91,24 +91,24 @@ module _ (keeps : Type 0) (row : Row Slot) (replies : List Reply) (tree : TreeVi
     split : (rest : List ℕ) × (row.free ≡ slot ∷ rest)
     split = first_free row.free value slot put
 
-    lines : JoinedLines row (after_move (after_put row value) slot 0) replies slot 0 value
-    lines = line_joined row replies is slot 0 (omega arith) split.0 value split.1
+    joined_slot : JoinedSlot row (after_move (after_put row value) slot 0) replies slot 0 value
+    joined_slot = slot_joined row replies is slot 0 (omega arith) split.0 value split.1
 
     pub arrive_later : CameBefore next queue.waiting
     arrive_later = subst (CameBefore next) (sym k.waits)
-        (came_before next p.lines.waiting (all_back (λ (e : Entry). e.0 < next) (core_state_in p).out (core_state_in p).waiting k.sound.given))
+        (came_before next p.phases.waiting (all_back (λ (e : Entry). e.0 < next) (core_state_in p).out (core_state_in p).waiting k.sound.given))
 
     pub arrive_slot : slot < queue.slots
-    arrive_slot = let low = lines.low in let seats = k.seats in omega (arith, low, seats)
+    arrive_slot = let low = joined_slot.low in let seats = k.seats in omega (arith, low, seats)
 
-    line_off : (c : ℕ) → list_any (λ (y : SlotView). y.0 == slot) (line row replies c) ≡ false
-    line_off c = off_line row replies slot (chain_at row c) (lines.none_had c)
+    none_there : (c : ℕ) → list_any (λ (y : SlotView). y.0 == slot) (slots_on row replies c) ≡ false
+    none_there c = not_among row replies slot (chain_at row c) (joined_slot.none_had c)
 
     pub arrive_new : list_any (has_slot_of slot) (queue.waiting ++ queue.held) ≡ false
     arrive_new =
         list_any-append (has_slot_of slot) queue.waiting queue.held
-        ∙ (λ i. (ap (list_any (has_slot_of slot)) k.waits ∙ any_map queued_of (has_slot_of slot) p.lines.waiting ∙ line_off 0) i || k.holds (has_slot_of slot) i)
-        ∙ (λ i. line_off 3 i || (line_off 2 i || line_off 1 i))
+        ∙ (λ i. (ap (list_any (has_slot_of slot)) k.waits ∙ any_map queued_of (has_slot_of slot) p.phases.waiting ∙ none_there 0) i || k.holds (has_slot_of slot) i)
+        ∙ (λ i. none_there 3 i || (none_there 2 i || none_there 1 i))
 
     abbrev x : SlotView
     x = (slot, value, get_or replies slot Done)
@@ -124,37 +124,37 @@ module _ (keeps : Type 0) (row : Row Slot) (replies : List Reply) (tree : TreeVi
 
     after_is : after ≡ with_arrival p x new_free
     after_is = λ i. record (with_arrival p x new_free) {
-      lines = record {
-        waiting = lines.joined i;
-        out = lines.stays 1 (λ same. omega (arith, same)) i;
-        ran = lines.stays 2 (λ same. omega (arith, same)) i;
-        logged = lines.stays 3 (λ same. omega (arith, same)) i;
+      phases = record {
+        waiting = joined_slot.joined i;
+        out = joined_slot.stays 1 (λ same. omega (arith, same)) i;
+        ran = joined_slot.stays 2 (λ same. omega (arith, same)) i;
+        logged = joined_slot.stays 3 (λ same. omega (arith, same)) i;
       };
-      capacity = lines.size i;
+      capacity = joined_slot.size i;
     }
 
     module _ (ticket : value.ticket ≡ next) (placed : IsPlaced journal.geometry x) where
       pub arrive_core : IsCore keeps after
-      arrive_core = subst (IsCore keeps) (sym after_is) (arrival_core keeps p k x new_free ticket placed lines.free)
+      arrive_core = subst (IsCore keeps) (sym after_is) (arrival_core keeps p k x new_free ticket placed joined_slot.free)
 
       pub arrive_state : journal.failed ≡ false → is_in_range journal.geometry m ≡ true → (next == 2 ^ 64 - 1) ≡ false
           → (outcomes.Ticket next, core_state_in after) ≡ arrive journal.geometry (core_state_in p) m
       arrive_state works range more =
-          (λ i. (outcomes.Ticket next, (ap core_state_in after_is ∙ arrival_state keeps p k x new_free ticket placed lines.free) i))
+          (λ i. (outcomes.Ticket next, (ap core_state_in after_is ∙ arrival_state keeps p k x new_free ticket placed joined_slot.free) i))
           ∙ sym (tested works range more ∙ (λ i. if fits i then (outcomes.ArriveRefused arrivals.Full, core_state_in p)
           else (outcomes.Ticket next, record (core_state_in p) { waiting = (core_state_in p).waiting ++ (next, m) ∷ []; next = next + 1 })))
         where
           fits : nat_le (capacity_of row) (length (core_state_in p).waiting + length (held (core_state_in p))) ≡ false
           fits = elim (leb_tells (capacity_of row) (length (core_state_in p).waiting + length (held (core_state_in p)))) [
-            | inl e ↦ absurd (let some = has_slot keeps p k x new_free ticket placed lines.free in let few = e.1 in omega (arith, some, few))
+            | inl e ↦ absurd (let some = has_slot keeps p k x new_free ticket placed joined_slot.free in let few = e.1 in omega (arith, some, few))
             | inr n ↦ n.0
           ]
 
     pub arrive_chains : IsParted (after_move (after_put row value) slot 0) → HasChains (after_move (after_put row value) slot 0)
-    arrive_chains parted = record { parted = parted; four = lines.four ∙ is.four }
+    arrive_chains parted = record { parted = parted; four = joined_slot.four ∙ is.four }
 
     pub arrive_size : capacity_of (after_move (after_put row value) slot 0) ≡ capacity_of row
-    arrive_size = lines.size
+    arrive_size = joined_slot.size
 
-    pub arrive_ran : length (line (after_move (after_put row value) slot 0) replies 2) ≡ length (line row replies 2)
-    arrive_ran = ap length (lines.stays 2 (λ same. omega (arith, same)))
+    pub arrive_ran : length (slots_on (after_move (after_put row value) slot 0) replies 2) ≡ length (slots_on row replies 2)
+    arrive_ran = ap length (joined_slot.stays 2 (λ same. omega (arith, same)))

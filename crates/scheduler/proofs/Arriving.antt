@@ -12,7 +12,7 @@ use Rattle.scheduler.specs.Slots.{SlotView}
 
 abbrev pub with_arrival : Parts → SlotView → ℕ → Parts
 with_arrival p x free = record p {
-  lines = record p.lines { waiting = p.lines.waiting ++ x ∷ [] };
+  phases = record p.phases { waiting = p.phases.waiting ++ x ∷ [] };
   free = free;
   next = p.next + 1;
   queue = record p.queue { waiting = p.queue.waiting ++ queued_of x ∷ [] };
@@ -23,7 +23,7 @@ module _ (keeps : Type 0) (p : Parts) (k : IsCore keeps p) (x : SlotView) (free 
   pub arrival_state : core_state_in (with_arrival p x free)
       ≡ record (core_state_in p) { waiting = (core_state_in p).waiting ++ (p.next, x.1.message) ∷ []; next = p.next + 1 }
   arrival_state = λ i. record (core_state_in (with_arrival p x free)) {
-    waiting = (map-append entry_of p.lines.waiting (x ∷ []) ∙ (λ j. map entry_of p.lines.waiting ++ (ticket j, x.1.message) ∷ [])) i;
+    waiting = (map-append entry_of p.phases.waiting (x ∷ []) ∙ (λ j. map entry_of p.phases.waiting ++ (ticket j, x.1.message) ∷ [])) i;
   }
 
   pub has_slot : length (core_state_in p).waiting + length (held (core_state_in p)) < p.capacity
@@ -31,19 +31,19 @@ module _ (keeps : Type 0) (p : Parts) (k : IsCore keeps p) (x : SlotView) (free 
 
   pub arrival_core : IsCore keeps (with_arrival p x free)
   arrival_core =
-      let more = length-append p.lines.waiting (x ∷ []) in
+      let more = length-append p.phases.waiting (x ∷ []) in
       let claimed = k.claimed in
       record {
         claimed = omega (arith, more, claimed, was_free);
         placed = record {
-          waiting = all_join (IsPlaced p.journal.geometry) p.lines.waiting (x ∷ []) k.placed.waiting (placed, tt);
+          waiting = all_join (IsPlaced p.journal.geometry) p.phases.waiting (x ∷ []) k.placed.waiting (placed, tt);
           out = k.placed.out;
           ran = k.placed.ran;
           logged = k.placed.logged;
         };
         queue_geometry = k.queue_geometry;
         seats = k.seats;
-        waits = ap (λ ts. ts ++ queued_of x ∷ []) k.waits ∙ sym (map-append queued_of p.lines.waiting (x ∷ []));
+        waits = ap (λ ts. ts ++ queued_of x ∷ []) k.waits ∙ sym (map-append queued_of p.phases.waiting (x ∷ []));
         holds = k.holds;
         unlogged_is = k.unlogged_is;
         sound = subst (IsSoundCoreState p.journal.geometry) (sym arrival_state)

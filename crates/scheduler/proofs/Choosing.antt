@@ -16,7 +16,7 @@ use Rattle.legal_runs.specs.declared.outcomes.Outcome.TheVariants as outcomes
 use Rattle.messages.specs.Messages.{place}
 use Rattle.scheduler.specs.Calls.{IsGranted}
 use Rattle.scheduler.specs.Parts.{ArePlaced, IsCore, IsPlaced, Parts, entry_of, held_any, replied_of, queued_of, core_state_in}
-use Rattle.scheduler.specs.Slots.{Lines, SlotView}
+use Rattle.scheduler.specs.Slots.{Phases, SlotView}
 use Rattle.scheduler.specs.declared.granted.Granted.{Granted}
 use Rattle.scheduler.specs.declared.granted.Granted.TheVariants as granted
 use Rattle.run_queue.proofs.ByTicket.{Ascend, comes_first, is_conflict_free, next_is_first}
@@ -44,19 +44,19 @@ module _ (g : Geometry) where
   pub overlaps : (x y : SlotView) → IsPlaced g x → IsPlaced g y → are_related_intervals (queued_of x).affinity (queued_of y).affinity ≡ are_related_entries g (entry_of x) (entry_of y)
   overlaps x y a b = are_related-contains g (place g x.1.message) (place g y.1.message) x.1.affinity y.1.affinity a.affinity b.affinity
 
-  line_touch : (x : SlotView) → IsPlaced g x → (ys : List SlotView) → AllByRecursion (IsPlaced g) ys
+  slots_touch : (x : SlotView) → IsPlaced g x → (ys : List SlotView) → AllByRecursion (IsPlaced g) ys
       → list_any (λ y. are_related_intervals (queued_of x).affinity (queued_of y).affinity) ys ≡ list_any (λ y. are_related_entries g (entry_of x) (entry_of y)) ys
-  line_touch x a ys all = any_same (IsPlaced g) _ _ (λ y b. overlaps x y a b) ys all
+  slots_touch x a ys all = any_same (IsPlaced g) _ _ (λ y b. overlaps x y a b) ys all
 
   entries_touch : (e : Entry) (ys : List SlotView) → list_any (are_related_entries g e) (entries (map replied_of ys)) ≡ list_any (λ y. are_related_entries g e (entry_of y)) ys
   entries_touch e ys = any_map entry (are_related_entries g e) (map replied_of ys) ∙ any_map replied_of (λ a. are_related_entries g e (entry a)) ys
 
-  pub held_touch : (l : Lines) → ArePlaced g l → (x : SlotView) → IsPlaced g x
+  pub held_touch : (l : Phases) → ArePlaced g l → (x : SlotView) → IsPlaced g x
       → held_any (λ o. are_related_intervals (queued_of x).affinity o.affinity) l
       ≡ list_any (are_related_entries g (entry_of x)) (entries (map replied_of l.logged) ++ (entries (map replied_of l.ran) ++ map entry_of l.out))
   held_touch l placed x a =
       let e = entry_of x in
-      (λ i. line_touch x a l.logged placed.logged i || (line_touch x a l.ran placed.ran i || line_touch x a l.out placed.out i))
+      (λ i. slots_touch x a l.logged placed.logged i || (slots_touch x a l.ran placed.ran i || slots_touch x a l.out placed.out i))
       ∙ (λ i. sym (entries_touch e l.logged) i || (sym (entries_touch e l.ran) i || sym (any_map entry_of (are_related_entries g e) l.out) i))
       ∙ ap (λ b. list_any (are_related_entries g e) (entries (map replied_of l.logged)) || b)
       (sym (list_any-append (are_related_entries g e) (entries (map replied_of l.ran)) (map entry_of l.out)))
@@ -162,8 +162,8 @@ module _ (keeps : Type 0) (p : Parts) (k : IsCore keeps p) where
 
   clear_same : (x : SlotView) → IsPlaced geometry x → is_conflict_free p.queue.held p.queue.waiting (queued_of x) ≡ is_clear_in geometry w (entry_of x)
   clear_same x a = λ i.
-      not ((k.holds (λ o. are_related_intervals (queued_of x).affinity o.affinity) ∙ held_touch geometry p.lines k.placed x a) i)
-      && not ((ap (list_any (comes_first (queued_of x))) k.waits ∙ waits_touch geometry p.lines.waiting k.placed.waiting x a) i)
+      not ((k.holds (λ o. are_related_intervals (queued_of x).affinity o.affinity) ∙ held_touch geometry p.phases k.placed x a) i)
+      && not ((ap (list_any (comes_first (queued_of x))) k.waits ∙ waits_touch geometry p.phases.waiting k.placed.waiting x a) i)
 
   or_turned : (a b : Bool) → (a || not b) ≡ (not b || a)
   or_turned true true = refl
@@ -176,31 +176,31 @@ module _ (keeps : Type 0) (p : Parts) (k : IsCore keeps p) where
     room_same x = or_turned room (queued_of x).changing
         ∙ ap (λ b. not (queued_of x).changing || b) (is_room ∙ ap (λ n. nat_lt n p.journal.room) k.unlogged_is)
 
-    same_test : Same (λ t. has_room room t && is_conflict_free p.queue.held p.queue.waiting t) (is_eligible geometry w) p.lines.waiting
+    same_test : Same (λ t. has_room room t && is_conflict_free p.queue.held p.queue.waiting t) (is_eligible geometry w) p.phases.waiting
     same_test = all_of (IsPlaced geometry) _
         (λ x a. (λ i. room_same x i && clear_same x a i) ∙ and_comm (has_room_for w (entry_of x)) (is_clear_in geometry w (entry_of x)))
-        p.lines.waiting k.placed.waiting
+        p.phases.waiting k.placed.waiting
 
-    found_first : next_queued room p.queue.held p.queue.waiting ≡ find (λ t. has_room room t && is_conflict_free p.queue.held p.queue.waiting t) (map queued_of p.lines.waiting)
-    found_first = next_is_first room p.queue.held p.queue.waiting (subst Ascend (sym k.waits) (ascend_from p.lines.waiting k.sound.ascending))
+    found_first : next_queued room p.queue.held p.queue.waiting ≡ find (λ t. has_room room t && is_conflict_free p.queue.held p.queue.waiting t) (map queued_of p.phases.waiting)
+    found_first = next_is_first room p.queue.held p.queue.waiting (subst Ascend (sym k.waits) (ascend_from p.phases.waiting k.sound.ascending))
         ∙ ap (find (λ t. has_room room t && is_conflict_free p.queue.held p.queue.waiting t)) k.waits
 
-    pub goes_first : (t : QueuedMessage) → next_queued room p.queue.held p.queue.waiting ≡ Some t → Chosen (is_eligible geometry w) p.lines.waiting t
-    goes_first t h = chosen _ (is_eligible geometry w) p.lines.waiting same_test t (sym found_first ∙ h)
+    pub goes_first : (t : QueuedMessage) → next_queued room p.queue.held p.queue.waiting ≡ Some t → Chosen (is_eligible geometry w) p.phases.waiting t
+    goes_first t h = chosen _ (is_eligible geometry w) p.phases.waiting same_test t (sym found_first ∙ h)
 
     none_any : next_queued room p.queue.held p.queue.waiting ≡ None → list_any (is_eligible geometry w) w.waiting ≡ false
-    none_any h = none_chosen _ (is_eligible geometry w) p.lines.waiting same_test (sym found_first ∙ h)
+    none_any h = none_chosen _ (is_eligible geometry w) p.phases.waiting same_test (sym found_first ∙ h)
 
     pub none_goes : next_queued room p.queue.held p.queue.waiting ≡ None → next_eligible geometry w ≡ None
     none_goes h = none_picked (is_eligible geometry w) w.waiting (none_any h)
 
   -- ---- why none goes
 
-  clear_test : Same (λ t. has_room true t && is_conflict_free p.queue.held p.queue.waiting t) (is_clear_in geometry w) p.lines.waiting
-  clear_test = all_of (IsPlaced geometry) _ (λ x a. clear_same x a) p.lines.waiting k.placed.waiting
+  clear_test : Same (λ t. has_room true t && is_conflict_free p.queue.held p.queue.waiting t) (is_clear_in geometry w) p.phases.waiting
+  clear_test = all_of (IsPlaced geometry) _ (λ x a. clear_same x a) p.phases.waiting k.placed.waiting
 
-  found_clear : next_queued true p.queue.held p.queue.waiting ≡ find (λ t. has_room true t && is_conflict_free p.queue.held p.queue.waiting t) (map queued_of p.lines.waiting)
-  found_clear = next_is_first true p.queue.held p.queue.waiting (subst Ascend (sym k.waits) (ascend_from p.lines.waiting k.sound.ascending))
+  found_clear : next_queued true p.queue.held p.queue.waiting ≡ find (λ t. has_room true t && is_conflict_free p.queue.held p.queue.waiting t) (map queued_of p.phases.waiting)
+  found_clear = next_is_first true p.queue.held p.queue.waiting (subst Ascend (sym k.waits) (ascend_from p.phases.waiting k.sound.ascending))
       ∙ ap (find (λ t. has_room true t && is_conflict_free p.queue.held p.queue.waiting t)) k.waits
 
   lacking : (es : List Entry) → list_any (is_eligible geometry w) es ≡ false → list_any (lacks_room_alone geometry w) es ≡ list_any (is_clear_in geometry w) es
@@ -216,11 +216,11 @@ module _ (keeps : Type 0) (p : Parts) (k : IsCore keeps p) where
   module _ (room : Bool) (is_room : room ≡ nat_lt p.unlogged p.journal.room) (none : next_queued room p.queue.held p.queue.waiting ≡ None) where
     pub lacks_room : (t : QueuedMessage) → next_queued true p.queue.held p.queue.waiting ≡ Some t → no_grant geometry w ≡ outcomes.NoRoom
     lacks_room t h = ap (λ b. if b then outcomes.NoRoom else outcomes.NoneEligible)
-        (lacking w.waiting (none_any room is_room none) ∙ some_chosen _ (is_clear_in geometry w) p.lines.waiting clear_test t (sym found_clear ∙ h))
+        (lacking w.waiting (none_any room is_room none) ∙ some_chosen _ (is_clear_in geometry w) p.phases.waiting clear_test t (sym found_clear ∙ h))
 
     pub none_eligible : next_queued true p.queue.held p.queue.waiting ≡ None → no_grant geometry w ≡ outcomes.NoneEligible
     none_eligible h = ap (λ b. if b then outcomes.NoRoom else outcomes.NoneEligible)
-        (lacking w.waiting (none_any room is_room none) ∙ none_chosen _ (is_clear_in geometry w) p.lines.waiting clear_test (sym found_clear ∙ h))
+        (lacking w.waiting (none_any room is_room none) ∙ none_chosen _ (is_clear_in geometry w) p.phases.waiting clear_test (sym found_clear ∙ h))
 
     pub none_is_granted : w.failed ≡ false → (why : Granted)
         → why ≡ (if is_some (next_queued true p.queue.held p.queue.waiting) then granted.NoRoom else granted.NoneEligible)

@@ -29,12 +29,12 @@ use Rattle.parcel.specs.declared.parts.Standing.{Standing}
 use Rattle.scheduler.proofs.Choosing.{Chosen, goes_first}
 use Rattle.scheduler.proofs.Counting.{one_for}
 use Rattle.scheduler.proofs.Granting.{grant_core, grant_state, waits_without, with_grant}
-use Rattle.scheduler.proofs.Lines.{MovedLines, line_moved}
+use Rattle.scheduler.proofs.Chains.{MovedSlot, slot_moved}
 use Rattle.scheduler.proofs.Splits.{MapSplit, map_split, times-split}
 use Rattle.scheduler.proofs.Trees.{grant_lends, grant_shows}
 use Rattle.scheduler.specs.Calls.{IsGrantOf}
 use Rattle.scheduler.specs.Parts.{IsCore, IsPlaced, Parts, entry_of, parts, queued_of, core_state_in}
-use Rattle.scheduler.specs.Slots.{HasChains, SlotView, line, no_slot, place_at}
+use Rattle.scheduler.specs.Slots.{HasChains, SlotView, slots_on, no_slot, place_at}
 use Rattle.scheduler.specs.declared.slot.Slot.{Slot}
 use Rattle.run_queue.specs.RunQueue.{HasJoined, RunQueueView, next_queued, without_slot}
 use Rattle.run_queue.specs.declared.queued_message.QueuedMessage.{QueuedMessage}
@@ -59,7 +59,7 @@ module _ (keeps : Type 0) (row : Row Slot) (replies : List Reply) (tree : TreeVi
   abbrev p : Parts
   p = parts row replies tree journal queue batch next unlogged opened since
 
-  pub chosen : Chosen (is_eligible journal.geometry (core_state_in p)) p.lines.waiting queued
+  pub chosen : Chosen (is_eligible journal.geometry (core_state_in p)) p.phases.waiting queued
   chosen = goes_first keeps p k room is_room queued goes
 
   abbrev x : SlotView
@@ -83,8 +83,8 @@ module _ (keeps : Type 0) (row : Row Slot) (replies : List Reply) (tree : TreeVi
   pub grant_slot : (slot : Slot) → Some slot ≡ value_at row queued.slot → x.1 ≡ slot
   grant_slot slot value = sym (ap (λ (y : SlotView). y.1) split.at_is) ∙ ap (λ n. unwrap_or (value_at row n) no_slot) at_queued ∙ ap (λ o. unwrap_or o no_slot) (sym value)
 
-  pub grant_lines : MovedLines row (after_move row queued.slot 1) replies replies 0 1 chosen.before x chosen.behind
-  grant_lines = line_moved row replies replies is 0 1 (omega arith) (λ same. omega (arith, same)) chosen.before x chosen.behind chosen.whole (λ j other. refl) queued.slot (sym number)
+  pub granted_slot : MovedSlot row (after_move row queued.slot 1) replies replies 0 1 chosen.before x chosen.behind
+  granted_slot = slot_moved row replies replies is 0 1 (omega arith) (λ same. omega (arith, same)) chosen.before x chosen.behind chosen.whole (λ j other. refl) queued.slot (sym number)
 
   pub grant_place : IsPlaced journal.geometry x
   grant_place = (all_back (IsPlaced journal.geometry) chosen.before (x ∷ chosen.behind) (subst (AllByRecursion (IsPlaced journal.geometry)) chosen.whole k.placed.waiting)).0
@@ -116,13 +116,13 @@ module _ (keeps : Type 0) (row : Row Slot) (replies : List Reply) (tree : TreeVi
       (subst (λ (h : Geometry). IsAffinityOf h (place journal.geometry x.1.message) x.1.affinity) (sym k.geometry) grant_place.affinity)
 
   pub grant_chains : IsParted (after_move row queued.slot 1) → HasChains (after_move row queued.slot 1)
-  grant_chains parted = record { parted = parted; four = grant_lines.four ∙ is.four }
+  grant_chains parted = record { parted = parted; four = granted_slot.four ∙ is.four }
 
   pub grant_size : capacity_of (after_move row queued.slot 1) ≡ capacity_of row
-  grant_size = ap (λ (vs : List (Option Slot)). length vs) grant_lines.values
+  grant_size = ap (λ (vs : List (Option Slot)). length vs) granted_slot.values
 
-  pub grant_ran : length (line (after_move row queued.slot 1) replies 2) ≡ length (line row replies 2)
-  grant_ran = ap (λ (ps : List SlotView). length ps) (grant_lines.stays 2 (λ same. omega (arith, same)) (λ same. omega (arith, same)))
+  pub grant_ran : length (slots_on (after_move row queued.slot 1) replies 2) ≡ length (slots_on row replies 2)
+  grant_ran = ap (λ (ps : List SlotView). length ps) (granted_slot.stays 2 (λ same. omega (arith, same)) (λ same. omega (arith, same)))
 
   module _ (slot : Slot) (value : Some slot ≡ value_at row queued.slot) (lent : TreeView) (standing : Standing) (parcels : Parcels)
       (lends : (q : Path) → IsAffinityOf tree.geometry q queued.affinity → LendsAt tree.geometry q standing parcels (in_tree tree) (in_tree lent)) where
@@ -154,13 +154,13 @@ module _ (keeps : Type 0) (row : Row Slot) (replies : List Reply) (tree : TreeVi
 
       after_is : after ≡ with_grant p (chosen.before ++ chosen.behind) x lent went.held
       after_is = λ i. record (with_grant p (chosen.before ++ chosen.behind) x lent went.held) {
-        lines = record {
-          waiting = grant_lines.left i;
-          out = (grant_lines.joined ∙ (λ j. p.lines.out ++ (x.0, x.1, reply_there j) ∷ [])) i;
-          ran = grant_lines.stays 2 (λ same. omega (arith, same)) (λ same. omega (arith, same)) i;
-          logged = grant_lines.stays 3 (λ same. omega (arith, same)) (λ same. omega (arith, same)) i;
+        phases = record {
+          waiting = granted_slot.left i;
+          out = (granted_slot.joined ∙ (λ j. p.phases.out ++ (x.0, x.1, reply_there j) ∷ [])) i;
+          ran = granted_slot.stays 2 (λ same. omega (arith, same)) (λ same. omega (arith, same)) i;
+          logged = granted_slot.stays 3 (λ same. omega (arith, same)) (λ same. omega (arith, same)) i;
         };
-        free = ap (λ (fs : List ℕ). length fs) grant_lines.free i;
+        free = ap (λ (fs : List ℕ). length fs) granted_slot.free i;
         capacity = grant_size i;
         queue = (waits ∙ (λ j. record queue { waiting = goes_waits j; held = went.held })) i;
         unlogged = unlogged + one_more i;

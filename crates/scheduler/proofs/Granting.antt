@@ -43,14 +43,14 @@ waits_without before x behind all =
 
 abbrev pub with_grant : Parts → List SlotView → SlotView → TreeView → List QueuedMessage → Parts
 with_grant p waiting x tree held = record p {
-  lines = record p.lines { waiting = waiting; out = p.lines.out ++ x ∷ [] };
+  phases = record p.phases { waiting = waiting; out = p.phases.out ++ x ∷ [] };
   tree = tree;
   queue = record p.queue { waiting = map queued_of waiting; held = held };
   unlogged = p.unlogged + one_for x;
 }
 
 module _ (keeps : Type 0) (p : Parts) (k : IsCore keeps p) (before : List SlotView) (x : SlotView) (behind : List SlotView)
-    (whole : p.lines.waiting ≡ before ++ x ∷ behind) (tree : TreeView) (held : List QueuedMessage)
+    (whole : p.phases.waiting ≡ before ++ x ∷ behind) (tree : TreeView) (held : List QueuedMessage)
     (first : next_eligible p.journal.geometry (core_state_in p) ≡ Some (entry_of x, map entry_of (before ++ behind)))
     (joined : HasJoined (queued_of x) p.queue.held held) (geometry : tree.geometry ≡ p.journal.geometry)
     (t : Standing) (l : Parcels) (lent : LendsAt p.journal.geometry (place p.journal.geometry x.1.message) t l (in_tree p.tree) (in_tree tree)) where
@@ -61,7 +61,7 @@ module _ (keeps : Type 0) (p : Parts) (k : IsCore keeps p) (before : List SlotVi
   found = (entry_of x, map entry_of (before ++ behind))
 
   pub grant_state : core_state_in after ≡ grant (core_state_in p) found
-  grant_state = λ i. record (core_state_in after) { out = map-append entry_of p.lines.out (x ∷ []) i }
+  grant_state = λ i. record (core_state_in after) { out = map-append entry_of p.phases.out (x ∷ []) i }
 
   all_waiting : AllByRecursion (IsPlaced p.journal.geometry) (before ++ x ∷ behind)
   all_waiting = subst (AllByRecursion (IsPlaced p.journal.geometry)) whole k.placed.waiting
@@ -73,30 +73,30 @@ module _ (keeps : Type 0) (p : Parts) (k : IsCore keeps p) (before : List SlotVi
   grant_core =
       let was = ap length whole ∙ length-append before (x ∷ behind) in
       let now = length-append before behind in
-      let more = length-append p.lines.out (x ∷ []) in
+      let more = length-append p.phases.out (x ∷ []) in
       let claimed = k.claimed in
       let unlogged_was = k.unlogged_is ∙ unlogged_of p in
       let unlogged_is = unlogged_of after in
-      let out = changing-append p.lines.out (x ∷ []) ∙ ap (λ n. changing p.lines.out + n) (changing-cons x []) in
+      let out = changing-append p.phases.out (x ∷ []) ∙ ap (λ n. changing p.phases.out + n) (changing-cons x []) in
       record {
         claimed = omega (arith, was, now, more, claimed);
         placed = record {
           waiting = all_join (IsPlaced p.journal.geometry) before behind (all_front (IsPlaced p.journal.geometry) before (x ∷ behind) all_waiting)
               (all_back (IsPlaced p.journal.geometry) before (x ∷ behind) all_waiting).1;
-          out = all_join (IsPlaced p.journal.geometry) p.lines.out (x ∷ []) k.placed.out (it_is_placed, tt);
+          out = all_join (IsPlaced p.journal.geometry) p.phases.out (x ∷ []) k.placed.out (it_is_placed, tt);
           ran = k.placed.ran;
           logged = k.placed.logged;
         };
         queue_geometry = k.queue_geometry;
         seats = k.seats;
         waits = refl;
-        holds = λ test. joined test ∙ ap (λ b. test (queued_of x) || b) (k.holds test) ∙ any_granted test p.lines (before ++ behind) x;
+        holds = λ test. joined test ∙ ap (λ b. test (queued_of x) || b) (k.holds test) ∙ any_granted test p.phases (before ++ behind) x;
         unlogged_is = omega (arith, unlogged_was, unlogged_is, out);
         sound = subst (IsSoundCoreState p.journal.geometry) (sym grant_state)
             (move_sound p.journal.geometry (core_state_in p) _ _ (Grants found first refl refl) k.sound);
         geometry = geometry;
         tree = subst (λ es. TreeHolds p.journal.geometry (is_below p.journal.geometry es) (in_tree tree) (reached p.journal.geometry (core_state_in p)))
-            (sym (map-append entry_of p.lines.out (x ∷ [])))
+            (sym (map-append entry_of p.phases.out (x ∷ [])))
             (grant_tree p.journal.geometry (core_state_in p) k.sound found first (in_tree p.tree) k.tree t l (in_tree tree) lent);
         is_committed = k.is_committed;
         recovers = k.recovers;

@@ -19,7 +19,7 @@ use Rattle.meaning.specs.Serial.{fold}
 use Rattle.meaning.specs.State.{State}
 use Rattle.scheduler.specs.Calls.{IsCalled}
 use Rattle.scheduler.specs.CoreView.{CoreView, RecoversNow, RecoversThroughout}
-use Rattle.scheduler.specs.Parts.{IsCore, Parts, kept_of, core_state_in}
+use Rattle.scheduler.specs.Parts.{IsCore, Parts, core_view_of, core_state_in}
 
 -- bytes that recover to a state recover to it with none of these messages
 pub with_none : (g : Geometry) (x : State) (ms : List Msg) (c : List ℕ) → holds g c ≡ Some x → HoldsSome g x ms c
@@ -33,7 +33,7 @@ from_none g x ms c h = record { added = 0; at_most = omega arith; is = h.is ∙ 
 
 -- the same bytes through a call that leaves the device alone
 pub still_standing : (keeps : Type 0) (p : Parts) → IsCore keeps p → keeps → (ms : List Msg) (new : CoreView) → new.medium ≡ p.journal.medium
-    → RecoversThroughout ms (kept_of p) new
+    → RecoversThroughout ms (core_view_of p) new
 still_standing keeps p k keep ms new same =
     subst (λ (m : Medium). CrashImagesAre p.journal.medium m (HoldsSome p.journal.geometry (core_state_in p).committed (if p.journal.failed then p.batch else ms))) (sym same)
     (started p.journal.medium _ (λ c left. by p.journal.failed refl c (k.recovers keep c left)))
@@ -65,12 +65,12 @@ module _ (keeps : Type 0) (p : Parts) (k : IsCore keeps p) (works : p.journal.fa
     step_moments keep = weaker p.journal.medium medium (λ c. holds g c ≡ committed p.journal) _ (any keep)
         (λ c is. with_none g (core_state_in p).committed [] c (is ∙ committed_now keep))
 
-    pub step_throughout : (new : CoreView) → new.medium ≡ medium → keeps → RecoversThroughout [] (kept_of p) new
+    pub step_throughout : (new : CoreView) → new.medium ≡ medium → keeps → RecoversThroughout [] (core_view_of p) new
     step_throughout new same keep =
         subst (λ (m : Medium). CrashImagesAre p.journal.medium m (HoldsSome g (core_state_in p).committed (if p.journal.failed then p.batch else []))) (sym same)
         (subst (λ ds. CrashImagesAre p.journal.medium medium (HoldsSome g (core_state_in p).committed ds)) (sym (cond-false p.journal.failed p.batch [] works)) (step_moments keep))
 
-    pub step_recovers : (room : ℕ) (left : Option ℕ) (failed : Bool) (dirty : DirtyPieces) → keeps → RecoversNow (kept_of (with_journal p room left failed dirty medium))
+    pub step_recovers : (room : ℕ) (left : Option ℕ) (failed : Bool) (dirty : DirtyPieces) → keeps → RecoversNow (core_view_of (with_journal p room left failed dirty medium))
     step_recovers room left failed dirty keep c leaves = subst (λ ds. HoldsSome g (core_state_in p).committed ds c) (sym (k.no_doubt works))
         (leaves_now p.journal.medium medium _ (step_moments keep) c leaves)
 

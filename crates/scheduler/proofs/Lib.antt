@@ -4,7 +4,7 @@ pub mod Staying
 -- ---- this crate's own
 mod Examples
 mod Splits
-mod Lines
+mod Chains
 mod Trees
 mod Choosing
 mod Tests

@@ -26,12 +26,12 @@ use Rattle.parcel.specs.Tree.{TreeView, state_in}
 use Rattle.meaning.specs.Serial.{fold}
 use Rattle.meaning.specs.State.{State}
 use Rattle.scheduler.proofs.Counting.{changing, changing-append, changing-cons, unlogged_of}
-use Rattle.scheduler.proofs.Lines.{same_line}
+use Rattle.scheduler.proofs.Chains.{same_slots}
 use Rattle.scheduler.proofs.Logging.{batch_at, batch_carried, batch_fits, batch_logged, doubt_core, log_core, log_throughout, log_state, same_batch, with_doubt, with_log}
 use Rattle.scheduler.specs.CoreView.{CoreView, RecoversThroughout}
 use Rattle.scheduler.specs.Moving.{HasLogged, changing_in, gathered}
-use Rattle.scheduler.specs.Parts.{IsCore, Parts, kept_of, parts, replied_of, core_state_in}
-use Rattle.scheduler.specs.Slots.{HasChains, SlotView, line, no_slot, place_at}
+use Rattle.scheduler.specs.Parts.{IsCore, Parts, core_view_of, parts, replied_of, core_state_in}
+use Rattle.scheduler.specs.Slots.{HasChains, SlotView, slots_on, no_slot, place_at}
 use Rattle.scheduler.specs.declared.slot.Slot.{Slot}
 use Rattle.run_queue.specs.RunQueue.{RunQueueView}
 
@@ -72,50 +72,50 @@ counted row replies (y ∷ ys) =
 module _ (keeps : Type 0) (row : Row Slot) (replies : List Reply) (tree : TreeView) (journal : JournalView) (queue : RunQueueView) (batch : List Msg) (next unlogged : ℕ)
     (opened : TreeView) (since : List Msg) (is : HasChains row)
     (k : IsCore keeps (parts row replies tree journal queue batch next unlogged opened since)) (works : journal.failed ≡ false)
-    (n count ran : ℕ) (ran_is : ran ≡ length (line row replies 2)) (count_is : count ≡ min n ran) where
+    (n count ran : ℕ) (ran_is : ran ≡ length (slots_on row replies 2)) (count_is : count ≡ min n ran) where
   abbrev p : Parts
   p = parts row replies tree journal queue batch next unlogged opened since
 
   abbrev slots : List ℕ
   slots = chain_at row 2
 
-  abbrev ran_line : List SlotView
-  ran_line = line row replies 2
+  abbrev ran_slots : List SlotView
+  ran_slots = slots_on row replies 2
 
-  min_is : count ≡ min n (length ran_line)
+  min_is : count ≡ min n (length ran_slots)
   min_is = count_is ∙ ap (λ (m : ℕ). min n m) ran_is
 
-  take_is : take count ran_line ≡ take n ran_line
-  take_is = ap (λ (m : ℕ). take m ran_line) min_is ∙ take_min n ran_line
+  take_is : take count ran_slots ≡ take n ran_slots
+  take_is = ap (λ (m : ℕ). take m ran_slots) min_is ∙ take_min n ran_slots
 
-  drop_is : drop count ran_line ≡ drop n ran_line
-  drop_is = ap (λ (m : ℕ). drop m ran_line) min_is ∙ drop_min n ran_line
+  drop_is : drop count ran_slots ≡ drop n ran_slots
+  drop_is = ap (λ (m : ℕ). drop m ran_slots) min_is ∙ drop_min n ran_slots
 
-  long : length ran_line ≡ length slots
+  long : length ran_slots ≡ length slots
   long = length-map slots (place_at row replies)
 
   pub log_low : count ≤ length slots
-  log_low = let few = min-le_right n (length ran_line) in let at = long in let same = min_is in omega (arith, few, at, same)
+  log_low = let few = min-le_right n (length ran_slots) in let at = long in let same = min_is in omega (arith, few, at, same)
 
   pub log_count : count ≡ length (take n (core_state_in p).ran)
-  log_count = min_is ∙ ap (λ (m : ℕ). min n m) (sym (length-map ran_line replied_of)) ∙ sym (length-take n (map replied_of ran_line))
+  log_count = min_is ∙ ap (λ (m : ℕ). min n m) (sym (length-map ran_slots replied_of)) ∙ sym (length-take n (map replied_of ran_slots))
 
   module _ (logged_changes : ℕ) (logged_changes_is : logged_changes ≡ changing_in row (take count slots)) where
-    logged_changes_same : logged_changes ≡ changing (take n ran_line)
+    logged_changes_same : logged_changes ≡ changing (take n ran_slots)
     logged_changes_same = logged_changes_is ∙ counted row replies (take count slots)
         ∙ ap (λ (l : List SlotView). changing l) (sym (take-map (place_at row replies) count slots) ∙ take_is)
 
-    unlogged_is : (unlogged - logged_changes) + changing (take n ran_line) ≡ unlogged
+    unlogged_is : (unlogged - logged_changes) + changing (take n ran_slots) ≡ unlogged
     unlogged_is =
         let unlogged_was = k.unlogged_is ∙ unlogged_of p in
-        let all = ap (λ (l : List SlotView). changing l) (sym (take-append-drop n ran_line)) ∙ changing-append (take n ran_line) (drop n ran_line) in
+        let all = ap (λ (l : List SlotView). changing l) (sym (take-append-drop n ran_slots)) ∙ changing-append (take n ran_slots) (drop n ran_slots) in
         let same = logged_changes_same in
         omega (arith, unlogged_was, all, same)
 
     pub log_unlogged : logged_changes ≤ unlogged
     log_unlogged =
         let unlogged_was = k.unlogged_is ∙ unlogged_of p in
-        let all = ap (λ (l : List SlotView). changing l) (sym (take-append-drop n ran_line)) ∙ changing-append (take n ran_line) (drop n ran_line) in
+        let all = ap (λ (l : List SlotView). changing l) (sym (take-append-drop n ran_slots)) ∙ changing-append (take n ran_slots) (drop n ran_slots) in
         let same = logged_changes_same in
         omega (arith, unlogged_was, all, same)
 
@@ -149,7 +149,7 @@ module _ (keeps : Type 0) (row : Row Slot) (replies : List Reply) (tree : TreeVi
         any_at keep = subst (λ (ms : List Msg). CrashImagesAre journal.medium new.medium (HoldsSome journal.geometry (core_state_in p).committed ms)) passed_at
             (any keep (core_state_in p).committed (k.is_committed keep works))
 
-        pub log_call_throughout : (now : CoreView) → now.medium ≡ new.medium → keeps → RecoversThroughout (batch_of (core_state_in p) n) (kept_of p) now
+        pub log_call_throughout : (now : CoreView) → now.medium ≡ new.medium → keeps → RecoversThroughout (batch_of (core_state_in p) n) (core_view_of p) now
         log_call_throughout now same keep = log_throughout keeps p k works n unlogged new.dirty new.medium any_at now same keep
 
         pub log_untouched : (length passed ≡ 0 → new ≡ journal) → touches_device (core_state_in p) (steps.Log n) ≡ false → new.medium ≡ journal.medium
@@ -200,29 +200,29 @@ module _ (keeps : Type 0) (row : Row Slot) (replies : List Reply) (tree : TreeVi
           moved_places : (ys : List ℕ) → map (place_at moved replies) ys ≡ map (place_at row replies) ys
           moved_places ys = λ z. map (λ i. (i, unwrap_or (slice_index_or (has.values z) i None) no_slot, get_or replies i Done)) ys
 
-          ran_now : line moved replies 2 ≡ drop n ran_line
+          ran_now : slots_on moved replies 2 ≡ drop n ran_slots
           ran_now = moved_places (chain_at moved 2) ∙ ap (map (place_at row replies)) has.ran ∙ sym (drop-map (place_at row replies) count slots) ∙ drop_is
 
-          logged_now : line moved replies 3 ≡ line row replies 3 ++ take n ran_line
+          logged_now : slots_on moved replies 3 ≡ slots_on row replies 3 ++ take n ran_slots
           logged_now = moved_places (chain_at moved 3) ∙ ap (map (place_at row replies)) has.logged
               ∙ map-append (place_at row replies) (chain_at row 3) (take count slots)
-              ∙ ap (λ (l : List SlotView). line row replies 3 ++ l) (sym (take-map (place_at row replies) count slots) ∙ take_is)
+              ∙ ap (λ (l : List SlotView). slots_on row replies 3 ++ l) (sym (take-map (place_at row replies) count slots) ∙ take_is)
 
           pub log_size : capacity_of moved ≡ capacity_of row
           log_size = ap (λ (vs : List (Option Slot)). length vs) has.values
 
-          pub log_ran : ran - count ≡ length (line moved replies 2)
+          pub log_ran : ran - count ≡ length (slots_on moved replies 2)
           log_ran =
-              let now = ap (λ (l : List SlotView). length l) ran_now ∙ length-drop n ran_line in
+              let now = ap (λ (l : List SlotView). length l) ran_now ∙ length-drop n ran_slots in
               let were = ran_is in
               let same = min_is in
               omega (arith, now, were, same)
 
           after_is : after ≡ with_log p n (unlogged - logged_changes) room new.dirty new.medium
           after_is = λ i. record (with_log p n (unlogged - logged_changes) room new.dirty new.medium) {
-            lines = record {
-              waiting = same_line row moved replies 0 has.values has.waiting i;
-              out = same_line row moved replies 1 has.values has.out i;
+            phases = record {
+              waiting = same_slots row moved replies 0 has.values has.waiting i;
+              out = same_slots row moved replies 1 has.values has.out i;
               ran = ran_now i;
               logged = logged_now i;
             };

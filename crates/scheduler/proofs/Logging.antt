@@ -34,7 +34,7 @@ use Rattle.scheduler.proofs.Journaling.{with_none}
 use Rattle.scheduler.proofs.Tests.{any_logged}
 use Rattle.scheduler.proofs.Trees.{log_reaches}
 use Rattle.scheduler.specs.CoreView.{CoreView, RecoversThroughout}
-use Rattle.scheduler.specs.Parts.{IsCore, IsPlaced, Parts, is_below, kept_of, entry_of, reached, replied_of, core_state_in}
+use Rattle.scheduler.specs.Parts.{IsCore, IsPlaced, Parts, is_below, core_view_of, entry_of, reached, replied_of, core_state_in}
 use Rattle.scheduler.specs.Slots.{SlotView}
 
 -- ---- from what ran to what the journal asks for
@@ -73,7 +73,7 @@ module _ (g : Geometry) where
 
 -- those that a log of n hands to the journal, by their places
 abbrev pub batch_at : Parts → ℕ → List Msg
-batch_at p n = loggable (map replied_of (take n p.lines.ran))
+batch_at p n = loggable (map replied_of (take n p.phases.ran))
 
 module _ (keeps : Type 0) (p : Parts) (k : IsCore keeps p) (n : ℕ) where
   abbrev g : Geometry
@@ -83,12 +83,12 @@ module _ (keeps : Type 0) (p : Parts) (k : IsCore keeps p) (n : ℕ) where
   w = core_state_in p
 
   pub same_batch : batch_at p n ≡ batch w n
-  same_batch = ap loggable (sym (take-map replied_of n p.lines.ran))
+  same_batch = ap loggable (sym (take-map replied_of n p.phases.ran))
 
   known : AreKnown g (take n w.ran)
-  known = subst (AreKnown g) (sym (take-map replied_of n p.lines.ran))
-      (known_from g (take n p.lines.ran) (all_front (IsPlaced g) (take n p.lines.ran) (drop n p.lines.ran)
-      (subst (AllByRecursion (IsPlaced g)) (sym (take-append-drop n p.lines.ran)) k.placed.ran)))
+  known = subst (AreKnown g) (sym (take-map replied_of n p.phases.ran))
+      (known_from g (take n p.phases.ran) (all_front (IsPlaced g) (take n p.phases.ran) (drop n p.phases.ran)
+      (subst (AllByRecursion (IsPlaced g)) (sym (take-append-drop n p.phases.ran)) k.placed.ran)))
 
   pub batch_logged : AreLogged g (batch_at p n)
   batch_logged = subst (AreLogged g) (sym same_batch) (All-from_recursion (λ m. IsLogged g m) (batch w n) (each_logged g (take n w.ran) known))
@@ -107,7 +107,7 @@ module _ (keeps : Type 0) (p : Parts) (k : IsCore keeps p) (n : ℕ) where
 
 abbrev pub with_log : Parts → ℕ → ℕ → ℕ → DirtyPieces → Medium → Parts
 with_log p n unlogged room dirty medium = record p {
-  lines = record p.lines { ran = drop n p.lines.ran; logged = p.lines.logged ++ take n p.lines.ran };
+  phases = record p.phases { ran = drop n p.phases.ran; logged = p.phases.logged ++ take n p.phases.ran };
   journal = record p.journal { room = room; dirty = dirty; medium = medium };
   batch = [];
   unlogged = unlogged;
@@ -126,44 +126,44 @@ module _ (keeps : Type 0) (p : Parts) (k : IsCore keeps p) (works : p.journal.fa
 
   pub log_state : core_state_in after ≡ log p.journal.geometry (core_state_in p) n
   log_state = λ i. record (core_state_in after) {
-    ran = sym (drop-map replied_of n p.lines.ran) i;
-    logged = (map-append replied_of p.lines.logged (take n p.lines.ran) ∙ ap (λ as'. map replied_of p.lines.logged ++ as') (sym (take-map replied_of n p.lines.ran))) i;
+    ran = sym (drop-map replied_of n p.phases.ran) i;
+    logged = (map-append replied_of p.phases.logged (take n p.phases.ran) ∙ ap (λ as'. map replied_of p.phases.logged ++ as') (sym (take-map replied_of n p.phases.ran))) i;
     committed = (fold-joined p.journal.geometry _ p.since (batch_at p n) ∙ ap (fold p.journal.geometry (core_state_in p).committed) (same_batch keeps p k n)) i;
     room = p.journal.room - length (same_batch keeps p k n i);
     doubt = sym (k.no_doubt works) i;
   }
 
-  module _ (unlogged_is : unlogged + changing (take n p.lines.ran) ≡ p.unlogged)
+  module _ (unlogged_is : unlogged + changing (take n p.phases.ran) ≡ p.unlogged)
       (is_committed : keeps → committed (record p.journal { room = room; dirty = dirty; medium = medium }) ≡ Some (core_state_in after).committed)
       (recovers : keeps → (c : List ℕ) → IsCrashImage medium c → holds p.journal.geometry c ≡ committed (record p.journal { room = room; dirty = dirty; medium = medium })) where
     pub log_core : IsCore keeps after
     log_core =
-        let whole = sym (take-append-drop n p.lines.ran) in
-        let counts = ap length whole ∙ length-append (take n p.lines.ran) (drop n p.lines.ran) in
-        let more = length-append p.lines.logged (take n p.lines.ran) in
+        let whole = sym (take-append-drop n p.phases.ran) in
+        let counts = ap length whole ∙ length-append (take n p.phases.ran) (drop n p.phases.ran) in
+        let more = length-append p.phases.logged (take n p.phases.ran) in
         let claimed = k.claimed in
         let unlogged_was = k.unlogged_is ∙ unlogged_of p in
         let unlogged_now = unlogged_of after in
-        let ran = ap changing whole ∙ changing-append (take n p.lines.ran) (drop n p.lines.ran) in
+        let ran = ap changing whole ∙ changing-append (take n p.phases.ran) (drop n p.phases.ran) in
         let placed = subst (AllByRecursion (IsPlaced p.journal.geometry)) whole k.placed.ran in
         record {
           claimed = omega (arith, counts, more, claimed);
           placed = record {
             waiting = k.placed.waiting;
             out = k.placed.out;
-            ran = all_back (IsPlaced p.journal.geometry) (take n p.lines.ran) (drop n p.lines.ran) placed;
-            logged = all_join (IsPlaced p.journal.geometry) p.lines.logged (take n p.lines.ran) k.placed.logged
-                (all_front (IsPlaced p.journal.geometry) (take n p.lines.ran) (drop n p.lines.ran) placed);
+            ran = all_back (IsPlaced p.journal.geometry) (take n p.phases.ran) (drop n p.phases.ran) placed;
+            logged = all_join (IsPlaced p.journal.geometry) p.phases.logged (take n p.phases.ran) k.placed.logged
+                (all_front (IsPlaced p.journal.geometry) (take n p.phases.ran) (drop n p.phases.ran) placed);
           };
           queue_geometry = k.queue_geometry;
           seats = k.seats;
           waits = k.waits;
-          holds = λ test. k.holds test ∙ any_logged test p.lines (take n p.lines.ran) (drop n p.lines.ran) whole;
+          holds = λ test. k.holds test ∙ any_logged test p.phases (take n p.phases.ran) (drop n p.phases.ran) whole;
           unlogged_is = omega (arith, unlogged_was, unlogged_now, ran, unlogged_is);
           sound = subst (IsSoundCoreState p.journal.geometry) (sym log_state)
               (move_sound p.journal.geometry (core_state_in p) _ _ (Logs n refl refl) k.sound);
           geometry = k.geometry;
-          tree = subst (λ s. TreeHolds p.journal.geometry (is_below p.journal.geometry (map entry_of p.lines.out)) (in_tree p.tree) s)
+          tree = subst (λ s. TreeHolds p.journal.geometry (is_below p.journal.geometry (map entry_of p.phases.out)) (in_tree p.tree) s)
               (sym (log_reaches p.journal.geometry (core_state_in p) n k.sound) ∙ ap (reached p.journal.geometry) (sym log_state)) k.tree;
           is_committed = λ keep fine. is_committed keep;
           recovers = λ keep c leaves. with_none p.journal.geometry (core_state_in after).committed [] c (recovers keep c leaves ∙ is_committed keep);
@@ -172,7 +172,7 @@ module _ (keeps : Type 0) (p : Parts) (k : IsCore keeps p) (works : p.journal.fa
 
   module _ (any : keeps → CrashImagesAre p.journal.medium medium (HoldsSome p.journal.geometry (core_state_in p).committed (batch_at p n))) where
     -- at each moment of the call
-    pub log_throughout : (new : CoreView) → new.medium ≡ medium → keeps → RecoversThroughout (batch (core_state_in p) n) (kept_of p) new
+    pub log_throughout : (new : CoreView) → new.medium ≡ medium → keeps → RecoversThroughout (batch (core_state_in p) n) (core_view_of p) new
     log_throughout new same keep =
         subst (λ (m : Medium). CrashImagesAre p.journal.medium m (HoldsSome p.journal.geometry (core_state_in p).committed
         (if p.journal.failed then p.batch else batch (core_state_in p) n))) (sym same)

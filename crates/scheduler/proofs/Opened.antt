@@ -14,7 +14,7 @@ use Rattle.parcel.specs.Nodes.{tree_state}
 use Rattle.parcel.specs.Tree.{IsIn, IsWholeTree, TreeView, in_tree, state_in}
 use Rattle.meaning.specs.State.{IsState}
 use Rattle.scheduler.specs.Parts.{IsCore, Parts, is_below, parts, core_state_in}
-use Rattle.scheduler.specs.Slots.{HasChains, line}
+use Rattle.scheduler.specs.Slots.{HasChains, slots_on}
 use Rattle.scheduler.specs.declared.slot.Slot.{Slot}
 use Rattle.run_queue.specs.RunQueue.{RunQueueView, queue_at_start}
 
@@ -66,5 +66,5 @@ module _ (keeps : Type 0) (slots : ℕ) (replies : List Reply) (tree : TreeView)
       pub opened_size : capacity_of row ≡ slots
       opened_size = ap (λ (r : Row Slot). capacity_of r) row_is ∙ size
 
-      pub opened_ran : 0 ≡ length (line row replies 2)
-      opened_ran = ap (λ (r : Row Slot). length (line r replies 2)) (sym row_is)
+      pub opened_ran : 0 ≡ length (slots_on row replies 2)
+      opened_ran = ap (λ (r : Row Slot). length (slots_on r replies 2)) (sym row_is)

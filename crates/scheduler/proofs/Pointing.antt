@@ -25,7 +25,7 @@ use Rattle.scheduler.proofs.Called.{cut_called, point_called}
 use Rattle.scheduler.proofs.Counting.{held_count}
 use Rattle.scheduler.proofs.Journaling.{called_sound, step_core, step_throughout, with_journal}
 use Rattle.scheduler.specs.CoreView.{RecoversThroughout}
-use Rattle.scheduler.specs.Parts.{IsCore, Parts, entry_of, is_below, kept_of, reached, core_state_in}
+use Rattle.scheduler.specs.Parts.{IsCore, Parts, entry_of, is_below, core_view_of, reached, core_state_in}
 
 -- ---- why a point may begin
 
@@ -44,24 +44,24 @@ module _ (keeps : Type 0) (p : Parts) (k : IsCore keeps p) (why : point_refusal 
   running : (if is_some p.journal.left then Some points.Running else (if nat_lt 0 (length (held (core_state_in p))) then Some points.Held else None)) ≡ None
   running = (past p.journal.failed points.Failed _ why).1
 
-  none_held : length p.lines.logged + (length p.lines.ran + length p.lines.out) ≡ 0
+  none_held : length p.phases.logged + (length p.phases.ran + length p.phases.out) ≡ 0
   none_held =
       let none = (past (nat_lt 0 (length (held (core_state_in p)))) points.Held None (past (is_some p.journal.left) points.Running _ running).1).0 in
       let few = ltb-false 0 (length (held (core_state_in p))) none in
       let count = held_count p in
       omega (arith, few, count)
 
-  none_out : p.lines.out ≡ []
-  none_out = no_items p.lines.out (let none = none_held in omega (arith, none))
+  none_out : p.phases.out ≡ []
+  none_out = no_items p.phases.out (let none = none_held in omega (arith, none))
 
-  none_ran : p.lines.ran ≡ []
-  none_ran = no_items p.lines.ran (let none = none_held in omega (arith, none))
+  none_ran : p.phases.ran ≡ []
+  none_ran = no_items p.phases.ran (let none = none_held in omega (arith, none))
 
   whole_tree : TreeHolds p.journal.geometry nowhere (in_tree p.tree) (core_state_in p).committed
   whole_tree =
       subst (λ os. TreeHolds p.journal.geometry (is_below p.journal.geometry (map entry_of os)) (in_tree p.tree) (core_state_in p).committed) none_out
-      (subst (λ rs. TreeHolds p.journal.geometry (is_below p.journal.geometry (map entry_of p.lines.out)) (in_tree p.tree)
-      (reached p.journal.geometry (core_state_in (record p { lines = record p.lines { ran = rs } })))) none_ran k.tree)
+      (subst (λ rs. TreeHolds p.journal.geometry (is_below p.journal.geometry (map entry_of p.phases.out)) (in_tree p.tree)
+      (reached p.journal.geometry (core_state_in (record p { phases = record p.phases { ran = rs } })))) none_ran k.tree)
 
   pub point_whole : IsWholeTree p.tree
   point_whole =
@@ -92,8 +92,8 @@ module _ (keeps : Type 0) (p : Parts) (k : IsCore keeps p) (works : p.journal.fa
   broken_core is sound = subst (λ (j : JournalView). IsCore keeps (record p { journal = j })) (sym is)
       (step_core keeps p k works new.medium any p.journal.room p.journal.left true p.journal.dirty sound (λ keep fine. absurd (true≢false fine)))
 
-  pub step_moment : keeps → RecoversThroughout [] (kept_of p) (kept_of (record p { journal = new }))
-  step_moment = step_throughout keeps p k works new.medium any (kept_of (record p { journal = new })) refl
+  pub step_moment : keeps → RecoversThroughout [] (core_view_of p) (core_view_of (record p { journal = new }))
+  step_moment = step_throughout keeps p k works new.medium any (core_view_of (record p { journal = new })) refl
 
 module _ (keeps : Type 0) (p : Parts) (k : IsCore keeps p) (new : JournalView)
     (any : keeps → CrashImagesAre p.journal.medium new.medium (λ c. holds p.journal.geometry c ≡ committed p.journal)) where

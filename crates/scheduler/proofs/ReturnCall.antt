@@ -31,13 +31,13 @@ use Rattle.parcel.specs.Tree.{IsOut, RestoresAt, TreeView, in_tree}
 use Rattle.parcel.specs.declared.job.Done.{Done as Result}
 use Rattle.meaning.specs.Serial.{next_state, reply_to}
 use Rattle.scheduler.proofs.Answering.{entries_of, other_numbers}
-use Rattle.scheduler.proofs.Lines.{MovedLines, line_moved}
+use Rattle.scheduler.proofs.Chains.{MovedSlot, slot_moved}
 use Rattle.scheduler.proofs.Returning.{out_is, return_core, return_state, returned_is_found, returned_is_placed, with_return}
 use Rattle.scheduler.proofs.Splits.{MapSplit, map_split, times-split}
 use Rattle.scheduler.proofs.Trees.{back_is_out}
 use Rattle.scheduler.specs.Jobs.{IsResultOf}
 use Rattle.scheduler.specs.Parts.{IsCore, IsPlaced, Parts, entry_of, parts, queued_of, core_state_in}
-use Rattle.scheduler.specs.Slots.{HasChains, SlotView, line, place_at}
+use Rattle.scheduler.specs.Slots.{HasChains, SlotView, slots_on, place_at}
 use Rattle.scheduler.specs.declared.slot.Slot.{Slot}
 use Rattle.run_queue.specs.RunQueue.{RunQueueView, has_number, has_slot, holds_at}
 
@@ -91,7 +91,7 @@ or_none true = refl
 or_none false = refl
 
 module _ (keeps : Type 0) (p : Parts) (k : IsCore keeps p) (before : List SlotView) (x : SlotView) (behind : List SlotView)
-    (whole : p.lines.out ≡ before ++ x ∷ behind) where
+    (whole : p.phases.out ≡ before ++ x ∷ behind) where
   abbrev g : Geometry
   g = p.journal.geometry
 
@@ -99,13 +99,13 @@ module _ (keeps : Type 0) (p : Parts) (k : IsCore keeps p) (before : List SlotVi
   w = core_state_in p
 
   abbrev us : List Entry
-  us = map entry_of p.lines.logged ++ (map entry_of p.lines.ran ++ map entry_of before)
+  us = map entry_of p.phases.logged ++ (map entry_of p.phases.ran ++ map entry_of before)
 
   held_is : held w ≡ us ++ entry_of x ∷ map entry_of behind
   held_is =
-      (λ i. entries_of p.lines.logged i ++ (entries_of p.lines.ran i ++ (ap (map entry_of) whole ∙ map_joined before (x ∷ behind)) i))
-      ∙ ap (λ (es : List Entry). map entry_of p.lines.logged ++ es) (sym (append_assoc (map entry_of p.lines.ran) (map entry_of before) (entry_of x ∷ map entry_of behind)))
-      ∙ sym (append_assoc (map entry_of p.lines.logged) (map entry_of p.lines.ran ++ map entry_of before) (entry_of x ∷ map entry_of behind))
+      (λ i. entries_of p.phases.logged i ++ (entries_of p.phases.ran i ++ (ap (map entry_of) whole ∙ map_joined before (x ∷ behind)) i))
+      ∙ ap (λ (es : List Entry). map entry_of p.phases.logged ++ es) (sym (append_assoc (map entry_of p.phases.ran) (map entry_of before) (entry_of x ∷ map entry_of behind)))
+      ∙ sym (append_assoc (map entry_of p.phases.logged) (map entry_of p.phases.ran ++ map entry_of before) (entry_of x ∷ map entry_of behind))
     where
       map_joined : (xs ys : List SlotView) → map entry_of (xs ++ ys) ≡ map entry_of xs ++ map entry_of ys
       map_joined [] ys = refl
@@ -126,23 +126,23 @@ module _ (keeps : Type 0) (p : Parts) (k : IsCore keeps p) (before : List SlotVi
   apart_us : AllByRecursion (λ d. are_related_entries g (entry_of x) d ≡ false) us
   apart_us = all_front (λ d. are_related_entries g (entry_of x) d ≡ false) us (map entry_of behind) alone
 
-  apart_rest : AllByRecursion (λ d. are_related_entries g (entry_of x) d ≡ false) (map entry_of p.lines.ran ++ map entry_of before)
-  apart_rest = all_back (λ d. are_related_entries g (entry_of x) d ≡ false) (map entry_of p.lines.logged) (map entry_of p.lines.ran ++ map entry_of before) apart_us
+  apart_rest : AllByRecursion (λ d. are_related_entries g (entry_of x) d ≡ false) (map entry_of p.phases.ran ++ map entry_of before)
+  apart_rest = all_back (λ d. are_related_entries g (entry_of x) d ≡ false) (map entry_of p.phases.logged) (map entry_of p.phases.ran ++ map entry_of before) apart_us
 
   x_placed : IsPlaced g x
   x_placed = (all_back (IsPlaced g) before (x ∷ behind) all_out).0
 
-  others_logged : AllByRecursion (λ y. not (has_number n (queued_of y)) ≡ true) p.lines.logged
-  others_logged = other_numbers g x x_placed p.lines.logged k.placed.logged
-      (all_front (λ d. are_related_entries g (entry_of x) d ≡ false) (map entry_of p.lines.logged) (map entry_of p.lines.ran ++ map entry_of before) apart_us)
+  others_logged : AllByRecursion (λ y. not (has_number n (queued_of y)) ≡ true) p.phases.logged
+  others_logged = other_numbers g x x_placed p.phases.logged k.placed.logged
+      (all_front (λ d. are_related_entries g (entry_of x) d ≡ false) (map entry_of p.phases.logged) (map entry_of p.phases.ran ++ map entry_of before) apart_us)
 
-  others_ran : AllByRecursion (λ y. not (has_number n (queued_of y)) ≡ true) p.lines.ran
-  others_ran = other_numbers g x x_placed p.lines.ran k.placed.ran
-      (all_front (λ d. are_related_entries g (entry_of x) d ≡ false) (map entry_of p.lines.ran) (map entry_of before) apart_rest)
+  others_ran : AllByRecursion (λ y. not (has_number n (queued_of y)) ≡ true) p.phases.ran
+  others_ran = other_numbers g x x_placed p.phases.ran k.placed.ran
+      (all_front (λ d. are_related_entries g (entry_of x) d ≡ false) (map entry_of p.phases.ran) (map entry_of before) apart_rest)
 
   others_before : AllByRecursion (λ y. not (has_number n (queued_of y)) ≡ true) before
   others_before = other_numbers g x x_placed before (all_front (IsPlaced g) before (x ∷ behind) all_out)
-      (all_back (λ d. are_related_entries g (entry_of x) d ≡ false) (map entry_of p.lines.ran) (map entry_of before) apart_rest)
+      (all_back (λ d. are_related_entries g (entry_of x) d ≡ false) (map entry_of p.phases.ran) (map entry_of before) apart_rest)
 
   others_behind : AllByRecursion (λ y. not (has_number n (queued_of y)) ≡ true) behind
   others_behind = other_numbers g x x_placed behind (all_back (IsPlaced g) before (x ∷ behind) all_out).1
@@ -158,8 +158,8 @@ module _ (keeps : Type 0) (p : Parts) (k : IsCore keeps p) (before : List SlotVi
       ∙ sym (or_false (list_any t before) (list_any t (x ∷ behind)) (none_at n slot before others_before))
       ∙ sym (list_any-append t before (x ∷ behind))
       ∙ ap (list_any t) (sym whole)
-      ∙ sym (or_false (list_any t p.lines.ran) (list_any t p.lines.out) (none_at n slot p.lines.ran others_ran))
-      ∙ sym (or_false (list_any t p.lines.logged) (list_any t p.lines.ran || list_any t p.lines.out) (none_at n slot p.lines.logged others_logged))
+      ∙ sym (or_false (list_any t p.phases.ran) (list_any t p.phases.out) (none_at n slot p.phases.ran others_ran))
+      ∙ sym (or_false (list_any t p.phases.logged) (list_any t p.phases.ran || list_any t p.phases.out) (none_at n slot p.phases.logged others_logged))
       ∙ sym (k.holds (holds_at n slot)) ∙ has in
       elim (eqb_tells x.0 slot) [
         | inl e ↦ sym e.1
@@ -170,9 +170,9 @@ module _ (keeps : Type 0) (p : Parts) (k : IsCore keeps p) (before : List SlotVi
   number_is_held =
       let t : SlotView → Bool = λ (y : SlotView). has_number n (queued_of y) in
       k.holds (has_number n)
-      ∙ (λ i. list_any t p.lines.logged || (list_any t p.lines.ran || (ap (list_any t) whole ∙ list_any-append t before (x ∷ behind)) i))
-      ∙ (λ i. list_any t p.lines.logged || (list_any t p.lines.ran || (list_any t before || (eq-eqb n n refl i || list_any t behind))))
-      ∙ all_true (list_any t p.lines.logged) (list_any t p.lines.ran) (list_any t before)
+      ∙ (λ i. list_any t p.phases.logged || (list_any t p.phases.ran || (ap (list_any t) whole ∙ list_any-append t before (x ∷ behind)) i))
+      ∙ (λ i. list_any t p.phases.logged || (list_any t p.phases.ran || (list_any t before || (eq-eqb n n refl i || list_any t behind))))
+      ∙ all_true (list_any t p.phases.logged) (list_any t p.phases.ran) (list_any t before)
     where
       all_true : (a b c : Bool) → (a || (b || (c || true))) ≡ true
       all_true true b c = refl
@@ -189,8 +189,8 @@ module _ (keeps : Type 0) (row : Row Slot) (replies : List Reply) (tree : TreeVi
   abbrev p : Parts
   p = parts row replies tree journal queue batch next unlogged opened since
 
-  recovers : Recovers (done.ticket, done.message) p.lines.out
-  recovers = recovers_in (done.ticket, done.message) p.lines.out result.is_out
+  recovers : Recovers (done.ticket, done.message) p.phases.out
+  recovers = recovers_in (done.ticket, done.message) p.phases.out result.is_out
 
   abbrev x : SlotView
   x = recovers.at
@@ -247,8 +247,8 @@ module _ (keeps : Type 0) (row : Row Slot) (replies : List Reply) (tree : TreeVi
         abbrev y : SlotView
         y = (x.0, x.1, done.reply)
 
-        lines : MovedLines row (after_move row slot 2) replies told 1 2 recovers.before x recovers.behind
-        lines = line_moved row replies told is 1 2 (omega arith) (λ same. omega (arith, same)) recovers.before x recovers.behind recovers.whole
+        moved_slot : MovedSlot row (after_move row slot 2) replies told 1 2 recovers.before x recovers.behind
+        moved_slot = slot_moved row replies told is 1 2 (omega arith) (λ same. omega (arith, same)) recovers.before x recovers.behind recovers.whole
             (λ j other. get_or-set_other replies slot j reply Done (λ same. other (same ∙ slot_is))) slot slot_is
 
         there : slot < length replies
@@ -260,30 +260,30 @@ module _ (keeps : Type 0) (row : Row Slot) (replies : List Reply) (tree : TreeVi
         abbrev after : Parts
         after = parts (after_move row slot 2) told now journal queue batch next unlogged opened since
 
-        joined : line (after_move row slot 2) told 2 ≡ p.lines.ran ++ y ∷ []
-        joined = lines.joined ∙ (λ j. p.lines.ran ++ (x.0, x.1, told_here j) ∷ [])
+        joined : slots_on (after_move row slot 2) told 2 ≡ p.phases.ran ++ y ∷ []
+        joined = moved_slot.joined ∙ (λ j. p.phases.ran ++ (x.0, x.1, told_here j) ∷ [])
 
         pub back_size : capacity_of (after_move row slot 2) ≡ capacity_of row
-        back_size = ap (λ (vs : List (Option Slot)). length vs) lines.values
+        back_size = ap (λ (vs : List (Option Slot)). length vs) moved_slot.values
 
         pub back_long : length told ≡ capacity_of (after_move row slot 2)
         back_long = length-set replies slot reply ∙ long ∙ sym back_size
 
-        pub back_ran : (ran : ℕ) → ran ≡ length (line row replies 2) → ran + 1 ≡ length (line (after_move row slot 2) told 2)
-        back_ran ran count = let now_is = ap (λ (ps : List SlotView). length ps) joined ∙ length-append p.lines.ran (y ∷ []) in omega (arith, count, now_is)
+        pub back_ran : (ran : ℕ) → ran ≡ length (slots_on row replies 2) → ran + 1 ≡ length (slots_on (after_move row slot 2) told 2)
+        back_ran ran count = let now_is = ap (λ (ps : List SlotView). length ps) joined ∙ length-append p.phases.ran (y ∷ []) in omega (arith, count, now_is)
 
         pub back_chains : IsParted (after_move row slot 2) → HasChains (after_move row slot 2)
-        back_chains parted = record { parted = parted; four = lines.four ∙ is.four }
+        back_chains parted = record { parted = parted; four = moved_slot.four ∙ is.four }
 
         after_is : after ≡ with_return p (recovers.before ++ recovers.behind) y now
         after_is = λ i. record (with_return p (recovers.before ++ recovers.behind) y now) {
-          lines = record {
-            waiting = lines.stays 0 (λ same. omega (arith, same)) (λ same. omega (arith, same)) i;
-            out = lines.left i;
+          phases = record {
+            waiting = moved_slot.stays 0 (λ same. omega (arith, same)) (λ same. omega (arith, same)) i;
+            out = moved_slot.left i;
             ran = joined i;
-            logged = lines.stays 3 (λ same. omega (arith, same)) (λ same. omega (arith, same)) i;
+            logged = moved_slot.stays 3 (λ same. omega (arith, same)) (λ same. omega (arith, same)) i;
           };
-          free = ap (λ (fs : List ℕ). length fs) lines.free i;
+          free = ap (λ (fs : List ℕ). length fs) moved_slot.free i;
           capacity = back_size i;
         }
 

@@ -42,10 +42,10 @@ picked_at (d ∷ before) e behind others =
     differs a b other = elim (eqb_tells a b) [ inl e ↦ absurd (other e.1) | inr n ↦ n.0 ]
 
 abbrev pub with_return : Parts → List SlotView → SlotView → TreeView → Parts
-with_return p out y tree = record p { lines = record p.lines { out = out; ran = p.lines.ran ++ y ∷ [] }; tree = tree }
+with_return p out y tree = record p { phases = record p.phases { out = out; ran = p.phases.ran ++ y ∷ [] }; tree = tree }
 
 module _ (keeps : Type 0) (p : Parts) (k : IsCore keeps p) (before : List SlotView) (x : SlotView) (behind : List SlotView)
-    (whole : p.lines.out ≡ before ++ x ∷ behind) where
+    (whole : p.phases.out ≡ before ++ x ∷ behind) where
   pub out_is : (core_state_in p).out ≡ map entry_of before ++ entry_of x ∷ map entry_of behind
   out_is = ap (map entry_of) whole ∙ map-append entry_of before (x ∷ behind)
 
@@ -78,41 +78,41 @@ module _ (keeps : Type 0) (p : Parts) (k : IsCore keeps p) (before : List SlotVi
 
     pub return_state : core_state_in after ≡ give_back p.journal.geometry (core_state_in p) found
     return_state = λ i. record (core_state_in after) {
-      ran = (map-append replied_of p.lines.ran (y ∷ []) ∙ (λ j. map replied_of p.lines.ran ++ (x.1.ticket, x.1.message, told j) ∷ [])) i;
+      ran = (map-append replied_of p.phases.ran (y ∷ []) ∙ (λ j. map replied_of p.phases.ran ++ (x.1.ticket, x.1.message, told j) ∷ [])) i;
     }
 
     pub return_core : IsCore keeps after
     return_core =
         let was = ap length whole ∙ length-append before (x ∷ behind) in
         let now = length-append before behind in
-        let more = length-append p.lines.ran (y ∷ []) in
+        let more = length-append p.phases.ran (y ∷ []) in
         let claimed = k.claimed in
         let unlogged_was = k.unlogged_is ∙ unlogged_of p in
         let unlogged_is = unlogged_of after in
         let out_was = ap changing whole ∙ changing-append before (x ∷ behind) ∙ ap (λ n. changing before + n) (changing-cons x behind) in
         let out_now = changing-append before behind in
-        let ran_now = changing-append p.lines.ran (y ∷ []) ∙ ap (λ n. changing p.lines.ran + n) (changing-cons y []) in
+        let ran_now = changing-append p.phases.ran (y ∷ []) ∙ ap (λ n. changing p.phases.ran + n) (changing-cons y []) in
         record {
           claimed = omega (arith, was, now, more, claimed);
           placed = record {
             waiting = k.placed.waiting;
             out = all_join (IsPlaced p.journal.geometry) before behind (all_front (IsPlaced p.journal.geometry) before (x ∷ behind) all_out)
                 (all_back (IsPlaced p.journal.geometry) before (x ∷ behind) all_out).1;
-            ran = all_join (IsPlaced p.journal.geometry) p.lines.ran (y ∷ []) k.placed.ran
+            ran = all_join (IsPlaced p.journal.geometry) p.phases.ran (y ∷ []) k.placed.ran
                 (record { affinity = returned_is_placed.affinity; range = returned_is_placed.range; message = returned_is_placed.message }, tt);
             logged = k.placed.logged;
           };
           queue_geometry = k.queue_geometry;
           seats = k.seats;
           waits = k.waits;
-          holds = λ test. k.holds test ∙ any_back test p.lines before x y behind whole refl;
+          holds = λ test. k.holds test ∙ any_back test p.phases before x y behind whole refl;
           unlogged_is = omega (arith, unlogged_was, unlogged_is, out_was, out_now, ran_now);
           sound = subst (IsSoundCoreState p.journal.geometry) (sym return_state)
               (move_sound p.journal.geometry (core_state_in p) _ _ (Backs x.1.ticket found returned_is_found refl refl) k.sound);
           geometry = geometry;
           tree = subst (λ s. TreeHolds p.journal.geometry (is_below p.journal.geometry (map entry_of (before ++ behind))) (in_tree tree) s)
-              (sym (ap (λ as'. reached p.journal.geometry (record (core_state_in after) { ran = as' })) (map-append replied_of p.lines.ran (y ∷ []))
-              ∙ back_reaches p.journal.geometry (core_state_in p).committed (map replied_of p.lines.ran) (replied_of y)))
+              (sym (ap (λ as'. reached p.journal.geometry (record (core_state_in after) { ran = as' })) (map-append replied_of p.phases.ran (y ∷ []))
+              ∙ back_reaches p.journal.geometry (core_state_in p).committed (map replied_of p.phases.ran) (replied_of y)))
               (subst (λ es. TreeHolds p.journal.geometry (is_below p.journal.geometry es) (in_tree tree) (next_state p.journal.geometry (reached p.journal.geometry (core_state_in p)) x.1.message))
               (sym (map-append entry_of before behind))
               (back_tree p.journal.geometry (core_state_in p) k.sound (map entry_of before) (entry_of x) (map entry_of behind) out_is (in_tree p.tree) k.tree

@@ -3,7 +3,7 @@ use Rattle.std.proofs.Common.{◌≡◌, ◌≢◌, ℕ, zero, suc, ◌+◌, ◌
 use Rattle.arena.specs.Lists.{first_of, without}
 use Rattle.arena.specs.Row.{Row, IsParted, after_move, chain_at, front_of}
 use Rattle.arena.proofs.RowLemmas.{chain-front}
-use Rattle.scheduler.proofs.Lines.{chain_joined, chain_left, chain_stays, four_moved, row_moved}
+use Rattle.scheduler.proofs.Chains.{chain_joined, chain_left, chain_stays, four_moved, row_moved}
 use Rattle.scheduler.specs.Moving.{HasLogged}
 use Rattle.scheduler.specs.Slots.{HasChains}
 use Rattle.scheduler.specs.declared.slot.Slot.{Slot}

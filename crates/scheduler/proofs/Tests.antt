@@ -4,7 +4,7 @@ use Rattle.std.specs.Prelude.{◌&&◌, ◌||◌, cond, filter}
 use Rattle.std.specs.List.{AllByRecursion, list_any}
 use Rattle.std.proofs.lemmas.List.Folds.{list_any-append}
 use Rattle.scheduler.specs.Parts.{held_any, queued_of}
-use Rattle.scheduler.specs.Slots.{Lines, SlotView}
+use Rattle.scheduler.specs.Slots.{Phases, SlotView}
 use Rattle.run_queue.specs.declared.queued_message.QueuedMessage.{QueuedMessage}
 
 or_last : (t l r o : Bool) → (t || (l || (r || o))) ≡ (l || (r || (o || (t || false))))
@@ -34,13 +34,13 @@ module _ (test : QueuedMessage → Bool) where
   abbrev t : SlotView → Bool
   t x = test (queued_of x)
 
-  pub any_granted : (l : Lines) (waiting : List SlotView) (x : SlotView)
+  pub any_granted : (l : Phases) (waiting : List SlotView) (x : SlotView)
       → (test (queued_of x) || held_any test l) ≡ held_any test (record l { waiting = waiting; out = l.out ++ x ∷ [] })
   any_granted l waiting x =
       or_last (t x) (list_any t l.logged) (list_any t l.ran) (list_any t l.out)
       ∙ ap (λ b. list_any t l.logged || (list_any t l.ran || b)) (sym (list_any-append t l.out (x ∷ [])))
 
-  pub any_back : (l : Lines) (before : List SlotView) (x y : SlotView) (behind : List SlotView) → l.out ≡ before ++ x ∷ behind → queued_of y ≡ queued_of x
+  pub any_back : (l : Phases) (before : List SlotView) (x y : SlotView) (behind : List SlotView) → l.out ≡ before ++ x ∷ behind → queued_of y ≡ queued_of x
       → held_any test l ≡ held_any test (record l { out = before ++ behind; ran = l.ran ++ y ∷ [] })
   any_back l before x y behind out same =
       ap (λ b. list_any t l.logged || (list_any t l.ran || b)) (ap (list_any t) out ∙ list_any-append t before (x ∷ behind))
@@ -48,7 +48,7 @@ module _ (test : QueuedMessage → Bool) where
       ∙ (λ i. list_any t l.logged || ((list_any t l.ran || (test (sym same i) || false)) || sym (list_any-append t before behind) i))
       ∙ ap (λ b. list_any t l.logged || (b || list_any t (before ++ behind))) (sym (list_any-append t l.ran (y ∷ [])))
 
-  pub any_logged : (l : Lines) (first rest : List SlotView) → l.ran ≡ first ++ rest
+  pub any_logged : (l : Phases) (first rest : List SlotView) → l.ran ≡ first ++ rest
       → held_any test l ≡ held_any test (record l { ran = rest; logged = l.logged ++ first })
   any_logged l first rest ran =
       ap (λ b. list_any t l.logged || (b || list_any t l.out)) (ap (list_any t) ran ∙ list_any-append t first rest)
@@ -73,7 +73,7 @@ any_passing test q [] all = refl
 any_passing test q (x ∷ xs) all = λ i. (all.0 i && test (queued_of x)) || any_passing test q xs all.1 i
 
 -- the first of those that are logged is gone
-pub any_answered : (test q : QueuedMessage → Bool) (l : Lines) {x : SlotView} {behind : List SlotView} → l.logged ≡ x ∷ behind → q (queued_of x) ≡ false
+pub any_answered : (test q : QueuedMessage → Bool) (l : Phases) {x : SlotView} {behind : List SlotView} → l.logged ≡ x ∷ behind → q (queued_of x) ≡ false
     → AllByRecursion (λ x. q (queued_of x) ≡ true) behind → AllByRecursion (λ x. q (queued_of x) ≡ true) l.ran → AllByRecursion (λ x. q (queued_of x) ≡ true) l.out
     → held_any (λ t. q t && test t) l ≡ held_any test (record l { logged = behind })
 any_answered test q l {x} {behind} logged first behinds rans outs =

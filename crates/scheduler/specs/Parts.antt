@@ -18,7 +18,7 @@ use Rattle.meaning.specs.Order.{messages}
 use Rattle.meaning.specs.Serial.{fold}
 use Rattle.meaning.specs.State.{State}
 use Rattle.scheduler.specs.CoreView.{CoreView, RecoversNow, core_state_of}
-use Rattle.scheduler.specs.Slots.{Lines, SlotView, stages_of}
+use Rattle.scheduler.specs.Slots.{Phases, SlotView, phases_of}
 use Rattle.scheduler.specs.declared.slot.Slot.{Slot}
 use Rattle.run_queue.specs.RunQueue.{RunQueueView}
 use Rattle.run_queue.specs.declared.queued_message.QueuedMessage.{QueuedMessage}
@@ -33,12 +33,12 @@ abbrev pub queued_of : SlotView → QueuedMessage
 queued_of x = record { slot = x.0; affinity = x.1.affinity; changing = changes x.1.message; ticket = x.1.ticket }
 
 -- whether one of the held ones passes a test
-abbrev pub held_any : (QueuedMessage → Bool) → Lines → Bool
+abbrev pub held_any : (QueuedMessage → Bool) → Phases → Bool
 held_any test l =
     list_any (λ x. test (queued_of x)) l.logged || (list_any (λ x. test (queued_of x)) l.ran || list_any (λ x. test (queued_of x)) l.out)
 
 pub record Parts : Type 0 where
-  pub lines : Lines
+  pub phases : Phases
   -- how many slots are free, and how many there are
   pub free : ℕ
   pub capacity : ℕ
@@ -56,7 +56,7 @@ pub record Parts : Type 0 where
 -- the parts of a core with these fields
 abbrev pub parts : Row Slot → List Reply → TreeView → JournalView → RunQueueView → List Msg → ℕ → ℕ → TreeView → List Msg → Parts
 parts row replies tree journal queue batch next unlogged opened since = record {
-  lines = stages_of row replies;
+  phases = phases_of row replies;
   free = length row.free;
   capacity = capacity_of row;
   tree = tree;
@@ -69,13 +69,13 @@ parts row replies tree journal queue batch next unlogged opened since = record {
   since = since;
 }
 
-abbrev pub kept_of : Parts → CoreView
-kept_of p = record {
+abbrev pub core_view_of : Parts → CoreView
+core_view_of p = record {
   geometry = p.journal.geometry;
-  waiting = map entry_of p.lines.waiting;
-  out = map entry_of p.lines.out;
-  ran = map replied_of p.lines.ran;
-  logged = map replied_of p.lines.logged;
+  waiting = map entry_of p.phases.waiting;
+  out = map entry_of p.phases.out;
+  ran = map replied_of p.phases.ran;
+  logged = map replied_of p.phases.logged;
   opened = p.opened;
   since = p.since;
   room = p.journal.room;
@@ -88,7 +88,7 @@ kept_of p = record {
 }
 
 abbrev pub core_state_in : Parts → CoreState
-core_state_in p = core_state_of (kept_of p)
+core_state_in p = core_state_of (core_view_of p)
 
 -- The message is one, in range, and its affinity is that of its place.
 pub record IsPlaced (g : Geometry) (x : SlotView) : Type 0 where
@@ -96,7 +96,7 @@ pub record IsPlaced (g : Geometry) (x : SlotView) : Type 0 where
   pub range : is_in_range g x.1.message ≡ true
   pub message : IsMessage x.1.message
 
-pub record ArePlaced (g : Geometry) (l : Lines) : Type 0 where
+pub record ArePlaced (g : Geometry) (l : Phases) : Type 0 where
   pub waiting : AllByRecursion (IsPlaced g) l.waiting
   pub out : AllByRecursion (IsPlaced g) l.out
   pub ran : AllByRecursion (IsPlaced g) l.ran
@@ -111,21 +111,21 @@ abbrev pub reached : Geometry → CoreState → State
 reached g w = fold g w.committed (messages (entries w.ran))
 
 pub record IsCore (keeps : Type 0) (p : Parts) : Type 0 where
-  -- each slot is free or on a line
-  pub claimed : p.free + (length p.lines.waiting + (length p.lines.logged + (length p.lines.ran + length p.lines.out))) ≡ p.capacity
-  pub placed : ArePlaced p.journal.geometry p.lines
+  -- each slot is free or on a chain
+  pub claimed : p.free + (length p.phases.waiting + (length p.phases.logged + (length p.phases.ran + length p.phases.out))) ≡ p.capacity
+  pub placed : ArePlaced p.journal.geometry p.phases
   -- the run queue
   pub queue_geometry : p.queue.geometry ≡ p.journal.geometry
   pub seats : p.queue.slots ≡ p.capacity
-  pub waits : p.queue.waiting ≡ map queued_of p.lines.waiting
-  pub holds : (test : QueuedMessage → Bool) → list_any test p.queue.held ≡ held_any test p.lines
+  pub waits : p.queue.waiting ≡ map queued_of p.phases.waiting
+  pub holds : (test : QueuedMessage → Bool) → list_any test p.queue.held ≡ held_any test p.phases
   pub unlogged_is : p.unlogged ≡ unlogged_changes (core_state_in p)
   pub sound : IsSoundCoreState p.journal.geometry (core_state_in p)
   -- the tree holds what was reached, but for the places of messages in flight
   pub geometry : p.tree.geometry ≡ p.journal.geometry
-  pub tree : TreeHolds p.journal.geometry (is_below p.journal.geometry (map entry_of p.lines.out)) (in_tree p.tree)
+  pub tree : TreeHolds p.journal.geometry (is_below p.journal.geometry (map entry_of p.phases.out)) (in_tree p.tree)
       (reached p.journal.geometry (core_state_in p))
   -- the device
   pub is_committed : keeps → p.journal.failed ≡ false → committed p.journal ≡ Some (core_state_in p).committed
-  pub recovers : keeps → RecoversNow (kept_of p)
+  pub recovers : keeps → RecoversNow (core_view_of p)
   pub no_doubt : p.journal.failed ≡ false → p.batch ≡ []

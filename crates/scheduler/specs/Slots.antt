@@ -1,11 +1,10 @@
 -- Inner: The messages of a core in its slots, by how far each has come.
-use Rattle.std.specs.Prelude.{◌≡◌, ℕ, List, map, get_or, unwrap_or}
+use Rattle.std.specs.Prelude.{◌≡◌, ℕ, List, length, map, get_or, unwrap_or}
 use Rattle.arena.specs.Row.{IsParted, Row, chain_at, value_at}
 use Rattle.messages.specs.declared.Msg.TheVariants.{Summary}
 use Rattle.messages.specs.declared.Reply.{Reply}
 use Rattle.messages.specs.declared.Reply.TheVariants.{Done}
 use Rattle.scheduler.specs.declared.slot.Slot.{Slot}
-use Rattle.std.specs.Prelude.{length}
 
 -- a slot with its number, and the reply that lies at this number
 abbrev pub SlotView : Type 0
@@ -17,20 +16,21 @@ no_slot = record { ticket = 0; message = Summary; affinity = record { number = 0
 abbrev pub place_at : Row Slot → List Reply → ℕ → SlotView
 place_at row replies i = (i, unwrap_or (value_at row i) no_slot, get_or replies i Done)
 
--- the places on a chain
-abbrev pub line : Row Slot → List Reply → ℕ → List SlotView
-line row replies c = map (place_at row replies) (chain_at row c)
+-- the slots on a chain
+abbrev pub slots_on : Row Slot → List Reply → ℕ → List SlotView
+slots_on row replies c = map (place_at row replies) (chain_at row c)
 
-pub record Lines : Type 0 where
+-- the slots of the messages in each phase
+pub record Phases : Type 0 where
   pub waiting : List SlotView
   pub out : List SlotView
   pub ran : List SlotView
   pub logged : List SlotView
 
 -- Chain 0 has those that wait, chain 1 those in flight, chain 2 those that ran, and chain 3 those that are logged.
-abbrev pub stages_of : Row Slot → List Reply → Lines
-stages_of row replies =
-    record { waiting = line row replies 0; out = line row replies 1; ran = line row replies 2; logged = line row replies 3 }
+abbrev pub phases_of : Row Slot → List Reply → Phases
+phases_of row replies =
+    record { waiting = slots_on row replies 0; out = slots_on row replies 1; ran = slots_on row replies 2; logged = slots_on row replies 3 }
 
 -- The slots have these four chains.
 pub record HasChains (row : Row Slot) : Type 0 where

@@ -77,12 +77,12 @@ impl<D: Disk> Model for Core<D> {
     ghost use Rattle.std.specs.Prelude.{◌≡◌, ◌≤◌, length, vec_capacity};
     ghost use Rattle.arena.specs.Row.{capacity_of};
     ghost use Rattle.scheduler.specs.CoreView.{CoreView};
-    ghost use Rattle.scheduler.specs.Parts.{IsCore, kept_of, parts};
-    ghost use Rattle.scheduler.specs.Slots.{HasChains, line};
+    ghost use Rattle.scheduler.specs.Parts.{IsCore, core_view_of, parts};
+    ghost use Rattle.scheduler.specs.Slots.{HasChains, slots_on};
 
     ghost Value = { CoreView };
 
-    ghost view = { λ c. kept_of
+    ghost view = { λ c. core_view_of
         (parts c.slots c.replies.items c.tree c.journal c.queue c.batch.items c.next c.unlogged c.history.opened c.history.since) };
 
     ghost invariant = { λ c. HasChains c.slots
@@ -90,7 +90,7 @@ impl<D: Disk> Model for Core<D> {
         (parts c.slots c.replies.items c.tree c.journal c.queue c.batch.items c.next c.unlogged c.history.opened c.history.since)
         × (capacity_of c.slots ≤ vec_capacity c.batch)
         × (length c.replies.items ≡ capacity_of c.slots)
-        × (c.ran ≡ length (line c.slots c.replies.items 2)) };
+        × (c.ran ≡ length (slots_on c.slots c.replies.items 2)) };
 }
 
 /// 1 where it is so, and else 0.

@@ -8,7 +8,7 @@ use Rattle.messages.specs.declared.Reply.TheVariants.{Done}
 use Rattle.scheduler.proofs.AnswerCall.{answer_call_chains, answer_call_core, answer_call_ran, answer_call_size, answer_call_state, front_low, get_or_any}
 use Rattle.scheduler.specs.CoreView.{CoreView, core_state_of}
 use Rattle.scheduler.specs.Parts.{IsCore, parts, core_state_in}
-use Rattle.scheduler.specs.Slots.{HasChains, line}
+use Rattle.scheduler.specs.Slots.{HasChains, slots_on}
 use Rattle.scheduler.specs.declared.slot.Slot.{Slot}
 use Rattle.run_queue.specs.RunQueue.{RunQueueView}
 use Rattle.scheduler.proofs.core_calls.Core.answer.Goals as goal
@@ -27,7 +27,7 @@ invariant_of-self g c =
     subst (λ (row : Row Slot). HasChains row × IsCore g.D.Disk.keeps (parts row c.self.inside.replies.items c.self.inside.tree c.self.inside.journal
     c.free.new.self c.self.inside.batch.items c.self.inside.next c.self.inside.unlogged c.self.inside.history.opened c.self.inside.history.since)
     × (capacity_of row ≤ vec_capacity c.self.inside.batch) × (length c.self.inside.replies.items ≡ capacity_of row)
-    × (c.self.inside.ran ≡ length (line row c.self.inside.replies.items 2))) (sym c.take.ensures.row) (
+    × (c.self.inside.ran ≡ length (slots_on row c.self.inside.replies.items 2))) (sym c.take.ensures.row) (
       answer_call_chains g.D.Disk.keeps c.self.inside.slots c.self.inside.replies.items c.self.inside.tree c.self.inside.journal c.self.inside.queue
           c.self.inside.batch.items c.self.inside.next c.self.inside.unlogged c.self.inside.history.opened c.self.inside.history.since v.0 v.1
           c.in_ok-slot.slot first c.in-Some.taken value (subst IsParted c.take.ensures.row c.take.ensures.parted),

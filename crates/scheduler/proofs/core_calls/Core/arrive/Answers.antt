@@ -10,7 +10,7 @@ use Rattle.scheduler.proofs.ArriveCall.{arrive_chains, arrive_core, arrive_later
 use Rattle.scheduler.proofs.Placing.{placed_of, range_of}
 use Rattle.scheduler.specs.CoreView.{CoreView, core_state_of}
 use Rattle.scheduler.specs.Parts.{IsCore, parts, core_state_in}
-use Rattle.scheduler.specs.Slots.{HasChains, line}
+use Rattle.scheduler.specs.Slots.{HasChains, slots_on}
 use Rattle.scheduler.specs.declared.slot.Slot.{Slot}
 use Rattle.run_queue.specs.RunQueue.{RunQueueView}
 use Rattle.scheduler.proofs.core_calls.Core.arrive.Goals as goal
@@ -20,7 +20,7 @@ invariant_of-self g c =
     subst (λ (row : Row Slot). HasChains row × IsCore g.D.Disk.keeps (parts row c.self.inside.replies.items c.self.inside.tree c.self.inside.journal
     c.self.inside.queue c.self.inside.batch.items c.self.inside.next c.self.inside.unlogged c.self.inside.history.opened
     c.self.inside.history.since)
-    × (capacity_of row ≤ vec_capacity c.self.inside.batch) × (length c.self.inside.replies.items ≡ capacity_of row) × (c.self.inside.ran ≡ length (line row c.self.inside.replies.items 2)))
+    × (capacity_of row ≤ vec_capacity c.self.inside.batch) × (length c.self.inside.replies.items ≡ capacity_of row) × (c.self.inside.ran ≡ length (slots_on row c.self.inside.replies.items 2)))
     (sym (c.put.ensures.row ∙ full_row g.D.Disk.keeps c.self.inside.slots c.self.inside.replies.items c.self.inside.tree c.self.inside.journal
     c.self.inside.queue c.self.inside.batch.items c.self.inside.next c.self.inside.unlogged c.self.inside.history.opened
     c.self.inside.history.since c.self.invariant.0 c.self.invariant.1
@@ -71,7 +71,7 @@ invariant_of-self-2 g c =
     subst (λ (row : Row Slot). HasChains row × IsCore g.D.Disk.keeps (parts row c.self.inside.replies.items c.self.inside.tree c.self.inside.journal
     c.arrive.new.self c.self.inside.batch.items (c.self.inside.next + 1) c.self.inside.unlogged c.self.inside.history.opened
     c.self.inside.history.since)
-    × (capacity_of row ≤ vec_capacity c.self.inside.batch) × (length c.self.inside.replies.items ≡ capacity_of row) × (c.self.inside.ran ≡ length (line row c.self.inside.replies.items 2)))
+    × (capacity_of row ≤ vec_capacity c.self.inside.batch) × (length c.self.inside.replies.items ≡ capacity_of row) × (c.self.inside.ran ≡ length (slots_on row c.self.inside.replies.items 2)))
     (sym rows) (
       arrive_chains g.D.Disk.keeps c.self.inside.slots c.self.inside.replies.items c.self.inside.tree c.self.inside.journal c.self.inside.queue
           c.self.inside.batch.items c.self.inside.next c.self.inside.unlogged c.self.inside.history.opened c.self.inside.history.since

@@ -10,7 +10,7 @@ use Rattle.scheduler.proofs.Journaling.{still_standing}
 use Rattle.scheduler.proofs.LogCall.{broken_takes, made_takes, none_taken}
 use Rattle.scheduler.proofs.Pointing.{flip_core, step_moment}
 use Rattle.scheduler.specs.CoreView.{CoreView, RecoversThroughout, core_state_of}
-use Rattle.scheduler.specs.Parts.{kept_of, parts}
+use Rattle.scheduler.specs.Parts.{core_view_of, parts}
 use Rattle.scheduler.proofs.core_calls.Core.flip.Goals as goal
 
 pub returns-then-failed-clause-any_moment : goal.returns-then-failed-clause-any_moment
@@ -18,7 +18,7 @@ returns-then-failed-clause-any_moment g c = λ keep.
     subst (λ (o : CoreView). RecoversThroughout [] o o) c.self.view_is
     (still_standing g.D.Disk.keeps (parts c.self.inside.slots c.self.inside.replies.items c.self.inside.tree c.self.inside.journal
     c.self.inside.queue c.self.inside.batch.items c.self.inside.next c.self.inside.unlogged c.self.inside.history.opened
-    c.self.inside.history.since) c.self.invariant.1 keep [] (kept_of
+    c.self.inside.history.since) c.self.invariant.1 keep [] (core_view_of
     (parts c.self.inside.slots c.self.inside.replies.items c.self.inside.tree c.self.inside.journal c.self.inside.queue
     c.self.inside.batch.items c.self.inside.next c.self.inside.unlogged c.self.inside.history.opened c.self.inside.history.since)) refl)
 
@@ -27,7 +27,7 @@ returns-in_default-clause-any_moment g c = λ keep.
     subst (λ (o : CoreView). RecoversThroughout [] o o) c.self.view_is
     (still_standing g.D.Disk.keeps (parts c.self.inside.slots c.self.inside.replies.items c.self.inside.tree c.self.inside.journal
     c.self.inside.queue c.self.inside.batch.items c.self.inside.next c.self.inside.unlogged c.self.inside.history.opened
-    c.self.inside.history.since) c.self.invariant.1 keep [] (kept_of
+    c.self.inside.history.since) c.self.invariant.1 keep [] (core_view_of
     (parts c.self.inside.slots c.self.inside.replies.items c.self.inside.tree c.self.inside.journal c.self.inside.queue
     c.self.inside.batch.items c.self.inside.next c.self.inside.unlogged c.self.inside.history.opened c.self.inside.history.since)) refl)
 
@@ -36,7 +36,7 @@ returns-then-left-gt0-clause-any_moment g c = λ keep.
     subst (λ (o : CoreView). RecoversThroughout [] o o) c.self.view_is
     (still_standing g.D.Disk.keeps (parts c.self.inside.slots c.self.inside.replies.items c.self.inside.tree c.self.inside.journal
     c.self.inside.queue c.self.inside.batch.items c.self.inside.next c.self.inside.unlogged c.self.inside.history.opened
-    c.self.inside.history.since) c.self.invariant.1 keep [] (kept_of
+    c.self.inside.history.since) c.self.invariant.1 keep [] (core_view_of
     (parts c.self.inside.slots c.self.inside.replies.items c.self.inside.tree c.self.inside.journal c.self.inside.queue
     c.self.inside.batch.items c.self.inside.next c.self.inside.unlogged c.self.inside.history.opened c.self.inside.history.since)) refl)
 

@@ -16,7 +16,7 @@ use Rattle.scheduler.proofs.ReturnCall.{back_chains, back_core, back_fits, back_
 use Rattle.scheduler.specs.Jobs.{IsResultOf}
 use Rattle.scheduler.specs.CoreView.{CoreView, core_state_of}
 use Rattle.scheduler.specs.Parts.{IsCore, parts, core_state_in}
-use Rattle.scheduler.specs.Slots.{HasChains, line}
+use Rattle.scheduler.specs.Slots.{HasChains, slots_on}
 use Rattle.scheduler.specs.declared.slot.Slot.{Slot}
 use Rattle.scheduler.proofs.core_calls.Core.give_back.Goals as goal
 
@@ -67,7 +67,7 @@ invariant_of-self g c =
     c.self.inside.history.since)
     × (capacity_of row ≤ vec_capacity c.self.inside.batch) × (length (slice_set c.self.inside.replies.items c.in-Some-holder.slot
     c.reply.result.now) ≡ capacity_of row) × (c.self.inside.ran + 1
-    ≡ length (line row (slice_set c.self.inside.replies.items c.in-Some-holder.slot c.reply.result.now) 2)))
+    ≡ length (slots_on row (slice_set c.self.inside.replies.items c.in-Some-holder.slot c.reply.result.now) 2)))
     (sym rows) (
       back_chains g.D.Disk.keeps c.self.inside.slots c.self.inside.replies.items c.self.inside.tree c.self.inside.journal c.self.inside.queue
           c.self.inside.batch.items c.self.inside.next c.self.inside.unlogged c.self.inside.history.opened c.self.inside.history.since

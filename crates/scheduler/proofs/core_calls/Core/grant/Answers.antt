@@ -13,7 +13,7 @@ use Rattle.scheduler.proofs.GrantCall.{chosen, grant_affinity, grant_call_core, 
 use Rattle.scheduler.specs.Calls.{IsGrantOf, IsGranted}
 use Rattle.scheduler.specs.CoreView.{CoreView, core_state_of}
 use Rattle.scheduler.specs.Parts.{IsCore, parts, core_state_in}
-use Rattle.scheduler.specs.Slots.{HasChains, line}
+use Rattle.scheduler.specs.Slots.{HasChains, slots_on}
 use Rattle.scheduler.specs.declared.slot.Slot.{Slot}
 use Rattle.scheduler.proofs.core_calls.Core.grant.Goals as goal
 
@@ -70,7 +70,7 @@ invariant_of-self g c =
     subst (λ (row : Row Slot). HasChains row × IsCore g.D.Disk.keeps (parts row c.self.inside.replies.items c.lend.new.self c.self.inside.journal
     c.go.new.self c.self.inside.batch.items c.self.inside.next (c.self.inside.unlogged + c.one_if-more.result) c.self.inside.history.opened
     c.self.inside.history.since)
-    × (capacity_of row ≤ vec_capacity c.self.inside.batch) × (length c.self.inside.replies.items ≡ capacity_of row) × (c.self.inside.ran ≡ length (line row c.self.inside.replies.items 2)))
+    × (capacity_of row ≤ vec_capacity c.self.inside.batch) × (length c.self.inside.replies.items ≡ capacity_of row) × (c.self.inside.ran ≡ length (slots_on row c.self.inside.replies.items 2)))
     (sym rows) (
       grant_chains g.D.Disk.keeps c.self.inside.slots c.self.inside.replies.items c.self.inside.tree c.self.inside.journal c.self.inside.queue
           c.self.inside.batch.items c.self.inside.next c.self.inside.unlogged c.self.inside.history.opened c.self.inside.history.since

@@ -16,7 +16,7 @@ use Rattle.scheduler.proofs.Journaling.{still_standing}
 use Rattle.scheduler.proofs.LogCall.{broken_from, broken_takes, doubt_call_core, doubt_call_state, log_call_core, log_call_throughout, log_call_state, log_carried, log_count, log_fits, log_unlogged, log_length, log_logged, log_low, log_ran, log_size, log_untouched, made_from, made_takes, none_taken, some_were_passed}
 use Rattle.scheduler.specs.CoreView.{CoreView, RecoversThroughout, core_state_of}
 use Rattle.scheduler.specs.Moving.{gathered}
-use Rattle.scheduler.specs.Parts.{kept_of, parts, core_state_in}
+use Rattle.scheduler.specs.Parts.{core_view_of, parts, core_state_in}
 use Rattle.scheduler.proofs.core_calls.Core.log.Goals as goal
 
 pub returns-then-failed-clause-any_moment : goal.returns-then-failed-clause-any_moment
@@ -27,7 +27,7 @@ returns-then-failed-clause-any_moment g c = λ keep.
     c.self.inside.history.since) c.self.invariant.1 keep (batch (core_state_in
     (parts c.self.inside.slots c.self.inside.replies.items c.self.inside.tree c.self.inside.journal c.self.inside.queue
     c.self.inside.batch.items c.self.inside.next c.self.inside.unlogged c.self.inside.history.opened c.self.inside.history.since)) c.args.n)
-    (kept_of (parts c.self.inside.slots c.self.inside.replies.items c.self.inside.tree c.self.inside.journal c.self.inside.queue
+    (core_view_of (parts c.self.inside.slots c.self.inside.replies.items c.self.inside.tree c.self.inside.journal c.self.inside.queue
     c.self.inside.batch.items c.self.inside.next c.self.inside.unlogged c.self.inside.history.opened c.self.inside.history.since)) refl)
 
 pub log-requires : goal.log-requires
@@ -103,7 +103,7 @@ returns-then-is_err-clause-any_moment g c = λ keep.
     c.self.invariant.4 c.min-count.ensures c.collect_loggable-changing.new.batch.items
     (c.collect_loggable-changing.ensures.batch ∙ ap (λ (rs : List Reply). gathered c.self.inside.slots rs
     (take c.min-count.result (chain_at c.self.inside.slots 2))) c.deref.ensures.value) c.deref-2.result.now c.deref-2.ensures.value
-    c.log.new.self c.log.ensures.any_moment (kept_of (parts c.self.inside.slots c.self.inside.replies.items c.self.inside.tree c.log.new.self
+    c.log.new.self c.log.ensures.any_moment (core_view_of (parts c.self.inside.slots c.self.inside.replies.items c.self.inside.tree c.log.new.self
     c.self.inside.queue c.collect_loggable-changing.new.batch.items c.self.inside.next c.self.inside.unlogged c.self.inside.history.opened
     c.self.inside.history.since)) refl keep)
 
@@ -217,7 +217,7 @@ returns-clause-any_moment g c = λ keep.
     c.self.invariant.4 c.min-count.ensures c.collect_loggable-changing.new.batch.items
     (c.collect_loggable-changing.ensures.batch ∙ ap (λ (rs : List Reply). gathered c.self.inside.slots rs
     (take c.min-count.result (chain_at c.self.inside.slots 2))) c.deref.ensures.value) c.deref-2.result.now c.deref-2.ensures.value
-    c.log.new.self c.log.ensures.any_moment (kept_of (parts c.move_ran.new.slots c.self.inside.replies.items c.self.inside.tree c.log.new.self
+    c.log.new.self c.log.ensures.any_moment (core_view_of (parts c.move_ran.new.slots c.self.inside.replies.items c.self.inside.tree c.log.new.self
     c.self.inside.queue c.clear.new.self.items c.self.inside.next (c.self.inside.unlogged - c.collect_loggable-changing.result)
     c.note.new.self.opened c.note.new.self.since)) refl keep)
 

@@ -1,4 +1,4 @@
--- What the calls of an arena do to the lines of a core.
+-- What the calls of an arena do to the chains of a core, and to the slots on them.
 use Rattle.std.proofs.Common.{◌≡◌, ◌≢◌, ℕ, suc, ◌≤◌, ◌<◌, true, List, [], ◌∷◌, ◌++◌, map, length, get_or, Some, None, refl, sym, ap, subst, ◌∙◌, arith}
 use Rattle.std.proofs.lemmas.Bool.{and_from, cond-true, lt-ltb}
 use Rattle.std.proofs.lemmas.List.{get_or-set_other, get_or-set_same, length-map, length-set, map-append}
@@ -10,7 +10,7 @@ use Rattle.arena.proofs.RowLemmas.{chain-moved_other, chain-moved_same, chain-wi
 use Rattle.arena.proofs.Times.{times-append, times-at, times-cons_same, without-absent}
 use Rattle.messages.specs.declared.Reply.{Reply}
 use Rattle.messages.specs.declared.Reply.TheVariants.{Done}
-use Rattle.scheduler.specs.Slots.{HasChains, SlotView, line, no_slot, place_at}
+use Rattle.scheduler.specs.Slots.{HasChains, SlotView, slots_on, no_slot, place_at}
 use Rattle.scheduler.specs.declared.slot.Slot.{Slot}
 use Rattle.scheduler.proofs.Splits.{MapSplit, map_same, map_split, times-split, without-split}
 
@@ -132,24 +132,24 @@ module _ {T : Type 0} (m : Row T) (parted : IsParted m) (i from : ℕ) (back : L
   pub gone_behind : times i back ≡ 0
   gone_behind = let once = subst (λ xs. times i xs ≤ 1) whole (chained-once m i from parted) in let all = times-cons_same i back in omega (arith, once, all)
 
--- ---- lines
+-- ---- the slots on a chain
 
--- a line of which neither chain nor values have changed
-pub same_line : (row new : Row Slot) (replies : List Reply) (c : ℕ) → new.values ≡ row.values → chain_at new c ≡ chain_at row c
-    → line new replies c ≡ line row replies c
-same_line row new replies c values chain = λ k. map (λ i. (i, unwrap_or (slice_index_or (values k) i None) no_slot, get_or replies i Done)) (chain k)
+-- those of a chain that is the same, where no value has changed
+pub same_slots : (row new : Row Slot) (replies : List Reply) (c : ℕ) → new.values ≡ row.values → chain_at new c ≡ chain_at row c
+    → slots_on new replies c ≡ slots_on row replies c
+same_slots row new replies c values chain = λ k. map (λ i. (i, unwrap_or (slice_index_or (values k) i None) no_slot, get_or replies i Done)) (chain k)
 
--- A place left one line, where it was between two parts, and joined another, with the reply that lies there now.
-pub record MovedLines (row new : Row Slot) (replies told : List Reply) (from to : ℕ) (before : List SlotView) (x : SlotView) (behind : List SlotView) : Type 0 where
-  pub left : line new told from ≡ before ++ behind
-  pub joined : line new told to ≡ line row replies to ++ (x.0, x.1, get_or told x.0 Done) ∷ []
-  pub stays : (d : ℕ) → d ≢ from → d ≢ to → line new told d ≡ line row replies d
+-- A slot left one chain, where it was between two parts, and joined another, with the reply that lies there now.
+pub record MovedSlot (row new : Row Slot) (replies told : List Reply) (from to : ℕ) (before : List SlotView) (x : SlotView) (behind : List SlotView) : Type 0 where
+  pub left : slots_on new told from ≡ before ++ behind
+  pub joined : slots_on new told to ≡ slots_on row replies to ++ (x.0, x.1, get_or told x.0 Done) ∷ []
+  pub stays : (d : ℕ) → d ≢ from → d ≢ to → slots_on new told d ≡ slots_on row replies d
   pub free : new.free ≡ row.free
   pub values : new.values ≡ row.values
   pub four : length new.chains ≡ length row.chains
 
 module _ (row : Row Slot) (replies told : List Reply) (is : HasChains row) (from to : ℕ) (low : to < 4) (other : to ≢ from)
-    (before : List SlotView) (x : SlotView) (behind : List SlotView) (recovers_at : line row replies from ≡ before ++ x ∷ behind)
+    (before : List SlotView) (x : SlotView) (behind : List SlotView) (recovers_at : slots_on row replies from ≡ before ++ x ∷ behind)
     (agree : (j : ℕ) → j ≢ x.0 → get_or told j Done ≡ get_or replies j Done) where
   split : MapSplit (place_at row replies) (chain_at row from) before x behind
   split = map_split (place_at row replies) (chain_at row from) before x behind recovers_at
@@ -166,7 +166,7 @@ module _ (row : Row Slot) (replies told : List Reply) (is : HasChains row) (from
   same_values : new.values ≡ row.values
   same_values = ap (λ (r : Row Slot). r.values) (row_moved row is.parted split.at from to there other split.front split.back split.whole)
 
-  -- a line is made of the places that the slots had, with the replies that lie there now
+  -- the slots of a chain are as they were, with the replies that lie there now
   in_new : (xs : List ℕ) → map (place_at new told) xs ≡ map (place_at row told) xs
   in_new xs = λ z. map (λ i. (i, unwrap_or (slice_index_or (same_values z) i None) no_slot, get_or told i Done)) xs
 
@@ -190,7 +190,7 @@ module _ (row : Row Slot) (replies told : List Reply) (is : HasChains row) (from
   none_elsewhere d not_from = chained-apart row split.at from d is.parted (λ same. not_from (sym same))
       (recovers row is.parted split.at from to there other split.front split.back split.whole)
 
-  moved_at : MovedLines row new replies told from to before x behind
+  moved_at : MovedSlot row new replies told from to before x behind
   moved_at =
       let f = place_at row replies in
       let left = chain_left row is.parted split.at from to there other split.front split.back split.whole in
@@ -213,13 +213,13 @@ module _ (row : Row Slot) (replies told : List Reply) (is : HasChains row) (from
           (λ z. (split.at, unwrap_or (slice_index_or (same_values z) split.at None) no_slot, get_or told split.at Done))
           ∙ (λ z. (number z, (ap (λ (y : SlotView). y.1) split.at_is) z, get_or told (number z) Done))
 
-  pub line_moved : (i : ℕ) → i ≡ x.0 → MovedLines row (after_move row i to) replies told from to before x behind
-  line_moved i same = subst (λ n. MovedLines row (after_move row n to) replies told from to before x behind) (number ∙ sym same) moved_at
+  pub slot_moved : (i : ℕ) → i ≡ x.0 → MovedSlot row (after_move row i to) replies told from to before x behind
+  slot_moved i same = subst (λ n. MovedSlot row (after_move row n to) replies told from to before x behind) (number ∙ sym same) moved_at
 
--- A new place joined a line, with the reply that lies there.
-pub record JoinedLines (row new : Row Slot) (replies : List Reply) (i to : ℕ) (value : Slot) : Type 0 where
-  pub joined : line new replies to ≡ line row replies to ++ (i, value, get_or replies i Done) ∷ []
-  pub stays : (d : ℕ) → d ≢ to → line new replies d ≡ line row replies d
+-- A new slot joined a chain, with the reply that lies there.
+pub record JoinedSlot (row new : Row Slot) (replies : List Reply) (i to : ℕ) (value : Slot) : Type 0 where
+  pub joined : slots_on new replies to ≡ slots_on row replies to ++ (i, value, get_or replies i Done) ∷ []
+  pub stays : (d : ℕ) → d ≢ to → slots_on new replies d ≡ slots_on row replies d
   pub free : length row.free ≡ suc (length new.free)
   pub size : capacity_of new ≡ capacity_of row
   pub four : length new.chains ≡ length row.chains
@@ -237,8 +237,8 @@ module _ (row : Row Slot) (replies : List Reply) (is : HasChains row) (i to : �
   new_elsewhere xs none = map_same (place_at row replies) (place_at joined_row replies) i xs
       (λ j not_it z. (j, unwrap_or (other_value row is.parted i to rest value room_there free j not_it z) no_slot, get_or replies j Done)) none
 
-  joined_lines : JoinedLines row joined_row replies i to value
-  joined_lines = record {
+  joined_slot : JoinedSlot row joined_row replies i to value
+  joined_slot = record {
     joined = ap (map (place_at joined_row replies)) (new_joined row is.parted i to rest value room_there free)
         ∙ map-append (place_at joined_row replies) (chain_at row to) (i ∷ [])
         ∙ (λ z. new_elsewhere (chain_at row to) (off_chain row is.parted i to rest value room_there free to) z
@@ -252,19 +252,19 @@ module _ (row : Row Slot) (replies : List Reply) (is : HasChains row) (i to : �
     none_had = off_chain row is.parted i to rest value room_there free;
   }
 
-  pub line_joined : JoinedLines row (after_move (after_put row value) i to) replies i to value
-  line_joined = subst (λ (r : Row Slot). JoinedLines row (after_move r i to) replies i to value)
-      (sym (row_put row is.parted i to rest value room_there free)) joined_lines
+  pub slot_joined : JoinedSlot row (after_move (after_put row value) i to) replies i to value
+  slot_joined = subst (λ (r : Row Slot). JoinedSlot row (after_move r i to) replies i to value)
+      (sym (row_put row is.parted i to rest value room_there free)) joined_slot
 
--- The first place of a line was taken out.
-pub record TakenLines (row new : Row Slot) (replies : List Reply) (from : ℕ) (behind : List SlotView) : Type 0 where
-  pub left : line new replies from ≡ behind
-  pub stays : (d : ℕ) → d ≢ from → line new replies d ≡ line row replies d
+-- The first slot of a chain was taken out.
+pub record TakenSlot (row new : Row Slot) (replies : List Reply) (from : ℕ) (behind : List SlotView) : Type 0 where
+  pub left : slots_on new replies from ≡ behind
+  pub stays : (d : ℕ) → d ≢ from → slots_on new replies d ≡ slots_on row replies d
   pub free : length new.free ≡ suc (length row.free)
   pub size : capacity_of new ≡ capacity_of row
   pub four : length new.chains ≡ length row.chains
 
-module _ (row : Row Slot) (replies : List Reply) (is : HasChains row) (from : ℕ) (x : SlotView) (behind : List SlotView) (recovers_at : line row replies from ≡ x ∷ behind) where
+module _ (row : Row Slot) (replies : List Reply) (is : HasChains row) (from : ℕ) (x : SlotView) (behind : List SlotView) (recovers_at : slots_on row replies from ≡ x ∷ behind) where
   first_split : MapSplit (place_at row replies) (chain_at row from) [] x behind
   first_split = map_split (place_at row replies) (chain_at row from) [] x behind recovers_at
 
@@ -285,8 +285,8 @@ module _ (row : Row Slot) (replies : List Reply) (is : HasChains row) (from : �
   taken_elsewhere xs none = map_same (place_at row replies) (place_at taken_row replies) first_split.at xs
       (λ j not_it z. (j, unwrap_or (value_taken row is.parted first_split.at from first_split.back first_whole j not_it z) no_slot, get_or replies j Done)) none
 
-  taken_lines : TakenLines row taken_row replies from behind
-  taken_lines = record {
+  taken_slot : TakenSlot row taken_row replies from behind
+  taken_slot = record {
     left = ap (map (place_at taken_row replies)) (chain_taken row is.parted first_split.at from first_split.back first_whole)
         ∙ taken_elsewhere first_split.back (gone_behind row is.parted first_split.at from first_split.back first_whole) ∙ first_split.behind_is;
     stays = λ d not_from. ap (map (place_at taken_row replies)) (taken_stays row is.parted first_split.at from first_split.back first_whole d not_from)
@@ -296,5 +296,5 @@ module _ (row : Row Slot) (replies : List Reply) (is : HasChains row) (from : �
     four = four_taken row is.parted first_split.at from first_split.back first_whole;
   }
 
-  pub line_taken : (i : ℕ) → i ≡ x.0 → TakenLines row (after_take row i) replies from behind
-  line_taken i same = subst (λ n. TakenLines row (after_take row n) replies from behind) (ap (λ (y : SlotView). y.0) first_split.at_is ∙ sym same) taken_lines
+  pub slot_taken : (i : ℕ) → i ≡ x.0 → TakenSlot row (after_take row i) replies from behind
+  slot_taken i same = subst (λ n. TakenSlot row (after_take row n) replies from behind) (ap (λ (y : SlotView). y.0) first_split.at_is ∙ sym same) taken_slot
