@@ -1,3 +1,3 @@
 -- The lemmas of this crate: lines in the order of their tickets, and the reorder buffer that holds them.
 mod Order
-mod Rows
+mod Lines

@@ -1,7 +1,6 @@
 -- Lines whose tickets go up by one: each has its place, and an answer leaves the others as they are. And lines that are looked at one
 -- after the other, and answered where they are those of a ticket.
-use Rattle.std.proofs.Common.{◌≡◌, ℕ, ◌+◌, ◌<◌, ◌≤◌, Bool, true, false, zero, suc, List, [], ◌∷◌, ◌⊎◌, inl, inr}
-use Rattle.std.proofs.Common.{if◌then◌else◌, ◌==◌, drop, take, length, map, set, get_or, refl, ap, sym, ◌∙◌, subst, arith}
+use Rattle.std.proofs.Common.{◌≡◌, ℕ, ◌+◌, ◌<◌, ◌≤◌, Bool, true, false, zero, suc, List, [], ◌∷◌, ◌⊎◌, inl, inr, if◌then◌else◌, ◌==◌, drop, take, length, map, set, get_or, refl, ap, sym, ◌∙◌, subst, arith}
 use Rattle.std.proofs.lemmas.Bool.{ne_eqb}
 use Rattle.messages.specs.declared.Reply.{Reply}
 use Rattle.reorder_buffer.specs.ReorderBuffer.{Completed, Line, NoMessage, OutOfRange, Pending, complete_one, AreFrom, AreConsecutive, IsOf}
@@ -68,36 +67,36 @@ module _ (ticket : ℕ) (reply : Reply) where
 
   -- the first so many were looked at
   abbrev pub looked : ℕ → List Line → List Line
-  looked zero row = row
+  looked zero lines = lines
   looked (suc k) [] = []
-  looked (suc k) (line ∷ row) = complete_one ticket reply line ∷ looked k row
+  looked (suc k) (line ∷ lines) = complete_one ticket reply line ∷ looked k lines
 
   -- it begins where those before are left as they are
-  pub looked_first : (k : ℕ) (row : List Line) → Left (take k row) → row ≡ looked k row
-  looked_first zero row same = refl
+  pub looked_first : (k : ℕ) (lines : List Line) → Left (take k lines) → lines ≡ looked k lines
+  looked_first zero lines same = refl
   looked_first (suc k) [] same = refl
-  looked_first (suc k) (line ∷ row) same =
-      ap (λ (l : List Line). get_or l 0 line ∷ row) (sym same) ∙ ap (λ (l : List Line). complete_one ticket reply line ∷ l)
-      (looked_first k row (ap (λ (l : List Line). drop 1 l) same))
+  looked_first (suc k) (line ∷ lines) same =
+      ap (λ (l : List Line). get_or l 0 line ∷ lines) (sym same) ∙ ap (λ (l : List Line). complete_one ticket reply line ∷ l)
+      (looked_first k lines (ap (λ (l : List Line). drop 1 l) same))
 
   -- it ends where those behind are left as they are
-  pub looked_last : (k : ℕ) (row : List Line) → Left (drop k row) → looked k row ≡ map (complete_one ticket reply) row
-  looked_last zero row same = sym same
+  pub looked_last : (k : ℕ) (lines : List Line) → Left (drop k lines) → looked k lines ≡ map (complete_one ticket reply) lines
+  looked_last zero lines same = sym same
   looked_last (suc k) [] same = refl
-  looked_last (suc k) (line ∷ row) same = ap (λ (l : List Line). complete_one ticket reply line ∷ l) (looked_last k row same)
+  looked_last (suc k) (line ∷ lines) same = ap (λ (l : List Line). complete_one ticket reply line ∷ l) (looked_last k lines same)
 
-  then_next : (k : ℕ) (row : List Line) (d : Line) → k < length row
-      → set (looked k row) k (complete_one ticket reply (get_or (looked k row) k d)) ≡ looked (suc k) row
+  then_next : (k : ℕ) (lines : List Line) (d : Line) → k < length lines
+      → set (looked k lines) k (complete_one ticket reply (get_or (looked k lines) k d)) ≡ looked (suc k) lines
   then_next zero [] d within = absurd (omega (arith, within))
   then_next (suc k) [] d within = absurd (omega (arith, within))
-  then_next zero (line ∷ row) d within = refl
-  then_next (suc k) (line ∷ row) d within = ap (λ l. complete_one ticket reply line ∷ l) (then_next k row d (omega (arith, within)))
+  then_next zero (line ∷ lines) d within = refl
+  then_next (suc k) (line ∷ lines) d within = ap (λ l. complete_one ticket reply line ∷ l) (then_next k lines d (omega (arith, within)))
 
   -- the next one is looked at
-  pub looks_at : (k : ℕ) (row : List Line) (line : Line) → k < length row → line ≡ get_or (looked k row) k line
-      → set (looked k row) k (complete_one ticket reply line) ≡ looked (k + 1) row
-  looks_at k row line within is =
-      ap (λ l. set (looked k row) k (complete_one ticket reply l)) is ∙ then_next k row line within ∙ ap (λ n. looked n row) (one_more k)
+  pub looks_at : (k : ℕ) (lines : List Line) (line : Line) → k < length lines → line ≡ get_or (looked k lines) k line
+      → set (looked k lines) k (complete_one ticket reply line) ≡ looked (k + 1) lines
+  looks_at k lines line within is =
+      ap (λ l. set (looked k lines) k (complete_one ticket reply l)) is ∙ then_next k lines line within ∙ ap (λ n. looked n lines) (one_more k)
 
   -- ---- lines that stay in order
 
@@ -110,10 +109,10 @@ module _ (ticket : ℕ) (reply : Reply) where
     | false ↦ of
   ]
 
-  from_looked : (k n : ℕ) (row : List Line) → AreFrom n row → AreFrom n (looked k row)
-  from_looked zero n row from = from
+  from_looked : (k n : ℕ) (lines : List Line) → AreFrom n lines → AreFrom n (looked k lines)
+  from_looked zero n lines from = from
   from_looked (suc k) n [] from = from
-  from_looked (suc k) n (line ∷ row) from = (of_answered n line from.0, from_looked k (n + 1) row from.1)
+  from_looked (suc k) n (line ∷ lines) from = (of_answered n line from.0, from_looked k (n + 1) lines from.1)
 
-  pub looked_in_order : (k : ℕ) (row : List Line) → AreConsecutive row → AreConsecutive (looked k row)
-  looked_in_order k row order = (order.0, from_looked k order.0 row order.1)
+  pub looked_in_order : (k : ℕ) (lines : List Line) → AreConsecutive lines → AreConsecutive (looked k lines)
+  looked_in_order k lines order = (order.0, from_looked k order.0 lines order.1)

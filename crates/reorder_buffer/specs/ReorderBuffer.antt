@@ -45,12 +45,12 @@ pub record ReorderBufferView : Type 0 where
 -- the first line is completed, so that it is written next
 abbrev pub can_retire : List Line → Bool
 can_retire [] = false
-can_retire (line ∷ row) = is_completed line
+can_retire (line ∷ rest) = is_completed line
 
 -- what is written for it then
 abbrev pub retired_text : List Line → List ℕ
 retired_text [] = []
-retired_text (line ∷ row) = text line
+retired_text (line ∷ rest) = text line
 
 -- ---- how a reorder buffer is kept
 
@@ -87,9 +87,9 @@ AreConsecutive ticketed = (first : ℕ) × AreFrom first ticketed
 -- those that are messages with tickets
 abbrev pub with_tickets : List Line → List Line
 with_tickets [] = []
-with_tickets (Pending ticket ∷ row) = Pending ticket ∷ with_tickets row
-with_tickets (Completed ticket reply ∷ row) = Completed ticket reply ∷ with_tickets row
-with_tickets (_ ∷ row) = with_tickets row
+with_tickets (Pending ticket ∷ rest) = Pending ticket ∷ with_tickets rest
+with_tickets (Completed ticket reply ∷ rest) = Completed ticket reply ∷ with_tickets rest
+with_tickets (_ ∷ rest) = with_tickets rest
 
 -- a reply to this ticket leaves these lines as they are
 abbrev pub AreLeft : ℕ → List Line → Type 0

@@ -110,14 +110,14 @@ fn places_of(ticketed: &VecDeque<Line>, ticket: u64) -> Range<usize>
 }
 
 /// Adds the answer to a line to the lines that wait to be sent, if it is completed.
-fn add_text(line: &Line, out: &mut ReplyBuffer)
-    requires { FitsReply out.old }
-    ensures { out.new ≡ out.old ++ text line.now }
+fn add_text(line: &Line, reply_buffer: &mut ReplyBuffer)
+    requires { FitsReply reply_buffer.old }
+    ensures { reply_buffer.new ≡ reply_buffer.old ++ text line.now }
 {
     match line {
-        Line::NoMessage => out.add_no_message(),
-        Line::OutOfRange => out.add_refusal(Refusal::Range),
-        Line::Completed(_, reply) => out.add_reply(reply),
+        Line::NoMessage => reply_buffer.add_no_message(),
+        Line::OutOfRange => reply_buffer.add_refusal(Refusal::Range),
+        Line::Completed(_, reply) => reply_buffer.add_reply(reply),
         Line::Pending(_) => {}
     }
 }
@@ -125,8 +125,8 @@ fn add_text(line: &Line, out: &mut ReplyBuffer)
 impl ReorderBuffer {
     /// An empty reorder buffer, with room for `slots` lines.
     pub fn new(alloc: Global, slots: usize) -> Result<ReorderBuffer, AllocError>
-        ensures lines { IfOk result (λ row. row.lines ≡ []) }
-        ensures slots { IfOk result (λ row. row.slots ≡ slots) }
+        ensures lines { IfOk result (λ buffer. buffer.lines ≡ []) }
+        ensures slots { IfOk result (λ buffer. buffer.slots ≡ slots) }
     {
         Ok(ReorderBuffer {
             kinds: VecDeque::with_capacity(alloc, slots)?,
@@ -219,18 +219,19 @@ impl ReorderBuffer {
     }
 
     /// Adds the answer to the oldest line to the lines that wait to be sent, and removes it, if it is completed: whether it is.
-    pub fn retire_front(&mut self, out: &mut ReplyBuffer) -> bool
-        requires { FitsReply out.old }
+    pub fn retire_front(&mut self, reply_buffer: &mut ReplyBuffer) -> bool
+        requires { FitsReply reply_buffer.old }
         ensures next { result ≡ can_retire self.old.lines }
-        ensures retired { MatchBool result (out.new ≡ out.old ++ retired_text self.old.lines) (out.new ≡ out.old) }
-        ensures left { MatchBool result (self.new.lines ≡ drop 1 self.old.lines) (self.new ≡ self.old) }
+        ensures retired { MatchBool result (reply_buffer.new ≡ reply_buffer.old ++ retired_text self.old.lines)
+            (reply_buffer.new ≡ reply_buffer.old) }
+        ensures lines { MatchBool result (self.new.lines ≡ drop 1 self.old.lines) (self.new ≡ self.old) }
         ensures slots { self.new.slots ≡ self.old.slots }
     {
         if !self.can_retire() {
             return false;
         }
         if let Some(line) = self.front() {
-            add_text(line, out);
+            add_text(line, reply_buffer);
         }
         self.pop();
         true

@@ -2,7 +2,7 @@
 use Rattle.std.proofs.Common.{◌≡◌, List, ap, arith, get_or, length, map, refl, set, subst, sym, ◌<◌, ◌∙◌}
 use Rattle.std.proofs.lemmas.List.{length-set}
 use Rattle.reorder_buffer.proofs.Order.{looked, looked_first, looked_in_order, looked_last, looks_at}
-use Rattle.reorder_buffer.proofs.Rows.{lines_of-answered}
+use Rattle.reorder_buffer.proofs.Lines.{lines_of-answered}
 use Rattle.reorder_buffer.specs.ReorderBuffer.{Line, complete_one, AreConsecutive, LineKind, ReorderBufferView, ticketed_among, lines_of}
 use Rattle.reorder_buffer.proofs.reorder_buffer.ReorderBuffer.answer.Goals as goal
 

@@ -1,12 +1,12 @@
 -- Each line has its kind.
 use Rattle.std.proofs.Common.{arith}
-use Rattle.reorder_buffer.proofs.Rows.{length-row}
+use Rattle.reorder_buffer.proofs.Lines.{length-lines}
 use Rattle.reorder_buffer.proofs.reorder_buffer.ReorderBuffer.len.Goals as goal
 
 pub returns-clause-len : goal.returns-clause-len
 returns-clause-len c =
     let k = c.self.inside in
-    let lines = length-row k.kinds.items k.ticketed.items k.slots c.args.self.now c.self.view_is c.self.invariant.3 in
+    let lines = length-lines k.kinds.items k.ticketed.items k.slots c.args.self.now c.self.view_is c.self.invariant.3 in
     let many = c.len.ensures in
     let ok = k.kinds.ok in
     omega (arith, lines, many, ok)

@@ -3,7 +3,7 @@ use Rattle.std.proofs.Common.{◌++◌, ◌∷◌, [], List, ap, arith, length, 
 use Rattle.std.proofs.lemmas.List.{length_push}
 use Rattle.reorder_buffer.specs.ReorderBuffer.{Line, NoMessage, OutOfRange, AreConsecutive, Ticketed, LineKind, Outside, ReorderBufferView, Stray, ticketed_among, lines_of, with_tickets}
 use Rattle.reorder_buffer.proofs.Order.{ticket_in}
-use Rattle.reorder_buffer.proofs.Rows.{ticketed_among-append, fewer_are_ticketed, kinds_have_room, lines_of-append, lines_of-plain, tickets_of_lines}
+use Rattle.reorder_buffer.proofs.Lines.{ticketed_among-append, fewer_are_ticketed, kinds_have_room, lines_of-append, lines_of-plain, tickets_of_lines}
 use Rattle.reorder_buffer.proofs.reorder_buffer.ReorderBuffer.push.Goals as goal
 
 pub push_back_reserved-requires : goal.push_back_reserved-requires

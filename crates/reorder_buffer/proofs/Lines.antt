@@ -13,16 +13,16 @@ length-lines_of (Outside ∷ kinds) ticketed many = ap suc (length-lines_of kind
 length-lines_of (Ticketed ∷ kinds) [] many = absurd (omega (arith, many))
 length-lines_of (Ticketed ∷ kinds) (line ∷ ticketed) many = ap suc (length-lines_of kinds ticketed (omega (arith, many)))
 
-pub length-row : (kinds : List LineKind) (ticketed : List Line) (slots : ℕ) (row : ReorderBufferView)
-    → record { lines = lines_of kinds ticketed; slots = slots } ≡ row → ticketed_among kinds ≡ length ticketed → length row.lines ≡ length kinds
-length-row kinds ticketed slots row is many = sym (ap (λ (v : ReorderBufferView). length v.lines) is) ∙ length-lines_of kinds ticketed many
+pub length-lines : (kinds : List LineKind) (ticketed : List Line) (slots : ℕ) (buffer : ReorderBufferView)
+    → record { lines = lines_of kinds ticketed; slots = slots } ≡ buffer → ticketed_among kinds ≡ length ticketed → length buffer.lines ≡ length kinds
+length-lines kinds ticketed slots buffer is many = sym (ap (λ (v : ReorderBufferView). length v.lines) is) ∙ length-lines_of kinds ticketed many
 
 -- where there is room for a line, there is for its kind
-pub kinds_have_room : (kinds : List LineKind) (ticketed : List Line) (slots : ℕ) (row : ReorderBufferView)
-    → record { lines = lines_of kinds ticketed; slots = slots } ≡ row → ticketed_among kinds ≡ length ticketed → length row.lines < row.slots → length kinds < slots
-kinds_have_room kinds ticketed slots row is many room =
-    let lines = length-row kinds ticketed slots row is many in
-    let same : slots ≡ row.slots = ap (λ (v : ReorderBufferView). v.slots) is in
+pub kinds_have_room : (kinds : List LineKind) (ticketed : List Line) (slots : ℕ) (buffer : ReorderBufferView)
+    → record { lines = lines_of kinds ticketed; slots = slots } ≡ buffer → ticketed_among kinds ≡ length ticketed → length buffer.lines < buffer.slots → length kinds < slots
+kinds_have_room kinds ticketed slots buffer is many room =
+    let lines = length-lines kinds ticketed slots buffer is many in
+    let same : slots ≡ buffer.slots = ap (λ (v : ReorderBufferView). v.slots) is in
     omega (arith, lines, same, room)
 
 pub fewer_are_ticketed : (kinds : List LineKind) → ticketed_among kinds ≤ length kinds
@@ -57,11 +57,11 @@ lines_of-plain kinds more ticketed many =
 
 -- ---- those with tickets
 
-one_with_ticket : (n : ℕ) (line : Line) (row : List Line) → IsOf n line → with_tickets (line ∷ row) ≡ line ∷ with_tickets row
-one_with_ticket n NoMessage row of = absurd of
-one_with_ticket n OutOfRange row of = absurd of
-one_with_ticket n (Pending t) row of = refl
-one_with_ticket n (Completed t reply) row of = refl
+one_with_ticket : (n : ℕ) (line : Line) (lines : List Line) → IsOf n line → with_tickets (line ∷ lines) ≡ line ∷ with_tickets lines
+one_with_ticket n NoMessage lines of = absurd of
+one_with_ticket n OutOfRange lines of = absurd of
+one_with_ticket n (Pending t) lines of = refl
+one_with_ticket n (Completed t reply) lines of = refl
 
 pub tickets_of_lines : (kinds : List LineKind) (ticketed : List Line) (n : ℕ) → ticketed_among kinds ≡ length ticketed → AreFrom n ticketed
     → with_tickets (lines_of kinds ticketed) ≡ ticketed
