@@ -16,7 +16,7 @@ use Rattle.serving.specs.declared.server.ServeFault.{ServeFault}
 use Rattle.serving.specs.declared.server.ServeFault.TheVariants as faults
 use Rattle.commands.proofs.OnDevice.{is_idle}
 use Rattle.commands.specs.Faults.{as_fault}
-use Rattle.commands.specs.Acknowledged.{HoldsAcknowledged, KeepsAcknowledged, UnlessUnsent}
+use Rattle.commands.specs.Acknowledged.{HoldsAcknowledged, KeepsAcknowledged, UnlessWriteFailed}
 use Rattle.commands.specs.Serving.{HasServedBy, machine_at_start}
 use Rattle.commands.specs.declared.faults.Fault.{Fault}
 use Rattle.commands.specs.declared.faults.Fault.TheVariants as ends
@@ -24,9 +24,9 @@ use Rattle.commands.specs.declared.service.Service.{Service}
 
 module _ {keeps : Type 0} {s : Service} {old new : Medium} {end : Result (Unit {0}) ServeFault} {input left before written : Option (List ℕ)}
     (h : HasServedBy keeps s old new end input left before written) where
-  held : {row : List Line} → HasServed keeps (machine_at_start s h.start) h.now row input before written → keeps → (c : List ℕ) → IsCrashImage new c
+  held : {unsent : List Line} → HasServed keeps (machine_at_start s h.start) h.now unsent input before written → keeps → (c : List ℕ) → IsCrashImage new c
       → HoldsAcknowledged old input before written c
-  held {row} served keep c leaves =
+  held {unsent} served keep c leaves =
       let g = h.start.geometry in
       let x = committed_in h.start in
       let log = logged_messages (machine_of (machine_at_start s h.start)) (events_of served.stages) in
@@ -46,7 +46,7 @@ module _ {keeps : Type 0} {s : Service} {old new : Medium} {end : Result (Unit {
         output = served.output;
         log = log;
         kept = subst (λ (t : ℕ). AreInLog g log t served.taken (map text served.sent_lines)) h.fresh.next
-            (written_are_kept keeps (machine_at_start s h.start) h.now row input before written idle served);
+            (written_are_kept keeps (machine_at_start s h.start) h.now unsent input before written idle served);
         holds = on_device;
         header = head g c state leaves.bytes on_device.recovers;
         not_refused = fine g c state leaves.bytes on_device.recovers;
@@ -65,7 +65,7 @@ keeps_acknowledged (Err faults.OutOfMemory) h = held h h.served.run
 
 -- what follows of what is so follows of it at each end
 pub told_so : {P Q : Type 0} (end : Result (Unit {0}) Fault) (before written : Option (List ℕ)) → (P → Q)
-    → UnlessUnsent end before written P → UnlessUnsent end before written Q
+    → UnlessWriteFailed end before written P → UnlessWriteFailed end before written Q
 told_so (Err ends.Write) before written f k = tt
 told_so (Err (ends.Open fault)) before written f k = k
 told_so (Ok _) before written f k = f k

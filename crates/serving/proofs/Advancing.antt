@@ -1,4 +1,4 @@
--- The answers to lines in the output, and that a session goes on with fewer lines in its row.
+-- The answers to lines in the output, and that a session goes on with fewer lines outstanding.
 use Rattle.std.proofs.Common.{◌≡◌, ℕ, Bool, true, false, List, [], ◌∷◌, ◌++◌, Option, None, refl, ap, sym, ◌∙◌, subst, map, append_assoc}
 use Rattle.std.specs.Prelude.{Result, Ok, Err, OnErr, OnOk}
 use Rattle.std.proofs.lemmas.Bool.{true≢false}
@@ -17,22 +17,22 @@ pub texts_both : (sent_lines more : List Line) → joined (map text (sent_lines 
 texts_both [] more = refl
 texts_both (x ∷ sent_lines) more = ap (λ z. text x ++ z) (texts_both sent_lines more) ∙ sym (append_assoc (text x) (joined (map text sent_lines)) (joined (map text more)))
 
--- ---- fewer lines in the row
+-- ---- fewer lines outstanding
 
--- The first lines of the old row, each completed, were written behind what was written before, and the new one is left.
+-- The first of the old lines, each completed, were written after what was written before, and the others are the new ones.
 pub record Sends (old new : List Line) (before written : Option (List ℕ)) : Type 0 where
   pub sent_lines : List Line
   pub were : old ≡ sent_lines ++ new
   pub are_completed : AllByRecursion (λ line. is_completed line ≡ true) sent_lines
   pub output : Appends before written (joined (map text sent_lines))
 
-pub forgets : {keeps : Type 0} {start now : MachineView} {row : List Line} {input left : Option (List ℕ)} {ended : Bool} {before written : Option (List ℕ)}
-    → ServingProgress keeps start now row input left ended before written → ServingProgress keeps start now row input left ended None None
+pub forgets : {keeps : Type 0} {start now : MachineView} {unsent : List Line} {input unread : Option (List ℕ)} {ended : Bool} {before written : Option (List ℕ)}
+    → ServingProgress keeps start now unsent input unread ended before written → ServingProgress keeps start now unsent input unread ended None None
 forgets h = record { taken = h.taken; sent_lines = h.sent_lines; takes = h.takes; serving = h.serving; output = tt }
 
--- Lines at the front of the row were written.
-pub sends_on : {keeps : Type 0} {start m : MachineView} {row rest : List Line} {input left : Option (List ℕ)} {ended : Bool} {before old now : Option (List ℕ)}
-    → Sends row rest old now → ServingProgress keeps start m row input left ended before old → ServingProgress keeps start m rest input left ended before now
+-- The first of the lines that were not sent were written.
+pub sends_on : {keeps : Type 0} {start m : MachineView} {unsent rest : List Line} {input unread : Option (List ℕ)} {ended : Bool} {before old now : Option (List ℕ)}
+    → Sends unsent rest old now → ServingProgress keeps start m unsent input unread ended before old → ServingProgress keeps start m rest input unread ended before now
 sends_on {start} {rest} {before} {old} {now} sends h =
     let g = start.core.geometry in
     let s = h.serving in

@@ -72,28 +72,28 @@ module _ (g : Geometry) (reply_pairs : List (ℕ × Reply)) (ticket : ℕ) (repl
         | false ↦ λ e. (k.0, k.1, none_still t e k.2)
       ] refl
 
-  row_answered : (n : ℕ) (ls : List (List ℕ)) (row : List Line) → AreKnown g reply_pairs n ls row → AreKnown g more n ls (map (complete_one ticket reply) row)
-  row_answered n [] [] k = tt
-  row_answered n [] (known ∷ row) k = absurd k
-  row_answered n (l ∷ ls) [] k = absurd k
-  row_answered n (l ∷ ls) (known ∷ row) k =
-      (known_answered n (message_of l) known k.0, row_answered (next_ticket n (admitted_in g (message_of l))) ls row k.1)
+  each_answered : (n : ℕ) (ls : List (List ℕ)) (lines : List Line) → AreKnown g reply_pairs n ls lines → AreKnown g more n ls (map (complete_one ticket reply) lines)
+  each_answered n [] [] k = tt
+  each_answered n [] (known ∷ lines) k = absurd k
+  each_answered n (l ∷ ls) [] k = absurd k
+  each_answered n (l ∷ ls) (known ∷ lines) k =
+      (known_answered n (message_of l) known k.0, each_answered (next_ticket n (admitted_in g (message_of l))) ls lines k.1)
 
-  lines_answered : (n : ℕ) (ls : List (List ℕ)) (sent_lines row : List Line) → AllByRecursion (λ line. is_completed line ≡ true) sent_lines
-      → AreKnown g reply_pairs n ls (sent_lines ++ row) → AreKnown g more n ls (sent_lines ++ map (complete_one ticket reply) row)
-  lines_answered n ls [] row done k = row_answered n ls row k
-  lines_answered n [] (known ∷ sent_lines) row done k = absurd k
-  lines_answered n (l ∷ ls) (known ∷ sent_lines) row done k = (
+  lines_answered : (n : ℕ) (ls : List (List ℕ)) (sent_lines unsent : List Line) → AllByRecursion (λ line. is_completed line ≡ true) sent_lines
+      → AreKnown g reply_pairs n ls (sent_lines ++ unsent) → AreKnown g more n ls (sent_lines ++ map (complete_one ticket reply) unsent)
+  lines_answered n ls [] unsent done k = each_answered n ls unsent k
+  lines_answered n [] (known ∷ sent_lines) unsent done k = absurd k
+  lines_answered n (l ∷ ls) (known ∷ sent_lines) unsent done k = (
     known_still n (message_of l) known done.0 k.0,
-    lines_answered (next_ticket n (admitted_in g (message_of l))) ls sent_lines row done.1 k.1,
+    lines_answered (next_ticket n (admitted_in g (message_of l))) ls sent_lines unsent done.1 k.1,
   )
 
 -- A message was answered, and its line in the reorder buffer is completed.
-pub answered_goes_on : {keeps : Type 0} {start old new : MachineView} {ticket : ℕ} {reply : Reply} {row : List Line}
-    {input left : Option (List ℕ)} {ended : Bool} {before written : Option (List ℕ)} → RunsBetween keeps old new [] ((ticket, reply) ∷ [])
-    → ServingProgress keeps start old row input left ended before written
-    → ServingProgress keeps start new (map (complete_one ticket reply) row) input left ended before written
-answered_goes_on {keeps} {start} {new} {ticket} {reply} {row} p h =
+pub answered_goes_on : {keeps : Type 0} {start old new : MachineView} {ticket : ℕ} {reply : Reply} {unsent : List Line}
+    {input unread : Option (List ℕ)} {ended : Bool} {before written : Option (List ℕ)} → RunsBetween keeps old new [] ((ticket, reply) ∷ [])
+    → ServingProgress keeps start old unsent input unread ended before written
+    → ServingProgress keeps start new (map (complete_one ticket reply) unsent) input unread ended before written
+answered_goes_on {keeps} {start} {new} {ticket} {reply} {unsent} p h =
     let g = start.core.geometry in
     let come = ticketed start.core.next (admitted g h.taken) in
     let s = h.serving in
@@ -105,7 +105,7 @@ answered_goes_on {keeps} {start} {new} {ticket} {reply} {row} p h =
       serving = record {
         reply_pairs = reply_pairs;
         passes = subst (λ (es : List Entry). RunsBetween keeps start new es reply_pairs) (append-nil come) (passes_on s.passes p);
-        known = lines_answered g s.reply_pairs ticket reply start.core.next h.taken h.sent_lines row s.answered s.known;
+        known = lines_answered g s.reply_pairs ticket reply start.core.next h.taken h.sent_lines unsent s.answered s.known;
         answered = s.answered;
       };
       output = h.output;
@@ -144,7 +144,7 @@ pub none_answered : (keeps : Type 0) (old new : MachineView) (r : Option (ℕ ×
 none_answered keeps old new (Some reply_pairs) not a = absurd (not reply_pairs refl)
 none_answered keeps old new None not a = a
 
--- ---- the core state behind an answer
+-- ---- the core state after an answer
 
 -- Nothing has changed but what is logged.
 pub answered_state : (w new : CoreState) (logged : List Replied) (o : Outcome) → (o, new) ≡ answer w logged → new ≡ record w { logged = new.logged }

@@ -36,19 +36,19 @@ use Rattle.serving.proofs.Tickets.{next-append, run_next, ticketed-append}
 -- ---- one line more
 
 module _ (g : Geometry) (reply_pairs : List (ℕ × Reply)) (l : List ℕ) (known : Line) where
-  known_push : (n : ℕ) (ls : List (List ℕ)) (row : List Line) → AreKnown g reply_pairs n ls row
-      → IsKnown g reply_pairs (next_ticket n (admitted g ls)) (message_of l) known → AreKnown g reply_pairs n (ls ++ l ∷ []) (row ++ known ∷ [])
+  known_push : (n : ℕ) (ls : List (List ℕ)) (lines : List Line) → AreKnown g reply_pairs n ls lines
+      → IsKnown g reply_pairs (next_ticket n (admitted g ls)) (message_of l) known → AreKnown g reply_pairs n (ls ++ l ∷ []) (lines ++ known ∷ [])
   known_push n [] [] k one = (one, tt)
-  known_push n [] (x ∷ row) k one = absurd k
+  known_push n [] (x ∷ lines) k one = absurd k
   known_push n (y ∷ ls) [] k one = absurd k
-  known_push n (y ∷ ls) (x ∷ row) k one =
+  known_push n (y ∷ ls) (x ∷ lines) k one =
       let m = next_ticket n (admitted_in g (message_of y)) in (
         k.0,
-        known_push m ls row k.1
+        known_push m ls lines k.1
             (subst (λ (t : ℕ). IsKnown g reply_pairs t (message_of l) known) (next-append n (admitted_in g (message_of y)) (admitted g ls)) one),
       )
 
-module _ {keeps : Type 0} {start old : MachineView} {taken : List (List ℕ)} {sent_lines row : List Line} (s : IsServing keeps start old taken sent_lines row) where
+module _ {keeps : Type 0} {start old : MachineView} {taken : List (List ℕ)} {sent_lines unsent : List Line} (s : IsServing keeps start old taken sent_lines unsent) where
   abbrev g : Geometry
   g = start.core.geometry
 
@@ -60,7 +60,7 @@ module _ {keeps : Type 0} {start old : MachineView} {taken : List (List ℕ)} {s
 
   -- A line was read, and its message has arrived, if it takes a ticket.
   takes_in : (new : MachineView) (line : List ℕ) (known : Line) → RunsBetween keeps old new (ticketed old.core.next (admitted_in g (message_of line))) []
-      → IsKnown g s.reply_pairs old.core.next (message_of line) known → IsServing keeps start new (taken ++ line ∷ []) sent_lines (row ++ known ∷ [])
+      → IsKnown g s.reply_pairs old.core.next (message_of line) known → IsServing keeps start new (taken ++ line ∷ []) sent_lines (unsent ++ known ∷ [])
   takes_in new line known p k =
       let come = ticketed start.core.next (admitted g taken) in
       let one = admitted_in g (message_of line) in
@@ -73,8 +73,8 @@ module _ {keeps : Type 0} {start old : MachineView} {taken : List (List ℕ)} {s
         passes = subst (λ (es : List Entry). RunsBetween keeps start new es s.reply_pairs) all
             (subst (λ (l : List (ℕ × Reply)). RunsBetween keeps start new (come ++ ticketed old.core.next one) l) (append-nil s.reply_pairs)
             (passes_on s.passes p));
-        known = subst (λ (l : List Line). AreKnown g s.reply_pairs start.core.next (taken ++ line ∷ []) l) (append_assoc sent_lines row (known ∷ []))
-            (known_push g s.reply_pairs line known start.core.next taken (sent_lines ++ row) s.known
+        known = subst (λ (l : List Line). AreKnown g s.reply_pairs start.core.next (taken ++ line ∷ []) l) (append_assoc sent_lines unsent (known ∷ []))
+            (known_push g s.reply_pairs line known start.core.next taken (sent_lines ++ unsent) s.known
             (subst (λ (n : ℕ). IsKnown g s.reply_pairs n (message_of line) known) next_is k));
         answered = s.answered;
       }
@@ -92,9 +92,9 @@ known_anyway g reply_pairs n (Some m) (Pending t) fresh k = (k.0, k.1, subst (No
 known_anyway g reply_pairs n (Some m) (Completed t r) fresh k = let none = k.2.1 in absurd (omega (arith, none))
 
 -- A line is consumed.
-pub serves_taken : {keeps : Type 0} {start old new : MachineView} {taken : List (List ℕ)} {sent_lines row : List Line} {known : Line} (line : List ℕ)
-    → IsIdle (core_state_of start.core) → IsTaken keeps old new (message_of line) known → IsServing keeps start old taken sent_lines row
-    → IsServing keeps start new (taken ++ line ∷ []) sent_lines (row ++ known ∷ [])
+pub serves_taken : {keeps : Type 0} {start old new : MachineView} {taken : List (List ℕ)} {sent_lines unsent : List Line} {known : Line} (line : List ℕ)
+    → IsIdle (core_state_of start.core) → IsTaken keeps old new (message_of line) known → IsServing keeps start old taken sent_lines unsent
+    → IsServing keeps start new (taken ++ line ∷ []) sent_lines (unsent ++ known ∷ [])
 serves_taken {keeps} {start} {old} {new} {known} line idle t s =
     let o = message_of line in
     let is = next_is s in

@@ -30,7 +30,7 @@ use Rattle.workers.specs.Seats.{DispatchSeatView}
 use Rattle.serving.proofs.Promises.{no_memory_ran, runs_to_device, runs_to_last_ticket, runs_to_read, runs_to_write, runs_whole}
 use Rattle.serving.proofs.Starting.{holds_at_start, starts}
 use Rattle.serving.proofs.Served.{ends_at_device, ends_at_read, ends_exhausted, ends_whole}
-use Rattle.serving.proofs.Invariant.{begins_at, gone, to_row}
+use Rattle.serving.proofs.Invariant.{begins_at, gone, to_reorder_buffer}
 
 -- ---- what it promises
 
@@ -38,11 +38,11 @@ so_far_none : (contents : Option (List ℕ)) → so_far contents [] ≡ contents
 so_far_none None = refl
 so_far_none (Some bytes) = ap (λ (l : List ℕ). Some l) (append-nil bytes)
 
--- Of the run behind it, where the core at the end is as it always is, and of its end.
-pub record PromisesAll (keeps : Type 0) (start : MachineView) (new : CoreView) (input behind before written : Option (List ℕ))
+-- Of the run that led there, where the core at the end is as it always is, and of its end.
+pub record PromisesAll (keeps : Type 0) (start : MachineView) (new : CoreView) (input remaining before written : Option (List ℕ))
     (result : Result (Unit {0}) ServeFault) : Type 0 where
   pub run : (new.failed ≡ false → new.doubt ≡ []) → (keeps → RecoversNow new) → HasRunSo keeps start new input before written result
-  pub ends : EndsSo start.core new input behind before written result
+  pub ends : EndsSo start.core new input remaining before written result
 
 -- nothing is in flight once all is collected
 all_empty : (n : ℕ) → full (map hand_in (map lent_hand (replicate n None))) ≡ 0
@@ -57,46 +57,46 @@ module _ {keeps : Type 0} {s : Start} {p : SessionView} (u : SessionInvariant ke
   now = machine p
 
   -- what was written, where the output works and no answer waits
-  written : {row : List Line} {left : Option (List ℕ)} {drained : Bool} → SessionProgress keeps s p left drained → p.row.lines ≡ row → p.output_failed ≡ false
-      → p.out ≡ [] → ServingProgress keeps start now row s.input left drained s.before p.sent
-  written {row} {left} {drained} h is whole flushed =
-      subst (λ (w : Option (List ℕ)). ServingProgress keeps start now row s.input left drained s.before w) (so_far_none p.sent)
-      (subst (λ (o : List ℕ). ServingProgress keeps start now row s.input left drained s.before (so_far p.sent o)) flushed
-      (subst (λ (b : Bool). ServingProgress keeps start now row s.input left drained (known_unless b s.before) (known_unless b (so_far p.sent p.out))) whole
-      (subst (λ (l : List Line). ServingProgress keeps start now l s.input left drained (known_unless p.output_failed s.before) (known_unless p.output_failed (so_far p.sent p.out)))
-      is (to_row h))))
+  written : {unsent : List Line} {unread : Option (List ℕ)} {drained : Bool} → SessionProgress keeps s p unread drained → p.reorder_buffer.lines ≡ unsent → p.output_failed ≡ false
+      → p.reply_buffer ≡ [] → ServingProgress keeps start now unsent s.input unread drained s.before p.sent
+  written {unsent} {unread} {drained} h is output_works flushed =
+      subst (λ (w : Option (List ℕ)). ServingProgress keeps start now unsent s.input unread drained s.before w) (so_far_none p.sent)
+      (subst (λ (o : List ℕ). ServingProgress keeps start now unsent s.input unread drained s.before (so_far p.sent o)) flushed
+      (subst (λ (b : Bool). ServingProgress keeps start now unsent s.input unread drained (known_unless b s.before) (known_unless b (so_far p.sent p.reply_buffer))) output_works
+      (subst (λ (l : List Line). ServingProgress keeps start now l s.input unread drained (known_unless p.output_failed s.before) (known_unless p.output_failed (so_far p.sent p.reply_buffer)))
+      is (to_reorder_buffer h))))
 
   module _ (k : IsServed p) where
-    all_said : {left : Option (List ℕ)} {drained : Bool} → SessionProgress keeps s p left drained → ServingProgress keeps start now [] s.input left drained s.before p.sent
-    all_said h = written h k.row k.whole k.flushed
+    all_said : {unread : Option (List ℕ)} {drained : Bool} → SessionProgress keeps s p unread drained → ServingProgress keeps start now [] s.input unread drained s.before p.sent
+    all_said h = written h k.all_retired k.output_works k.flushed
 
-    at_end : HasEndedReading keeps s p ends_of_reading.EndOfInput → PromisesAll keeps start p.core s.input p.behind s.before p.sent (Ok tt)
+    at_end : HasEndedReading keeps s p ends_of_reading.EndOfInput → PromisesAll keeps start p.core s.input p.remaining s.before p.sent (Ok tt)
     at_end h =
         let g = all_said h.gone in
         let e = ends_whole keeps start now u.idle g k.works h.why.0 in
         record { run = λ no_doubt recovers. runs_whole u.idle no_doubt recovers g h.why.0; ends = (e.0, e.1, h.why.1, e.3) }
 
-    at_fault : HasEndedReading keeps s p ends_of_reading.ReadFailed → PromisesAll keeps start p.core s.input p.behind s.before p.sent (Err faults.Read)
+    at_fault : HasEndedReading keeps s p ends_of_reading.ReadFailed → PromisesAll keeps start p.core s.input p.remaining s.before p.sent (Err faults.Read)
     at_fault h =
         let g = all_said h.gone in
         record {
           run = λ no_doubt recovers. runs_to_read u.idle no_doubt recovers g;
-          ends = ends_at_read keeps start now u.idle p.behind
-              (subst (λ (b : Bool). ServingProgress keeps start now [] s.input h.left b s.before p.sent) h.why.0 g) k.works h.why.1;
+          ends = ends_at_read keeps start now u.idle p.remaining
+              (subst (λ (b : Bool). ServingProgress keeps start now [] s.input h.unread b s.before p.sent) h.why.0 g) k.works h.why.1;
         }
 
-    exhausted : HasEndedReading keeps s p ends_of_reading.TicketsExhausted → PromisesAll keeps start p.core s.input p.behind s.before p.sent (Err faults.Exhausted)
+    exhausted : HasEndedReading keeps s p ends_of_reading.TicketsExhausted → PromisesAll keeps start p.core s.input p.remaining s.before p.sent (Err faults.Exhausted)
     exhausted h =
         let g = all_said h.gone in
         record {
           run = λ no_doubt recovers. runs_to_last_ticket u.idle no_doubt recovers g;
-          ends = ends_exhausted keeps start now u.idle p.behind g k.works h.why;
+          ends = ends_exhausted keeps start now u.idle p.remaining g k.works h.why;
         }
 
   -- ---- where something has failed
 
   module _ (home : NoneInFlight p.dispatch_seat.lent) (answered : p.core.logged ≡ []) where
-    wound_up : {row : List Line} {left before torn : Option (List ℕ)} {drained : Bool} → ServingProgress keeps start now row s.input left drained before torn
+    wound_up : {unsent : List Line} {unread before torn : Option (List ℕ)} {drained : Bool} → ServingProgress keeps start now unsent s.input unread drained before torn
         → IsWoundUp p.core
     wound_up h =
         let r = h.serving.passes in
@@ -109,16 +109,16 @@ module _ {keeps : Type 0} {s : Start} {p : SessionView} (u : SessionInvariant ke
           none_logged = answered;
         }
 
-    device_ends : p.core.failed ≡ true → p.output_failed ≡ false → p.out ≡ [] → can_retire p.row.lines ≡ false
-        → PromisesAll keeps start p.core s.input p.behind s.before p.sent (Err faults.Device)
-    device_ends failed whole flushed last =
-        let g = written (gone keeps s p p.stop u.reads).2 refl whole flushed in
+    device_ends : p.core.failed ≡ true → p.output_failed ≡ false → p.reply_buffer ≡ [] → can_retire p.reorder_buffer.lines ≡ false
+        → PromisesAll keeps start p.core s.input p.remaining s.before p.sent (Err faults.Device)
+    device_ends failed output_works flushed last =
+        let g = written (gone keeps s p p.stop u.reads).2 refl output_works flushed in
         record {
           run = λ no_doubt recovers. runs_to_device u.idle no_doubt recovers g last;
           ends = ends_at_device keeps start now u.idle g failed (wound_up g);
         }
 
-    write_ends : (p.core.failed ≡ false → p.core.ran ≡ []) → PromisesAll keeps start p.core s.input p.behind s.before p.sent (Err faults.Write)
+    write_ends : (p.core.failed ≡ false → p.core.ran ≡ []) → PromisesAll keeps start p.core s.input p.remaining s.before p.sent (Err faults.Write)
     write_ends ran =
         let goes = (gone keeps s p p.stop u.reads).2.goes in
         record { run = λ no_doubt recovers. runs_to_write u.idle no_doubt recovers p.sent goes; ends = (wound_up goes, ran) }
@@ -128,7 +128,7 @@ module _ {keeps : Type 0} {s : Start} {p : SessionView} (u : SessionInvariant ke
 
   -- By what has ended it, it promises all that a server does.
   pub promises_by : (result : Result (Unit {0}) ServeFault) → EndsBy p result
-      → PromisesAll keeps start p.core s.input p.behind s.before p.sent result
+      → PromisesAll keeps start p.core s.input p.remaining s.before p.sent result
   promises_by (Ok tt) e = at_end e.0 (stopped e.1)
   promises_by (Err faults.Read) e = at_fault e.0 (stopped e.1)
   promises_by (Err faults.Exhausted) e = exhausted e.0 (stopped e.1)
@@ -140,16 +140,16 @@ module _ {keeps : Type 0} {s : Start} {p : SessionView} (u : SessionInvariant ke
 -- A session is where its start says: nothing was read or sent since, nor has its core moved.
 pub record IsAtStart (s : Start) (p : SessionView) : Type 0 where
   pub core : p.core ≡ s.core
-  pub input : p.behind ≡ s.input
+  pub input : p.remaining ≡ s.input
   pub before : p.sent ≡ s.before
 
 -- Where nothing has moved since the start, it promises what a server does that had no memory.
 declined : {keeps : Type 0} {s : Start} {p : SessionView} → IsIdle (core_state_of s.core) → IsAtStart s p
-    → PromisesAll keeps (start_machine s) p.core s.input p.behind s.before p.sent (Err faults.OutOfMemory)
+    → PromisesAll keeps (start_machine s) p.core s.input p.remaining s.before p.sent (Err faults.OutOfMemory)
 declined {keeps} {s} {p} idle at =
     let Promised : CoreView → Option (List ℕ) → Option (List ℕ) → Type 0 =
     λ c b w. PromisesAll keeps (start_machine s) c s.input b s.before w (Err faults.OutOfMemory) in
-    subst (λ (c : CoreView). Promised c p.behind p.sent) (sym at.core)
+    subst (λ (c : CoreView). Promised c p.remaining p.sent) (sym at.core)
     (subst (λ (b : Option (List ℕ)). Promised s.core b p.sent) (sym at.input)
     (subst (λ (w : Option (List ℕ)). Promised s.core s.input w) (sym at.before) (record {
       run = λ no_doubt recovers. no_memory_ran keeps s.core s.places idle no_doubt recovers s.input s.before;
@@ -158,7 +158,7 @@ declined {keeps} {s} {p} idle at =
 
 -- So it promises, whether it has ended or nothing has moved since the start.
 promises_or_declines : {keeps : Type 0} {s : Start} {old p : SessionView} → SessionInvariant keeps s p → IsAtStart s old → (result : Result (Unit {0}) ServeFault)
-    → EndsOrDeclines old p result → PromisesAll keeps (start_machine s) p.core s.input p.behind s.before p.sent result
+    → EndsOrDeclines old p result → PromisesAll keeps (start_machine s) p.core s.input p.remaining s.before p.sent result
 promises_or_declines u at (Ok tt) e = promises_by u (Ok tt) e
 promises_or_declines {s} u at (Err faults.OutOfMemory) e = declined u.idle (subst (IsAtStart s) (sym e) at)
 promises_or_declines u at (Err faults.Read) e = promises_by u (Err faults.Read) e
@@ -170,7 +170,7 @@ promises_or_declines u at (Err faults.NoWorkers) e = absurd e
 -- Where a session has served since a start, and this has ended it or nothing has moved, so much is promised of it.
 pub promises_from : {keeps : Type 0} {s : Start} {old p now : SessionView} → SessionInvariant keeps s p → p ≡ now → IsAtStart s old
     → (result : Result (Unit {0}) ServeFault) → EndsOrDeclines old now result
-    → PromisesAll keeps (start_machine s) p.core s.input p.behind s.before p.sent result
+    → PromisesAll keeps (start_machine s) p.core s.input p.remaining s.before p.sent result
 promises_from {old} u is at result e = promises_or_declines u at result (subst (λ (p : SessionView). EndsOrDeclines old p result) (sym is) e)
 
 -- Where each line that was read is answered and nothing has failed, the reason why no more was read has ended it.
@@ -191,11 +191,11 @@ empties_for ends_of_reading.DeviceFailed P emptied = tt
 -- It has finished, or it has halted.
 module _ (keeps : Type 0) (p : SessionView) (same : Type 0) where
   pub finished : {stop : ReadEnd} (r : Result (Unit {0}) Halted) → p.stop ≡ Some stop
-      → OnOk r ((p.row.lines ≡ []) × (p.out ≡ []) × (p.output_failed ≡ false)) → OnOk r (p.core.failed ≡ false)
+      → OnOk r ((p.reorder_buffer.lines ≡ []) × (p.reply_buffer ≡ []) × (p.output_failed ≡ false)) → OnOk r (p.core.failed ≡ false)
       → OnOk r (stop ≡ ends_of_reading.EndOfInput → keeps → HasEmptyLog p.core) → MatchResult r (λ _. same) (λ _. HasHalted p)
       → MatchResult r (λ _. (x : ReadEnd) × HasFinished keeps p x) (λ _. HasHalted p)
   finished {stop} (Ok x) is all works emptied moves =
-      (stop, record { is = is; served = record { row = all.0; flushed = all.1; works = works; whole = all.2 }; emptied = emptied })
+      (stop, record { is = is; served = record { all_retired = all.0; flushed = all.1; works = works; output_works = all.2 }; emptied = emptied })
   finished (Err h) is all works emptied moves = moves
 
 so_if : {A : Type 0} (o : Option A) (x : A) (P : A → Type 0) → o ≡ Some x → IfSome o P → P x
@@ -260,12 +260,11 @@ refuses_none workers some (Err faults.Device) h = some
 refuses_none workers some (Err faults.OutOfMemory) h = some
 refuses_none workers some (Err faults.Exhausted) h = some
 
--- The same of as many workers, where as much is left.
-pub serves_as : {keeps : Type 0} {core : CoreView} {back : CoreView × Result (Unit {0}) ServeFault} {input before written left behind : Option (List ℕ)}
-    {places workers : ℕ} → places ≡ workers → left ≡ behind
-    → ServesSo keeps places core back input left before written → ServesSo keeps workers core back input behind before written
-serves_as {keeps} {core} {back} {input} {before} {written} {behind} {places} as_many same h =
-    subst (λ (n : ℕ). ServesSo keeps n core back input behind before written) as_many
+-- The same of as many workers, where as much remains of the input.
+pub serves_as : {keeps : Type 0} {core : CoreView} {back : CoreView × Result (Unit {0}) ServeFault} {input before written remaining rest : Option (List ℕ)}
+    {places workers : ℕ} → places ≡ workers → remaining ≡ rest → ServesSo keeps places core back input remaining before written → ServesSo keeps workers core back input rest before written
+serves_as {keeps} {core} {back} {input} {before} {written} {rest} {places} as_many same h =
+    subst (λ (n : ℕ). ServesSo keeps n core back input rest before written) as_many
     (subst (λ (l : Option (List ℕ)). ServesSo keeps places core back input l before written) same h)
 
 -- ---- where it begins
@@ -281,35 +280,34 @@ holds_first core lent n none idle = subst (λ (l : List (Option JobView)). Holds
 pub places_first : (lent : List (Option JobView)) (n : ℕ) → lent ≡ replicate n None → length lent ≡ n
 places_first lent n none = ap (λ (l : List (Option JobView)). length l) none ∙ length-replicate n None
 
--- What a call serves with has not been used: no answer waits, all of the input is left, nothing of it was read, and no job is lent.
-pub record IsUnused (places : ℕ) (input : Option (List ℕ)) (dispatch_seat : DispatchSeatView) (out : List ℕ) (left : Option (List ℕ))
+-- What a call serves with has not been used: no answer waits, all of the input is unread, nothing of it was read, and no job is lent.
+pub record IsUnused (places : ℕ) (input : Option (List ℕ)) (dispatch_seat : DispatchSeatView) (reply_buffer : List ℕ) (unread : Option (List ℕ))
     (drained ended : Bool) : Type 0 where
-  pub none_waits : out ≡ []
-  pub all : left ≡ input
+  pub none_waits : reply_buffer ≡ []
+  pub all : unread ≡ input
   pub none_read : drained ≡ false
   pub not_ended : ended ≡ false
   pub slots : dispatch_seat.bench.slots ≡ places
   pub none_lent : dispatch_seat.lent ≡ replicate places None
 
 -- A call that may begin satisfies the invariant.
-pub first_at : (keeps : Type 0) {o : Option Start} {core : CoreView} {dispatch_seat : DispatchSeatView} {row : ReorderBufferView} {out : List ℕ}
-    {left input sent : Option (List ℕ)} {drained ended : Bool} {places : ℕ} (behind : Option (List ℕ)) → CanBegin o core places input sent row
-    → IsUnused places input dispatch_seat out left drained ended
-    → SessionInvariantFrom keeps o (record {
+pub first_at : (keeps : Type 0) {o : Option Start} {core : CoreView} {dispatch_seat : DispatchSeatView} {reorder_buffer : ReorderBufferView} {reply_buffer : List ℕ}
+    {unread input sent : Option (List ℕ)} {drained ended : Bool} {places : ℕ} (remaining : Option (List ℕ)) → CanBegin o core places input sent reorder_buffer
+    → IsUnused places input dispatch_seat reply_buffer unread drained ended → SessionInvariantFrom keeps o (record {
       core = core;
       dispatch_seat = dispatch_seat;
-      row = row;
-      out = out;
+      reorder_buffer = reorder_buffer;
+      reply_buffer = reply_buffer;
       sent = sent;
       outstanding = 0;
       output_failed = false;
       stop = None;
-      left = left;
+      unread = unread;
       drained = drained;
       ended = ended;
-      behind = behind;
+      remaining = remaining;
     })
-first_at keeps {o} {core} {dispatch_seat} {row} {left} {input} {sent} {drained} {places} behind r unused =
+first_at keeps {o} {core} {dispatch_seat} {reorder_buffer} {unread} {input} {sent} {drained} {places} remaining r unused =
     let s : Start = record { core = core; places = places; input = input; before = sent } in
     let start = start_machine s in
     begins_at keeps o s _ r.is (record {
@@ -322,12 +320,12 @@ first_at keeps {o} {core} {dispatch_seat} {row} {left} {input} {sent} {drained} 
       reads = record {
         waiting = [];
         are_completed = tt;
-        out_is = unused.none_waits;
+        reply_buffer_is = unused.none_waits;
         counted = omega (arith, ap length r.none);
         bounded = omega arith;
-        goes = subst (λ (l : List (Option JobView)). ServingProgress keeps start (with_lent core l) row.lines input left drained sent sent) (sym unused.none_lent)
-            (subst (λ (l : List Line). ServingProgress keeps start start l input left drained sent sent) (sym r.none)
-            (subst (λ (d : Bool). ServingProgress keeps start start [] input left d sent sent) (sym unused.none_read)
+        goes = subst (λ (l : List (Option JobView)). ServingProgress keeps start (with_lent core l) reorder_buffer.lines input unread drained sent sent) (sym unused.none_lent)
+            (subst (λ (l : List Line). ServingProgress keeps start start l input unread drained sent sent) (sym r.none)
+            (subst (λ (d : Bool). ServingProgress keeps start start [] input unread d sent sent) (sym unused.none_read)
             (subst (λ (l : Option (List ℕ)). ServingProgress keeps start start [] input l false sent sent) (sym unused.all)
             (starts keeps start input sent))));
       };

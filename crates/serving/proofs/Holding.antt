@@ -21,7 +21,7 @@ use Rattle.serving.proofs.Logged.{holds_all, written_are_kept}
 module _ {keeps : Type 0} {s : Start} {sent later : Option (List ℕ)} {now : CoreView} {bytes : List ℕ} (m : MaySendFrom keeps s sent now bytes)
     (appends : Appends sent later bytes) where
   -- Once it is sent, it is among the lines that were sent.
-  served_on : HasServed keeps (start_machine s) now m.row s.input s.before later
+  served_on : HasServed keeps (start_machine s) now m.rest s.input s.before later
   served_on =
       let h = m.served in
       record {
@@ -30,7 +30,7 @@ module _ {keeps : Type 0} {s : Start} {sent later : Option (List ℕ)} {now : Co
         run = h.run;
         sent_lines = h.sent_lines ++ m.next;
         known = subst (λ (l : List Line). AreKnown s.core.geometry (answered (events_of h.stages)) s.core.next h.taken l)
-            (sym (append_assoc h.sent_lines m.next m.row)) h.known;
+            (sym (append_assoc h.sent_lines m.next m.rest)) h.known;
         are_completed = all_join (λ line. is_completed line ≡ true) h.sent_lines m.next h.are_completed m.are_completed;
         output = subst (λ (z : List ℕ). Appends s.before later z) (sym (texts_both h.sent_lines m.next))
             (Appends-trans s.before sent later (joined (map text h.sent_lines)) (joined (map text m.next)) h.output
@@ -38,11 +38,11 @@ module _ {keeps : Type 0} {s : Start} {sent later : Option (List ℕ)} {now : Co
       }
 
   pub holds_sent : keeps → (c : List ℕ) → IsCrashImage now.medium c → HoldsSent s later c
-  holds_sent kept c left =
+  holds_sent kept c leaves =
       let h = served_on in
       let g = s.core.geometry in
       let log = logged_messages (machine_of (start_machine s)) (events_of h.stages) in
-      let held = holds_all keeps (start_machine s) now s.input h.taken h.stages m.idle m.none_in_doubt h.run kept c left in
+      let held = holds_all keeps (start_machine s) now s.input h.taken h.stages m.idle m.none_in_doubt h.run kept c leaves in
       let state = fold g (committed_in s.core) (loggable (log ++ held.more)) in
       record {
         taken = h.taken;
@@ -50,8 +50,8 @@ module _ {keeps : Type 0} {s : Start} {sent later : Option (List ℕ)} {now : Co
         lines = map text h.sent_lines;
         output = h.output;
         log = log;
-        kept = written_are_kept keeps (start_machine s) now m.row s.input s.before later m.idle h;
+        kept = written_are_kept keeps (start_machine s) now m.rest s.input s.before later m.idle h;
         holds = held;
-        header = head g c state left.bytes held.recovers;
-        not_refused = fine g c state left.bytes held.recovers;
+        header = head g c state leaves.bytes held.recovers;
+        not_refused = fine g c state leaves.bytes held.recovers;
       }

@@ -1,4 +1,4 @@
--- There are no more messages in the core than lines in the row, since each line that was written was answered.
+-- There are no more messages in the core than lines that are not answered in the output, since each line that was written was answered.
 use Rattle.std.proofs.Common.{◌≡◌, ℕ, ◌+◌, ◌<◌, ◌≤◌, Bool, true, false, List, [], ◌∷◌, ◌++◌, Option, Some, None, refl, ap, sym, ◌∙◌, subst, length, ⊎_elim, arith}
 use Rattle.std.specs.Prelude.{if◌then◌else◌, nat_le}
 use Rattle.std.specs.List.{AllByRecursion}
@@ -78,13 +78,13 @@ module _ (g : Geometry) (replies : List (ℕ × Reply)) where
   few_asked (Some m) = elim (is_in_range g m) as (λ b. length (if b then m ∷ [] else []) ≤ 1) [ true ↦ omega arith | false ↦ omega arith ]
 
   -- Each line takes a ticket at most.
-  row_takes : (n : ℕ) (ls : List (List ℕ)) (row : List Line) → AreKnown g replies n ls row → length (admitted g ls) ≤ length row
-  row_takes n [] [] k = omega arith
-  row_takes n [] (known ∷ row) k = absurd k
-  row_takes n (l ∷ ls) [] k = absurd k
-  row_takes n (l ∷ ls) (known ∷ row) k =
+  unsent_take : (n : ℕ) (ls : List (List ℕ)) (unsent : List Line) → AreKnown g replies n ls unsent → length (admitted g ls) ≤ length unsent
+  unsent_take n [] [] k = omega arith
+  unsent_take n [] (known ∷ unsent) k = absurd k
+  unsent_take n (l ∷ ls) [] k = absurd k
+  unsent_take n (l ∷ ls) (known ∷ unsent) k =
       let o = message_of l in
-      let rest = row_takes (next_ticket n (admitted_in g o)) ls row k.1 in
+      let rest = unsent_take (next_ticket n (admitted_in g o)) ls unsent k.1 in
       let few = few_asked o in
       let all = length-append (admitted_in g o) (admitted g ls) in
       omega (arith, rest, few, all)
@@ -107,15 +107,15 @@ module _ (g : Geometry) (replies : List (ℕ × Reply)) where
       let l = later_one n reply replies is in
       subst (λ (l : List Msg). length l + later (next_ticket n l) replies ≤ later n replies) (sym single) (omega (arith, l))
 
-  -- The lines that take tickets are those that were written, each of which was answered, and at most those of the row.
-  lines_take : (n : ℕ) (ls : List (List ℕ)) (sent_lines row : List Line) → AreKnown g replies n ls (sent_lines ++ row)
-      → AllByRecursion (λ line. is_completed line ≡ true) sent_lines → length (admitted g ls) ≤ later n replies + length row
-  lines_take n ls [] row k done = let l = row_takes n ls row k in omega (arith, l)
-  lines_take n [] (known ∷ sent_lines) row k done = absurd k
-  lines_take n (l ∷ ls) (known ∷ sent_lines) row k done =
+  -- The lines that take tickets are those that were written, each of which was answered, and at most those that were not.
+  lines_take : (n : ℕ) (ls : List (List ℕ)) (sent_lines unsent : List Line) → AreKnown g replies n ls (sent_lines ++ unsent)
+      → AllByRecursion (λ line. is_completed line ≡ true) sent_lines → length (admitted g ls) ≤ later n replies + length unsent
+  lines_take n ls [] unsent k done = let l = unsent_take n ls unsent k in omega (arith, l)
+  lines_take n [] (known ∷ sent_lines) unsent k done = absurd k
+  lines_take n (l ∷ ls) (known ∷ sent_lines) unsent k done =
       let o = message_of l in
       let here = answered_takes n o known k.0 done.0 in
-      let rest = lines_take (next_ticket n (admitted_in g o)) ls sent_lines row k.1 done.1 in
+      let rest = lines_take (next_ticket n (admitted_in g o)) ls sent_lines unsent k.1 done.1 in
       let all = length-append (admitted_in g o) (admitted g ls) in
       omega (arith, here, rest, all)
 
@@ -136,9 +136,9 @@ none_inside : (w : CoreState) → inside w ≤ 0 → IsIdle w
 none_inside w h = record { none_waits = none_long w.waiting (omega (arith, h)); none_held = none_long (held w) (omega (arith, h)) }
 
 module _ {keeps : Type 0} {start now : MachineView} (idle : IsIdle (core_state_of start.core)) where
-  serving_inside : {taken : List (List ℕ)} {sent_lines row : List Line} → IsServing keeps start now taken sent_lines row
-      → inside (core_state_of now.core) ≤ length row
-  serving_inside {taken} {sent_lines} {row} s =
+  serving_inside : {taken : List (List ℕ)} {sent_lines unsent : List Line} → IsServing keeps start now taken sent_lines unsent
+      → inside (core_state_of now.core) ≤ length unsent
+  serving_inside {taken} {sent_lines} {unsent} s =
       let p = s.passes in
       let g = start.core.geometry in
       let n = start.core.next in
@@ -147,16 +147,16 @@ module _ {keeps : Type 0} {start now : MachineView} (idle : IsIdle (core_state_o
       let come : length (arrived (events_of p.stages)) ≡ length (admitted g taken) = ap length p.come_are ∙ length-ticketed n (admitted g taken) in
       let reply_pairs : length (answered (events_of p.stages)) ≡ length s.reply_pairs = ap length p.reply_pairs_are in
       let none = idle_inside (core_state_of start.core) idle in
-      let takes = lines_take g s.reply_pairs n taken sent_lines row s.known s.answered in
+      let takes = lines_take g s.reply_pairs n taken sent_lines unsent s.known s.answered in
       let most = later_most n s.reply_pairs in
       omega (arith, counts, ends, come, reply_pairs, none, takes, most)
 
   -- No more messages wait or are held than there are lines that were read and aren't written.
-  pub few_inside : {row : List Line} {input left : Option (List ℕ)} {ended : Bool} {before written : Option (List ℕ)}
-      → ServingProgress keeps start now row input left ended before written → inside (core_state_of now.core) ≤ length row
+  pub few_inside : {unsent : List Line} {input unread : Option (List ℕ)} {ended : Bool} {before written : Option (List ℕ)}
+      → ServingProgress keeps start now unsent input unread ended before written → inside (core_state_of now.core) ≤ length unsent
   few_inside h = serving_inside h.serving
 
   -- Where all is written, nothing waits and nothing is held.
-  pub idle_again : {input left : Option (List ℕ)} {ended : Bool} {before written : Option (List ℕ)}
-      → ServingProgress keeps start now [] input left ended before written → IsIdle (core_state_of now.core)
+  pub idle_again : {input unread : Option (List ℕ)} {ended : Bool} {before written : Option (List ℕ)}
+      → ServingProgress keeps start now [] input unread ended before written → IsIdle (core_state_of now.core)
   idle_again h = none_inside (core_state_of now.core) (few_inside h)

@@ -39,31 +39,31 @@ use Rattle.serving.proofs.Tickets.{quiet_ticket}
 
 -- ---- lines that are sent, completed or retired
 
--- what was written of a row, where the output may have failed
-sends_unless : {row rest : List Line} {old now : Option (List ℕ)} (b : Bool) → Sends row rest old now → Sends row rest (known_unless b old) (known_unless b now)
+-- what was written of lines, where the output may have failed
+sends_unless : {lines rest : List Line} {old now : Option (List ℕ)} (b : Bool) → Sends lines rest old now → Sends lines rest (known_unless b old) (known_unless b now)
 sends_unless true sends = record { sent_lines = sends.sent_lines; were = sends.were; are_completed = sends.are_completed; output = tt }
 sends_unless false sends = sends
 
--- What waits is to be sent behind what was sent.
-sends_waiting : (waiting row : List Line) (out : List ℕ) (sent : Option (List ℕ)) → AreCompleted waiting → out ≡ joined (map text waiting)
-    → Sends (waiting ++ row) row sent (so_far sent out)
-sends_waiting waiting row out None answered is = record { sent_lines = waiting; were = refl; are_completed = answered; output = tt }
-sends_waiting waiting row out (Some bytes) answered is =
+-- What waits is to be sent after what was sent.
+sends_waiting : (waiting lines : List Line) (reply_buffer : List ℕ) (sent : Option (List ℕ)) → AreCompleted waiting → reply_buffer ≡ joined (map text waiting)
+    → Sends (waiting ++ lines) lines sent (so_far sent reply_buffer)
+sends_waiting waiting lines reply_buffer None answered is = record { sent_lines = waiting; were = refl; are_completed = answered; output = tt }
+sends_waiting waiting lines reply_buffer (Some bytes) answered is =
     record { sent_lines = waiting; were = refl; are_completed = answered; output = ap (λ (l : List ℕ). bytes ++ l) is }
 
--- A line that is completed is left by a further answer.
+-- A line that is completed stays as it is at a further answer.
 is_left : (ticket : ℕ) (reply : Reply) (line : Line) → is_completed line ≡ true → complete_one ticket reply line ≡ line
 is_left ticket reply NoMessage answered = refl
 is_left ticket reply OutOfRange answered = refl
 is_left ticket reply (Pending t) answered = absurd (true≢false (sym answered))
 is_left ticket reply (Completed t r) answered = refl
 
-are_left : (ticket : ℕ) (reply : Reply) (waiting row : List Line) → AreCompleted waiting
-    → map (complete_one ticket reply) (waiting ++ row) ≡ waiting ++ map (complete_one ticket reply) row
-are_left ticket reply [] row answered = refl
-are_left ticket reply (line ∷ waiting) row answered =
-    ap (λ (x : Line). x ∷ map (complete_one ticket reply) (waiting ++ row)) (is_left ticket reply line answered.0)
-    ∙ ap (λ (l : List Line). line ∷ l) (are_left ticket reply waiting row answered.1)
+are_left : (ticket : ℕ) (reply : Reply) (waiting lines : List Line) → AreCompleted waiting
+    → map (complete_one ticket reply) (waiting ++ lines) ≡ waiting ++ map (complete_one ticket reply) lines
+are_left ticket reply [] lines answered = refl
+are_left ticket reply (line ∷ waiting) lines answered =
+    ap (λ (x : Line). x ∷ map (complete_one ticket reply) (waiting ++ lines)) (is_left ticket reply line answered.0)
+    ∙ ap (λ (l : List Line). line ∷ l) (are_left ticket reply waiting lines answered.1)
 
 -- the oldest line, where it is completed, and the others
 pub record Fronts (lines rest : List Line) : Type 0 where
@@ -77,39 +77,40 @@ fronts [] rest is next = absurd (true≢false (sym next))
 fronts (line ∷ lines) rest is next = record { line = line; were = ap (λ (l : List Line). line ∷ l) (sym is); answered = next; retires = refl }
 
 -- All that was answered in the output leads to the reorder buffer, whether it waits or not.
-pub to_row : {keeps : Type 0} {s : Start} {p : SessionView} {left : Option (List ℕ)} {drained : Bool} → SessionProgress keeps s p left drained
-    → ServingProgress keeps (start_machine s) (machine p) p.row.lines s.input left drained (known_unless p.output_failed s.before) (known_unless p.output_failed (so_far p.sent p.out))
-to_row {p} h = sends_on (sends_unless p.output_failed (sends_waiting h.waiting p.row.lines p.out p.sent h.are_completed h.out_is)) h.goes
+pub to_reorder_buffer : {keeps : Type 0} {s : Start} {p : SessionView} {unread : Option (List ℕ)} {drained : Bool} → SessionProgress keeps s p unread drained
+    → ServingProgress keeps (start_machine s) (machine p) p.reorder_buffer.lines s.input unread drained (known_unless p.output_failed s.before)
+    (known_unless p.output_failed (so_far p.sent p.reply_buffer))
+to_reorder_buffer {p} h = sends_on (sends_unless p.output_failed (sends_waiting h.waiting p.reorder_buffer.lines p.reply_buffer p.sent h.are_completed h.reply_buffer_is)) h.goes
 
 module _ (keeps : Type 0) where
   module _ (s : Start) (p : SessionView) where
     -- Why no more is read stays so.
-    why_on : (core : CoreView) (left : Option (List ℕ)) (drained : Bool) (stop : ReadEnd) → core.next ≡ p.core.next → (p.core.failed ≡ true → core.failed ≡ true)
-        → IsReadEnd s.core.geometry p.core left drained p.behind stop → IsReadEnd s.core.geometry core left drained p.behind stop
-    why_on core left drained ends_of_reading.EndOfInput next failed h = h
-    why_on core left drained ends_of_reading.ReadFailed next failed h = h
-    why_on core left drained ends_of_reading.TicketsExhausted next failed h = (next ∙ h.0, h.1)
-    why_on core left drained ends_of_reading.DeviceFailed next failed h = failed h
+    why_on : (core : CoreView) (unread : Option (List ℕ)) (drained : Bool) (stop : ReadEnd) → core.next ≡ p.core.next → (p.core.failed ≡ true → core.failed ≡ true)
+        → IsReadEnd s.core.geometry p.core unread drained p.remaining stop → IsReadEnd s.core.geometry core unread drained p.remaining stop
+    why_on core unread drained ends_of_reading.EndOfInput next failed h = h
+    why_on core unread drained ends_of_reading.ReadFailed next failed h = h
+    why_on core unread drained ends_of_reading.TicketsExhausted next failed h = (next ∙ h.0, h.1)
+    why_on core unread drained ends_of_reading.DeviceFailed next failed h = failed h
 
-    -- the other place, where as much of the input is left as at this one
+    -- the other place, where as much of the input is unread as at this one
     abbrev reading_at : SessionView → SessionView
-    reading_at q = record q { left = p.left; drained = p.drained; behind = p.behind }
+    reading_at q = record q { unread = p.unread; drained = p.drained; remaining = p.remaining }
 
     reads_on : (q : SessionView) → q.core.next ≡ p.core.next → (p.core.failed ≡ true → q.core.failed ≡ true)
-        → ((left : Option (List ℕ)) (drained : Bool) → SessionProgress keeps s p left drained → SessionProgress keeps s (reading_at q) left drained)
+        → ((unread : Option (List ℕ)) (drained : Bool) → SessionProgress keeps s p unread drained → SessionProgress keeps s (reading_at q) unread drained)
         → (stop : Option ReadEnd) → ReadsOrHasEnded keeps s p stop → ReadsOrHasEnded keeps s (reading_at q) stop
-    reads_on q next failed goes None h = goes p.left p.drained h
+    reads_on q next failed goes None h = goes p.unread p.drained h
     reads_on q next failed goes (Some stop) h = record {
-      left = h.left;
+      unread = h.unread;
       drained = h.drained;
-      gone = goes h.left h.drained h.gone;
-      why = why_on q.core h.left h.drained stop next failed h.why;
+      gone = goes h.unread h.drained h.gone;
+      why = why_on q.core h.unread h.drained stop next failed h.why;
     }
 
-    -- so much of the input is left, wherever it is
-    pub gone : (stop : Option ReadEnd) → ReadsOrHasEnded keeps s p stop → (left : Option (List ℕ)) × (drained : Bool) × SessionProgress keeps s p left drained
-    gone None h = (p.left, p.drained, h)
-    gone (Some stop) h = (h.left, h.drained, h.gone)
+    -- so much of the input is unread, wherever it is
+    pub gone : (stop : Option ReadEnd) → ReadsOrHasEnded keeps s p stop → (unread : Option (List ℕ)) × (drained : Bool) × SessionProgress keeps s p unread drained
+    gone None h = (p.unread, p.drained, h)
+    gone (Some stop) h = (h.unread, h.drained, h.gone)
 
   -- ---- what follows from the invariant
 
@@ -121,16 +122,16 @@ module _ (keeps : Type 0) where
   places_of None p u = absurd u
   places_of (Some s) p u = u.places
 
-  pub knows_of : (o : Option Start) (p : SessionView) → SessionInvariantFrom keeps o p → IsTrue p.ended → IsAtEnd p.behind
+  pub knows_of : (o : Option Start) (p : SessionView) → SessionInvariantFrom keeps o p → IsTrue p.ended → IsAtEnd p.remaining
   knows_of None p u = absurd u
   knows_of (Some s) p u = u.knows
 
-  pub idle_of : (o : Option Start) (p : SessionView) → SessionInvariantFrom keeps o p → p.row.lines ≡ [] → IsIdle (core_state_of p.core)
+  pub idle_of : (o : Option Start) (p : SessionView) → SessionInvariantFrom keeps o p → p.reorder_buffer.lines ≡ [] → IsIdle (core_state_of p.core)
   idle_of None p u none = absurd u
   idle_of (Some s) p u none =
       let k = gone s p p.stop u.reads in
       idle_again u.idle (subst (λ (l : List Line). ServingProgress keeps (start_machine s) (machine p) l s.input k.0 k.1 (known_unless p.output_failed s.before)
-      (known_unless p.output_failed (so_far p.sent p.out))) none (to_row k.2))
+      (known_unless p.output_failed (so_far p.sent p.reply_buffer))) none (to_reorder_buffer k.2))
 
   -- ---- steps
 
@@ -158,10 +159,10 @@ module _ (keeps : Type 0) where
           places = places ∙ u.places ∙ ap (λ (z : _). z.slots) (sym bench);
           knows = u.knows;
           reads = reads_on s p q (quiet_ticket k.passes) (still_failed k.passes)
-              (λ left drained h. record {
+              (λ unread drained h. record {
                 waiting = h.waiting;
                 are_completed = h.are_completed;
-                out_is = h.out_is;
+                reply_buffer_is = h.reply_buffer_is;
                 counted = h.counted;
                 bounded = h.bounded;
                 goes = quiet_goes_on k.passes h.goes;
@@ -169,12 +170,12 @@ module _ (keeps : Type 0) where
         })
 
     -- A message is answered, and its line in the reorder buffer is completed.
-    pub on_answer : (core : CoreView) (row : ReorderBufferView) (ticket : ℕ) (reply : Reply)
+    pub on_answer : (core : CoreView) (reorder_buffer : ReorderBufferView) (ticket : ℕ) (reply : Reply)
         → Holds (with_lent core p.dispatch_seat.lent) × RunsBetween keeps (machine p) (with_lent core p.dispatch_seat.lent) [] ((ticket, reply) ∷ [])
-        → row.lines ≡ map (complete_one ticket reply) p.row.lines → row.slots ≡ p.row.slots
-        → SessionInvariantFrom keeps o (record p { core = core; row = row })
-    on_answer core row ticket reply k is slots =
-        let q : SessionView = record p { core = core; row = row } in
+        → reorder_buffer.lines ≡ map (complete_one ticket reply) p.reorder_buffer.lines → reorder_buffer.slots ≡ p.reorder_buffer.slots
+        → SessionInvariantFrom keeps o (record p { core = core; reorder_buffer = reorder_buffer })
+    on_answer core reorder_buffer ticket reply k is slots =
+        let q : SessionView = record p { core = core; reorder_buffer = reorder_buffer } in
         goes_to q (λ s u. record {
           idle = u.idle;
           none_in_doubt = u.none_in_doubt;
@@ -183,26 +184,27 @@ module _ (keeps : Type 0) where
           places = u.places;
           knows = u.knows;
           reads = reads_on s p q (quiet_ticket k.1) (still_failed k.1)
-              (λ left drained h. record {
+              (λ unread drained h. record {
                 waiting = h.waiting;
                 are_completed = h.are_completed;
-                out_is = h.out_is;
-                counted = let counted = h.counted in omega (arith, counted, ap length is, length-map p.row.lines (complete_one ticket reply));
+                reply_buffer_is = h.reply_buffer_is;
+                counted = let counted = h.counted in omega (arith, counted, ap length is, length-map p.reorder_buffer.lines (complete_one ticket reply));
                 bounded = let bounded = h.bounded in omega (arith, bounded, slots);
-                goes = subst (λ (l : List Line). ServingProgress keeps (start_machine s) (machine q) l s.input left drained (known_unless p.output_failed s.before)
+                goes = subst (λ (l : List Line). ServingProgress keeps (start_machine s) (machine q) l s.input unread drained (known_unless p.output_failed s.before)
                     (known_unless p.output_failed p.sent))
-                    (are_left ticket reply h.waiting p.row.lines h.are_completed ∙ ap (λ (l : List Line). h.waiting ++ l) (sym is))
+                    (are_left ticket reply h.waiting p.reorder_buffer.lines h.are_completed ∙ ap (λ (l : List Line). h.waiting ++ l) (sym is))
                     (answered_goes_on k.1 h.goes);
               }) p.stop u.reads;
         })
 
     -- The oldest line of the reorder buffer waits to be sent.
-    on_add_text : (row : ReorderBufferView) (out : List ℕ) → row.lines ≡ drop 1 p.row.lines → can_retire p.row.lines ≡ true
-        → out ≡ p.out ++ retired_text p.row.lines → row.slots ≡ p.row.slots → SessionInvariantFrom keeps o (record p { row = row; out = out })
-    on_add_text row out is next added slots =
-        let f = fronts p.row.lines row.lines is next in
+    on_add_text : (buffer : ReorderBufferView) (bytes : List ℕ) → buffer.lines ≡ drop 1 p.reorder_buffer.lines → can_retire p.reorder_buffer.lines ≡ true
+        → bytes ≡ p.reply_buffer ++ retired_text p.reorder_buffer.lines → buffer.slots ≡ p.reorder_buffer.slots
+        → SessionInvariantFrom keeps o (record p { reorder_buffer = buffer; reply_buffer = bytes })
+    on_add_text buffer bytes is next added slots =
+        let f = fronts p.reorder_buffer.lines buffer.lines is next in
         let one = f.line ∷ [] in
-        let q : SessionView = record p { row = row; out = out } in
+        let q : SessionView = record p { reorder_buffer = buffer; reply_buffer = bytes } in
         goes_to q (λ s u. record {
           idle = u.idle;
           none_in_doubt = u.none_in_doubt;
@@ -211,33 +213,34 @@ module _ (keeps : Type 0) where
           places = u.places;
           knows = u.knows;
           reads = reads_on s p q refl (λ x. x)
-              (λ left drained h. record {
+              (λ unread drained h. record {
                 waiting = h.waiting ++ one;
                 are_completed = all_join (λ line. is_completed line ≡ true) h.waiting one h.are_completed (f.answered, tt);
-                out_is = added ∙ ap (λ (l : List ℕ). l ++ retired_text p.row.lines) h.out_is
+                reply_buffer_is = added ∙ ap (λ (l : List ℕ). l ++ retired_text p.reorder_buffer.lines) h.reply_buffer_is
                     ∙ ap (λ (l : List ℕ). joined (map text h.waiting) ++ l) (f.retires ∙ sym (append-nil (text f.line))) ∙ sym (texts_both h.waiting one);
                 counted = let counted = h.counted in omega (arith, counted, ap length f.were, length-append h.waiting one);
                 bounded = let bounded = h.bounded in omega (arith, bounded, slots);
-                goes = subst (λ (l : List Line). ServingProgress keeps (start_machine s) (machine p) l s.input left drained (known_unless p.output_failed s.before)
+                goes = subst (λ (l : List Line). ServingProgress keeps (start_machine s) (machine p) l s.input unread drained (known_unless p.output_failed s.before)
                     (known_unless p.output_failed p.sent))
-                    (ap (λ (l : List Line). h.waiting ++ l) f.were ∙ sym (append_assoc h.waiting one row.lines)) h.goes;
+                    (ap (λ (l : List Line). h.waiting ++ l) f.were ∙ sym (append_assoc h.waiting one buffer.lines)) h.goes;
               }) p.stop u.reads;
         })
 
     -- So it does where it is completed, and else nothing moves.
-    pub on_retire_front : (row : ReorderBufferView) (out : List ℕ) (retired : Bool) → retired ≡ can_retire p.row.lines
-        → MatchBool retired (out ≡ p.out ++ retired_text p.row.lines) (out ≡ p.out) → MatchBool retired (row.lines ≡ drop 1 p.row.lines) (row ≡ p.row)
-        → row.slots ≡ p.row.slots → SessionInvariantFrom keeps o (record p { row = row; out = out })
-    on_retire_front row out true next added left slots = on_add_text row out left (sym next) added slots
-    on_retire_front row out false next added left slots =
-        subst (λ (r : ReorderBufferView). SessionInvariantFrom keeps o (record p { row = r; out = out })) (sym left)
-        (subst (λ (l : List ℕ). SessionInvariantFrom keeps o (record p { out = l })) (sym added) u)
+    pub on_retire_front : (buffer : ReorderBufferView) (bytes : List ℕ) (retired : Bool) → retired ≡ can_retire p.reorder_buffer.lines
+        → MatchBool retired (bytes ≡ p.reply_buffer ++ retired_text p.reorder_buffer.lines) (bytes ≡ p.reply_buffer)
+        → MatchBool retired (buffer.lines ≡ drop 1 p.reorder_buffer.lines) (buffer ≡ p.reorder_buffer) → buffer.slots ≡ p.reorder_buffer.slots
+        → SessionInvariantFrom keeps o (record p { reorder_buffer = buffer; reply_buffer = bytes })
+    on_retire_front buffer bytes true next added dropped slots = on_add_text buffer bytes dropped (sym next) added slots
+    on_retire_front buffer bytes false next added dropped slots =
+        subst (λ (r : ReorderBufferView). SessionInvariantFrom keeps o (record p { reorder_buffer = r; reply_buffer = bytes })) (sym dropped)
+        (subst (λ (l : List ℕ). SessionInvariantFrom keeps o (record p { reply_buffer = l })) (sym added) u)
 
     -- All that waits is sent.
-    pub on_send : (out : List ℕ) (sent : Option (List ℕ)) (n : ℕ) → out ≡ [] → Appends p.sent sent p.out → n ≡ length p.row.lines
-        → SessionInvariantFrom keeps o (record p { out = out; sent = sent; outstanding = n })
-    on_send out sent n none appends are =
-        let q : SessionView = record p { out = out; sent = sent; outstanding = n } in
+    pub on_send : (reply_buffer : List ℕ) (sent : Option (List ℕ)) (n : ℕ) → reply_buffer ≡ [] → Appends p.sent sent p.reply_buffer → n ≡ length p.reorder_buffer.lines
+        → SessionInvariantFrom keeps o (record p { reply_buffer = reply_buffer; sent = sent; outstanding = n })
+    on_send reply_buffer sent n none appends are =
+        let q : SessionView = record p { reply_buffer = reply_buffer; sent = sent; outstanding = n } in
         goes_to q (λ s u. record {
           idle = u.idle;
           none_in_doubt = u.none_in_doubt;
@@ -246,10 +249,10 @@ module _ (keeps : Type 0) where
           places = u.places;
           knows = u.knows;
           reads = reads_on s p q refl (λ x. x)
-              (λ left drained h. record {
+              (λ unread drained h. record {
                 waiting = [];
                 are_completed = tt;
-                out_is = none;
+                reply_buffer_is = none;
                 counted = omega (arith, are);
                 bounded = let counted = h.counted in
                     let bounded = h.bounded in
@@ -258,7 +261,7 @@ module _ (keeps : Type 0) where
                   sent_lines = h.waiting;
                   were = refl;
                   are_completed = h.are_completed;
-                  output = subst (λ (l : List ℕ). Appends p.sent sent l) h.out_is appends;
+                  output = subst (λ (l : List ℕ). Appends p.sent sent l) h.reply_buffer_is appends;
                 })) h.goes;
               }) p.stop u.reads;
         })
@@ -275,10 +278,10 @@ module _ (keeps : Type 0) where
           places = u.places;
           knows = u.knows;
           reads = reads_on s p q refl (λ x. x)
-              (λ left drained h. record {
+              (λ unread drained h. record {
                 waiting = h.waiting;
                 are_completed = h.are_completed;
-                out_is = h.out_is;
+                reply_buffer_is = h.reply_buffer_is;
                 counted = h.counted;
                 bounded = h.bounded;
                 goes = forgets h.goes;
@@ -287,42 +290,42 @@ module _ (keeps : Type 0) where
 
   -- What waits may be sent, where the core is as it always is.
   pub may_send : (o : Option Start) (p : SessionView) → SessionInvariantFrom keeps o p → p.output_failed ≡ false → (p.core.failed ≡ false → p.core.doubt ≡ [])
-      → (keeps → RecoversNow p.core) → MaySend keeps o p.sent p.core p.out
-  may_send None p u whole none recovers = absurd u
-  may_send (Some s) p u whole none recovers =
+      → (keeps → RecoversNow p.core) → MaySend keeps o p.sent p.core p.reply_buffer
+  may_send None p u output_works none recovers = absurd u
+  may_send (Some s) p u output_works none recovers =
       let k = gone s p p.stop u.reads in
       let h = k.2 in
       record {
         idle = u.idle;
         none_in_doubt = u.none_in_doubt;
         next = h.waiting;
-        row = p.row.lines;
+        rest = p.reorder_buffer.lines;
         served = has_served keeps (start_machine s) (machine p) u.idle none recovers
-            (subst (λ (b : Bool). ServingProgress keeps (start_machine s) (machine p) (h.waiting ++ p.row.lines) s.input k.0 k.1 (known_unless b s.before)
-            (known_unless b p.sent)) whole h.goes);
+            (subst (λ (b : Bool). ServingProgress keeps (start_machine s) (machine p) (h.waiting ++ p.reorder_buffer.lines) s.input k.0 k.1 (known_unless b s.before)
+            (known_unless b p.sent)) output_works h.goes);
         are_completed = h.are_completed;
-        bytes_are = h.out_is;
+        bytes_are = h.reply_buffer_is;
       }
 
   -- ---- lines that are read
 
   -- From a place where it reads, to what was read: how the start sees it.
-  pub reading : (s : Start) (p : SessionView) → p.stop ≡ None → SessionInvariant keeps s p → SessionProgress keeps s p p.left p.drained
+  pub reading : (s : Start) (p : SessionView) → p.stop ≡ None → SessionInvariant keeps s p → SessionProgress keeps s p p.unread p.drained
   reading s p is u = subst (λ (o : Option ReadEnd). ReadsOrHasEnded keeps s p o) is u.reads
 
-  module _ (p : SessionView) (core : CoreView) (row : ReorderBufferView) (n : ℕ) (left : Option (List ℕ)) (drained ended : Bool)
-      (behind : Option (List ℕ)) (none : p.stop ≡ None) (slots : row.slots ≡ p.row.slots)
-      (more : n + length p.row.lines ≡ p.outstanding + length row.lines) (few : n ≤ p.row.slots) (knows : IsTrue ended → IsAtEnd behind) where
+  module _ (p : SessionView) (core : CoreView) (reorder_buffer : ReorderBufferView) (n : ℕ) (unread : Option (List ℕ)) (drained ended : Bool)
+      (remaining : Option (List ℕ)) (none : p.stop ≡ None) (slots : reorder_buffer.slots ≡ p.reorder_buffer.slots)
+      (more : n + length p.reorder_buffer.lines ≡ p.outstanding + length reorder_buffer.lines) (few : n ≤ p.reorder_buffer.slots) (knows : IsTrue ended → IsAtEnd remaining) where
     abbrev next : SessionView
-    next = record p { core = core; row = row; outstanding = n; left = left; drained = drained; ended = ended; behind = behind }
+    next = record p { core = core; reorder_buffer = reorder_buffer; outstanding = n; unread = unread; drained = drained; ended = ended; remaining = remaining }
 
-    counted_next : (waiting : List Line) → p.outstanding ≡ length waiting + length p.row.lines → n ≡ length waiting + length row.lines
+    counted_next : (waiting : List Line) → p.outstanding ≡ length waiting + length p.reorder_buffer.lines → n ≡ length waiting + length reorder_buffer.lines
     counted_next waiting counted = omega (arith, counted, more)
 
-    bounded_next : n ≤ row.slots
+    bounded_next : n ≤ reorder_buffer.slots
     bounded_next = omega (arith, few, slots)
 
-    reads_next : (s : Start) → SessionInvariant keeps s p → Holds (machine next) → SessionProgress keeps s next left drained → SessionInvariant keeps s next
+    reads_next : (s : Start) → SessionInvariant keeps s p → Holds (machine next) → SessionProgress keeps s next unread drained → SessionInvariant keeps s next
     reads_next s u holds gone = record {
       idle = u.idle;
       none_in_doubt = u.none_in_doubt;
@@ -333,13 +336,13 @@ module _ (keeps : Type 0) where
       reads = subst (λ (x : Option ReadEnd). ReadsOrHasEnded keeps s next x) (sym none) gone;
     }
 
-    module _ (known : Line) (pushed : row.lines ≡ p.row.lines ++ known ∷ []) (going : p.drained ≡ false) (closes : IsClosed p.left drained) where
-      at_end : (waiting : List Line) → (waiting ++ p.row.lines) ++ known ∷ [] ≡ waiting ++ row.lines
-      at_end waiting = append_assoc waiting p.row.lines (known ∷ []) ∙ ap (λ (l : List Line). waiting ++ l) (sym pushed)
+    module _ (known : Line) (pushed : reorder_buffer.lines ≡ p.reorder_buffer.lines ++ known ∷ []) (going : p.drained ≡ false) (closes : IsClosed p.unread drained) where
+      at_end : (waiting : List Line) → (waiting ++ p.reorder_buffer.lines) ++ known ∷ [] ≡ waiting ++ reorder_buffer.lines
+      at_end waiting = append_assoc waiting p.reorder_buffer.lines (known ∷ []) ∙ ap (λ (l : List Line). waiting ++ l) (sym pushed)
 
       -- A line is read.
       pub on_line : (o : Option Start) (line : List ℕ) → SessionInvariantFrom keeps o p → IsTaken keeps (machine p) (machine next) (message_of line) known
-          → IfSome p.left (λ bs. GivesLine line bs left) → SessionInvariantFrom keeps o next
+          → IfSome p.unread (λ bs. GivesLine line bs unread) → SessionInvariantFrom keeps o next
       on_line None line u t found = absurd u
       on_line (Some s) line u t found =
           let h = reading s p none u in
@@ -347,17 +350,17 @@ module _ (keeps : Type 0) where
           reads_next s u t.holds (record {
             waiting = h.waiting;
             are_completed = h.are_completed;
-            out_is = h.out_is;
+            reply_buffer_is = h.reply_buffer_is;
             counted = counted_next h.waiting h.counted;
             bounded = bounded_next;
-            goes = subst (λ (l : List Line). ServingProgress keeps (start_machine s) (machine next) l s.input left drained (known_unless p.output_failed s.before) sent)
+            goes = subst (λ (l : List Line). ServingProgress keeps (start_machine s) (machine next) l s.input unread drained (known_unless p.output_failed s.before) sent)
                 (at_end h.waiting)
                 (line_goes_on u.idle going closes line t found h.goes);
           })
 
       -- One that is too long is read.
       pub on_long_line : (o : Option Start) → SessionInvariantFrom keeps o p → IsTaken keeps (machine p) (machine next) None known
-          → IfSome p.left (λ bs. PassesLine bs left) → SessionInvariantFrom keeps o next
+          → IfSome p.unread (λ bs. PassesLine bs unread) → SessionInvariantFrom keeps o next
       on_long_line None u t found = absurd u
       on_long_line (Some s) u t found =
           let h = reading s p none u in
@@ -365,17 +368,17 @@ module _ (keeps : Type 0) where
           reads_next s u t.holds (record {
             waiting = h.waiting;
             are_completed = h.are_completed;
-            out_is = h.out_is;
+            reply_buffer_is = h.reply_buffer_is;
             counted = counted_next h.waiting h.counted;
             bounded = bounded_next;
-            goes = subst (λ (l : List Line). ServingProgress keeps (start_machine s) (machine next) l s.input left drained (known_unless p.output_failed s.before) sent)
+            goes = subst (λ (l : List Line). ServingProgress keeps (start_machine s) (machine next) l s.input unread drained (known_unless p.output_failed s.before) sent)
                 (at_end h.waiting)
                 (long_line_goes_on u.idle going closes t found h.goes);
           })
 
     -- No more is read for this reason.
-    pub on_stop : (o : Option Start) (stop : ReadEnd) → SessionInvariantFrom keeps o p → IsInternal keeps (machine p) (machine next) → row.lines ≡ p.row.lines
-        → IsReadEnd p.core.geometry core p.left p.drained behind stop → SessionInvariantFrom keeps o (record next { stop = Some stop })
+    pub on_stop : (o : Option Start) (stop : ReadEnd) → SessionInvariantFrom keeps o p → IsInternal keeps (machine p) (machine next) → reorder_buffer.lines ≡ p.reorder_buffer.lines
+        → IsReadEnd p.core.geometry core p.unread p.drained remaining stop → SessionInvariantFrom keeps o (record next { stop = Some stop })
     on_stop None stop u k same why = absurd u
     on_stop (Some s) stop u k same why =
         let h = reading s p none u in
@@ -388,29 +391,29 @@ module _ (keeps : Type 0) where
           places = u.places;
           knows = knows;
           reads = record {
-            left = p.left;
+            unread = p.unread;
             drained = p.drained;
             gone = record {
               waiting = h.waiting;
               are_completed = h.are_completed;
-              out_is = h.out_is;
+              reply_buffer_is = h.reply_buffer_is;
               counted = counted_next h.waiting h.counted;
               bounded = bounded_next;
-              goes = subst (λ (l : List Line). ServingProgress keeps (start_machine s) (machine next) l s.input p.left p.drained (known_unless p.output_failed s.before) sent)
+              goes = subst (λ (l : List Line). ServingProgress keeps (start_machine s) (machine next) l s.input p.unread p.drained (known_unless p.output_failed s.before) sent)
                   (ap (λ (l : List Line). h.waiting ++ l) (sym same)) (quiet_goes_on k.passes h.goes);
             };
-            why = subst (λ (y : Geometry). IsReadEnd y core p.left p.drained behind stop) h.goes.serving.passes.geometry why;
+            why = subst (λ (y : Geometry). IsReadEnd y core p.unread p.drained remaining stop) h.goes.serving.passes.geometry why;
           };
         }
 
-  -- The next ticket is behind those of the reorder buffer.
+  -- The next ticket comes after those of the reorder buffer.
   pub follows : (o : Option Start) (p : SessionView) → p.stop ≡ None → SessionInvariantFrom keeps o p
-      → AreConsecutive (with_tickets p.row.lines ++ Pending p.core.next ∷ [])
+      → AreConsecutive (with_tickets p.reorder_buffer.lines ++ Pending p.core.next ∷ [])
   follows None p none u = absurd u
-  follows (Some s) p none u = next_follows (to_row (reading s p none u)).serving
+  follows (Some s) p none u = next_follows (to_reorder_buffer (reading s p none u)).serving
 
   -- Where fewer lines are outstanding than there are slots, the reorder buffer has room for a further one.
-  pub has_place : (o : Option Start) (p : SessionView) → SessionInvariantFrom keeps o p → p.outstanding < p.row.slots → length p.row.lines < p.row.slots
+  pub has_place : (o : Option Start) (p : SessionView) → SessionInvariantFrom keeps o p → p.outstanding < p.reorder_buffer.slots → length p.reorder_buffer.lines < p.reorder_buffer.slots
   has_place None p u room = absurd u
   has_place (Some s) p u room =
       let k = gone s p p.stop u.reads in
@@ -418,12 +421,12 @@ module _ (keeps : Type 0) where
       omega (arith, counted, room)
 
   -- Where the reorder buffer has room for a line, its message isn't refused for want of a slot.
-  pub has_slot : (o : Option Start) (p : SessionView) (m : Msg) → p.stop ≡ None → SessionInvariantFrom keeps o p → length p.row.lines < p.row.slots
+  pub has_slot : (o : Option Start) (p : SessionView) (m : Msg) → p.stop ≡ None → SessionInvariantFrom keeps o p → length p.reorder_buffer.lines < p.reorder_buffer.slots
       → (arrive p.core.geometry (core_state_of p.core) m).0 ≢ ArriveRefused arrivals.Full
   has_slot None p m none u room = absurd u
   has_slot (Some s) p m none u room =
       let fits = u.fits in
-      finds_a_slot m u.idle (to_row (reading s p none u)) (omega (arith, room, fits))
+      finds_a_slot m u.idle (to_reorder_buffer (reading s p none u)) (omega (arith, room, fits))
 
 -- ---- where it begins
 

@@ -84,12 +84,12 @@ module _ (keeps : Type 0) (start : MachineView) (new : CoreView) (input : Option
   -- And in the end all that was logged.
   pub holds_all : keeps → (c : List ℕ) → IsCrashImage new.medium c
       → HoldsLog g (committed_in start.core) (ticketed start.core.next (admitted g taken)) (logged_messages w events) c
-  holds_all kept c left =
+  holds_all kept c leaves =
       let n = length stages in
       let at_end : device_after start.core.medium (take n stages) ≡ new.medium =
       ap (λ (ss : List Stage). device_after start.core.medium ss) (take_all n stages (omega arith)) ∙ r.device in
       let since : left_since new.medium (moment (device_after start.core.medium (take n stages))) c =
-      subst (λ (m : Medium). left_since new.medium (moment m) c) (sym at_end) (counts_now new.medium (moment new.medium) c (omega arith) left) in
+      subst (λ (m : Medium). left_since new.medium (moment m) c) (sym at_end) (counts_now new.medium (moment new.medium) c (omega arith) leaves) in
       let long : length events ≤ n = omega (arith, length-map stages (λ (s : Stage). s.event)) in
       subst (λ (es : List Event). HoldsLog g (committed_in start.core) (ticketed start.core.next (admitted g taken)) (logged_messages w es) c) (take_all n events long)
       (holds_logged kept n c (omega arith) since)
@@ -113,14 +113,14 @@ module _ (g : Geometry) (replies : List (ℕ × Reply)) (log : List Replied) (wh
       let its = among (n, m) (subst (λ (ms : List Msg). IsIn (n, m) (ticketed n ms)) (sym asks) (inl refl)) in
       inr (k.0, (reply, refl, logged n m reply its (subst (λ (t' : ℕ). Contains replies (t', reply)) k.1 k.2)))
 
-  are_kept : (n : ℕ) (ls : List (List ℕ)) (sent_lines row : List Line) → ((e : Entry) → IsIn e (ticketed n (admitted g ls)) → IsIn e whole)
-      → AreKnown g replies n ls (sent_lines ++ row) → AllByRecursion (λ line. is_completed line ≡ true) sent_lines → AreInLog g log n ls (map text sent_lines)
-  are_kept n ls [] row among k all = tt
-  are_kept n [] (line ∷ sent_lines) row among k all = absurd k
-  are_kept n (l ∷ ls) (line ∷ sent_lines) row among k all =
+  are_kept : (n : ℕ) (ls : List (List ℕ)) (sent_lines unsent : List Line) → ((e : Entry) → IsIn e (ticketed n (admitted g ls)) → IsIn e whole)
+      → AreKnown g replies n ls (sent_lines ++ unsent) → AllByRecursion (λ line. is_completed line ≡ true) sent_lines → AreInLog g log n ls (map text sent_lines)
+  are_kept n ls [] unsent among k all = tt
+  are_kept n [] (line ∷ sent_lines) unsent among k all = absurd k
+  are_kept n (l ∷ ls) (line ∷ sent_lines) unsent among k all =
       let ms = admitted_in g (message_of l) in (
         one_kept n (message_of l) ls line among k.0 all.0,
-        are_kept (next_ticket n ms) ls sent_lines row
+        are_kept (next_ticket n ms) ls sent_lines unsent
             (λ e is. among e (subst (IsIn e) (sym (ticketed-append n ms (admitted g ls))) (in_right e (ticketed n ms) (ticketed (next_ticket n ms) (admitted g ls)) is)))
             k.1 all.1,
       )
@@ -132,8 +132,8 @@ said_of (a ∷ as') p is = ⊎_elim
     (λ (e : p ≡ (a.0, a.2)). (a.1, inl (λ i. ((e i).0, a.1, (e i).1))))
     (λ later. let h = said_of as' p later in (h.0, inr h.1)) is
 
-module _ (keeps : Type 0) (start : MachineView) (new : CoreView) (row : List Line) (input before written : Option (List ℕ))
-    (idle : IsIdle (core_state_of start.core)) (h : HasServed keeps start new row input before written) where
+module _ (keeps : Type 0) (start : MachineView) (new : CoreView) (unsent : List Line) (input before written : Option (List ℕ))
+    (idle : IsIdle (core_state_of start.core)) (h : HasServed keeps start new unsent input before written) where
   abbrev run_log : List Replied
   run_log = logged_messages (machine_of start) (events_of h.stages)
 
@@ -161,4 +161,4 @@ module _ (keeps : Type 0) (start : MachineView) (new : CoreView) (row : List Lin
   -- Each line that was written is kept in the log of the run.
   pub written_are_kept : AreInLog start.core.geometry run_log start.core.next h.taken (map text h.sent_lines)
   written_are_kept = are_kept start.core.geometry (answered (events_of h.stages)) run_log
-      (ticketed start.core.next (admitted start.core.geometry h.taken)) was_logged start.core.next h.taken h.sent_lines row (λ e is. is) h.known h.are_completed
+      (ticketed start.core.next (admitted start.core.geometry h.taken)) was_logged start.core.next h.taken h.sent_lines unsent (λ e is. is) h.known h.are_completed

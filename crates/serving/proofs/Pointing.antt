@@ -34,13 +34,13 @@ refused_so old new why made points.Unfinished h failed = ap (λ (w : CoreState).
 
 -- ---- what a session makes of an answer of the core
 
-pub halts_so : (answer : Result (Unit {0}) PointRefusal) (result : Result (Unit {0}) Halted) (same whole failed : Type 0)
+pub halts_so : (answer : Result (Unit {0}) PointRefusal) (result : Result (Unit {0}) Halted) (same output_works failed : Type 0)
     → MatchResult answer (λ x. result ≡ Ok x) (λ _. OnOk result ⊥) → same → OnErr answer failed
-    → MatchResult result (λ _. same) (λ _. whole → failed)
-halts_so (Ok x) (Ok y) same whole failed is h f = h
-halts_so (Ok x) (Err y) same whole failed is h f = let o : ◌≡◌ {A = Result (Unit {0}) Halted} (Err y) (Ok x) = is in cc
-halts_so (Err e) (Ok x) same whole failed is h f = absurd is
-halts_so (Err e) (Err y) same whole failed is h f = λ _. f
+    → MatchResult result (λ _. same) (λ _. output_works → failed)
+halts_so (Ok x) (Ok y) same output_works failed is h f = h
+halts_so (Ok x) (Err y) same output_works failed is h f = let o : ◌≡◌ {A = Result (Unit {0}) Halted} (Err y) (Ok x) = is in cc
+halts_so (Err e) (Ok x) same output_works failed is h f = absurd is
+halts_so (Err e) (Err y) same output_works failed is h f = λ _. f
 
 -- ---- where a point is to begin and none is in progress
 
@@ -86,11 +86,11 @@ module _ (old : CoreState) (left : old.left ≡ None) (new : CoreState) (made : 
   none_waits none_held false e = none-some points.Held (none_rests none_held ∙ e)
 
   -- So a session halts only where the device has failed, and else it has begun, where none is held.
-  pub halts : {same : Type 0} (whole : Type 0) (cut : Result (Unit {0}) PointRefusal) (result : Result (Unit {0}) Halted)
-      → IsPointStep old new (point_refusal old) made cut → BeginsOrWaits cut result → same → MatchResult result (λ _. same) (λ _. whole → new.failed ≡ true)
-  halts whole cut (Ok x) h b s = s
-  halts whole (Ok x) (Err y) h b s = absurd b
-  halts whole (Err why) (Err y) h b s = λ _. begins_or_fails why b h
+  pub halts : {same : Type 0} (output_works : Type 0) (cut : Result (Unit {0}) PointRefusal) (result : Result (Unit {0}) Halted)
+      → IsPointStep old new (point_refusal old) made cut → BeginsOrWaits cut result → same → MatchResult result (λ _. same) (λ _. output_works → new.failed ≡ true)
+  halts output_works cut (Ok x) h b s = s
+  halts output_works (Ok x) (Err y) h b s = absurd b
+  halts output_works (Err why) (Err y) h b s = λ _. begins_or_fails why b h
 
   pub begins : {begun : Type 0} → (made → begun) → (cut : Result (Unit {0}) PointRefusal) (result : Result (Unit {0}) Halted)
       → IsPointStep old new (point_refusal old) made cut → BeginsOrWaits cut result → OnOk result (held new ≡ [] → begun)

@@ -20,38 +20,38 @@ use Rattle.serving.proofs.Starting.{starts}
 
 -- ---- the run
 
-all_taken : (input left : Option (List ℕ)) (ended : Bool) (taken : List (List ℕ)) → TakesLines input left ended taken → IsAtEnd left → AreAll input taken
-all_taken None left ended taken t at_end = tt
+all_taken : (input unread : Option (List ℕ)) (ended : Bool) (taken : List (List ℕ)) → TakesLines input unread ended taken → IsAtEnd unread → AreAll input taken
+all_taken None unread ended taken t at_end = tt
 all_taken (Some input) None ended taken t at_end = absurd (none-some t.0 t.1)
 all_taken (Some input) (Some bs) ended taken t at_end =
     let none : t.0 ≡ [] = sym (same_Some bs t.0 t.1) ∙ at_end in
     t.2.to_come ∙ ap (λ l. taken ++ lines l) none ∙ append-nil taken
 
 -- where the core at the end is as it always is
-module _ {keeps : Type 0} {start now : MachineView} (idle : IsIdle (core_state_of start.core)) {input left : Option (List ℕ)} {ended : Bool}
+module _ {keeps : Type 0} {start now : MachineView} (idle : IsIdle (core_state_of start.core)) {input unread : Option (List ℕ)} {ended : Bool}
     {before written : Option (List ℕ)} (no_doubt : now.core.failed ≡ false → now.core.doubt ≡ []) (recovers : keeps → RecoversNow now.core) where
-  pub runs_whole : ServingProgress keeps start now [] input left ended before written → IsAtEnd left
+  pub runs_whole : ServingProgress keeps start now [] input unread ended before written → IsAtEnd unread
       → HasRunSo keeps start now.core input before written (Ok tt)
   unfolding has_served
   runs_whole h at_end = record {
     served = has_served keeps start now idle no_doubt recovers h;
-    all = all_taken input left ended h.taken h.takes at_end;
+    all = all_taken input unread ended h.taken h.takes at_end;
   }
 
-  pub runs_to_read : ServingProgress keeps start now [] input left ended before written
+  pub runs_to_read : ServingProgress keeps start now [] input unread ended before written
       → HasRunSo keeps start now.core input before written (Err faults.Read)
   runs_to_read h = has_served keeps start now idle no_doubt recovers h
 
-  pub runs_to_last_ticket : ServingProgress keeps start now [] input left ended before written
+  pub runs_to_last_ticket : ServingProgress keeps start now [] input unread ended before written
       → HasRunSo keeps start now.core input before written (Err faults.Exhausted)
   runs_to_last_ticket h = has_served keeps start now idle no_doubt recovers h
 
-  pub runs_to_device : {row : List Line} → ServingProgress keeps start now row input left ended before written → can_retire row ≡ false
+  pub runs_to_device : {unsent : List Line} → ServingProgress keeps start now unsent input unread ended before written → can_retire unsent ≡ false
       → HasRunSo keeps start now.core input before written (Err faults.Device)
-  runs_to_device {row} h last = (row, has_served keeps start now idle no_doubt recovers h, last)
+  runs_to_device {unsent} h last = (unsent, has_served keeps start now idle no_doubt recovers h, last)
 
   -- whatever was written since
-  pub runs_to_write : {row : List Line} (torn : Option (List ℕ)) → ServingProgress keeps start now row input left ended before written
+  pub runs_to_write : {unsent : List Line} (torn : Option (List ℕ)) → ServingProgress keeps start now unsent input unread ended before written
       → HasRunSo keeps start now.core input before torn (Err faults.Write)
   runs_to_write torn h = let s = has_served keeps start now idle no_doubt recovers h in (s.taken, s.stages, s.run)
 

@@ -1,4 +1,4 @@
--- What a device holds of a service, in words of lines: those that were acknowledged, and a part of the lines behind them.
+-- What a device holds of a service, in words of lines: those that were acknowledged, and a part of the lines after them.
 use Rattle.std.proofs.Common.{◌≡◌, ◌⊎◌, ℕ, ◌+◌, ◌<◌, ◌≤◌, Bool, true, false, List, [], ◌∷◌, ◌++◌, Option, Some, None, refl, ap, sym, ◌∙◌, subst, inl, inr, ⊎_elim, arith, append_assoc}
 use Rattle.std.specs.Prelude.{◌&&◌, if◌then◌else◌}
 use Rattle.std.specs.Io.KnownBytes.{Appends}
@@ -38,11 +38,11 @@ all_from n k (m ∷ ms) le = (le, all_from n (k + 1) ms (omega (arith, le)))
 
 pub ascending : (n : ℕ) (ms : List Msg) → AreAscending (ticketed n ms)
 ascending n [] = tt
-ascending n (m ∷ ms) = (behind (ticketed (n + 1) ms) (all_from (n + 1) (n + 1) ms (omega arith)), ascending (n + 1) ms)
+ascending n (m ∷ ms) = (greater (ticketed (n + 1) ms) (all_from (n + 1) (n + 1) ms (omega arith)), ascending (n + 1) ms)
   where
-    behind : (es : List Entry) → AllByRecursion (λ e. n + 1 ≤ e.0) es → AllByRecursion (λ e. n < e.0) es
-    behind [] h = tt
-    behind (e ∷ es) h = (let le = h.0 in omega (arith, le), behind es h.1)
+    greater : (es : List Entry) → AllByRecursion (λ e. n + 1 ≤ e.0) es → AllByRecursion (λ e. n < e.0) es
+    greater [] h = tt
+    greater (e ∷ es) h = (let le = h.0 in omega (arith, le), greater es h.1)
 
 in_range : (g : Geometry) (m : Msg) → is_in_range g m ≡ true → admitted_in g (Some m) ≡ m ∷ []
 in_range g m h = ap (λ (b : Bool). if b then m ∷ [] else []) h
@@ -166,14 +166,14 @@ spells_part g n (line ∷ ls) es h =
 abbrev pub HaveSerialReplies : Geometry → State → ℕ → List Replied → List Entry → Type 0
 HaveSerialReplies g x n log es = (t : ℕ) (m : Msg) (reply : Reply) → IsIn (t, m, reply) log → (t < n) ⊎ IsIn (t, reply) (serial_replies g x es)
 
--- These lines answer the first of the others. The messages of the log are theirs, with a part of what is behind them.
+-- These lines answer the first of the lines. The messages of the log are theirs, with a part of the others.
 pub record AnswersFirst (g : Geometry) (x : State) (es : List Entry) (ls written : List (List ℕ)) : Type 0 where
   pub first : List (List ℕ)
-  pub behind : List (List ℕ)
-  pub parts : ls ≡ first ++ behind
+  pub others : List (List ℕ)
+  pub parts : ls ≡ first ++ others
   pub answers : written ≡ output_lines g x first
   pub part : List (List ℕ)
-  pub closed : IsClosedPart g part behind
+  pub closed : IsClosedPart g part others
   pub state : fold g x (messages es) ≡ state_after_lines g x (first ++ part)
 
 serial_from : (g : Geometry) (x : State) (n : ℕ) (es : List Entry) → AllByRecursion (λ e. n ≤ e.0) es → (p : ℕ × Reply)
@@ -223,7 +223,7 @@ ranges_too g m h = elim (is_in_range g m) as (λ b. (if b then m ∷ [] else [])
 some_is : (m k : Msg) → Some m ≡ Some k → m ≡ k
 some_is m k h = cc
 
--- The first message is given its own reply, and the replies to come are given behind it.
+-- The first message is given its own reply, and the replies to come are given after it.
 module _ (g : Geometry) (x : State) (n : ℕ) (m : Msg) (log : List Replied) (es : List Entry) (serial_all : HaveSerialReplies g x n log ((n, m) ∷ es)) where
   its_reply : AllByRecursion (λ e. n + 1 ≤ e.0) es → (k : Msg) (reply : Reply) → IsIn (n, k, reply) log → reply ≡ reply_to g x m
   its_reply h k reply is = ⊎_elim
@@ -244,14 +244,14 @@ module _ (g : Geometry) (log : List Replied) where
   none_answered : (x : State) (n : ℕ) (ls : List (List ℕ)) (es : List Entry) → HasNoGap g es (ticketed n (admitted g ls)) → AnswersFirst g x es ls []
   none_answered x n ls es h =
       let s = spells_part g n ls es h in
-      record { first = []; behind = ls; parts = refl; answers = refl; part = s.part; closed = s.closed; state = leads g x s.part es s.spell }
+      record { first = []; others = ls; parts = refl; answers = refl; part = s.part; closed = s.closed; state = leads g x s.part es s.spell }
 
   one_more : {x : State} {es fs : List Entry} {line : List ℕ} {ls : List (List ℕ)} {w : List ℕ} {written : List (List ℕ)}
       → w ≡ answer_line g x (message_of line) → fold g x (messages es) ≡ fold g (state_after_line g x (message_of line)) (messages fs)
       → AnswersFirst g (state_after_line g x (message_of line)) fs ls written → AnswersFirst g x es (line ∷ ls) (w ∷ written)
   one_more {line} retires goes rest = record {
     first = line ∷ rest.first;
-    behind = rest.behind;
+    others = rest.others;
     parts = ap (λ l. line ∷ l) rest.parts;
     answers = λ i. retires i ∷ rest.answers i;
     part = rest.part;
@@ -279,17 +279,17 @@ module _ (g : Geometry) (log : List Replied) where
         ⊎_elim
         (λ (j : (fs : List Entry) × (es ≡ (n, m) ∷ fs) × HasNoGap g fs (ticketed (n + 1) (admitted g ls))).
         let serial_here = subst (HaveSerialReplies g x n log) j.1 serial_all in
-        let behind = from_gap g (n + 1) j.0 (ticketed (n + 1) (admitted g ls)) late j.2 in
+        let greater = from_gap g (n + 1) j.0 (ticketed (n + 1) (admitted g ls)) late j.2 in
         let retires = kept_line g x log n (Some m) w k
-        (λ m' reply same in_range its. its_reply g x n m log j.0 serial_here behind m' reply its ∙ ap (reply_to g x) (some_is m m' same)) in
+        (λ m' reply same in_range its. its_reply g x n m log j.0 serial_here greater m' reply its ∙ ap (reply_to g x) (some_is m m' same)) in
         one_more (retires ∙ ap (answer_line g x) (sym is))
         (ap (λ l. fold g x (messages l)) j.1 ∙ ap (λ o. fold g (state_after_line g x o) (messages j.0)) (sym is))
         (subst (λ o. AnswersFirst g (state_after_line g x o) j.0 ls written) (sym is)
         (on (next_state g x m) (n + 1) j.0 j.2 (serial_on g x n m log j.0 serial_here) rest)))
         (λ (j : AllByRecursion (λ e. are_related_entries g (n, m) e ≡ false) es × HasNoGap g es (ticketed (n + 1) (admitted g ls))).
-        let behind = from_gap g (n + 1) es (ticketed (n + 1) (admitted g ls)) late j.1 in
+        let greater = from_gap g (n + 1) es (ticketed (n + 1) (admitted g ls)) late j.1 in
         ⊎_elim (λ (less : n < n). absurd (omega (arith, less)))
-        (λ here. let from : n + 1 ≤ n = serial_from g x (n + 1) es behind (n, its.0) here in absurd (omega (arith, from)))
+        (λ here. let from : n + 1 ≤ n = serial_from g x (n + 1) es greater (n, its.0) here in absurd (omega (arith, from)))
         (serial_all n m its.0 its.1)) h
 
   answers_first : (x : State) (n : ℕ) (ls written : List (List ℕ)) (es : List Entry) → HasNoGap g es (ticketed n (admitted g ls))
@@ -340,11 +340,11 @@ recovers_to {g} {x} {log} n taken written first kept h =
     (λ t m reply is. inr (sorted.tells (t, reply) (said_so whole t m reply (in_left (t, m, reply) log h.more is)))) kept in
     record {
       acknowledged = a.first;
-      behind = a.behind ++ first.0;
-      first = first.1 ∙ ap (λ l. l ++ first.0) a.parts ∙ append_assoc a.first a.behind first.0;
+      unacknowledged = a.others ++ first.0;
+      first = first.1 ∙ ap (λ l. l ++ first.0) a.parts ∙ append_assoc a.first a.others first.0;
       answers = ap joined a.answers;
       part = a.part;
-      closed = longer g a.part a.behind first.0 a.closed;
+      closed = longer g a.part a.others first.0 a.closed;
       state = sorted.state ∙ a.state;
     }
 
@@ -367,7 +367,7 @@ bytes_recover {g} {x} {input} {before} {written} {log} n taken answers first out
 pub none_written : (g : Geometry) (x : State) (input : List ℕ) → RecoversTo g x x input []
 none_written g x input = record {
   acknowledged = [];
-  behind = lines input;
+  unacknowledged = lines input;
   first = refl;
   answers = refl;
   part = [];

@@ -107,7 +107,7 @@ they_are_two_lines = refl
 more_may_be_there : RecoversTo small empty (after (make ∷ create ∷ [])) input []
 more_may_be_there = record {
   acknowledged = [];
-  behind = make ∷ create ∷ [];
+  unacknowledged = make ∷ create ∷ [];
   first = they_are_two_lines;
   answers = refl;
   part = make ∷ create ∷ [];
@@ -120,7 +120,7 @@ what_was_acknowledged_is_there : RecoversTo small empty (after (make ∷ [])) in
 unfolding message_of kind_named number_in_word
 what_was_acknowledged_is_there = record {
   acknowledged = make ∷ [];
-  behind = create ∷ [];
+  unacknowledged = create ∷ [];
   first = they_are_two_lines;
   answers = refl;
   part = [];
@@ -132,16 +132,16 @@ what_was_acknowledged_is_there = record {
 too_many : (a b c : List ℕ) (ls : List (List ℕ)) → a ∷ [] ≡ b ∷ c ∷ ls → ⊥
 too_many a b c ls same = cc
 
-it_is_there : (first behind part : List (List ℕ)) → make ∷ [] ≡ first ++ behind → codes "done\n" ≡ joined (output_lines small empty first)
-    → IsClosedPart small part behind → empty ≡ after (first ++ part) → ⊥
+it_is_there : (first unacknowledged part : List (List ℕ)) → make ∷ [] ≡ first ++ unacknowledged → codes "done\n" ≡ joined (output_lines small empty first)
+    → IsClosedPart small part unacknowledged → empty ≡ after (first ++ part) → ⊥
 unfolding message_of kind_named number_in_word
-it_is_there [] behind part is answers closed state = cc
+it_is_there [] unacknowledged part is answers closed state = cc
 it_is_there (line ∷ []) [] part is answers closed state =
     let same : line ≡ make = ap (λ ls. get_or ls 0 []) (sym is) in
     let goes : empty ≡ after (make ∷ []) = state ∙ ap (λ l. after (l ∷ part)) same ∙ ap (λ p. after (make ∷ p)) closed in
     true≢false (sym (ap (λ x. x.made (0, 0)) goes))
-it_is_there (line ∷ []) (b ∷ behind) part is answers closed state = too_many make line b behind is
-it_is_there (line ∷ k ∷ ls) behind part is answers closed state = too_many make line k (ls ++ behind) is
+it_is_there (line ∷ []) (b ∷ unacknowledged) part is answers closed state = too_many make line b unacknowledged is
+it_is_there (line ∷ k ∷ ls) unacknowledged part is answers closed state = too_many make line k (ls ++ unacknowledged) is
 
 what_was_acknowledged_is_not_missing : RecoversTo small empty empty (codes "makevol 0 0\n") (codes "done\n") → ⊥
-what_was_acknowledged_is_not_missing h = it_is_there h.acknowledged h.behind h.part h.first h.answers h.closed h.state
+what_was_acknowledged_is_not_missing h = it_is_there h.acknowledged h.unacknowledged h.part h.first h.answers h.closed h.state

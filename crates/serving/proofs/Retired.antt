@@ -4,9 +4,9 @@ use Rattle.std.proofs.lemmas.Bool.{true≢false}
 use Rattle.serving.specs.Lines.{Completed, Line, NoMessage, OutOfRange, Pending, is_completed, text}
 use Rattle.reorder_buffer.specs.ReorderBuffer.{can_retire, retired_text}
 
-pub one_less : (row rest : List Line) → rest ≡ drop 1 row → can_retire row ≡ true → length rest + 1 ≡ length row
+pub one_less : (lines rest : List Line) → rest ≡ drop 1 lines → can_retire lines ≡ true → length rest + 1 ≡ length lines
 one_less [] rest is next = absurd (true≢false (sym next))
-one_less (line ∷ row) rest is next = let same = ap (λ (l : List Line). length l) is in omega (arith, same)
+one_less (line ∷ lines) rest is next = let same = ap (λ (l : List Line). length l) is in omega (arith, same)
 
 silent_line : (line : Line) → is_completed line ≡ false → text line ≡ []
 silent_line NoMessage not = absurd (true≢false not)
@@ -15,6 +15,6 @@ silent_line (Pending ticket) not = refl
 silent_line (Completed ticket reply) not = absurd (true≢false not)
 
 -- Nothing is written where it isn't answered.
-pub silent : (row : List Line) → can_retire row ≡ false → retired_text row ≡ []
+pub silent : (lines : List Line) → can_retire lines ≡ false → retired_text lines ≡ []
 silent [] not = refl
-silent (line ∷ row) not = silent_line line not
+silent (line ∷ lines) not = silent_line line not

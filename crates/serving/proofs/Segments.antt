@@ -1,4 +1,4 @@
--- One step of a run, behind those before it.
+-- One step of a run, after those before it.
 use Rattle.std.proofs.Common.{◌≡◌, ℕ, Bool, List, [], ◌∷◌, ◌++◌, Result, Ok, Err, refl, ap, sym, ◌∙◌, subst, take, append-nil, false, true, ◌≤◌, ◌+◌, add-zero, zero, suc, arith, Option}
 use Rattle.std.specs.Prelude.{OnErr, drop, length, if◌then◌else◌}
 use Rattle.affinity.specs.declared.geometry.Geometry.{Geometry}
@@ -49,9 +49,9 @@ module _ {keeps : Type 0} {old new : MachineView} {step : Step} {outcome : Outco
   }
 
 -- A segment in which nothing arrives and nothing is answered leaves what is known of the lines.
-pub quiet_goes_on : {keeps : Type 0} {start old new : MachineView} {row : List Line} {input left : Option (List ℕ)} {ended : Bool}
-    {before written : Option (List ℕ)} → RunsBetween keeps old new [] [] → ServingProgress keeps start old row input left ended before written
-    → ServingProgress keeps start new row input left ended before written
+pub quiet_goes_on : {keeps : Type 0} {start old new : MachineView} {unsent : List Line} {input unread : Option (List ℕ)} {ended : Bool}
+    {before written : Option (List ℕ)} → RunsBetween keeps old new [] [] → ServingProgress keeps start old unsent input unread ended before written
+    → ServingProgress keeps start new unsent input unread ended before written
 quiet_goes_on {keeps} {start} {new} p h =
     let come = ticketed start.core.next (admitted start.core.geometry h.taken) in
     let s = h.serving in

@@ -82,7 +82,7 @@ module _ (g : Geometry) (replies : List (ℕ × Reply)) where
   abbrev pub HaveSerialReplies : State → ℕ → List Msg → Type 0
   HaveSerialReplies x n ms = (p : ℕ × Reply) → IsIn p replies → (p.0 < n) ⊎ IsIn p (serial_replies g x (ticketed n ms))
 
-  -- A line that is completed is answered as the serial server answers it, and the replies behind it go on.
+  -- A line that is completed is answered as the serial server answers it, and the replies after it go on.
   record IsServedBy (x : State) (n : ℕ) (ms : List Msg) (o : Option Msg) (known : Line) : Type 0 where
     retires : text known ≡ answer_line g x o
     tells : HaveSerialReplies (state_after_line g x o) (next_ticket n (admitted_in g o)) ms
@@ -134,9 +134,9 @@ module _ (g : Geometry) (replies : List (ℕ × Reply)) where
       }
 
   -- The lines that are completed are the first lines of the serial server.
-  module _ (more : List (List ℕ)) (row : List Line) where
+  module _ (more : List (List ℕ)) (unsent : List Line) where
     pub sent_lines_are_serial : (x : State) (n : ℕ) (ls : List (List ℕ)) (sent_lines : List Line) → HaveSerialReplies x n (admitted g ls)
-        → AreKnown g replies n ls (sent_lines ++ row) → AllByRecursion (λ line. is_completed line ≡ true) sent_lines
+        → AreKnown g replies n ls (sent_lines ++ unsent) → AllByRecursion (λ line. is_completed line ≡ true) sent_lines
         → map text sent_lines ≡ take (length sent_lines) (output_lines g x (ls ++ more))
     sent_lines_are_serial x n ls [] h k done = refl
     sent_lines_are_serial x n [] (known ∷ sent_lines) h k done = absurd k
@@ -146,11 +146,11 @@ module _ (g : Geometry) (replies : List (ℕ × Reply)) where
         let rest = sent_lines_are_serial (state_after_line g x o) (next_ticket n (admitted_in g o)) ls sent_lines one.tells k.1 done.1 in
         λ i. one.retires i ∷ rest i
 
-  pub as_many : (n : ℕ) (ls : List (List ℕ)) (row : List Line) → AreKnown g replies n ls row → length row ≡ length ls
+  pub as_many : (n : ℕ) (ls : List (List ℕ)) (lines : List Line) → AreKnown g replies n ls lines → length lines ≡ length ls
   as_many n [] [] k = refl
-  as_many n [] (known ∷ row) k = absurd k
+  as_many n [] (known ∷ lines) k = absurd k
   as_many n (l ∷ ls) [] k = absurd k
-  as_many n (l ∷ ls) (known ∷ row) k = ap suc (as_many (next_ticket n (admitted_in g (message_of l))) ls row k.1)
+  as_many n (l ∷ ls) (known ∷ lines) k = ap suc (as_many (next_ticket n (admitted_in g (message_of l))) ls lines k.1)
 
   -- Where none is left, they are all.
   pub all_said : (x : State) (n : ℕ) (ls : List (List ℕ)) (sent_lines : List Line) → HaveSerialReplies x n (admitted g ls)

@@ -47,7 +47,7 @@ module _ (keeps : Type 0) (start now : MachineView) (idle : IsIdle (core_state_o
 
   -- ---- of a run
 
-  module _ {taken : List (List ℕ)} {sent_lines row : List Line} (s : IsServing keeps start now taken sent_lines row) where
+  module _ {taken : List (List ℕ)} {sent_lines unsent : List Line} (s : IsServing keeps start now taken sent_lines unsent) where
     by_line : by_ticket (arrived (events_of s.passes.stages)) ≡ ticketed start.core.next (admitted g taken)
     by_line = arrived_by_ticket g (machine_of start) (events_of s.passes.stages) s.passes.legal ∙ s.passes.come_are
 
@@ -73,7 +73,7 @@ module _ (keeps : Type 0) (start now : MachineView) (idle : IsIdle (core_state_o
         ∙ asked_leads_there g x taken
 
     begins : (more : List (List ℕ)) → map text sent_lines ≡ take (length sent_lines) (output_lines g x (taken ++ more))
-    begins more = sent_lines_are_serial g s.reply_pairs more row x start.core.next taken sent_lines all_told s.known s.answered
+    begins more = sent_lines_are_serial g s.reply_pairs more unsent x start.core.next taken sent_lines all_told s.known s.answered
 
   -- all that was consumed is answered
   served : {taken : List (List ℕ)} {sent_lines : List Line} → IsServing keeps start now taken sent_lines [] → IsIdle (core_state_of now.core)
@@ -83,11 +83,11 @@ module _ (keeps : Type 0) (start now : MachineView) (idle : IsIdle (core_state_o
 
   -- ---- the ends
 
-  pub ends_whole : {input left : Option (List ℕ)} {ended : Bool} {before written : Option (List ℕ)} → ServingProgress keeps start now [] input left ended before written
-      → now.core.failed ≡ false → IsAtEnd left → EndsSo start.core now.core input left before written (Ok tt)
+  pub ends_whole : {input unread : Option (List ℕ)} {ended : Bool} {before written : Option (List ℕ)} → ServingProgress keeps start now [] input unread ended before written
+      → now.core.failed ≡ false → IsAtEnd unread → EndsSo start.core now.core input unread before written (Ok tt)
   ends_whole {input = None} h works at_end = (idle_again idle h, works, at_end, tt)
-  ends_whole {input = Some input} {left = None} h works at_end = absurd (none-some h.takes.0 h.takes.1)
-  ends_whole {input = Some input} {left = Some bs} h works at_end =
+  ends_whole {input = Some input} {unread = None} h works at_end = absurd (none-some h.takes.0 h.takes.1)
+  ends_whole {input = Some input} {unread = Some bs} h works at_end =
       let ends = idle_again idle h in
       let rest = h.takes.0 in
       let none : rest ≡ [] = sym (same_Some bs rest h.takes.1) ∙ at_end in
@@ -102,11 +102,11 @@ module _ (keeps : Type 0) (start now : MachineView) (idle : IsIdle (core_state_o
         ),
       )
 
-  pub ends_at_read : {input left before written : Option (List ℕ)} (behind : Option (List ℕ)) → ServingProgress keeps start now [] input left false before written
-      → now.core.failed ≡ false → IfSome left (λ bs. LosesFront bs behind) → EndsSo start.core now.core input behind before written (Err faults.Read)
-  ends_at_read {input = None} behind h works lost = (idle_again idle h, works, tt)
-  ends_at_read {input = Some input} {left = None} behind h works lost = absurd (none-some h.takes.0 h.takes.1)
-  ends_at_read {input = Some input} {left = Some bs} behind h works lost =
+  pub ends_at_read : {input unread before written : Option (List ℕ)} (remaining : Option (List ℕ)) → ServingProgress keeps start now [] input unread false before written
+      → now.core.failed ≡ false → IfSome unread (λ bs. LosesFront bs remaining) → EndsSo start.core now.core input remaining before written (Err faults.Read)
+  ends_at_read {input = None} remaining h works lost = (idle_again idle h, works, tt)
+  ends_at_read {input = Some input} {unread = None} remaining h works lost = absurd (none-some h.takes.0 h.takes.1)
+  ends_at_read {input = Some input} {unread = Some bs} remaining h works lost =
       let ends = idle_again idle h in
       let t : AreTaken input h.takes.0 false h.taken = h.takes.2 in
       let parts : input ≡ with_newlines h.taken ++ lost.got ++ lost.rest =
@@ -114,7 +114,7 @@ module _ (keeps : Type 0) (start now : MachineView) (idle : IsIdle (core_state_o
       (λ whole. whole ∙ ap (λ z. with_newlines h.taken ++ z) (sym (same_Some bs h.takes.0 h.takes.1) ∙ lost.parts)
       ∙ sym (append_assoc (with_newlines h.taken) lost.got lost.rest)) t.whole in
       let k = served h.serving ends in
-      let output : AnswersWholeLines g x behind input (joined (map text h.sent_lines)) = record {
+      let output : AnswersWholeLines g x remaining input (joined (map text h.sent_lines)) = record {
         whole = h.taken;
         begun = lost.got;
         rest = lost.rest;
@@ -126,12 +126,12 @@ module _ (keeps : Type 0) (start now : MachineView) (idle : IsIdle (core_state_o
       } in
       (ends, works, (joined (map text h.sent_lines), h.output, record { output = output; state = k.state }))
 
-  pub ends_exhausted : {input left before written : Option (List ℕ)} {ended : Bool} (behind : Option (List ℕ))
-      → ServingProgress keeps start now [] input left ended before written → now.core.failed ≡ false
-      → IsReadEnd g now.core left ended behind ends_of_reading.TicketsExhausted → EndsSo start.core now.core input behind before written (Err faults.Exhausted)
-  ends_exhausted {input = None} behind h works why = (idle_again idle h, works, why.0, tt)
-  ends_exhausted {input = Some input} {left = None} behind h works why = absurd (none-some h.takes.0 h.takes.1)
-  ends_exhausted {input = Some input} {left = Some bs} behind h works why =
+  pub ends_exhausted : {input unread before written : Option (List ℕ)} {ended : Bool} (remaining : Option (List ℕ))
+      → ServingProgress keeps start now [] input unread ended before written → now.core.failed ≡ false
+      → IsReadEnd g now.core unread ended remaining ends_of_reading.TicketsExhausted → EndsSo start.core now.core input remaining before written (Err faults.Exhausted)
+  ends_exhausted {input = None} remaining h works why = (idle_again idle h, works, why.0, tt)
+  ends_exhausted {input = Some input} {unread = None} remaining h works why = absurd (none-some h.takes.0 h.takes.1)
+  ends_exhausted {input = Some input} {unread = Some bs} remaining h works why =
       let ends = idle_again idle h in
       let line = why.1.0 in
       let found = why.1.2.1 in
@@ -148,7 +148,7 @@ module _ (keeps : Type 0) (start now : MachineView) (idle : IsIdle (core_state_o
           record {
             before = h.taken;
             line = line;
-            behind = lines (behind_first_line bs);
+            after = lines (behind_first_line bs);
             parts = parts;
             message = why.1.1;
             is_message = why.1.3;
@@ -158,29 +158,29 @@ module _ (keeps : Type 0) (start now : MachineView) (idle : IsIdle (core_state_o
         ),
       )
 
-  pub ends_at_device : {row : List Line} {input left : Option (List ℕ)} {ended : Bool} {before written : Option (List ℕ)}
-      → ServingProgress keeps start now row input left ended before written → now.core.failed ≡ true → IsWoundUp now.core
-      → EndsSo start.core now.core input left before written (Err faults.Device)
+  pub ends_at_device : {unsent : List Line} {input unread : Option (List ℕ)} {ended : Bool} {before written : Option (List ℕ)}
+      → ServingProgress keeps start now unsent input unread ended before written → now.core.failed ≡ true → IsWoundUp now.core
+      → EndsSo start.core now.core input unread before written (Err faults.Device)
   ends_at_device {input = None} h failed wound_up = (failed, wound_up, tt)
   ends_at_device {input = Some input} h failed wound_up =
       let all = begins h.serving (lines h.takes.0)
       ∙ ap (λ ls. take (length h.sent_lines) (output_lines g x ls)) (sym h.takes.2.to_come) in
       (failed, wound_up, (joined (map text h.sent_lines), h.output, (length h.sent_lines, ap joined all)))
 
-  pub first_taken : (input left : Option (List ℕ)) (ended : Bool) (taken : List (List ℕ)) → TakesLines input left ended taken → AreFirst input taken
-  first_taken None left ended taken t = tt
-  first_taken (Some input) left ended taken t = (lines t.0, t.2.to_come)
+  pub first_taken : (input unread : Option (List ℕ)) (ended : Bool) (taken : List (List ℕ)) → TakesLines input unread ended taken → AreFirst input taken
+  first_taken None unread ended taken t = tt
+  first_taken (Some input) unread ended taken t = (lines t.0, t.2.to_come)
 
-  unfoldable pub has_served : {row : List Line} {input left : Option (List ℕ)} {ended : Bool} {before written : Option (List ℕ)}
+  unfoldable pub has_served : {unsent : List Line} {input unread : Option (List ℕ)} {ended : Bool} {before written : Option (List ℕ)}
       → (now.core.failed ≡ false → now.core.doubt ≡ []) → (keeps → RecoversNow now.core)
-      → ServingProgress keeps start now row input left ended before written → HasServed keeps start now.core row input before written
-  has_served {row} {input} {left} {ended} none recovers h =
+      → ServingProgress keeps start now unsent input unread ended before written → HasServed keeps start now.core unsent input before written
+  has_served {unsent} {input} {unread} {ended} none recovers h =
       let p = h.serving.passes in
       record {
         taken = h.taken;
         stages = p.stages;
         run = record {
-          first = first_taken input left ended h.taken h.takes;
+          first = first_taken input unread ended h.taken h.takes;
           legal = p.legal;
           hands = now.hands;
           ends = p.ends;
@@ -193,7 +193,7 @@ module _ (keeps : Type 0) (start now : MachineView) (idle : IsIdle (core_state_o
               (record { legal = p.legal; safe = p.any_moment kept; ends = p.ends; geometry = p.geometry; device = p.device }) sound none (recovers kept);
         };
         sent_lines = h.sent_lines;
-        known = subst (λ (l : List (ℕ × Reply)). AreKnown g l start.core.next h.taken (h.sent_lines ++ row)) (sym p.reply_pairs_are) h.serving.known;
+        known = subst (λ (l : List (ℕ × Reply)). AreKnown g l start.core.next h.taken (h.sent_lines ++ unsent)) (sym p.reply_pairs_are) h.serving.known;
         are_completed = h.serving.answered;
         output = h.output;
       }

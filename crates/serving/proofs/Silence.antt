@@ -40,14 +40,14 @@ one_silent g n o (Pending t) k a = absurd (true≢false (sym a.0))
 one_silent g n None (Completed t reply) k a = absurd k
 one_silent g n (Some m) (Completed t reply) k a = absurd (in_contained [] (t, reply) k.2)
 
-all_silent : (g : Geometry) (n : ℕ) (ls : List (List ℕ)) (sent_lines next row : List Line) → AreKnown g [] n ls (sent_lines ++ (next ++ row)) → AreCompleted next
+all_silent : (g : Geometry) (n : ℕ) (ls : List (List ℕ)) (sent_lines next rest : List Line) → AreKnown g [] n ls (sent_lines ++ (next ++ rest)) → AreCompleted next
     → AllByRecursion HasNoReply next
-all_silent g n ls [] [] row k a = tt
-all_silent g n [] [] (line ∷ next) row k a = absurd k
-all_silent g n (l ∷ ls) [] (line ∷ next) row k a =
-    (one_silent g n (message_of l) line k.0 (a.0, tt), all_silent g (next_ticket n (admitted_in g (message_of l))) ls [] next row k.1 a.1)
-all_silent g n [] (line ∷ sent_lines) next row k a = absurd k
-all_silent g n (l ∷ ls) (line ∷ sent_lines) next row k a = all_silent g (next_ticket n (admitted_in g (message_of l))) ls sent_lines next row k.1 a
+all_silent g n ls [] [] rest k a = tt
+all_silent g n [] [] (line ∷ next) rest k a = absurd k
+all_silent g n (l ∷ ls) [] (line ∷ next) rest k a =
+    (one_silent g n (message_of l) line k.0 (a.0, tt), all_silent g (next_ticket n (admitted_in g (message_of l))) ls [] next rest k.1 a.1)
+all_silent g n [] (line ∷ sent_lines) next rest k a = absurd k
+all_silent g n (l ∷ ls) (line ∷ sent_lines) next rest k a = all_silent g (next_ticket n (admitted_in g (message_of l))) ls sent_lines next rest k.1 a
 
 -- ---- the answers so far
 
@@ -72,8 +72,8 @@ module _ (keeps : Type 0) (s : Start) (sent : Option (List ℕ)) (now : CoreView
       no_items (answered events) (omega (arith, all_inside, first, count, at_end, next_at_end, next, tickets, many))
 
   pub is_silent : AllByRecursion HasNoReply m.next
-  is_silent = all_silent s.core.geometry s.core.next m.served.taken m.served.sent_lines m.next m.row
-      (subst (λ (l : List (ℕ × Reply)). AreKnown s.core.geometry l s.core.next m.served.taken (m.served.sent_lines ++ (m.next ++ m.row))) none_answered m.served.known)
+  is_silent = all_silent s.core.geometry s.core.next m.served.taken m.served.sent_lines m.next m.rest
+      (subst (λ (l : List (ℕ × Reply)). AreKnown s.core.geometry l s.core.next m.served.taken (m.served.sent_lines ++ (m.next ++ m.rest))) none_answered m.served.known)
       m.are_completed
 
 -- Each such line reports that it has none.

@@ -73,9 +73,9 @@ isnt_full g w m few = of w.failed (not (is_in_range g m)) (w.next == 2 ^ 64 - 1)
     of false false false false le e = cc
 
 -- Where fewer lines are in the reorder buffer than there are slots, a message finds one.
-pub finds_a_slot : {keeps : Type 0} {start now : MachineView} {row : List Line} {input left : Option (List ℕ)} {ended : Bool} {before written : Option (List ℕ)}
-    (m : Msg) → IsIdle (core_state_of start.core) → ServingProgress keeps start now row input left ended before written
-    → length row < start.core.slots → (arrive now.core.geometry (core_state_of now.core) m).0 ≢ outcomes.ArriveRefused arrivals.Full
+pub finds_a_slot : {keeps : Type 0} {start now : MachineView} {unsent : List Line} {input unread : Option (List ℕ)} {ended : Bool} {before written : Option (List ℕ)}
+    (m : Msg) → IsIdle (core_state_of start.core) → ServingProgress keeps start now unsent input unread ended before written
+    → length unsent < start.core.slots → (arrive now.core.geometry (core_state_of now.core) m).0 ≢ outcomes.ArriveRefused arrivals.Full
 finds_a_slot {now} m idle h few =
     let most = few_inside idle h in
     let same = passes_slots h.serving.passes in

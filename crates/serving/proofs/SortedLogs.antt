@@ -60,9 +60,9 @@ put_among Out e es (a ∷ all) h among = ⊎_elim
     elim (nat_lt e.0 a.0) as (λ b. nat_lt e.0 a.0 ≡ b → AreAmong Out (put e es) (if b then e ∷ a ∷ all else a ∷ put e all)) [
       | true ↦ λ less.
           let lt : e.0 < a.0 = ltb-true e.0 a.0 less in
-          let behind = all_weaker (λ d. a.0 ≤ d.0) (λ d. e.0 < d.0) (λ d le. omega (arith, lt, le)) es
+          let greater = all_weaker (λ d. a.0 ≤ d.0) (λ d. e.0 < d.0) (λ d le. omega (arith, lt, le)) es
           (all_among (λ d. a.0 ≤ d.0) Out es all h.0 k.1) in
-          inl (es, put_first e es behind, inr k)
+          inl (es, put_first e es greater, inr k)
       | false ↦ λ late. inr (k.0, put_among Out e es all h.1 k.1)
     ] refl) among
 
@@ -75,7 +75,7 @@ sorted_among Out (e ∷ es) rest out =
 
 -- ---- without a gap
 
--- They are some of all, in their order: where one is left out, so is each related one behind it.
+-- They are some of all, in their order: where one is left out, so is each related one after it.
 abbrev pub HasNoGap : Geometry → List Entry → List Entry → Type 0
 HasNoGap g es [] = es ≡ []
 HasNoGap g es (a ∷ all) = ((rest : List Entry) × (es ≡ a ∷ rest) × HasNoGap g rest all)
@@ -123,10 +123,10 @@ same_order [] (d ∷ ds) h k there back = absurd (back d (inl refl))
 same_order (e ∷ es) [] h k there back = absurd (there e (inl refl))
 same_order (e ∷ es) (d ∷ ds) h k there back =
     let same = same_head e d es ds h.0 k.0 (there e (inl refl)) (back d (inl refl)) in
-    let behind = subst (λ (c : Entry). AllByRecursion (λ f. c.0 < f.0) ds) (sym same) k.0 in
+    let greater = subst (λ (c : Entry). AllByRecursion (λ f. c.0 < f.0) ds) (sym same) k.0 in
     let rest = same_order es ds h.1 k.1
     (λ c is. in_rest e c es ds h.0 is (subst (λ (f : Entry). IsIn c (f ∷ ds)) (sym same) (there c (inr is))))
-    (λ c is. in_rest e c ds es behind is (back c (inr is))) in
+    (λ c is. in_rest e c ds es greater is (back c (inr is))) in
     λ i. same i ∷ rest i
 
 abbrev one_ticket : Entry → Entry → Bool

@@ -61,20 +61,20 @@ module _ (g : Geometry) (w : CoreState) (m : Msg) where
 -- ---- a line whose message is refused
 
 -- What was read gives this line.
-pub gives : (line : List ℕ) (left now_left : Option (List ℕ)) → IfSome left (λ bs. GivesLine line bs now_left)
-    → IfSome left (λ bs. (rest : Option (List ℕ)) × GivesLine line bs rest)
-gives line None now_left found = tt
-gives line (Some bs) now_left found = (now_left, found)
+pub gives : (line : List ℕ) (unread now_unread : Option (List ℕ)) → IfSome unread (λ bs. GivesLine line bs now_unread)
+    → IfSome unread (λ bs. (rest : Option (List ℕ)) × GivesLine line bs rest)
+gives line None now_unread found = tt
+gives line (Some bs) now_unread found = (now_unread, found)
 
 -- Where there is a slot for it, no more is read for the reason that this gives.
-pub stops_at_refusal : {keeps : Type 0} {old new : MachineView} {m : Msg} {why : ArriveRefusal} (left behind : Option (List ℕ)) (drained : Bool) (line : List ℕ)
-    → message_of line ≡ Some m → IfSome left (λ bs. (rest : Option (List ℕ)) × GivesLine line bs rest) → IsRefusedLine keeps old new m why
+pub stops_at_refusal : {keeps : Type 0} {old new : MachineView} {m : Msg} {why : ArriveRefusal} (unread remaining : Option (List ℕ)) (drained : Bool) (line : List ℕ)
+    → message_of line ≡ Some m → IfSome unread (λ bs. (rest : Option (List ℕ)) × GivesLine line bs rest) → IsRefusedLine keeps old new m why
     → ((arrive old.core.geometry (core_state_of old.core) m).0 ≢ outcomes.ArriveRefused arrivals.Full)
-    → IsReadEnd old.core.geometry new.core left drained behind (read_end_of why)
-stops_at_refusal {why = arrivals.Range} left behind drained line is found r fits = absurd (r.not_range refl)
-stops_at_refusal {why = arrivals.Full} left behind drained line is found r fits = absurd (fits r.refused)
-stops_at_refusal {old} {m} {why = arrivals.Exhausted} left behind drained line is found r fits =
+    → IsReadEnd old.core.geometry new.core unread drained remaining (read_end_of why)
+stops_at_refusal {why = arrivals.Range} unread remaining drained line is found r fits = absurd (r.not_range refl)
+stops_at_refusal {why = arrivals.Full} unread remaining drained line is found r fits = absurd (fits r.refused)
+stops_at_refusal {old} {m} {why = arrivals.Exhausted} unread remaining drained line is found r fits =
     let so = exhausted_so old.core.geometry (core_state_of old.core) m r.refused in
     (quiet_ticket r.quiet.passes ∙ so.1, (line, m, found, is, so.0))
-stops_at_refusal {old} {m} {why = arrivals.Failed} left behind drained line is found r fits =
+stops_at_refusal {old} {m} {why = arrivals.Failed} unread remaining drained line is found r fits =
     still_failed r.quiet.passes (failed_so old.core.geometry (core_state_of old.core) m r.refused)

@@ -72,12 +72,12 @@ still keeps m h = record { holds = h; passes = stays keeps m }
 
 -- ---- the next line
 
-module _ {keeps : Type 0} {start old new : MachineView} {row : List Line} {known : Line} {input left now_left : Option (List ℕ)} {ended now_ended : Bool}
-    {before written : Option (List ℕ)} (idle : IsIdle (core_state_of start.core)) (going : ended ≡ false) (closes : IsClosed left now_ended) where
+module _ {keeps : Type 0} {start old new : MachineView} {unsent : List Line} {known : Line} {input unread now_unread : Option (List ℕ)} {ended now_ended : Bool}
+    {before written : Option (List ℕ)} (idle : IsIdle (core_state_of start.core)) (going : ended ≡ false) (closes : IsClosed unread now_ended) where
   -- It was given.
-  pub line_goes_on : (line : List ℕ) → IsTaken keeps old new (message_of line) known → IfSome left (λ bs. GivesLine line bs now_left)
-      → ServingProgress keeps start old row input left ended before written
-      → ServingProgress keeps start new (row ++ known ∷ []) input now_left now_ended before written
+  pub line_goes_on : (line : List ℕ) → IsTaken keeps old new (message_of line) known → IfSome unread (λ bs. GivesLine line bs now_unread)
+      → ServingProgress keeps start old unsent input unread ended before written
+      → ServingProgress keeps start new (unsent ++ known ∷ []) input now_unread now_ended before written
   line_goes_on line t found h = record {
     taken = h.taken ++ line ∷ [];
     sent_lines = h.sent_lines;
@@ -87,11 +87,11 @@ module _ {keeps : Type 0} {start old new : MachineView} {row : List Line} {known
   }
 
   -- It was too long, and passed over.
-  pub long_line_goes_on : IsTaken keeps old new None known → IfSome left (λ bs. PassesLine bs now_left)
-      → ServingProgress keeps start old row input left ended before written
-      → ServingProgress keeps start new (row ++ known ∷ []) input now_left now_ended before written
+  pub long_line_goes_on : IsTaken keeps old new None known → IfSome unread (λ bs. PassesLine bs now_unread)
+      → ServingProgress keeps start old unsent input unread ended before written
+      → ServingProgress keeps start new (unsent ++ known ∷ []) input now_unread now_ended before written
   long_line_goes_on t found h =
-      let l = takes_long_line left h.takes going found closes in
+      let l = takes_long_line unread h.takes going found closes in
       record {
         taken = h.taken ++ l.line ∷ [];
         sent_lines = h.sent_lines;
@@ -101,14 +101,14 @@ module _ {keeps : Type 0} {start old new : MachineView} {row : List Line} {known
       }
 
 -- The input has ended.
-pub at_end : (left now_left : Option (List ℕ)) → IfSome left (λ bs. IsAtEndOf bs now_left) → IsAtEnd left
-at_end None now_left found = tt
-at_end (Some bs) now_left found = found.none
+pub at_end : (unread now_unread : Option (List ℕ)) → IfSome unread (λ bs. IsAtEndOf bs now_unread) → IsAtEnd unread
+at_end None now_unread found = tt
+at_end (Some bs) now_unread found = found.none
 
 pub has_sent_end : (ended none_held : Bool) → (ended && none_held) ≡ true → ended ≡ true
 has_sent_end true none_held e = refl
 has_sent_end false none_held e = e
 
-pub none_left : (left : Option (List ℕ)) → IfSome left (λ bs. bs ≡ []) → IsAtEnd left
+pub none_left : (unread : Option (List ℕ)) → IfSome unread (λ bs. bs ≡ []) → IsAtEnd unread
 none_left None none = tt
 none_left (Some bs) none = none

@@ -28,22 +28,22 @@ pub record AreServed (g : Geometry) (start now : State) (ls : List (List ℕ)) (
   pub state : now ≡ state_after_lines g start ls
 
 -- The same for just the whole lines of what was consumed of the input.
-pub record ServesWholeLines (g : Geometry) (start now : State) (left : Option (List ℕ)) (input written : List ℕ) : Type 0 where
-  pub output : AnswersWholeLines g start left input written
+pub record ServesWholeLines (g : Geometry) (start now : State) (remaining : Option (List ℕ)) (input written : List ℕ) : Type 0 where
+  pub output : AnswersWholeLines g start remaining input written
   pub state : now ≡ state_after_lines g start output.whole
 
 -- The same for just the lines before one whose message is in range.
 pub record ServesLinesBefore (g : Geometry) (start now : State) (input written : List ℕ) : Type 0 where
   pub before : List (List ℕ)
   pub line : List ℕ
-  pub behind : List (List ℕ)
-  pub parts : lines input ≡ before ++ line ∷ behind
+  pub after : List (List ℕ)
+  pub parts : lines input ≡ before ++ line ∷ after
   pub message : Msg
   pub is_message : message_of line ≡ Some message
   pub in_range : is_in_range g message ≡ true
   pub served : AreServed g start now before written
 
--- ---- the run behind it
+-- ---- the run that led there
 
 -- the lines are the first of the input, where it is known
 abbrev pub AreFirst : Option (List ℕ) → List (List ℕ) → Type 0
@@ -70,19 +70,19 @@ pub record HasRunLines (keeps : Type 0) (start : MachineView) (new : CoreView)
       → left_since new.medium (moment (device_after start.core.medium (take k stages))) c
       → RecoversForRun start.core.geometry (machine_of start) (events_of stages) k c
 
--- Behind what was written there is such a run: each line that was written is of a line that is no message or is out of range, or
--- of one that was answered in the run. These lines that were read are not answered in the output.
-pub record HasServed (keeps : Type 0) (start : MachineView) (new : CoreView) (row : List Line)
+-- Such a run led to what was written: each line that was written is of a line that is no message or is out of range, or of one that
+-- was answered in the run. These lines that were read are not answered in the output.
+pub record HasServed (keeps : Type 0) (start : MachineView) (new : CoreView) (unsent : List Line)
     (input before written : Option (List ℕ)) : Type 0 where
   pub taken : List (List ℕ)
   pub stages : List Stage
   pub run : HasRunLines keeps start new input taken stages
   pub sent_lines : List Line
-  pub known : AreKnown start.core.geometry (answered (events_of stages)) start.core.next taken (sent_lines ++ row)
+  pub known : AreKnown start.core.geometry (answered (events_of stages)) start.core.next taken (sent_lines ++ unsent)
   pub are_completed : AllByRecursion (λ line. is_completed line ≡ true) sent_lines
   pub output : Appends before written (joined (map text sent_lines))
 
--- ---- what each answer promises of the core before and after, of the input and what is left of it, and of what was written
+-- ---- what each answer promises of the core before and after, of the input and what remains of it, and of what was written
 
 abbrev pub committed_in : CoreView → State
 committed_in core = (core_state_of core).committed
@@ -96,15 +96,15 @@ pub record IsWoundUp (core : CoreView) : Type 0 where
 -- the core is wound up; and where the output alone has, each message that ran is logged.
 abbrev pub EndsSo : CoreView → CoreView → Option (List ℕ) → Option (List ℕ) → Option (List ℕ)
     → Option (List ℕ) → Result (Unit {0}) ServeFault → Type 0
-EndsSo old new input left before written (Ok _) = IsIdle (core_state_of new) × (new.failed ≡ false) × IsAtEnd left
+EndsSo old new input remaining before written (Ok _) = IsIdle (core_state_of new) × (new.failed ≡ false) × IsAtEnd remaining
     × WritesOutput input before written (λ bytes w. AreServed old.geometry (committed_in old) (committed_in new) (lines bytes) w)
-EndsSo old new input left before written (Err faults.Read) = IsIdle (core_state_of new) × (new.failed ≡ false)
-    × WritesOutput input before written (ServesWholeLines old.geometry (committed_in old) (committed_in new) left)
-EndsSo old new input left before written (Err faults.Exhausted) = IsIdle (core_state_of new) × (new.failed ≡ false)
+EndsSo old new input remaining before written (Err faults.Read) = IsIdle (core_state_of new) × (new.failed ≡ false)
+    × WritesOutput input before written (ServesWholeLines old.geometry (committed_in old) (committed_in new) remaining)
+EndsSo old new input remaining before written (Err faults.Exhausted) = IsIdle (core_state_of new) × (new.failed ≡ false)
     × (new.next ≡ 2 ^ 64 - 1)
     × WritesOutput input before written (ServesLinesBefore old.geometry (committed_in old) (committed_in new))
-EndsSo old new input left before written (Err faults.Device) = (new.failed ≡ true) × IsWoundUp new
+EndsSo old new input remaining before written (Err faults.Device) = (new.failed ≡ true) × IsWoundUp new
     × WritesOutput input before written (IsBeginning old.geometry (committed_in old))
-EndsSo old new input left before written (Err faults.Write) = IsWoundUp new × (new.failed ≡ false → new.ran ≡ [])
-EndsSo old new input left before written (Err faults.NoWorkers) = (new ≡ old) × (left ≡ input) × (written ≡ before)
-EndsSo old new input left before written (Err faults.OutOfMemory) = (new ≡ old) × (left ≡ input) × (written ≡ before)
+EndsSo old new input remaining before written (Err faults.Write) = IsWoundUp new × (new.failed ≡ false → new.ran ≡ [])
+EndsSo old new input remaining before written (Err faults.NoWorkers) = (new ≡ old) × (remaining ≡ input) × (written ≡ before)
+EndsSo old new input remaining before written (Err faults.OutOfMemory) = (new ≡ old) × (remaining ≡ input) × (written ≡ before)

@@ -27,7 +27,7 @@ abbrev pub ticketed : ℕ → List Msg → List Entry
 ticketed n [] = []
 ticketed n (m ∷ ms) = (n, m) ∷ ticketed (n + 1) ms
 
--- the ticket behind theirs
+-- the ticket after theirs
 abbrev pub next_ticket : ℕ → List Msg → ℕ
 next_ticket n [] = n
 next_ticket n (m ∷ ms) = next_ticket (n + 1) ms
@@ -50,6 +50,6 @@ IsKnown g replies n _ _ = ⊥
 -- This is known of the lines. The first of them that takes a ticket takes n, and each further one the next.
 abbrev pub AreKnown : Geometry → List (ℕ × Reply) → ℕ → List (List ℕ) → List Line → Type 0
 AreKnown g replies n [] [] = Unit {0}
-AreKnown g replies n (line ∷ ls) (known ∷ row) =
-    IsKnown g replies n (message_of line) known × AreKnown g replies (next_ticket n (admitted_in g (message_of line))) ls row
+AreKnown g replies n (line ∷ ls) (known ∷ rest) =
+    IsKnown g replies n (message_of line) known × AreKnown g replies (next_ticket n (admitted_in g (message_of line))) ls rest
 AreKnown g replies n _ _ = ⊥

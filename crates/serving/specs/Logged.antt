@@ -31,7 +31,7 @@ AreInLog g log n [] (line ∷ lines) = ⊥
 AreInLog g log n (l ∷ ls) (line ∷ lines) =
     IsInLog g log n (message_of l) line × AreInLog g log (next_ticket n (admitted_in g (message_of l))) ls lines
 
--- These bytes recover to where this log leads from this state, with more behind it. Both together are a log that the serial server may
+-- These bytes recover to where this log leads from this state, with more after it. Both together are a log that the serial server may
 -- write, of messages that arrived.
 pub record HoldsLog (g : Geometry) (x : State) (arrivals : List Entry) (log : List Replied) (bytes : List ℕ) : Type 0 where
   pub more : List Replied

@@ -50,8 +50,8 @@ pub record MaySendFrom (keeps : Type 0) (s : Start) (sent : Option (List ℕ)) (
   pub idle : IsIdle (core_state_of s.core)
   pub none_in_doubt : s.core.doubt ≡ []
   pub next : List Line
-  pub row : List Line
-  pub served : HasServed keeps (start_machine s) now (next ++ row) s.input s.before sent
+  pub rest : List Line
+  pub served : HasServed keeps (start_machine s) now (next ++ rest) s.input s.before sent
   pub are_completed : AreCompleted next
   pub bytes_are : bytes ≡ joined (map text next)
 

@@ -32,7 +32,7 @@ read_end_of _ = ends_of_reading.DeviceFailed
 -- A line of this message, or of none, is consumed, and is the last of the new reorder buffer; or its message is refused, so that no more
 -- is read, and the reorder buffer is the same.
 abbrev pub TakesLine : Type 0 → MachineView → List Line → MachineView → List Line → Option Msg → Result (Unit {0}) ReadEnd → Type 0
-TakesLine keeps old row new new_row m (Ok _) = (known : Line) × IsTaken keeps old new m known × (new_row ≡ row ++ known ∷ [])
-TakesLine keeps old row new new_row m (Err stop) =
+TakesLine keeps old lines new new_lines m (Ok _) = (known : Line) × IsTaken keeps old new m known × (new_lines ≡ lines ++ known ∷ [])
+TakesLine keeps old lines new new_lines m (Err stop) =
     (refused : Msg) × (why : ArriveRefusal) × (m ≡ Some refused) × IsRefusedLine keeps old new refused why × (stop ≡ read_end_of why)
-    × (new_row ≡ row)
+    × (new_lines ≡ lines)

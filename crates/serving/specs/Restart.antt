@@ -16,21 +16,21 @@ abbrev pub are_related_lines : Geometry → Option Msg → Option Msg → Bool
 are_related_lines g (Some m) (Some n) = is_in_range g m && is_in_range g n && are_related (place g m) (place g n)
 are_related_lines g _ _ = false
 
--- The part has some of the lines, in their order. Where a line is left out, so is each related one behind it.
+-- The part has some of the lines, in their order. Where a line is left out, so is each related one after it.
 abbrev pub IsClosedPart : Geometry → List (List ℕ) → List (List ℕ) → Type 0
 IsClosedPart g part [] = part ≡ []
 IsClosedPart g part (line ∷ ls) = ((rest : List (List ℕ)) × (part ≡ line ∷ rest) × IsClosedPart g rest ls)
     ⊎ (AllByRecursion (λ other. are_related_lines g (message_of line) (message_of other) ≡ false) part × IsClosedPart g part ls)
 
 -- The first lines of the input were acknowledged, each by the serial server's answer. The state is where these lead, with a part of the
--- lines behind them.
+-- lines after them.
 pub record RecoversTo (g : Geometry) (start now : State) (input written : List ℕ) : Type 0 where
   pub acknowledged : List (List ℕ)
-  pub behind : List (List ℕ)
-  pub first : lines input ≡ acknowledged ++ behind
+  pub unacknowledged : List (List ℕ)
+  pub first : lines input ≡ acknowledged ++ unacknowledged
   pub answers : written ≡ joined (output_lines g start acknowledged)
   pub part : List (List ℕ)
-  pub closed : IsClosedPart g part behind
+  pub closed : IsClosedPart g part unacknowledged
   pub state : now ≡ state_after_lines g start (acknowledged ++ part)
 
 -- These bytes recover to a state to which a server recovers that began in this one.

@@ -19,18 +19,18 @@ abbrev pub AreAll : Option (List ℕ) → List (List ℕ) → Type 0
 AreAll None taken = Unit {0}
 AreAll (Some input) taken = lines input ≡ taken
 
--- There is a run behind what was written, and each line of the input is answered in the output.
+-- A run led to what was written, and each line of the input is answered in the output.
 pub record HasServedAll (keeps : Type 0) (start : MachineView) (new : CoreView) (input before written : Option (List ℕ)) : Type 0 where
   pub served : HasServed keeps start new [] input before written
   pub all : AreAll input served.taken
 
--- There is a run behind what was written. Each line that was consumed is answered in the output, but for a row of lines where the
--- device failed, the first of which is not completed. Where the output failed it is unknown what was written.
+-- A run led to what was written. Each line that was consumed is answered in the output, but for the last ones where the device
+-- failed, the first of which is not completed. Where the output failed it is unknown what was written.
 abbrev pub HasRunSo : Type 0 → MachineView → CoreView → Option (List ℕ) → Option (List ℕ) → Option (List ℕ)
     → Result (Unit {0}) ServeFault → Type 0
 HasRunSo keeps start new input before written (Ok _) = HasServedAll keeps start new input before written
 HasRunSo keeps start new input before written (Err faults.Device) =
-    (row : List Line) × HasServed keeps start new row input before written × (can_retire row ≡ false)
+    (unsent : List Line) × HasServed keeps start new unsent input before written × (can_retire unsent ≡ false)
 HasRunSo keeps start new input before written (Err faults.Write) =
     (taken : List (List ℕ)) × (stages : List Stage) × HasRunLines keeps start new input taken stages
 HasRunSo keeps start new input before written (Err _) = HasServed keeps start new [] input before written
@@ -56,11 +56,11 @@ handed_back (Err e) = (e.core, Err e.fault)
 
 -- What a server promises of its whole call, from the core that it was given to what it hands back.
 pub record ServesSo (keeps : Type 0) (workers : ℕ) (old : CoreView) (back : CoreView × Result (Unit {0}) ServeFault)
-    (input left before written : Option (List ℕ)) : Type 0 where
-  -- behind what was written there is a run, with a place for each worker
+    (input remaining before written : Option (List ℕ)) : Type 0 where
+  -- a run led to what was written, with a place for each worker
   pub run : HasRunSo keeps (with_lent old (replicate workers None)) back.0 input before written back.1
   -- core, input and output are as this end says
-  pub ends : EndsSo old back.0 input left before written back.1
+  pub ends : EndsSo old back.0 input remaining before written back.1
   pub no_workers : RefusesNone workers back.1
   -- at the end of the input no record is in force
   pub emptied : OnOk back.1 (keeps → HasEmptyLog back.0)

@@ -33,19 +33,19 @@ pub record SessionView : Type 0 where
   pub core : CoreView
   pub dispatch_seat : DispatchSeatView
   -- the lines that were read and not retired yet, the answers that wait to be sent, and what was sent
-  pub row : ReorderBufferView
-  pub out : List ℕ
+  pub reorder_buffer : ReorderBufferView
+  pub reply_buffer : List ℕ
   pub sent : Option (List ℕ)
   -- how many lines were read and are not answered in the output
   pub outstanding : ℕ
   -- whether sending has failed, and why no more is read, if it is so
   pub output_failed : Bool
   pub stop : Option ReadEnd
-  -- what is unread, whether all of it is, whether its end was seen, and what the reader has left behind what is held
-  pub left : Option (List ℕ)
+  -- what is unread of the input, whether nothing is, whether its end was seen, and what remains in the reader after what is held
+  pub unread : Option (List ℕ)
   pub drained : Bool
   pub ended : Bool
-  pub behind : Option (List ℕ)
+  pub remaining : Option (List ℕ)
 
 -- the core with what is lent
 abbrev pub machine : SessionView → MachineView
@@ -53,14 +53,14 @@ machine p = with_lent p.core p.dispatch_seat.lent
 
 -- ---- why no more is read
 
--- This is why no more is read, where so much was left of the input when it was last read, and so much is left behind.
+-- This is why no more is read, where so much of the input was unread when it was last read, and so much remains in the reader.
 abbrev pub IsReadEnd : Geometry → CoreView → Option (List ℕ) → Bool → Option (List ℕ) → ReadEnd → Type 0
-IsReadEnd g now left drained behind ends_of_reading.EndOfInput = IsAtEnd left × IsAtEnd behind
-IsReadEnd g now left drained behind ends_of_reading.ReadFailed = (drained ≡ false) × IfSome left (λ bs. LosesFront bs behind)
-IsReadEnd g now left drained behind ends_of_reading.TicketsExhausted = (now.next ≡ 2 ^ 64 - 1)
-    × ((line : List ℕ) × (m : Msg) × IfSome left (λ bs. (rest : Option (List ℕ)) × GivesLine line bs rest)
+IsReadEnd g now unread drained remaining ends_of_reading.EndOfInput = IsAtEnd unread × IsAtEnd remaining
+IsReadEnd g now unread drained remaining ends_of_reading.ReadFailed = (drained ≡ false) × IfSome unread (λ bs. LosesFront bs remaining)
+IsReadEnd g now unread drained remaining ends_of_reading.TicketsExhausted = (now.next ≡ 2 ^ 64 - 1)
+    × ((line : List ℕ) × (m : Msg) × IfSome unread (λ bs. (rest : Option (List ℕ)) × GivesLine line bs rest)
     × (message_of line ≡ Some m) × (is_in_range g m ≡ true))
-IsReadEnd g now left drained behind ends_of_reading.DeviceFailed = now.failed ≡ true
+IsReadEnd g now unread drained remaining ends_of_reading.DeviceFailed = now.failed ≡ true
 
 -- ---- the session invariant
 
@@ -69,38 +69,38 @@ abbrev pub known_unless : Bool → Option (List ℕ) → Option (List ℕ)
 known_unless true known = None
 known_unless false known = known
 
--- From the start a legal run has led to this place, and so much of the input is left. The answers that wait are those of the next lines
--- that are to be sent, each of which is completed; behind them are the lines of the reorder buffer.
-pub record SessionProgress (keeps : Type 0) (s : Start) (p : SessionView) (left : Option (List ℕ)) (drained : Bool) : Type 0 where
+-- From the start a legal run has led to this place, and so much of the input is unread. The answers that wait are those of the next lines
+-- that are to be sent, each of which is completed; after them come the lines of the reorder buffer.
+pub record SessionProgress (keeps : Type 0) (s : Start) (p : SessionView) (unread : Option (List ℕ)) (drained : Bool) : Type 0 where
   pub waiting : List Line
   pub are_completed : AreCompleted waiting
-  pub out_is : p.out ≡ joined (map text waiting)
+  pub reply_buffer_is : p.reply_buffer ≡ joined (map text waiting)
   -- Outstanding are the lines whose answers wait and those of the reorder buffer. There are never more of them than slots.
-  pub counted : p.outstanding ≡ length waiting + length p.row.lines
-  pub bounded : p.outstanding ≤ p.row.slots
-  pub goes : ServingProgress keeps (start_machine s) (machine p) (waiting ++ p.row.lines) s.input left drained
+  pub counted : p.outstanding ≡ length waiting + length p.reorder_buffer.lines
+  pub bounded : p.outstanding ≤ p.reorder_buffer.slots
+  pub goes : ServingProgress keeps (start_machine s) (machine p) (waiting ++ p.reorder_buffer.lines) s.input unread drained
       (known_unless p.output_failed s.before) (known_unless p.output_failed p.sent)
 
 -- A legal run has led here, and no more is read for this reason.
 pub record HasEndedReading (keeps : Type 0) (s : Start) (p : SessionView) (stop : ReadEnd) : Type 0 where
-  pub left : Option (List ℕ)
+  pub unread : Option (List ℕ)
   pub drained : Bool
-  pub gone : SessionProgress keeps s p left drained
-  pub why : IsReadEnd s.core.geometry p.core left drained p.behind stop
+  pub gone : SessionProgress keeps s p unread drained
+  pub why : IsReadEnd s.core.geometry p.core unread drained p.remaining stop
 
 abbrev pub ReadsOrHasEnded : Type 0 → Start → SessionView → Option ReadEnd → Type 0
-ReadsOrHasEnded keeps s p None = SessionProgress keeps s p p.left p.drained
+ReadsOrHasEnded keeps s p None = SessionProgress keeps s p p.unread p.drained
 ReadsOrHasEnded keeps s p (Some stop) = HasEndedReading keeps s p stop
 
 pub record SessionInvariant (keeps : Type 0) (s : Start) (p : SessionView) : Type 0 where
   -- nothing was in the core or its `doubt` at the start, and the reorder buffer has no more places than the core has slots
   pub idle : IsIdle (core_state_of s.core)
   pub none_in_doubt : s.core.doubt ≡ []
-  pub fits : p.row.slots ≤ s.core.slots
+  pub fits : p.reorder_buffer.slots ≤ s.core.slots
   -- the machine holds what it should
   pub holds : Holds (machine p)
   pub places : length p.dispatch_seat.lent ≡ p.dispatch_seat.bench.slots
-  pub knows : IsTrue p.ended → IsAtEnd p.behind
+  pub knows : IsTrue p.ended → IsAtEnd p.remaining
   pub reads : ReadsOrHasEnded keeps s p p.stop
 
 -- Before a call has begun there is no start, and no place satisfies the invariant.
@@ -111,19 +111,19 @@ SessionInvariantFrom keeps (Some s) p = SessionInvariant keeps s p
 -- A call may begin at this start: nothing is in the core or its `doubt`, it works, and the reorder buffer is empty and has no more
 -- places than the core has slots.
 pub record CanBegin (start : Option Start) (core : CoreView) (places : ℕ) (input sent : Option (List ℕ))
-    (row : ReorderBufferView) : Type 0 where
+    (reorder_buffer : ReorderBufferView) : Type 0 where
   pub is : start ≡ Some (record { core = core; places = places; input = input; before = sent })
   pub idle : IsIdle (core_state_of core)
   pub works : core.failed ≡ false
   pub none_in_doubt : core.doubt ≡ []
-  pub none : row.lines ≡ []
-  pub fits : row.slots ≤ core.slots
+  pub none : reorder_buffer.lines ≡ []
+  pub fits : reorder_buffer.slots ≤ core.slots
 
 -- ---- how a call moves it
 
 -- Why no more is read, and whether the output has failed, are as before.
-abbrev pub KeepsEnds : SessionView → SessionView → Type 0
-KeepsEnds old new = (new.stop ≡ old.stop) × (new.output_failed ≡ old.output_failed)
+abbrev pub KeepsStopAndOutputFailed : SessionView → SessionView → Type 0
+KeepsStopAndOutputFailed old new = (new.stop ≡ old.stop) × (new.output_failed ≡ old.output_failed)
 
 -- The output has failed, or else the device.
 abbrev pub HasHalted : SessionView → Type 0
@@ -148,10 +148,10 @@ steps_left (Some n) = n + 1
 
 -- Each line that was read is answered in the output, and nothing has failed.
 pub record IsServed (p : SessionView) : Type 0 where
-  pub row : p.row.lines ≡ []
-  pub flushed : p.out ≡ []
+  pub all_retired : p.reorder_buffer.lines ≡ []
+  pub flushed : p.reply_buffer ≡ []
   pub works : p.core.failed ≡ false
-  pub whole : p.output_failed ≡ false
+  pub output_works : p.output_failed ≡ false
 
 -- All is served, and no more was read for this reason; and at the end of the input no record of the log is in force.
 pub record HasFinished (keeps : Type 0) (p : SessionView) (stop : ReadEnd) : Type 0 where
@@ -172,8 +172,8 @@ EndsBy p (Ok _) = IsServed p × (p.stop ≡ Some ends_of_reading.EndOfInput)
 EndsBy p (Err faults.Read) = IsServed p × (p.stop ≡ Some ends_of_reading.ReadFailed)
 EndsBy p (Err faults.Exhausted) = IsServed p × (p.stop ≡ Some ends_of_reading.TicketsExhausted)
 EndsBy p (Err faults.Device) =
-    NoneInFlight p.dispatch_seat.lent × (p.core.logged ≡ []) × (p.core.failed ≡ true) × (p.output_failed ≡ false) × (p.out ≡ [])
-    × (can_retire p.row.lines ≡ false)
+    NoneInFlight p.dispatch_seat.lent × (p.core.logged ≡ []) × (p.core.failed ≡ true) × (p.output_failed ≡ false) × (p.reply_buffer ≡ [])
+    × (can_retire p.reorder_buffer.lines ≡ false)
 EndsBy p (Err faults.Write) = NoneInFlight p.dispatch_seat.lent × (p.core.logged ≡ []) × (p.core.failed ≡ false → p.core.ran ≡ [])
 EndsBy p (Err _) = ⊥
 

@@ -60,7 +60,8 @@ impl<'c, R: Read, D: Disk, L: ReplySink<D>> Session<'c, R, D, L> {
     /// Whether there was one.
     pub(crate) fn advance_point(&mut self) -> Result<bool, Halted>
         ensures moves { IsSessionStep self.old self.new result }
-        ensures same { (self.new.row ≡ self.old.row) × (self.new.out ≡ self.old.out) × (self.new.core.logged ≡ self.old.core.logged) }
+        ensures same { (self.new.reorder_buffer ≡ self.old.reorder_buffer) × (self.new.reply_buffer ≡ self.old.reply_buffer)
+            × (self.new.core.logged ≡ self.old.core.logged) }
         ensures step { IfOk result (λ moved. MatchBool moved (steps_left self.new.core.left + 1 ≡ steps_left self.old.core.left)
             (self.new.core.left ≡ None)) }
     {

@@ -4,7 +4,7 @@
 ghost use Rattle.std.specs.Prelude.{◌≡◌, ◌<◌, ◌≤◌, ◌-◌, ◌↔◌, IsTrue, OnErr, OnOk, Some, [], None, false, is_none, length, position, true};
 ghost use Rattle.scheduler.specs.CoreView.{core_state_of};
 ghost use Rattle.serving.specs.Lending.{DispatchesTo, IsEndOfDispatch, NoneInFlight, Lends};
-ghost use Rattle.serving.specs.Session.{KeepsEnds, IsSessionStep};
+ghost use Rattle.serving.specs.Session.{KeepsStopAndOutputFailed, IsSessionStep};
 
 use crate::gated_runtime::GatedRuntime;
 use crate::output::ReplySink;
@@ -28,12 +28,12 @@ const PATIENCE: usize = 16384;
 /// After how many looks other threads may go first, if they wait for a processor.
 const LOOKS: usize = 32;
 
-/// What was collected in one iteration, and what kept messages from being dispatched. `left` falls with each message, so collecting ends;
+/// What was collected in one iteration, and what kept messages from being dispatched. `budget` falls with each message, so collecting ends;
 /// no contract says that it begins at `BATCH`.
 #[derive(Clone, Copy)]
 struct Batch {
     /// How many more messages may be collected before what ran is logged.
-    left: usize,
+    budget: usize,
     /// Whether one of them changed something, so that it has to be written to the log.
     changed: bool,
     /// Whether some message lacked only room in the log, when messages were dispatched last.
@@ -44,7 +44,7 @@ impl Batch {
     /// One in which nothing was collected yet.
     fn new(lacks_room: bool) -> Batch {
         Batch {
-            left: BATCH,
+            budget: BATCH,
             changed: false,
             lacks_room,
         }
@@ -52,22 +52,22 @@ impl Batch {
 
     /// A message was collected, which changed something or didn't.
     fn add(&mut self, changed: bool)
-        ensures { self.new.left ≡ self.old.left - 1 }
+        ensures { self.new.budget ≡ self.old.budget - 1 }
     {
-        self.left = self.left.saturating_sub(1);
+        self.budget = self.budget.saturating_sub(1);
         self.changed = self.changed || changed;
     }
 
     /// Whether something was collected.
     fn has_come(&self) -> bool {
-        self.left < BATCH
+        self.budget < BATCH
     }
 
     /// Whether what ran is to be logged before more is collected.
     fn is_full(&self) -> bool
-        ensures { IsTrue result ↔ (self.now.left ≡ 0) }
+        ensures { IsTrue result ↔ (self.now.budget ≡ 0) }
     {
-        self.left == 0
+        self.budget == 0
     }
 
     /// Whether it gains nothing by more: it is full, or what was collected is logged without a write.
@@ -128,7 +128,7 @@ impl<'c, R: Read, D: Disk, L: ReplySink<D>> Session<'c, R, D, L> {
     /// Dispatches the eligible message with the least ticket to place k, the first where nothing is lent.
     fn dispatch_to(&mut self, k: usize) -> Dispatched
         requires first { position is_none self.old.dispatch_seat.lent ≡ Some k }
-        ensures as_before { KeepsEnds self.old self.new }
+        ensures as_before { KeepsStopAndOutputFailed self.old self.new }
         ensures geometry { self.new.core.geometry ≡ self.old.core.geometry }
         ensures goes { DispatchesTo self.old.core.geometry k (core_state_of self.old.core) self.old.dispatch_seat.lent
             (core_state_of self.new.core) self.new.dispatch_seat.lent result }
@@ -141,7 +141,7 @@ impl<'c, R: Read, D: Disk, L: ReplySink<D>> Session<'c, R, D, L> {
     /// Dispatches eligible messages, the one with the least ticket first, until something is lent at each place or no further one can be
     /// dispatched: why. `Dispatched::Job` means that no place is left.
     fn dispatch_all(&mut self) -> Dispatched
-        ensures as_before { KeepsEnds self.old self.new }
+        ensures as_before { KeepsStopAndOutputFailed self.old self.new }
         ensures ended { IsEndOfDispatch self.new.core.geometry (core_state_of self.new.core) self.new.dispatch_seat.lent result }
     {
         while let Some(k) = self.dispatch_seat.first_free() {
@@ -156,7 +156,7 @@ impl<'c, R: Read, D: Disk, L: ReplySink<D>> Session<'c, R, D, L> {
     /// Dispatches messages, unless a consistency point is due by the number of records: whether one lacks only room in the
     /// log. None is dispatched where the device has failed, as the next log reports.
     fn dispatch_ready(&mut self) -> bool
-        ensures as_before { KeepsEnds self.old self.new }
+        ensures as_before { KeepsStopAndOutputFailed self.old self.new }
     {
         !self.trigger.is_due(self.core.left()) && matches!(self.dispatch_all(), Dispatched::NoRoom)
     }
@@ -164,7 +164,7 @@ impl<'c, R: Read, D: Disk, L: ReplySink<D>> Session<'c, R, D, L> {
     /// Collects the result of the job at place k, if it was delivered: whether it changed something.
     fn collect_one(&mut self, k: usize) -> Option<bool>
         requires place { k < length self.old.dispatch_seat.lent }
-        ensures as_before { KeepsEnds self.old self.new }
+        ensures as_before { KeepsStopAndOutputFailed self.old self.new }
         ensures places { length self.new.dispatch_seat.lent ≡ length self.old.dispatch_seat.lent }
         ensures failed { self.new.core.failed ≡ self.old.core.failed }
     {
@@ -179,10 +179,10 @@ impl<'c, R: Read, D: Disk, L: ReplySink<D>> Session<'c, R, D, L> {
 
     /// Looks once at each place, and collects the results that were delivered, until the batch is full: whether there was one.
     fn collect_delivered(&mut self, batch: &mut Batch) -> bool
-        ensures as_before { KeepsEnds self.old self.new }
+        ensures as_before { KeepsStopAndOutputFailed self.old self.new }
         ensures failed { self.new.core.failed ≡ self.old.core.failed }
-        ensures left { batch.new.left ≤ batch.old.left }
-        ensures less { IsTrue result → batch.new.left < batch.old.left }
+        ensures budget { batch.new.budget ≤ batch.old.budget }
+        ensures less { IsTrue result → batch.new.budget < batch.old.budget }
     {
         let mut came = false;
         let mut k = 0;
@@ -198,7 +198,7 @@ impl<'c, R: Read, D: Disk, L: ReplySink<D>> Session<'c, R, D, L> {
 
     /// Waits for the jobs in flight, and collects their results. Nothing is lent then.
     pub(crate) fn drain_workers<W: GatedRuntime>(&mut self, rt: &W)
-        ensures as_before { KeepsEnds self.old self.new }
+        ensures as_before { KeepsStopAndOutputFailed self.old self.new }
         ensures failed { self.new.core.failed ≡ self.old.core.failed }
         ensures home { NoneInFlight self.new.dispatch_seat.lent }
     {
@@ -216,7 +216,7 @@ impl<'c, R: Read, D: Disk, L: ReplySink<D>> Session<'c, R, D, L> {
     /// Dispatches messages and collects results, until the batch is worth a write of the log, nothing is lent any more, or nothing was
     /// collected in a while. Where something was, further messages are dispatched, so that jobs run meanwhile. It waits for nobody.
     fn dispatch_and_collect(&mut self) -> Batch
-        ensures as_before { KeepsEnds self.old self.new }
+        ensures as_before { KeepsStopAndOutputFailed self.old self.new }
     {
         let lacks_room = self.dispatch_ready();
         let mut batch = Batch::new(lacks_room);
@@ -236,7 +236,8 @@ impl<'c, R: Read, D: Disk, L: ReplySink<D>> Session<'c, R, D, L> {
     /// Logs all that ran, in one go. Where nothing ran, it reports no more than whether the device works.
     pub(crate) fn log_what_ran(&mut self) -> Result<usize, Halted>
         ensures moves { IsSessionStep self.old self.new result }
-        ensures same { (self.new.row ≡ self.old.row) × (self.new.out ≡ self.old.out) × (self.new.dispatch_seat ≡ self.old.dispatch_seat) }
+        ensures same { (self.new.reorder_buffer ≡ self.old.reorder_buffer) × (self.new.reply_buffer ≡ self.old.reply_buffer)
+            × (self.new.dispatch_seat ≡ self.old.dispatch_seat) }
         ensures left { self.new.core.left ≡ self.old.core.left }
         ensures works { OnOk result ((self.old.core.failed ≡ false) × (self.new.core.failed ≡ false)) }
         ensures logged { OnOk result (self.new.core.ran ≡ []) }
@@ -265,8 +266,8 @@ impl<'c, R: Read, D: Disk, L: ReplySink<D>> Session<'c, R, D, L> {
     /// Whether at least half as many answers wait as lines may be outstanding. They are sent then, so that other lines are read in their
     /// place while the rest are worked off.
     fn half_waits(&self) -> bool {
-        let slots = self.row.slots();
-        self.outstanding.saturating_sub(self.row.len()) >= slots - slots / 2
+        let slots = self.reorder_buffer.slots();
+        self.outstanding.saturating_sub(self.reorder_buffer.len()) >= slots - slots / 2
     }
 
     /// Where no message is dispatched or collected: sends what waits. If then a line is held that may be read, this is all; else it waits
@@ -296,7 +297,7 @@ impl<'c, R: Read, D: Disk, L: ReplySink<D>> Session<'c, R, D, L> {
 
     /// Whether each line that was read is retired, and no further one is held: its client may wait for what is to be sent.
     fn has_caught_up(&self) -> bool {
-        self.stop.is_none() && self.row.len() == 0 && !self.lines.holds_line()
+        self.stop.is_none() && self.reorder_buffer.len() == 0 && !self.line_reader.holds_line()
     }
 
     /// Does what can be done. Where lines were read just before, or results came, it waits for nothing, unless each line is retired.

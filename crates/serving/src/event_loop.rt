@@ -47,9 +47,9 @@ impl<'c, R: Read, D: Disk, L: ReplySink<D>> Session<'c, R, D, L> {
 
     /// Why the loop ends, once no more is read, each line that was read is retired, and no consistency point is in progress.
     fn ended(&self) -> Option<ReadEnd>
-        ensures { IfSome result (λ stop. (self.now.stop ≡ Some stop) × (self.now.row.lines ≡ []) × (self.now.core.left ≡ None)) }
+        ensures { IfSome result (λ stop. (self.now.stop ≡ Some stop) × (self.now.reorder_buffer.lines ≡ []) × (self.now.core.left ≡ None)) }
     {
-        if self.row.len() == 0 && self.core.left().is_none() {
+        if self.reorder_buffer.len() == 0 && self.core.left().is_none() {
             self.stop
         } else {
             None
@@ -59,10 +59,10 @@ impl<'c, R: Read, D: Disk, L: ReplySink<D>> Session<'c, R, D, L> {
     /// Sends all that waits, and at the end of the input makes the last consistency point: nothing waits or is held then, and the log is
     /// empty after it. It halts where the device has failed.
     fn finish(&mut self, stop: ReadEnd) -> Result<(), Halted>
-        requires row { self.old.row.lines ≡ [] }
+        requires all_retired { self.old.reorder_buffer.lines ≡ [] }
         requires none { self.old.core.left ≡ None }
         ensures moves { IsSessionStep self.old self.new result }
-        ensures all { OnOk result ((self.new.row.lines ≡ []) × (self.new.out ≡ []) × (self.new.output_failed ≡ false)) }
+        ensures all { OnOk result ((self.new.reorder_buffer.lines ≡ []) × (self.new.reply_buffer ≡ []) × (self.new.output_failed ≡ false)) }
         ensures works { OnOk result (self.new.core.failed ≡ false) }
         ensures emptied { OnOk result (stop ≡ ends_of_reading.EndOfInput → D.keeps → HasEmptyLog self.new.core) }
     {

@@ -20,27 +20,27 @@ use std::io::Read;
 /// Takes the line of these bytes into the reorder buffer, and its message, if it is one in range, into the core; one out of range takes no
 /// ticket. `Err` is why no more is read: the core refuses the message for another reason, and the line isn't taken in. Where the reorder
 /// buffer has a place for the line, the core has a slot for its message.
-fn take<D: Disk>(core: &mut Core<D>, row: &mut ReorderBuffer, line: &[u8]) -> Result<(), ReadEnd>
-    requires room { length row.old.lines < row.old.slots }
-    requires order { AreConsecutive (with_tickets row.old.lines ++ Pending core.old.next ∷ []) }
+fn take<D: Disk>(core: &mut Core<D>, reorder_buffer: &mut ReorderBuffer, line: &[u8]) -> Result<(), ReadEnd>
+    requires room { length reorder_buffer.old.lines < reorder_buffer.old.slots }
+    requires order { AreConsecutive (with_tickets reorder_buffer.old.lines ++ Pending core.old.next ∷ []) }
     ensures takes { (hands : List Holding) → Holds (record { core = core.old; hands = hands })
-        → TakesLine D.keeps (record { core = core.old; hands = hands }) row.old.lines
-        (record { core = core.new; hands = hands }) row.new.lines (message_of line.now) result }
-    ensures slots { row.new.slots ≡ row.old.slots }
-    ensures same { OnErr result (row.new ≡ row.old) }
+        → TakesLine D.keeps (record { core = core.old; hands = hands }) reorder_buffer.old.lines
+        (record { core = core.new; hands = hands }) reorder_buffer.new.lines (message_of line.now) result }
+    ensures slots { reorder_buffer.new.slots ≡ reorder_buffer.old.slots }
+    ensures same { OnErr result (reorder_buffer.new ≡ reorder_buffer.old) }
 {
     core.know_recovery();
     match core.arrive_line(line) {
         Ok(Some(ticket)) => {
-            row.push(Line::Pending(ticket));
+            reorder_buffer.push(Line::Pending(ticket));
             Ok(())
         }
         Ok(None) => {
-            row.push(Line::NoMessage);
+            reorder_buffer.push(Line::NoMessage);
             Ok(())
         }
         Err(ArriveRefusal::Range) => {
-            row.push(Line::OutOfRange);
+            reorder_buffer.push(Line::OutOfRange);
             Ok(())
         }
         Err(ArriveRefusal::Exhausted) => Err(ReadEnd::TicketsExhausted),
@@ -62,20 +62,20 @@ impl<'c, R: Read, D: Disk, L: ReplySink<D>> Session<'c, R, D, L> {
     /// has ended.
     fn read_next(&mut self) -> bool
         requires reads { self.old.stop ≡ None }
-        requires room { self.old.outstanding < self.old.row.slots }
+        requires room { self.old.outstanding < self.old.reorder_buffer.slots }
         ensures reads { result ≡ is_none self.new.stop }
-        ensures whole { self.new.output_failed ≡ self.old.output_failed }
-        ensures slots { self.new.row.slots ≡ self.old.row.slots }
-        ensures longer { IsTrue result → length self.new.row.lines ≡ length self.old.row.lines + 1 }
+        ensures output_failed { self.new.output_failed ≡ self.old.output_failed }
+        ensures slots { self.new.reorder_buffer.slots ≡ self.old.reorder_buffer.slots }
+        ensures longer { IsTrue result → length self.new.reorder_buffer.lines ≡ length self.old.reorder_buffer.lines + 1 }
         ensures counted { IsTrue result → self.new.outstanding ≡ self.old.outstanding + 1 }
     {
-        prove!(self.outstanding < self.row.slots());
-        if self.lines.is_drained() {
+        prove!(self.outstanding < self.reorder_buffer.slots());
+        if self.line_reader.is_drained() {
             self.stop = Some(ReadEnd::EndOfInput);
             return false;
         }
-        match self.lines.next_line() {
-            Ok(Found::Line) => match take(&mut self.core, &mut self.row, self.lines.line()) {
+        match self.line_reader.next_line() {
+            Ok(Found::Line) => match take(&mut self.core, &mut self.reorder_buffer, self.line_reader.line()) {
                 Ok(()) => {
                     self.outstanding += 1;
                     true
@@ -86,7 +86,7 @@ impl<'c, R: Read, D: Disk, L: ReplySink<D>> Session<'c, R, D, L> {
                 }
             },
             Ok(Found::TooLong) => {
-                self.row.push(Line::NoMessage);
+                self.reorder_buffer.push(Line::NoMessage);
                 self.outstanding += 1;
                 true
             }
@@ -103,18 +103,18 @@ impl<'c, R: Read, D: Disk, L: ReplySink<D>> Session<'c, R, D, L> {
 
     /// Whether a line is held that may be read.
     pub(crate) fn can_read(&self) -> bool {
-        may_read(self.stop, self.outstanding, self.row.slots()) && self.lines.holds_line()
+        may_read(self.stop, self.outstanding, self.reorder_buffer.slots()) && self.line_reader.holds_line()
     }
 
     /// Reads lines that are held, while fewer lines are outstanding than there are slots. Where all else was idle, the next line is read
     /// first, also if none is held: others may come with it, and a change is logged with theirs, not by itself. None is read once reading
     /// has ended.
     pub(crate) fn read_more(&mut self, last: Activity) -> Activity
-        ensures whole { self.new.output_failed ≡ self.old.output_failed }
+        ensures output_failed { self.new.output_failed ≡ self.old.output_failed }
     {
         let mut read = Activity::Idle;
-        while may_read(self.stop, self.outstanding, self.row.slots())
-            && (matches!((last, read), (Activity::Idle, Activity::Idle)) || self.lines.holds_line())
+        while may_read(self.stop, self.outstanding, self.reorder_buffer.slots())
+            && (matches!((last, read), (Activity::Idle, Activity::Idle)) || self.line_reader.holds_line())
             && self.read_next()
         {
             read = Activity::Busy;

@@ -41,9 +41,9 @@ use disk::Disk;
 /// Lines whose messages got the serial server's replies by ticket are answered as the serial server answers them,
 /// as far as they are completed; and their messages lead where the lines lead there.
 pub fn known_lines_are_serial()
-    ensures output { (g : Geometry) (x : State) (n : ℕ) (ls : List (List ℕ)) (replies : List (ℕ × Reply)) (sent_lines row : List Line)
+    ensures output { (g : Geometry) (x : State) (n : ℕ) (ls : List (List ℕ)) (replies : List (ℕ × Reply)) (sent_lines unsent : List Line)
         → ((reply : ℕ × Reply) → Contains replies reply → Contains (serial_replies g x (ticketed n (admitted g ls))) reply)
-        → AreKnown g replies n ls (sent_lines ++ row) → AllByRecursion (λ line. is_completed line ≡ true) sent_lines
+        → AreKnown g replies n ls (sent_lines ++ unsent) → AllByRecursion (λ line. is_completed line ≡ true) sent_lines
         → map text sent_lines ≡ take (length sent_lines) (output_lines g x ls) }
     ensures state { (g : Geometry) (x : State) (ls : List (List ℕ)) → fold g x (admitted g ls) ≡ state_after_lines g x ls }
 {}
@@ -62,48 +62,43 @@ pub fn what_is_inside_is_what_arrived_less_what_was_answered<D: Disk>()
         → inside (core_state_of new.core) + length replies ≡ inside (core_state_of old.core) + length come }
     ensures slots { (old new : MachineView) (come : List Entry) (replies : List (ℕ × Reply)) → RunsBetween D.keeps old new come replies
         → new.core.slots ≡ old.core.slots }
-    ensures a_slot { (start now : MachineView) (row : List Line) (input left : Option (List ℕ)) (ended : Bool)
-        (before written : Option (List ℕ))
-        (m : Msg) → IsIdle (core_state_of start.core) → ServingProgress D.keeps start now row input left ended before written
-        → length row < start.core.slots
+    ensures a_slot { (start now : MachineView) (unsent : List Line) (input unread : Option (List ℕ)) (ended : Bool)
+        (before written : Option (List ℕ)) (m : Msg) → IsIdle (core_state_of start.core)
+        → ServingProgress D.keeps start now unsent input unread ended before written → length unsent < start.core.slots
         → (arrive now.core.geometry (core_state_of now.core) m).0 ≢ outcomes.ArriveRefused arrivals.Full }
 {}
 
 /// No more messages wait or are held than there are lines that were read and are not answered in the output.
 pub fn each_message_inside_has_its_line<D: Disk>()
-    ensures { (start now : MachineView) (row : List Line) (input left : Option (List ℕ)) (ended : Bool) (before written : Option (List ℕ))
-        → IsIdle (core_state_of start.core) → ServingProgress D.keeps start now row input left ended before written
-        → inside (core_state_of now.core) ≤ length row }
+    ensures { (start now : MachineView) (unsent : List Line) (input unread : Option (List ℕ)) (ended : Bool)
+        (before written : Option (List ℕ)) → IsIdle (core_state_of start.core)
+        → ServingProgress D.keeps start now unsent input unread ended before written → inside (core_state_of now.core) ≤ length unsent }
 {}
 
-/// A server that began with nothing in it has written what the serial server writes, however many messages ran at once: all of
-/// it where it has come to the end, the answers to the whole lines that were read where a read failed, those to the lines
-/// before one that found no ticket, and at every moment a beginning of it in whole lines. Where each line that was read is
-/// answered, nothing waits or is held, and it has committed what the serial server reaches. For each line that was written
-/// there is a legal run.
+/// A server that began with nothing in it has written what the serial server writes, however many messages ran at once: all of it where it
+/// has come to the end, the answers to the whole lines that were read where a read failed, those to the lines before one that found no
+/// ticket, and at every moment a beginning of it in whole lines. Where each line that was read is answered, nothing waits or is held, and
+/// it has committed what the serial server reaches. For each line that was written there is a legal run.
 pub fn serving_ends_as_the_serial_server<D: Disk>()
-    ensures whole { (start now : MachineView) (input left : Option (List ℕ)) (ended : Bool) (before written : Option (List ℕ))
-        → IsIdle (core_state_of start.core) → ServingProgress D.keeps start now [] input left ended before written
-        → now.core.failed ≡ false → IsAtEnd left
-        → EndsSo start.core now.core input left before written (Ok tt) }
-    ensures read { (start now : MachineView) (input left behind before written : Option (List ℕ)) → IsIdle (core_state_of start.core)
-        → ServingProgress D.keeps start now [] input left false before written → now.core.failed ≡ false
-        → IfSome left (λ bs. LosesFront bs behind)
-        → EndsSo start.core now.core input behind before written (Err faults.Read) }
-    ensures exhausted { (start now : MachineView) (input left behind : Option (List ℕ)) (ended : Bool) (before written : Option (List ℕ))
-        (line : List ℕ) (m : Msg) → IsIdle (core_state_of start.core) → ServingProgress D.keeps start now [] input left ended before written
-        → now.core.failed ≡ false → now.core.next ≡ 2 ^ 64 - 1 → IfSome left (λ bs. GivesLine line bs behind)
-        → message_of line ≡ Some m → is_in_range start.core.geometry m ≡ true
-        → EndsSo start.core now.core input behind before written (Err faults.Exhausted) }
-    ensures device { (start now : MachineView) (row : List Line) (input left : Option (List ℕ)) (ended : Bool)
-        (before written : Option (List ℕ))
-        → IsIdle (core_state_of start.core) → ServingProgress D.keeps start now row input left ended before written → now.core.failed ≡ true
-        → IsWoundUp now.core → EndsSo start.core now.core input left before written (Err faults.Device) }
-    ensures run { (start now : MachineView) (row : List Line) (input left : Option (List ℕ)) (ended : Bool)
-        (before written : Option (List ℕ))
-        → IsIdle (core_state_of start.core) → ServingProgress D.keeps start now row input left ended before written
-        → (now.core.failed ≡ false → now.core.doubt ≡ []) → (D.keeps → RecoversNow now.core)
-        → HasServed D.keeps start now.core row input before written }
+    ensures end_of_input { (start now : MachineView) (input unread : Option (List ℕ)) (ended : Bool) (before written : Option (List ℕ))
+        → IsIdle (core_state_of start.core) → ServingProgress D.keeps start now [] input unread ended before written
+        → now.core.failed ≡ false → IsAtEnd unread → EndsSo start.core now.core input unread before written (Ok tt) }
+    ensures read { (start now : MachineView) (input unread remaining before written : Option (List ℕ)) → IsIdle (core_state_of start.core)
+        → ServingProgress D.keeps start now [] input unread false before written → now.core.failed ≡ false
+        → IfSome unread (λ bs. LosesFront bs remaining) → EndsSo start.core now.core input remaining before written (Err faults.Read) }
+    ensures exhausted { (start now : MachineView) (input unread remaining : Option (List ℕ)) (ended : Bool)
+        (before written : Option (List ℕ)) (line : List ℕ) (m : Msg) → IsIdle (core_state_of start.core)
+        → ServingProgress D.keeps start now [] input unread ended before written → now.core.failed ≡ false → now.core.next ≡ 2 ^ 64 - 1
+        → IfSome unread (λ bs. GivesLine line bs remaining) → message_of line ≡ Some m → is_in_range start.core.geometry m ≡ true
+        → EndsSo start.core now.core input remaining before written (Err faults.Exhausted) }
+    ensures device { (start now : MachineView) (unsent : List Line) (input unread : Option (List ℕ)) (ended : Bool)
+        (before written : Option (List ℕ)) → IsIdle (core_state_of start.core)
+        → ServingProgress D.keeps start now unsent input unread ended before written → now.core.failed ≡ true → IsWoundUp now.core
+        → EndsSo start.core now.core input unread before written (Err faults.Device) }
+    ensures run { (start now : MachineView) (unsent : List Line) (input unread : Option (List ℕ)) (ended : Bool)
+        (before written : Option (List ℕ)) → IsIdle (core_state_of start.core)
+        → ServingProgress D.keeps start now unsent input unread ended before written → (now.core.failed ≡ false → now.core.doubt ≡ [])
+        → (D.keeps → RecoversNow now.core) → HasServed D.keeps start now.core unsent input before written }
 {}
 
 /// Where `doubt` was empty in the beginning, the device holds what was answered. Each line that was written for a message with a
@@ -116,13 +111,13 @@ pub fn what_was_sent_is_on_the_device<D: Disk>()
         → (k : ℕ) (c : List ℕ) → k ≤ length stages → left_since new.medium (moment (device_after start.core.medium (take k stages))) c
         → HoldsLog start.core.geometry (committed_in start.core) (ticketed start.core.next (admitted start.core.geometry taken))
         (logged_messages (machine_of start) (take k (events_of stages))) c }
-    ensures left { (start : MachineView) (new : CoreView) (input : Option (List ℕ)) (taken : List (List ℕ)) (stages : List Stage)
+    ensures at_end { (start : MachineView) (new : CoreView) (input : Option (List ℕ)) (taken : List (List ℕ)) (stages : List Stage)
         → IsIdle (core_state_of start.core) → start.core.doubt ≡ [] → HasRunLines D.keeps start new input taken stages → D.keeps
         → (c : List ℕ) → IsCrashImage new.medium c
         → HoldsLog start.core.geometry (committed_in start.core) (ticketed start.core.next (admitted start.core.geometry taken))
         (logged_messages (machine_of start) (events_of stages)) c }
-    ensures sent { (start : MachineView) (new : CoreView) (row : List Line) (input before written : Option (List ℕ))
-        → IsIdle (core_state_of start.core) → (h : HasServed D.keeps start new row input before written)
+    ensures sent { (start : MachineView) (new : CoreView) (unsent : List Line) (input before written : Option (List ℕ))
+        → IsIdle (core_state_of start.core) → (h : HasServed D.keeps start new unsent input before written)
         → AreInLog start.core.geometry (logged_messages (machine_of start) (events_of h.stages)) start.core.next h.taken
         (map text h.sent_lines) }
 {}
@@ -134,7 +129,7 @@ pub fn what_may_be_sent_is_on_the_device<D: Disk>()
 {}
 
 /// What may be sent is recovered: once it is sent, whatever a crash leaves of the device, as it was then, recovers to a state with each
-/// line that was sent, and with a closed part of the lines behind them.
+/// line that was sent, and with a closed part of the lines after them.
 pub fn what_may_be_sent_is_recovered<D: Disk>()
     ensures { (s : Start) (sent later : Option (List ℕ)) (now : CoreView) (bytes : List ℕ) → MaySend D.keeps (Some s) sent now bytes
         → D.keeps → Appends sent later bytes → (c : List ℕ) → IsCrashImage now.medium c

@@ -4,7 +4,7 @@ ghost use Rattle.std.specs.Prelude.{◌≡◌, ◌+◌, [], false, length, true,
 ghost use Rattle.message.specs.Waiting.{FitsReply};
 ghost use Rattle.scheduler.specs.CoreView.{core_state_of};
 ghost use Rattle.reorder_buffer.specs.ReorderBuffer.{can_retire};
-ghost use Rattle.serving.specs.Session.{KeepsEnds, IsSessionStep};
+ghost use Rattle.serving.specs.Session.{KeepsStopAndOutputFailed, IsSessionStep};
 
 use crate::gated_runtime::GatedRuntime;
 use crate::session::{Halted, Session};
@@ -40,7 +40,7 @@ impl<'c, R: Read, D: Disk, L: ReplySink<D>> Session<'c, R, D, L> {
     /// Answers the message that was logged first, if there is one: its line in the reorder buffer is completed then. Counts it for the
     /// points if it changed something, saturating. Whether there was one.
     pub(crate) fn answer_first<W: GatedRuntime>(&mut self, rt: &W) -> bool
-        ensures as_before { KeepsEnds self.old self.new }
+        ensures as_before { KeepsStopAndOutputFailed self.old self.new }
         ensures dispatch_seat { self.new.dispatch_seat ≡ self.old.dispatch_seat }
         ensures state_after { core_state_of self.new.core ≡ record (core_state_of self.old.core) { logged = self.new.core.logged } }
         ensures fewer { IsTrue result → length self.new.core.logged + 1 ≡ length self.old.core.logged }
@@ -53,28 +53,29 @@ impl<'c, R: Read, D: Disk, L: ReplySink<D>> Session<'c, R, D, L> {
         };
         rt.answered(ticket);
         self.trigger.count(&reply);
-        self.row.answer(ticket, reply);
+        self.reorder_buffer.answer(ticket, reply);
         true
     }
 
     /// Sends all that waits, unless something could not be sent before.
     pub(crate) fn flush_replies(&mut self) -> Result<(), Halted>
         ensures moves { IsSessionStep self.old self.new result }
-        ensures same { (self.new.core ≡ self.old.core) × (self.new.row ≡ self.old.row) × (self.new.dispatch_seat ≡ self.old.dispatch_seat) }
-        ensures none_waits { OnOk result (self.new.out ≡ []) }
-        ensures whole { OnOk result (self.new.output_failed ≡ false) }
+        ensures same { (self.new.core ≡ self.old.core) × (self.new.reorder_buffer ≡ self.old.reorder_buffer)
+            × (self.new.dispatch_seat ≡ self.old.dispatch_seat) }
+        ensures none_waits { OnOk result (self.new.reply_buffer ≡ []) }
+        ensures output_works { OnOk result (self.new.output_failed ≡ false) }
     {
         if self.output_failed {
             return Err(Halted);
         }
-        if self.out.is_empty() {
+        if self.reply_buffer.is_empty() {
             return Ok(());
         }
         self.core.know_recovery();
-        match self.sink.send(self.out.waiting(), &self.core) {
+        match self.sink.send(self.reply_buffer.waiting(), &self.core) {
             Ok(()) => {
-                self.out.clear();
-                self.outstanding = self.row.len();
+                self.reply_buffer.clear();
+                self.outstanding = self.reorder_buffer.len();
                 Ok(())
             }
             Err(_) => {
@@ -87,10 +88,11 @@ impl<'c, R: Read, D: Disk, L: ReplySink<D>> Session<'c, R, D, L> {
     /// Sends all that waits if the longest answer has no room after it.
     fn flush_if_full(&mut self) -> Result<(), Halted>
         ensures moves { IsSessionStep self.old self.new result }
-        ensures same { (self.new.core ≡ self.old.core) × (self.new.row ≡ self.old.row) × (self.new.dispatch_seat ≡ self.old.dispatch_seat) }
-        ensures room { OnOk result (FitsReply self.new.out) }
+        ensures same { (self.new.core ≡ self.old.core) × (self.new.reorder_buffer ≡ self.old.reorder_buffer)
+            × (self.new.dispatch_seat ≡ self.old.dispatch_seat) }
+        ensures room { OnOk result (FitsReply self.new.reply_buffer) }
     {
-        if self.out.has_room() {
+        if self.reply_buffer.has_room() {
             Ok(())
         } else {
             self.flush_replies()
@@ -101,11 +103,11 @@ impl<'c, R: Read, D: Disk, L: ReplySink<D>> Session<'c, R, D, L> {
     fn retire_first(&mut self) -> Result<bool, Halted>
         ensures moves { IsSessionStep self.old self.new result }
         ensures same { (self.new.core ≡ self.old.core) × (self.new.dispatch_seat ≡ self.old.dispatch_seat) }
-        ensures fewer { IfOk result (λ retired. IsTrue retired → length self.new.row.lines + 1 ≡ length self.old.row.lines) }
-        ensures last { IfOk result (λ retired. IsFalse retired → can_retire self.new.row.lines ≡ false) }
+        ensures fewer { IfOk result (λ it. IsTrue it → length self.new.reorder_buffer.lines + 1 ≡ length self.old.reorder_buffer.lines) }
+        ensures last { IfOk result (λ it. IsFalse it → can_retire self.new.reorder_buffer.lines ≡ false) }
     {
         self.flush_if_full()?;
-        let retired = self.row.retire_front(&mut self.out);
+        let retired = self.reorder_buffer.retire_front(&mut self.reply_buffer);
         Ok(retired)
     }
 
@@ -113,7 +115,7 @@ impl<'c, R: Read, D: Disk, L: ReplySink<D>> Session<'c, R, D, L> {
     pub(crate) fn retire_ready(&mut self) -> Result<(), Halted>
         ensures moves { IsSessionStep self.old self.new result }
         ensures same { (self.new.core ≡ self.old.core) × (self.new.dispatch_seat ≡ self.old.dispatch_seat) }
-        ensures last { OnOk result (can_retire self.new.row.lines ≡ false) }
+        ensures last { OnOk result (can_retire self.new.reorder_buffer.lines ≡ false) }
     {
         while self.retire_first()? {}
         Ok(())
@@ -124,9 +126,9 @@ impl<'c, R: Read, D: Disk, L: ReplySink<D>> Session<'c, R, D, L> {
         ensures moves { IsSessionStep self.old self.new result }
         ensures dispatch_seat { self.new.dispatch_seat ≡ self.old.dispatch_seat }
         ensures state_after { core_state_of self.new.core ≡ record (core_state_of self.old.core) { logged = [] } }
-        ensures none_waits { OnOk result (self.new.out ≡ []) }
-        ensures whole { OnOk result (self.new.output_failed ≡ false) }
-        ensures last { OnOk result (can_retire self.new.row.lines ≡ false) }
+        ensures none_waits { OnOk result (self.new.reply_buffer ≡ []) }
+        ensures output_works { OnOk result (self.new.output_failed ≡ false) }
+        ensures last { OnOk result (can_retire self.new.reorder_buffer.lines ≡ false) }
     {
         while self.answer_first(rt) {}
         self.retire_ready()?;

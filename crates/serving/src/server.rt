@@ -54,14 +54,14 @@ pub struct ServeError<D: Disk> {
 // bench with its seats. Nothing lies there yet.
 struct Room {
     input: Vec<u8>,
-    row: ReorderBuffer,
-    out: ReplyBuffer,
+    reorder_buffer: ReorderBuffer,
+    reply_buffer: ReplyBuffer,
     bench: Bench,
     dispatch_seat: DispatchSeat,
     seats: Vec<WorkSeat>,
     ghost holds_a_line: { 1101 ≤ vec_len input },
-    ghost none_read: { row.lines ≡ [] },
-    ghost none_waits: { out ≡ [] },
+    ghost none_read: { reorder_buffer.lines ≡ [] },
+    ghost none_waits: { reply_buffer ≡ [] },
     ghost at_bench: { (dispatch_seat.bench ≡ bench) × All (λ w. w ≡ bench) seats.items },
     ghost none_lent: { dispatch_seat.lent ≡ replicate bench.slots None },
 }
@@ -70,17 +70,17 @@ struct Room {
 // worker (contracts call the places `bench.slots`).
 fn take_room(alloc: Global, slots: usize, workers: usize) -> Result<Room, AllocError>
     requires { workers ≤ 64 }
-    ensures row { IfOk result (λ room. room.row.slots ≡ slots) }
+    ensures slots { IfOk result (λ room. room.reorder_buffer.slots ≡ slots) }
     ensures places { IfOk result (λ room. room.bench.slots ≡ workers) }
 {
     let input = vec![in alloc; 0; READ_SIZE]?;
-    let row = ReorderBuffer::new(alloc, slots)?;
-    let out = ReplyBuffer::new(alloc)?;
+    let reorder_buffer = ReorderBuffer::new(alloc, slots)?;
+    let reply_buffer = ReplyBuffer::new(alloc)?;
     let (bench, dispatch_seat, seats) = Bench::open(alloc, workers, workers)?;
     Ok(Room {
         input,
-        row,
-        out,
+        reorder_buffer,
+        reply_buffer,
         bench,
         dispatch_seat,
         seats,
@@ -126,7 +126,7 @@ fn serve_lent<
     of: PhantomData<N>,
 ) -> (Result<Core<D>, ServeError<D>>, &'a mut R, L)
     requires reader { reader.ghost_name ≡ N.name }
-    requires can_begin { CanBegin L.start core room.bench.slots (R.remaining reader.now) (L.sent sink) room.row }
+    requires can_begin { CanBegin L.start core room.bench.slots (R.remaining reader.now) (L.sent sink) room.reorder_buffer }
     requires workers { room.bench.slots ≢ 0 }
     ensures same { result.1.ghost_name ≡ reader.entry.ghost_name }
     ensures serves { ServesSo D.keeps room.bench.slots core (handed_back result.0) (R.remaining reader.entry.now)
@@ -134,8 +134,8 @@ fn serve_lent<
 {
     let Room {
         input,
-        row,
-        out,
+        reorder_buffer,
+        reply_buffer,
         bench,
         dispatch_seat,
         seats,
@@ -143,10 +143,10 @@ fn serve_lent<
     let mut session = Session {
         core,
         dispatch_seat,
-        row,
-        out,
+        reorder_buffer,
+        reply_buffer,
         trigger,
-        lines: LineReader::new(LentReader { reader, of }, input),
+        line_reader: LineReader::new(LentReader { reader, of }, input),
         stop: None,
         outstanding: 0,
         sink,
@@ -157,17 +157,17 @@ fn serve_lent<
     let Session {
         core,
         dispatch_seat: _,
-        row: _,
-        out: _,
+        reorder_buffer: _,
+        reply_buffer: _,
         trigger: _,
-        lines,
+        line_reader,
         stop: _,
         outstanding: _,
         sink,
         output_failed: _,
         bench: _,
     } = session;
-    let LentReader { reader, of: _ } = lines.into_inner();
+    let LentReader { reader, of: _ } = line_reader.into_inner();
     (hand_back(core, ended), reader, sink)
 }
 

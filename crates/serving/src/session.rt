@@ -56,13 +56,13 @@ pub(crate) struct Session<'c, R: Read, D: Disk, L: ReplySink<D>> {
     /// The dispatcher's seat at the bench.
     pub(crate) dispatch_seat: DispatchSeat,
     /// The lines that were read and not retired yet.
-    pub(crate) row: ReorderBuffer,
+    pub(crate) reorder_buffer: ReorderBuffer,
     /// The answers that wait to be sent.
-    pub(crate) out: ReplyBuffer,
+    pub(crate) reply_buffer: ReplyBuffer,
     /// When consistency points are due.
     pub(crate) trigger: CheckpointTrigger,
     /// The input.
-    pub(crate) lines: LineReader<R>,
+    pub(crate) line_reader: LineReader<R>,
     /// Why no more of it is read, once that is so.
     pub(crate) stop: Option<ReadEnd>,
     /// How many lines are outstanding: read, and not answered in the output. They are in the reorder buffer, or their answers wait.
@@ -85,30 +85,30 @@ impl<'c, R: Read, D: Disk, L: ReplySink<D>> Model for Session<'c, R, D, L> {
     ghost view = { λ s. record {
       core = s.core;
       dispatch_seat = s.dispatch_seat;
-      row = s.row;
-      out = s.out;
+      reorder_buffer = s.reorder_buffer;
+      reply_buffer = s.reply_buffer;
       sent = L.sent s.sink;
       outstanding = s.outstanding;
       output_failed = s.output_failed;
       stop = s.stop;
-      left = unread R.remaining s.lines;
-      drained = is_drained s.lines;
-      ended = has_ended s.lines;
-      behind = R.remaining (source s.lines);
+      unread = unread R.remaining s.line_reader;
+      drained = is_drained s.line_reader;
+      ended = has_ended s.line_reader;
+      remaining = R.remaining (source s.line_reader);
     } };
 
     ghost invariant = { λ s. SessionInvariantFrom D.keeps L.start (record {
       core = s.core;
       dispatch_seat = s.dispatch_seat;
-      row = s.row;
-      out = s.out;
+      reorder_buffer = s.reorder_buffer;
+      reply_buffer = s.reply_buffer;
       sent = L.sent s.sink;
       outstanding = s.outstanding;
       output_failed = s.output_failed;
       stop = s.stop;
-      left = unread R.remaining s.lines;
-      drained = is_drained s.lines;
-      ended = has_ended s.lines;
-      behind = R.remaining (source s.lines);
+      unread = unread R.remaining s.line_reader;
+      drained = is_drained s.line_reader;
+      ended = has_ended s.line_reader;
+      remaining = R.remaining (source s.line_reader);
     }) × (s.dispatch_seat.bench ≡ s.bench.now) };
 }

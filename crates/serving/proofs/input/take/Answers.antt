@@ -55,4 +55,4 @@ push-requires-clause-order g c ticket is =
     let old = c.args.core.now in
     let next = next_of_line old c.arrive_line.new.self (message_of c.args.line.now) c.in-Ok-Some.ticket
     (subst (ArrivesByLine old c.arrive_line.new.self (message_of c.args.line.now)) (c.in-Ok-Some.is ∙ ap Ok c.in-Ok-Some.field-0-is) c.arrive_line.ensures.arrives) in
-    subst (λ (t : ℕ). AreConsecutive (with_tickets c.args.row.now.lines ++ Pending t ∷ [])) (sym next) c.requires.order
+    subst (λ (t : ℕ). AreConsecutive (with_tickets c.args.reorder_buffer.now.lines ++ Pending t ∷ [])) (sym next) c.requires.order

@@ -6,8 +6,8 @@ use Rattle.serving.proofs.Serial.{asked_leads_there, sent_lines_are_serial}
 use Rattle.serving.proofs.laws.known_lines_are_serial.Goals as goal
 
 pub returns-clause-output : goal.returns-clause-output
-returns-clause-output c g x n ls replies sent_lines row reply_pairs known answered =
-    sent_lines_are_serial g replies [] row x n ls sent_lines (λ p is. inr (in_contained _ p (reply_pairs p (contains_in replies p is)))) known answered
+returns-clause-output c g x n ls replies sent_lines unsent reply_pairs known answered =
+    sent_lines_are_serial g replies [] unsent x n ls sent_lines (λ p is. inr (in_contained _ p (reply_pairs p (contains_in replies p is)))) known answered
     ∙ ap (λ l. take (length sent_lines) (output_lines g x l)) (append-nil ls)
 
 pub returns-clause-state : goal.returns-clause-state

@@ -9,4 +9,4 @@ pub returns-clause-slots : goal.returns-clause-slots
 returns-clause-slots g c old new come replies p = passes_slots p
 
 pub returns-clause-a_slot : goal.returns-clause-a_slot
-returns-clause-a_slot g c start now row input left ended before written m idle h few = finds_a_slot m idle h few
+returns-clause-a_slot g c start now unsent input unread ended before written m idle h few = finds_a_slot m idle h few

@@ -5,8 +5,8 @@ use Rattle.serving.proofs.laws.what_was_sent_is_on_the_device.Goals as goal
 pub returns-clause-logged : goal.returns-clause-logged
 returns-clause-logged g c start new input taken stages idle none run = holds_logged g.D.Disk.keeps start new input taken stages idle none run
 
-pub returns-clause-left : goal.returns-clause-left
-returns-clause-left g c start new input taken stages idle none run = holds_all g.D.Disk.keeps start new input taken stages idle none run
+pub returns-clause-at_end : goal.returns-clause-at_end
+returns-clause-at_end g c start new input taken stages idle none run = holds_all g.D.Disk.keeps start new input taken stages idle none run
 
 pub returns-clause-sent : goal.returns-clause-sent
-returns-clause-sent g c start new row input before written idle h = written_are_kept g.D.Disk.keeps start new row input before written idle h
+returns-clause-sent g c start new unsent input before written idle h = written_are_kept g.D.Disk.keeps start new unsent input before written idle h

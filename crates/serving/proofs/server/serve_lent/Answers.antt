@@ -13,12 +13,12 @@ use Rattle.serving.proofs.server.serve_lent.Goals as goal
 pub invariant_of-session : goal.invariant_of-session
 invariant_of-session g c =
     let room = c.args.room in
-    let lines = c.new.ensures in (
+    let line_reader = c.new.ensures in (
       first_at g.D.Disk.keeps _ c.requires.can_begin (record {
         none_waits = room.none_waits;
-        all = lines.unread;
-        none_read = not_drained _ _ lines.open;
-        not_ended = lines.open;
+        all = line_reader.unread;
+        none_read = not_drained _ _ line_reader.open;
+        not_ended = line_reader.open;
         slots = ap (λ (b : _). b.slots) room.at_bench.0;
         none_lent = room.none_lent;
       }),

@@ -1,16 +1,16 @@
 -- Where the session and the batch are; and at how many places it has not looked.
 use Rattle.std.proofs.Common.{◌≡◌, ◌<◌, ◌≤◌, ◌-◌, length}
 use Rattle.std.specs.Prelude.{IsTrue}
-use Rattle.serving.specs.Session.{KeepsEnds}
+use Rattle.serving.specs.Session.{KeepsStopAndOutputFailed}
 use Rattle.serving.proofs.session.Session.collect_delivered.Given as goal
 
 abbrev pub invariant-loop-k : goal.invariant-loop-k
 invariant-loop-k g l = record {
-  as_before : KeepsEnds l.initial.self l.self;
+  as_before : KeepsStopAndOutputFailed l.initial.self l.self;
   places : length l.self.dispatch_seat.lent ≡ length l.initial.self.dispatch_seat.lent;
   failed : l.self.core.failed ≡ l.initial.self.core.failed;
-  left : l.batch.left ≤ l.initial.batch.left;
-  less : IsTrue l.came → l.batch.left < l.initial.batch.left;
+  budget : l.batch.budget ≤ l.initial.batch.budget;
+  less : IsTrue l.came → l.batch.budget < l.initial.batch.budget;
 }
 
 abbrev pub decreases-loop-k : goal.decreases-loop-k

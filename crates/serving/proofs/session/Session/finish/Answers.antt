@@ -20,8 +20,8 @@ invariant_of-self g c =
 pub returns-in-EndOfInput-clause-moves : goal.returns-in-EndOfInput-clause-moves
 returns-in-EndOfInput-clause-moves g c =
     let sent = c.in_ok-flush_replies.ensures in
-    let row = ap (λ (r : ReorderBufferView). r.lines) sent.same.1 ∙ c.requires.row in
-    let idle = idle_of g.D.Disk.keeps _ _ c.self-2.invariant.0 (ap (λ (p : SessionView). p.row.lines) c.self-2.view_is ∙ row) in
+    let all_retired = ap (λ (r : ReorderBufferView). r.lines) sent.same.1 ∙ c.requires.all_retired in
+    let idle = idle_of g.D.Disk.keeps _ _ c.self-2.invariant.0 (ap (λ (p : SessionView). p.reorder_buffer.lines) c.self-2.view_is ∙ all_retired) in
     let left = ap (λ (p : SessionView). p.core.left) c.self-2.view_is ∙ ap (λ (k : CoreView). k.left) sent.same.0 ∙ c.requires.none in
     let output_failed = ap (λ (p : SessionView). p.output_failed) c.self-2.view_is ∙ sent.moves.1 in (
       ap (λ (p : SessionView). p.stop) c.self-2.view_is ∙ sent.moves.0,

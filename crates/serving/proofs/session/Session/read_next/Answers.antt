@@ -18,11 +18,11 @@ use Rattle.serving.proofs.session.Session.read_next.Goals as goal
 
 pub take-requires-clause-room : goal.take-requires-clause-room
 take-requires-clause-room g c =
-    has_place g.D.Disk.keeps _ _ c.self.invariant.0 (subst (λ (p : SessionView). p.outstanding < p.row.slots) (sym c.self.view_is) c.requires.room)
+    has_place g.D.Disk.keeps _ _ c.self.invariant.0 (subst (λ (p : SessionView). p.outstanding < p.reorder_buffer.slots) (sym c.self.view_is) c.requires.room)
 
 pub push-requires-clause-room : goal.push-requires-clause-room
 push-requires-clause-room g c =
-    has_place g.D.Disk.keeps _ _ c.self.invariant.0 (subst (λ (p : SessionView). p.outstanding < p.row.slots) (sym c.self.view_is) c.requires.room)
+    has_place g.D.Disk.keeps _ _ c.self.invariant.0 (subst (λ (p : SessionView). p.outstanding < p.reorder_buffer.slots) (sym c.self.view_is) c.requires.room)
 
 pub take-requires-clause-order : goal.take-requires-clause-order
 take-requires-clause-order g c =
@@ -31,15 +31,15 @@ take-requires-clause-order g c =
 pub invariant_of-self : goal.invariant_of-self
 invariant_of-self g c =
     let f = c.self.inside in
-    let may = subst (λ (p : SessionView). p.outstanding < p.row.slots) (sym c.self.view_is) c.requires.room in
+    let may = subst (λ (p : SessionView). p.outstanding < p.reorder_buffer.slots) (sym c.self.view_is) c.requires.room in
     let rest = g.R.Read.remaining in
     let u = c.self.invariant.0 in
     let none = ap (λ (p : SessionView). p.stop) c.self.view_is ∙ c.requires.reads in
     let drained = sym c.if-is_drained.ensures.value in
     let knows = knows_of g.D.Disk.keeps _ _ u in (
-      on_stop g.D.Disk.keeps _ f.core f.row f.outstanding (unread rest f.lines) (is_drained f.lines) (has_ended f.lines) (rest (source f.lines)) none refl refl (omega (arith, may)) knows
-          _ ends_of_reading.EndOfInput u (still g.D.Disk.keeps _ (holds_of g.D.Disk.keeps _ _ u)) refl
-          (none_left (unread rest f.lines) (c.if-is_drained.ensures.nothing refl), knows (has_sent_end _ _ drained)),
+      on_stop g.D.Disk.keeps _ f.core f.reorder_buffer f.outstanding (unread rest f.line_reader) (is_drained f.line_reader) (has_ended f.line_reader) (rest (source f.line_reader))
+          none refl refl (omega (arith, may)) knows _ ends_of_reading.EndOfInput u (still g.D.Disk.keeps _ (holds_of g.D.Disk.keeps _ _ u)) refl
+          (none_left (unread rest f.line_reader) (c.if-is_drained.ensures.nothing refl), knows (has_sent_end _ _ drained)),
       c.self.invariant.1,
     )
 
@@ -52,52 +52,52 @@ invariant_of-self-in-Ok g c =
     let none = ap (λ (p : SessionView). p.stop) c.self.view_is ∙ c.requires.reads in
     let going = sym c.if-is_drained.ensures.value in
     let knows = c.next_line.ensures.at_end (knows_of g.D.Disk.keeps _ _ u) in
-    let left = unread rest f.lines in
-    let may = subst (λ (p : SessionView). p.outstanding < p.row.slots) (sym c.self.view_is) c.requires.room in
+    let was_unread = unread rest f.line_reader in
+    let may = subst (λ (p : SessionView). p.outstanding < p.reorder_buffer.slots) (sym c.self.view_is) c.requires.room in
     let took = c.in-Ok.ensures.takes (map lent_hand f.dispatch_seat.lent) (holds_of g.D.Disk.keeps _ _ u) in (
-      on_line g.D.Disk.keeps _ c.take.new.core c.take.new.row (f.outstanding + 1) (unread rest n) (is_drained n) (has_ended n) (rest (source n)) none
-          c.in-Ok.ensures.slots (omega (arith, ap length took.2, length-append f.row.lines (took.0 ∷ []))) (omega (arith, may)) knows
+      on_line g.D.Disk.keeps _ c.take.new.core c.take.new.reorder_buffer (f.outstanding + 1) (unread rest n) (is_drained n) (has_ended n) (rest (source n)) none
+          c.in-Ok.ensures.slots (omega (arith, ap length took.2, length-append f.reorder_buffer.lines (took.0 ∷ []))) (omega (arith, may)) knows
           took.0 took.2 going
-          (subst (λ (x : Found). Closes (Ok x) left (is_drained n)) c.in-Ok-Line.field-0-is c.in-Ok-Line.ensures.closes)
+          (subst (λ (x : Found). Closes (Ok x) was_unread (is_drained n)) c.in-Ok-Line.field-0-is c.in-Ok-Line.ensures.closes)
           _ c.line.result.now u took.1
-          (subst (λ (l : List ℕ). IfSome left (λ bs. GivesLine l bs (unread rest n))) (sym c.line.ensures)
-          (subst (λ (x : Found). Finds (Ok x) left (line_of n) (unread rest n)) c.in-Ok-Line.field-0-is c.in-Ok-Line.ensures.found)),
+          (subst (λ (l : List ℕ). IfSome was_unread (λ bs. GivesLine l bs (unread rest n))) (sym c.line.ensures)
+          (subst (λ (x : Found). Finds (Ok x) was_unread (line_of n) (unread rest n)) c.in-Ok-Line.field-0-is c.in-Ok-Line.ensures.found)),
       c.self.invariant.1,
     )
 
 pub invariant_of-self-in-Err-take : goal.invariant_of-self-in-Err-take
 invariant_of-self-in-Err-take g c =
     let f = c.self.inside in
-    let may = subst (λ (p : SessionView). p.outstanding < p.row.slots) (sym c.self.view_is) c.requires.room in
+    let may = subst (λ (p : SessionView). p.outstanding < p.reorder_buffer.slots) (sym c.self.view_is) c.requires.room in
     let n = c.next_line.new.self in
     let rest = g.R.Read.remaining in
     let u = c.self.invariant.0 in
     let none = ap (λ (p : SessionView). p.stop) c.self.view_is ∙ c.requires.reads in
     let going = sym c.if-is_drained.ensures.value in
     let knows = c.next_line.ensures.at_end (knows_of g.D.Disk.keeps _ _ u) in
-    let left = unread rest f.lines in
+    let was_unread = unread rest f.line_reader in
     let took = c.in-Err-take.ensures.takes (map lent_hand f.dispatch_seat.lent) (holds_of g.D.Disk.keeps _ _ u) in
     let room = has_place g.D.Disk.keeps _ _ u may in
-    let found = gives c.line.result.now left (unread rest n) (subst (λ (l : List ℕ). IfSome left (λ bs. GivesLine l bs (unread rest n))) (sym c.line.ensures)
-    (subst (λ (x : Found). Finds (Ok x) left (line_of n) (unread rest n)) c.in-Ok-Line.field-0-is c.in-Ok-Line.ensures.found)) in
+    let found = gives c.line.result.now was_unread (unread rest n) (subst (λ (l : List ℕ). IfSome was_unread (λ bs. GivesLine l bs (unread rest n))) (sym c.line.ensures)
+    (subst (λ (x : Found). Finds (Ok x) was_unread (line_of n) (unread rest n)) c.in-Ok-Line.field-0-is c.in-Ok-Line.ensures.found)) in
     subst (λ (stop : ReadEnd). SessionInvariantFrom g.D.Disk.keeps g.L.ReplySink.start (record {
       core = c.take.new.core;
       dispatch_seat = f.dispatch_seat;
-      row = c.take.new.row;
-      out = f.out;
+      reorder_buffer = c.take.new.reorder_buffer;
+      reply_buffer = f.reply_buffer;
       sent = g.L.ReplySink.sent f.sink;
       outstanding = f.outstanding;
       output_failed = f.output_failed;
       stop = Some stop;
-      left = unread rest n;
+      unread = unread rest n;
       drained = is_drained n;
       ended = has_ended n;
-      behind = rest (source n);
+      remaining = rest (source n);
     }) × (f.dispatch_seat.bench ≡ f.bench.now)) (sym took.4) (
-      on_stop g.D.Disk.keeps _ c.take.new.core c.take.new.row f.outstanding (unread rest n) (is_drained n) (has_ended n) (rest (source n)) none
+      on_stop g.D.Disk.keeps _ c.take.new.core c.take.new.reorder_buffer f.outstanding (unread rest n) (is_drained n) (has_ended n) (rest (source n)) none
           c.in-Err-take.ensures.slots (omega (arith, ap length took.5)) (omega (arith, may)) knows
           _ (read_end_of took.1) u took.3.quiet took.5
-          (stops_at_refusal left (rest (source n)) (is_drained f.lines) c.line.result.now took.2 found took.3 (has_slot g.D.Disk.keeps _ _ took.0 none u room)),
+          (stops_at_refusal was_unread (rest (source n)) (is_drained f.line_reader) c.line.result.now took.2 found took.3 (has_slot g.D.Disk.keeps _ _ took.0 none u room)),
       c.self.invariant.1,
     )
 
@@ -110,68 +110,68 @@ invariant_of-self-in-Ok-TooLong g c =
     let none = ap (λ (p : SessionView). p.stop) c.self.view_is ∙ c.requires.reads in
     let going = sym c.if-is_drained.ensures.value in
     let knows = c.next_line.ensures.at_end (knows_of g.D.Disk.keeps _ _ u) in
-    let may = subst (λ (p : SessionView). p.outstanding < p.row.slots) (sym c.self.view_is) c.requires.room in
-    let left = unread rest f.lines in (
+    let may = subst (λ (p : SessionView). p.outstanding < p.reorder_buffer.slots) (sym c.self.view_is) c.requires.room in
+    let was_unread = unread rest f.line_reader in (
       on_long_line g.D.Disk.keeps _ f.core c.push.new.self (f.outstanding + 1) (unread rest n) (is_drained n) (has_ended n) (rest (source n)) none
-          c.push.ensures.slots (omega (arith, ap length c.push.ensures.lines, length-append f.row.lines (NoMessage ∷ []))) (omega (arith, may)) knows
+          c.push.ensures.slots (omega (arith, ap length c.push.ensures.lines, length-append f.reorder_buffer.lines (NoMessage ∷ []))) (omega (arith, may)) knows
           NoMessage c.push.ensures.lines going
-          (subst (λ (x : Found). Closes (Ok x) left (is_drained n)) c.in-Ok-TooLong.field-0-is c.in-Ok-TooLong.ensures.closes)
+          (subst (λ (x : Found). Closes (Ok x) was_unread (is_drained n)) c.in-Ok-TooLong.field-0-is c.in-Ok-TooLong.ensures.closes)
           _ u (takes_none g.D.Disk.keeps _ (holds_of g.D.Disk.keeps _ _ u))
-          (subst (λ (x : Found). Finds (Ok x) left (line_of n) (unread rest n)) c.in-Ok-TooLong.field-0-is c.in-Ok-TooLong.ensures.found),
+          (subst (λ (x : Found). Finds (Ok x) was_unread (line_of n) (unread rest n)) c.in-Ok-TooLong.field-0-is c.in-Ok-TooLong.ensures.found),
       c.self.invariant.1,
     )
 
 pub invariant_of-self-in-Ok-End : goal.invariant_of-self-in-Ok-End
 invariant_of-self-in-Ok-End g c =
     let f = c.self.inside in
-    let may = subst (λ (p : SessionView). p.outstanding < p.row.slots) (sym c.self.view_is) c.requires.room in
+    let may = subst (λ (p : SessionView). p.outstanding < p.reorder_buffer.slots) (sym c.self.view_is) c.requires.room in
     let n = c.next_line.new.self in
     let rest = g.R.Read.remaining in
     let u = c.self.invariant.0 in
     let none = ap (λ (p : SessionView). p.stop) c.self.view_is ∙ c.requires.reads in
     let going = sym c.if-is_drained.ensures.value in
     let knows = c.next_line.ensures.at_end (knows_of g.D.Disk.keeps _ _ u) in
-    let left = unread rest f.lines in
-    let found = subst (λ (x : Found). Finds (Ok x) left (line_of n) (unread rest n)) c.in-Ok-End.field-0-is c.in-Ok-End.ensures.found in (
-      on_stop g.D.Disk.keeps _ f.core f.row f.outstanding (unread rest n) (is_drained n) (has_ended n) (rest (source n)) none refl refl (omega (arith, may)) knows
+    let was_unread = unread rest f.line_reader in
+    let found = subst (λ (x : Found). Finds (Ok x) was_unread (line_of n) (unread rest n)) c.in-Ok-End.field-0-is c.in-Ok-End.ensures.found in (
+      on_stop g.D.Disk.keeps _ f.core f.reorder_buffer f.outstanding (unread rest n) (is_drained n) (has_ended n) (rest (source n)) none refl refl (omega (arith, may)) knows
           _ ends_of_reading.EndOfInput u (still g.D.Disk.keeps _ (holds_of g.D.Disk.keeps _ _ u)) refl
-          (at_end left (unread rest n) found, knows (c.next_line.ensures.end (c.in-Ok-End.is ∙ ap Ok c.in-Ok-End.field-0-is))),
+          (at_end was_unread (unread rest n) found, knows (c.next_line.ensures.end (c.in-Ok-End.is ∙ ap Ok c.in-Ok-End.field-0-is))),
       c.self.invariant.1,
     )
 
 pub invariant_of-self-in-Err : goal.invariant_of-self-in-Err
 invariant_of-self-in-Err g c =
     let f = c.self.inside in
-    let may = subst (λ (p : SessionView). p.outstanding < p.row.slots) (sym c.self.view_is) c.requires.room in
+    let may = subst (λ (p : SessionView). p.outstanding < p.reorder_buffer.slots) (sym c.self.view_is) c.requires.room in
     let n = c.next_line.new.self in
     let rest = g.R.Read.remaining in
     let u = c.self.invariant.0 in
     let none = ap (λ (p : SessionView). p.stop) c.self.view_is ∙ c.requires.reads in
     let going = sym c.if-is_drained.ensures.value in
     let knows = c.next_line.ensures.at_end (knows_of g.D.Disk.keeps _ _ u) in
-    let left = unread rest f.lines in (
-      on_stop g.D.Disk.keeps _ f.core f.row f.outstanding (unread rest n) (is_drained n) (has_ended n) (rest (source n)) none refl refl (omega (arith, may)) knows
+    let was_unread = unread rest f.line_reader in (
+      on_stop g.D.Disk.keeps _ f.core f.reorder_buffer f.outstanding (unread rest n) (is_drained n) (has_ended n) (rest (source n)) none refl refl (omega (arith, may)) knows
           _ ends_of_reading.ReadFailed u (still g.D.Disk.keeps _ (holds_of g.D.Disk.keeps _ _ u)) refl
-          (going, subst (λ (l : Option (List ℕ)). IfSome left (λ bs. LosesFront bs l)) c.in-Err.ensures.lost c.in-Err.ensures.found),
+          (going, subst (λ (l : Option (List ℕ)). IfSome was_unread (λ bs. LosesFront bs l)) c.in-Err.ensures.lost c.in-Err.ensures.found),
       c.self.invariant.1,
     )
 
 pub returns-in-Ok-clause-slots : goal.returns-in-Ok-clause-slots
-returns-in-Ok-clause-slots g c = c.in-Ok.ensures.slots ∙ ap (λ (p : SessionView). p.row.slots) c.self.view_is
+returns-in-Ok-clause-slots g c = c.in-Ok.ensures.slots ∙ ap (λ (p : SessionView). p.reorder_buffer.slots) c.self.view_is
 
 pub returns-in-Ok-clause-longer : goal.returns-in-Ok-clause-longer
 returns-in-Ok-clause-longer g c is =
     let f = c.self.inside in
     let took = c.in-Ok.ensures.takes (map lent_hand f.dispatch_seat.lent) (holds_of g.D.Disk.keeps _ _ c.self.invariant.0) in
-    ap length took.2 ∙ length-append f.row.lines (took.0 ∷ []) ∙ ap (λ (p : SessionView). length p.row.lines + 1) c.self.view_is
+    ap length took.2 ∙ length-append f.reorder_buffer.lines (took.0 ∷ []) ∙ ap (λ (p : SessionView). length p.reorder_buffer.lines + 1) c.self.view_is
 
 pub returns-in-Err-take-clause-slots : goal.returns-in-Err-take-clause-slots
-returns-in-Err-take-clause-slots g c = c.in-Err-take.ensures.slots ∙ ap (λ (p : SessionView). p.row.slots) c.self.view_is
+returns-in-Err-take-clause-slots g c = c.in-Err-take.ensures.slots ∙ ap (λ (p : SessionView). p.reorder_buffer.slots) c.self.view_is
 
 pub returns-in-Ok-TooLong-clause-slots : goal.returns-in-Ok-TooLong-clause-slots
-returns-in-Ok-TooLong-clause-slots g c = c.push.ensures.slots ∙ ap (λ (p : SessionView). p.row.slots) c.self.view_is
+returns-in-Ok-TooLong-clause-slots g c = c.push.ensures.slots ∙ ap (λ (p : SessionView). p.reorder_buffer.slots) c.self.view_is
 
 pub returns-in-Ok-TooLong-clause-longer : goal.returns-in-Ok-TooLong-clause-longer
 returns-in-Ok-TooLong-clause-longer g c is =
     let f = c.self.inside in
-    ap length c.push.ensures.lines ∙ length-append f.row.lines (NoMessage ∷ []) ∙ ap (λ (p : SessionView). length p.row.lines + 1) c.self.view_is
+    ap length c.push.ensures.lines ∙ length-append f.reorder_buffer.lines (NoMessage ∷ []) ∙ ap (λ (p : SessionView). length p.reorder_buffer.lines + 1) c.self.view_is

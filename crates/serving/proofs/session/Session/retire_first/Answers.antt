@@ -7,7 +7,7 @@ use Rattle.serving.proofs.session.Session.retire_first.Goals as goal
 pub invariant_of-self : goal.invariant_of-self
 invariant_of-self g c =
     let retired = c.retire_front-retired.ensures in
-    (on_retire_front g.D.Disk.keeps _ _ c.self.invariant.0 _ _ _ retired.next retired.retired retired.left retired.slots, c.self.invariant.1)
+    (on_retire_front g.D.Disk.keeps _ _ c.self.invariant.0 _ _ _ retired.next retired.retired retired.lines retired.slots, c.self.invariant.1)
 
 pub returns-clause-moves : goal.returns-clause-moves
 returns-clause-moves g c =

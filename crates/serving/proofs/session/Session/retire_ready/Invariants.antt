@@ -1,13 +1,13 @@
 -- The lines so far wait to be sent; and how many are in the reorder buffer still.
 use Rattle.std.proofs.Common.{◌≡◌, length}
-use Rattle.serving.specs.Session.{KeepsEnds}
+use Rattle.serving.specs.Session.{KeepsStopAndOutputFailed}
 use Rattle.serving.proofs.session.Session.retire_ready.Given as goal
 
 abbrev pub invariant-loop : goal.invariant-loop
 invariant-loop g l = record {
-  as_before : KeepsEnds l.initial.self l.self;
+  as_before : KeepsStopAndOutputFailed l.initial.self l.self;
   same : (l.self.core ≡ l.initial.self.core) × (l.self.dispatch_seat ≡ l.initial.self.dispatch_seat);
 }
 
 abbrev pub decreases-loop : goal.decreases-loop
-decreases-loop g l = length l.self.row.lines
+decreases-loop g l = length l.self.reorder_buffer.lines
