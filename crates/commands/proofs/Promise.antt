@@ -33,7 +33,7 @@ use Rattle.commands.proofs.Kept.{keeps_acknowledged}
 use Rattle.commands.proofs.OnDevice.{is_idle}
 use Rattle.commands.specs.Faults.{as_fault}
 use Rattle.commands.specs.Acknowledged.{HoldsAcknowledged}
-use Rattle.commands.specs.Promise.{GoesOn, HoldsRecovered, LeavesRecovered, UnlessUnopened, unless_unsent}
+use Rattle.commands.specs.Promise.{GoesOn, HoldsRecovered, LeavesRecovered, UnlessUnopened, known_unless_write_failed}
 use Rattle.commands.specs.Serving.{EndsOnDevice, CrashesSafely, HasServedBy, HasServedUntilCrash, RecoveredTo, machine_at_start}
 use Rattle.commands.specs.declared.faults.Fault.{Fault}
 use Rattle.commands.specs.declared.faults.Fault.TheVariants as ends
@@ -42,10 +42,10 @@ use Rattle.commands.specs.declared.service.Service.{Service}
 -- ---- whatever a crash leaves at the end of a service
 
 -- Where a write failed, no line counts as written.
-unsent : {keeps : Type 0} {s : Service} {old new : Medium} {input left before written : Option (List ℕ)}
+write_failed : {keeps : Type 0} {s : Service} {old new : Medium} {input left before written : Option (List ℕ)}
     → HasServedBy keeps s old new (Err faults.Write) input left before written → keeps → (c : List ℕ) → IsCrashImage new c
     → HoldsAcknowledged old input None written c
-unsent {keeps} {s} {input} h keep c leaves =
+write_failed {keeps} {s} {input} h keep c leaves =
     let g = h.start.geometry in
     let x = committed_in h.start in
     let taken = h.served.run.0 in
@@ -72,10 +72,10 @@ unsent {keeps} {s} {input} h keep c leaves =
 
 held_at : {keeps : Type 0} {s : Service} {old new : Medium} (end : Result (Unit {0}) ServeFault) {input left before written : Option (List ℕ)}
     → HasServedBy keeps s old new end input left before written → keeps → (c : List ℕ) → IsCrashImage new c
-    → HoldsAcknowledged old input (unless_unsent (as_fault end) before) written c
+    → HoldsAcknowledged old input (known_unless_write_failed (as_fault end) before) written c
 held_at (Ok _) h = keeps_acknowledged (Ok tt) h
 held_at (Err faults.Device) h = keeps_acknowledged (Err faults.Device) h
-held_at (Err faults.Write) h = unsent h
+held_at (Err faults.Write) h = write_failed h
 held_at (Err faults.Read) h = keeps_acknowledged (Err faults.Read) h
 held_at (Err faults.Exhausted) h = keeps_acknowledged (Err faults.Exhausted) h
 held_at (Err faults.NoWorkers) h = keeps_acknowledged (Err faults.NoWorkers) h
@@ -93,7 +93,7 @@ recovered {input} {before} {written} {c} h = record {
 
 recovered_at : {keeps : Type 0} {s : Service} {old new : Medium} (end : Result (Unit {0}) ServeFault) {input left before written : Option (List ℕ)}
     → HasServedBy keeps s old new end input left before written → keeps → (c : List ℕ) → IsCrashImage new c
-    → HoldsRecovered old input (unless_unsent (as_fault end) before) written c
+    → HoldsRecovered old input (known_unless_write_failed (as_fault end) before) written c
 recovered_at end h keep c leaves = recovered (held_at end h keep c leaves)
 
 pub leaves_recovered : {keeps : Type 0} {s : Service} {old new : Medium} (end : Result (Unit {0}) ServeFault) {input left before written : Option (List ℕ)}
@@ -178,13 +178,13 @@ module _ (g : Geometry) (old new : Medium) (made : holds g old.now ≡ Some empt
   module _ (s : Service) (input left before written : Option (List ℕ)) where
     left_served : (end : Result (Unit {0}) Fault)
         → (ended : Result (Unit {0}) ServeFault) × (end ≡ as_fault ended) × HasServedBy (Unit {0}) s old new ended input left before written
-        → BytesRecover g empty input (unless_unsent end before) written c
-    left_served end h = left_so input (unless_unsent end before) written
-        (subst (λ (e : Result (Unit {0}) Fault). HoldsRecovered old input (unless_unsent e before) written c) (sym h.1)
+        → BytesRecover g empty input (known_unless_write_failed end before) written c
+    left_served end h = left_so input (known_unless_write_failed end before) written
+        (subst (λ (e : Result (Unit {0}) Fault). HoldsRecovered old input (known_unless_write_failed e before) written c) (sym h.1)
         (recovered_at h.0 h.2 tt c leaves))
 
     left_at : (end : Result (Unit {0}) Fault) → IsSynced old → CrashesSafely (Unit {0}) s old new end input left before written
-        → EndsOnDevice (Unit {0}) s old new end input left before written → BytesRecover g empty input (unless_unsent end before) written c
+        → EndsOnDevice (Unit {0}) s old new end input left before written → BytesRecover g empty input (known_unless_write_failed end before) written c
     left_at (Err (ends.Open fault)) calm h e = left_unopened input before written calm (h tt) e.2
     left_at (Ok done) calm h e = left_served (Ok done) h
     left_at (Err ends.Read) calm h e = left_served (Err ends.Read) h

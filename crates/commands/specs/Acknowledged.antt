@@ -33,13 +33,13 @@ pub record HoldsAcknowledged (old : Medium) (input before written : Option (List
   pub not_refused : refused geometry bytes ≡ None
 
 -- Where a write failed it is open what was sent, and where the device could not be opened nothing was. At each other end this is so.
-abbrev pub UnlessUnsent : Result (Unit {0}) Fault → Option (List ℕ) → Option (List ℕ) → Type 0 → Type 0
-UnlessUnsent (Err Write) before written P = Unit {0}
-UnlessUnsent (Err (Open fault)) before written P = written ≡ before
-UnlessUnsent _ before written P = P
+abbrev pub UnlessWriteFailed : Result (Unit {0}) Fault → Option (List ℕ) → Option (List ℕ) → Type 0 → Type 0
+UnlessWriteFailed (Err Write) before written P = Unit {0}
+UnlessWriteFailed (Err (Open fault)) before written P = written ≡ before
+UnlessWriteFailed _ before written P = P
 
 -- What was sent when a service ended is held by whatever a crash leaves then.
 abbrev pub KeepsAcknowledged : Type 0 → Medium → Medium → Result (Unit {0}) Fault → Option (List ℕ) → Option (List ℕ)
     → Option (List ℕ) → Type 0
 KeepsAcknowledged keeps old new end input before written =
-    UnlessUnsent end before written (keeps → (c : List ℕ) → IsCrashImage new c → HoldsAcknowledged old input before written c)
+    UnlessWriteFailed end before written (keeps → (c : List ℕ) → IsCrashImage new c → HoldsAcknowledged old input before written c)

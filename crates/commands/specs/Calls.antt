@@ -7,7 +7,7 @@ use Rattle.commands.specs.Serving.{EndsInFile, numbers_of_service}
 use Rattle.commands.specs.declared.faults.Fault.{Fault}
 use Rattle.commands.specs.declared.faults.Fault.TheVariants.{Write, GeometryOutOfRange, OutOfMemory}
 use Rattle.commands.specs.declared.service.Service.{Service}
-use Rattle.commands.specs.Services.{with_few_workers}
+use Rattle.commands.specs.Services.{with_at_most_64_workers}
 use Rattle.arguments.specs.Arguments.{service_numbers}
 use Rattle.arguments.specs.declared.parsing.Request.{Request}
 use Rattle.arguments.specs.declared.parsing.Request.TheVariants.{Help, Plain, Format, Show, Serve}
@@ -23,7 +23,7 @@ Ends (Help text) (Err _) input left old new = ⊥
 Ends (Plain g) end input left old new = EndsServing g end input left old new
 Ends (Format path g) end input left old new = (left ≡ input) × EndsMaking g end old new
 Ends (Show path) end input left old new = (left ≡ input) × EndsShowing end old new
-Ends (Serve path given) end input left old new = (s : Service) × (numbers_of_service s ≡ with_few_workers (service_numbers given))
+Ends (Serve path given) end input left old new = (s : Service) × (numbers_of_service s ≡ with_at_most_64_workers (service_numbers given))
     × EndsInFile s end input left old new
 
 abbrev pub status_at : Result (Unit {0}) Fault → ℕ

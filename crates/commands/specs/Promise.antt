@@ -10,9 +10,9 @@ use Rattle.commands.specs.declared.faults.Fault.{Fault}
 use Rattle.commands.specs.declared.faults.Fault.TheVariants.{Write, Open}
 
 -- what the output held before, or `None` where a write failed: then nothing is known of what was written
-abbrev pub unless_unsent : Result (Unit {0}) Fault → Option (List ℕ) → Option (List ℕ)
-unless_unsent (Err Write) before = None
-unless_unsent _ before = before
+abbrev pub known_unless_write_failed : Result (Unit {0}) Fault → Option (List ℕ) → Option (List ℕ)
+known_unless_write_failed (Err Write) before = None
+known_unless_write_failed _ before = before
 
 -- A service answered an input from the empty state, came to its end and was left by a crash. A second one answered another input on what
 -- was left.
@@ -20,7 +20,7 @@ pub record GoesOn (g : Geometry) (first second : Result (Unit {0}) Fault)
     (input before written next_input next_before next_written : Option (List ℕ)) : Type 0 where
   -- the state that the crash left
   pub now : State
-  pub recovers : WritesOutput input (unless_unsent first before) written (RecoversTo g empty now)
+  pub recovers : WritesOutput input (known_unless_write_failed first before) written (RecoversTo g empty now)
   -- without a fault all of the input was answered
   pub whole : OnOk first (WritesOutput input before written (λ bytes out. out ≡ serial_out g empty bytes))
   pub next : OnOk second (WritesOutput next_input next_before next_written (λ bytes out. out ≡ serial_out g now bytes))
@@ -43,4 +43,4 @@ UnlessUnopened _ P = P
 abbrev pub LeavesRecovered : Type 0 → Medium → Medium → Result (Unit {0}) Fault → Option (List ℕ) → Option (List ℕ)
     → Option (List ℕ) → Type 0
 LeavesRecovered keeps old new end input before written = UnlessUnopened end
-    (keeps → (c : List ℕ) → IsCrashImage new c → HoldsRecovered old input (unless_unsent end before) written c)
+    (keeps → (c : List ℕ) → IsCrashImage new c → HoldsRecovered old input (known_unless_write_failed end before) written c)

@@ -2,7 +2,7 @@
 ghost use Rattle.std.specs.Prelude.{◌≡◌, ◌⊎◌, ℕ, List, [], ◌∷◌, codes, map, string_bytes};
 ghost use Rattle.affinity.specs.Geometry.{standard};
 ghost use Rattle.commands.specs.Calls.{Ends, EndsFormat, EndsHelp, EndsPlain, EndsRefused, EndsServe, EndsShow, status_of_refusal};
-ghost use Rattle.commands.specs.Services.{AsksServe, with_few_workers};
+ghost use Rattle.commands.specs.Services.{AsksServe, with_at_most_64_workers};
 ghost use Rattle.arguments.specs.Arguments.{AsksFormat, AsksHelp, AsksNoService, AsksPlain, AsksShow, AsksVersion, AreRefused, service_numbers};
 ghost use Rattle.affinity.specs.declared.geometry.Geometry.{Geometry};
 ghost use Rattle.commands.specs.Serving.{numbers_of_service};
@@ -25,7 +25,7 @@ use std::thread::Threads;
 
 /// The service that has these numbers, with 64 workers where more are given.
 fn service_of(numbers: ServiceNumbers) -> Service
-    ensures { numbers_of_service result ≡ with_few_workers (service_numbers numbers) }
+    ensures { numbers_of_service result ≡ with_at_most_64_workers (service_numbers numbers) }
 {
     Service::new(numbers.workers, numbers.slots, numbers.every)
 }

@@ -3,8 +3,8 @@ ghost use Rattle.std.specs.Prelude.{◌≡◌, ◌<◌};
 ghost use Rattle.disk.specs.Memory.{medium_of, memory_of};
 ghost use Rattle.disk.specs.Torn.{HasBytes};
 ghost use Rattle.disk.specs.declared.injected_fault.InjectedFault.TheVariants.{StopAt};
-ghost use Rattle.commands.specs.Acknowledged.{HoldsAcknowledged, UnlessUnsent};
-ghost use Rattle.commands.specs.Promise.{HoldsRecovered, UnlessUnopened, unless_unsent};
+ghost use Rattle.commands.specs.Acknowledged.{HoldsAcknowledged, UnlessWriteFailed};
+ghost use Rattle.commands.specs.Promise.{HoldsRecovered, UnlessUnopened, known_unless_write_failed};
 ghost use Rattle.commands.specs.Serving.{HasServedUntilCrash};
 
 use crate::faults::Fault;
@@ -32,10 +32,10 @@ fn serve_and_crash<T: Threads + Wait + Sync, R: Read, W: Write>(
     requires bytes { HasBytes torn }
     ensures crashed { HasServedUntilCrash service (medium_of disk) torn (memory_of result.0) result.1 (R.remaining r.old)
         (R.remaining r.new) (W.contents w.old) (W.contents w.new) }
-    ensures kept { UnlessUnsent result.1 (W.contents w.old) (W.contents w.new)
+    ensures kept { UnlessWriteFailed result.1 (W.contents w.old) (W.contents w.new)
         (HoldsAcknowledged (medium_of disk) (R.remaining r.old) (W.contents w.old) (W.contents w.new) (medium_of result.0).now) }
     ensures recovers { UnlessUnopened result.1 (HoldsRecovered (medium_of disk) (R.remaining r.old)
-        (unless_unsent result.1 (W.contents w.old)) (W.contents w.new) (medium_of result.0).now) }
+        (known_unless_write_failed result.1 (W.contents w.old)) (W.contents w.new) (medium_of result.0).now) }
 {
     let (disk, end) = serve_on(rt, alloc, disk, service, r, w);
     (disk.crash(torn), end)
@@ -57,10 +57,10 @@ pub fn serve_stopped<T: Threads + Wait + Sync, R: Read, W: Write>(
     requires bytes { HasBytes torn }
     ensures crashed { HasServedUntilCrash service (medium_of disk) torn (memory_of result.0) result.1 (R.remaining r.old)
         (R.remaining r.new) (W.contents w.old) (W.contents w.new) }
-    ensures kept { UnlessUnsent result.1 (W.contents w.old) (W.contents w.new)
+    ensures kept { UnlessWriteFailed result.1 (W.contents w.old) (W.contents w.new)
         (HoldsAcknowledged (medium_of disk) (R.remaining r.old) (W.contents w.old) (W.contents w.new) (medium_of result.0).now) }
     ensures recovers { UnlessUnopened result.1 (HoldsRecovered (medium_of disk) (R.remaining r.old)
-        (unless_unsent result.1 (W.contents w.old)) (W.contents w.new) (medium_of result.0).now) }
+        (known_unless_write_failed result.1 (W.contents w.old)) (W.contents w.new) (medium_of result.0).now) }
 {
     let mut disk = disk;
     disk.stop_at(n);

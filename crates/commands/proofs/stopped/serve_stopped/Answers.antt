@@ -2,8 +2,8 @@
 use Rattle.std.proofs.Common.{◌≡◌, ap, subst}
 use Rattle.disk.specs.Device.{Medium}
 use Rattle.disk.specs.Memory.{Memory, medium_of, memory_of}
-use Rattle.commands.specs.Acknowledged.{HoldsAcknowledged, UnlessUnsent}
-use Rattle.commands.specs.Promise.{HoldsRecovered, UnlessUnopened, unless_unsent}
+use Rattle.commands.specs.Acknowledged.{HoldsAcknowledged, UnlessWriteFailed}
+use Rattle.commands.specs.Promise.{HoldsRecovered, UnlessUnopened, known_unless_write_failed}
 use Rattle.commands.specs.Serving.{HasServedUntilCrash}
 use Rattle.commands.proofs.stopped.serve_stopped.Goals as goal
 
@@ -19,9 +19,9 @@ returns g c =
     record {
       crashed = subst (λ (m : Medium). HasServedUntilCrash c.args.service m c.args.torn (memory_of left) end input rest before written)
           same c.serve_and_crash.ensures.crashed;
-      kept = subst (λ (m : Medium). UnlessUnsent end before written (HoldsAcknowledged m input before written (medium_of left).now))
+      kept = subst (λ (m : Medium). UnlessWriteFailed end before written (HoldsAcknowledged m input before written (medium_of left).now))
           same c.serve_and_crash.ensures.kept;
-      recovers = subst (λ (m : Medium). UnlessUnopened end (HoldsRecovered m input (unless_unsent end before) written (medium_of left).now))
+      recovers = subst (λ (m : Medium). UnlessUnopened end (HoldsRecovered m input (known_unless_write_failed end before) written (medium_of left).now))
           same c.serve_and_crash.ensures.recovers;
     }
 
