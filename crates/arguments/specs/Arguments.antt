@@ -1,4 +1,4 @@
--- Statement for engineers: What the words of a call ask for. `clap` reads them, by its rules for the commands and options below.
+-- Statement for engineers: What the arguments ask for. `clap` reads them, by its rules for the commands and options below.
 use Rattle.std.specs.Prelude.{◌≡◌, ◌≢◌, ◌&&◌, ◌⊎◌, ℕ, Bool, true, false, List, [], ◌∷◌, fold, length, Option, Some, None, option_and_then, option_map, unwrap_or, Result, Ok, Err, codes, if◌then◌else◌, nat_lt, ℤ, pos}
 use Rattle.std.specs.Char.{digit_value}
 use Rattle.std.specs.List.{list_all}
@@ -38,8 +38,8 @@ rule_within name least most = record (new_rule name) { long = Some name; value_n
 abbrev pub with_numbers : App → App
 with_numbers a = fold (λ b name. with_rule b (number_rule name)) a names
 
--- the options of a service: how many workers it has, how many lines it reads before it has answered them, and after how many records
--- it makes a point
+-- the options of a service: how many workers it has, how many lines it reads before it has answered them, and after how many records it
+-- makes a checkpoint
 abbrev pub with_service : App → App
 with_service a =
     with_rule (with_rule (with_rule a (rule_within (codes "workers") (pos 0) (pos 64))) (rule_within (codes "slots") (pos 1) (pos 1024)))
@@ -73,7 +73,7 @@ bare = on_top (λ s. record s { has_version = true; subcommand_required = true; 
 abbrev pub waffd : App
 waffd = with_subcommand (with_subcommand (with_subcommand (with_subcommand bare plain.top) format.top) show.top) serve.top
 
--- ---- what the words give
+-- ---- what the arguments give
 
 -- the number that decimal digits write, with a plus before them or none, below 2^16
 abbrev pub number_of : Text → Option ℕ
@@ -99,7 +99,7 @@ numbers_in rows =
     ∷ number_in rows (codes "half") standard.half
     ∷ []
 
--- the numbers of a service in their order: its workers, its slots, and after how many records it makes a point
+-- the numbers of a service in their order: its workers, its slots, and after how many records it makes a checkpoint
 abbrev pub service_numbers : ServiceNumbers → List ℕ
 service_numbers s = s.workers ∷ s.slots ∷ s.every ∷ []
 
@@ -111,11 +111,11 @@ service_in rows =
     ∷ number_in rows (codes "every") 0
     ∷ []
 
--- the file of the device; no words pass that don't give it
+-- the file of the device; no arguments pass that don't give it
 abbrev pub device_in : List Row → Text
 device_in rows = unwrap_or (first_of (codes "device") rows) []
 
--- what `clap` may find in the words, the program's own name first: nothing, a call for help or the version, or mistakes
+-- what `clap` may find in the arguments, the program's own name first: nothing, a call for help or the version, or mistakes
 abbrev pub findings : List Text → Kinds
 findings words = fault_of waffd words
 
@@ -125,7 +125,7 @@ is_mistake DisplayHelp = false
 is_mistake DisplayVersion = false
 is_mistake _ = true
 
--- the command that the words name, with what was given to its arguments
+-- the command that the arguments name, with what they give it
 abbrev pub command_of : List Text → Option (Text × List Row)
 command_of words = subcommand_of waffd words
 
@@ -133,7 +133,7 @@ command_of words = subcommand_of waffd words
 abbrev pub IsNamed : Text → Option (Text × List Row) → Type 0
 IsNamed name command = option_map (λ c. c.0) command ≡ Some name
 
--- The command is `plain`: it is none of the others, and no words pass that name none.
+-- The command is `plain`: it is none of the others, and no arguments pass that name none.
 abbrev pub IsPlain : Option (Text × List Row) → Type 0
 IsPlain command = (¬ (IsNamed (codes "format") command)) × (¬ (IsNamed (codes "show") command)) × (¬ (IsNamed (codes "serve") command))
 
@@ -169,53 +169,53 @@ IsRequested command (Err GeometryOutOfRange) =
     (¬ (IsNamed (codes "show") command)) × (¬ (IsNamed (codes "serve") command)) × (¬ (AreInRange (numbers_at command)))
 IsRequested command _ = ⊥
 
--- The words ask for service without a device at this geometry.
+-- The arguments ask for service without a device at this geometry.
 abbrev pub AsksPlain : List Text → Geometry → Type 0
 AsksPlain words g = (findings words ≡ []) × IsPlain (command_of words) × (numbers_of g ≡ numbers_at (command_of words))
 
--- The words ask for a device of this geometry in the file of this path.
+-- The arguments ask for a device of this geometry in the file of this path.
 abbrev pub AsksFormat : List Text → Text → Geometry → Type 0
 AsksFormat words path g = (findings words ≡ []) × IsNamed (codes "format") (command_of words) × (path ≡ device_at (command_of words))
     × (numbers_of g ≡ numbers_at (command_of words))
 
--- The words ask what the device in the file of this path holds.
+-- The arguments ask what the device in the file of this path holds.
 abbrev pub AsksShow : List Text → Text → Type 0
 AsksShow words path = (findings words ≡ []) × IsNamed (codes "show") (command_of words) × (path ≡ device_at (command_of words))
 
--- The words ask for service with the device in the file of this path, and give these numbers for it.
+-- The arguments ask for service with the device in the file of this path, and give these numbers for it.
 abbrev pub AsksServeWith : List Text → Text → List ℕ → Type 0
 AsksServeWith words path numbers =
     (findings words ≡ []) × IsNamed (codes "serve") (command_of words) × (path ≡ device_at (command_of words))
     × (numbers ≡ service_at (command_of words))
 
--- The words ask for service without a device, or for a device, at numbers that are no geometry.
+-- The arguments ask for service without a device, or for a device, at numbers that are no geometry.
 abbrev pub AsksOutOfRange : List Text → Type 0
 AsksOutOfRange words =
     (findings words ≡ []) × (¬ (IsNamed (codes "show") (command_of words))) × (¬ (IsNamed (codes "serve") (command_of words)))
     × (¬ (AreInRange (numbers_at (command_of words))))
 
--- The words ask for help.
+-- The arguments ask for help.
 abbrev pub AsksHelp : List Text → Type 0
 AsksHelp words = findings words ≡ DisplayHelp ∷ []
 
--- The words ask for the version.
+-- The arguments ask for the version.
 abbrev pub AsksVersion : List Text → Type 0
 AsksVersion words = findings words ≡ DisplayVersion ∷ []
 
--- The words ask for no command: they ask for help or the version, or there are mistakes in them. Behind the word `help` there may be a
--- mistake or none, and `clap` decides which.
+-- The arguments ask for no command: they ask for help or the version, or there are mistakes in them. After the argument `help` there may be
+-- a mistake or none, and `clap` decides which.
 abbrev pub AsksNoService : List Text → Type 0
 AsksNoService words = findings words ≢ []
 
--- There are mistakes in the words, and they ask for no help and no version.
+-- There are mistakes in the arguments, and they ask for no help and no version.
 abbrev pub IsWrong : List Text → Type 0
 IsWrong words = (findings words ≢ []) × (list_all is_mistake (findings words) ≡ true)
 
--- The words are refused.
+-- The arguments are refused.
 abbrev pub AreRefused : List Text → Type 0
 AreRefused words = IsWrong words ⊎ AsksOutOfRange words
 
--- The words ask for this.
+-- The arguments ask for this.
 abbrev pub Asks : List Text → Request → Type 0
 Asks words (Help text) = IsAmong (kind_of text) (findings words) × (is_mistake (kind_of text) ≡ false)
 Asks words (Plain g) = AsksPlain words g
@@ -223,7 +223,7 @@ Asks words (Format path g) = AsksFormat words path.now g
 Asks words (Show path) = AsksShow words path.now
 Asks words (Serve path s) = AsksServeWith words path.now (service_numbers s)
 
--- The words give no request for this reason. Memory may be wanting at any words.
+-- The arguments give no request for this reason. Memory may be wanting for any arguments.
 abbrev pub IsReason : List Text → ArgumentRefusal → Type 0
 IsReason words (Words error) = IsAmong (kind_of error) (findings words) × (is_mistake (kind_of error) ≡ true)
 IsReason words OutOfMemory = Unit {0}

@@ -1,6 +1,6 @@
-//! The words of a call: which ones the program takes, and what they ask for.
+//! The program's arguments: which ones it takes, and what they ask for.
 //!
-//! Nothing here knows what a command does: the numbers that the words give are handed on as they are.
+//! Nothing here knows what a command does: the numbers that the arguments give are handed on as they are.
 #![tactic(auto)]
 
 mod parsing;

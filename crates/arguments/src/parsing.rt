@@ -1,4 +1,4 @@
-//! The words that the program is called with, and what they ask for.
+//! The arguments that the program is called with, and what they ask for.
 ghost use Rattle.std.specs.Prelude.{◌≡◌, IfOk, IfErr, false, fold, map, string_bytes};
 ghost use Rattle.clap.specs.Words.{app_of, found_of, new_app, rows_of, rule_of, subcommand_rows_of, with_rule};
 ghost use Rattle.arguments.specs.Arguments.{Asks, GivesGeometry, IsReason, IsRequested, answer_of, device_in, device_rule, number_in, number_rule, numbers_in, rule_within, service_in, service_numbers, waffd, bare, plain, format, serve, with_numbers, with_service};
@@ -56,18 +56,18 @@ const SLOTS: &str = "Lines that are read and not answered yet, 1 to 1024 [defaul
 const EVERY: &str =
     "Changes between consistency points, 0 to 1024; 0 makes them where the log is full [default: 0]";
 
-/// The numbers that the words give for a service.
+/// The numbers that the arguments give for a service.
 #[derive(Clone, Copy)]
 pub struct ServiceNumbers {
     /// Threads that run messages.
     pub workers: u16,
     /// Lines that may be read and not be answered yet.
     pub slots: u16,
-    /// Records after which a consistency point is made; with 0 one is made where the log is full.
+    /// Records after which a checkpoint is made; with 0 one is made where the log is full.
     pub every: u16,
 }
 
-/// What the words ask for.
+/// What the arguments ask for.
 #[derive(Drop)]
 pub enum Request<'a> {
     /// Print this text of `clap`: help, or the version.
@@ -82,7 +82,7 @@ pub enum Request<'a> {
     Serve(&'a str, ServiceNumbers),
 }
 
-/// Why the words give no request.
+/// Why the arguments give no request.
 #[derive(Drop)]
 pub enum ArgumentRefusal {
     /// `clap` reports what is wrong with them.
@@ -101,7 +101,7 @@ impl From<AllocError> for ArgumentRefusal {
     }
 }
 
-/// What an error of `clap` means: help or the version, a mistake in the words, or want of memory.
+/// What an error of `clap` means: help or the version, a mistake in the arguments, or want of memory.
 fn answered<'a>(error: clap::Error) -> Result<Request<'a>, ArgumentRefusal>
     ensures { result ≡ answer_of error }
 {
@@ -286,7 +286,7 @@ fn device_given<'a>(options: &ArgMatches<'a>) -> &'a str
     options.get_str("device").unwrap_or("")
 }
 
-/// What the words ask for, where `clap` found nothing wrong with them.
+/// What the arguments ask for, where `clap` found nothing wrong with them.
 fn requested<'a>(matches: &ArgMatches<'a>) -> Result<Request<'a>, ArgumentRefusal>
     ensures { IsRequested (subcommand_rows_of matches.now) result }
 {
@@ -305,7 +305,7 @@ fn requested<'a>(matches: &ArgMatches<'a>) -> Result<Request<'a>, ArgumentRefusa
     }
 }
 
-/// What the words ask for, the program's own name first.
+/// What the arguments ask for, the program's own name first.
 pub fn read_arguments<'a>(
     alloc: Global,
     words: &'a [String],

@@ -1,4 +1,4 @@
-//! Runs one message on a whole tree.
+//! Runs one message on a tree of which no part is checked out.
 ghost use Rattle.std.specs.Prelude.{◌≡◌, true};
 ghost use Rattle.messages.specs.Messages.{is_in_range};
 ghost use Rattle.parcel.specs.Tree.{IsWholeTree, state_in};
@@ -9,8 +9,8 @@ use message::know_message;
 use messages::{Msg, Reply};
 use parcel::{Job, Tree, run};
 
-/// Runs a message that is in range on the whole tree, and gives its reply: the serial step of the tree's state. Nothing of
-/// the tree may be out. It takes no memory.
+/// Runs a message that is in range on the whole tree, and gives its reply: the serial step of the tree's state. No part of the tree may be
+/// checked out. It takes no memory.
 pub fn step(tree: &mut Tree, m: Msg) -> Reply
     requires whole { IsWholeTree tree.old }
     requires range { is_in_range tree.old.geometry m ≡ true }

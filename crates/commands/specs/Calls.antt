@@ -30,7 +30,7 @@ abbrev pub status_at : Result (Unit {0}) Fault → ℕ
 status_at (Ok _) = 0
 status_at (Err fault) = status_of fault
 
--- the status where the words give no request
+-- the status where the arguments give no request
 abbrev pub status_of_refusal : ArgumentRefusal → ℕ
 status_of_refusal (refusal.Words _) = 2
 status_of_refusal refusal.OutOfMemory = status_of OutOfMemory
@@ -56,6 +56,6 @@ EndsServe s status input left old new = (end : Result (Unit {0}) Fault) × (stat
 abbrev pub EndsHelp : ℕ → Type 0
 EndsHelp status = (status ≡ 0) ⊎ ((status ≡ status_of Write) ⊎ (status ≡ status_of OutOfMemory))
 
--- The words were refused, or there was no memory to read them.
+-- The arguments were refused, or there was no memory to read them.
 abbrev pub EndsRefused : ℕ → Type 0
 EndsRefused status = (status ≡ 2) ⊎ (status ≡ status_of OutOfMemory)

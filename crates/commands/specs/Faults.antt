@@ -26,8 +26,8 @@ status_of (Format _) = 1
 status_of (Open opening.OutOfMemory) = 3
 status_of (Open _) = 1
 
--- The exit status where the words of the call could not be read: 3 for want of memory, and else that of wrong words, since one of them is
--- not UTF-8.
+-- The exit status where the arguments could not be read: 3 for want of memory, and else that of wrong arguments, since one of them is not
+-- UTF-8.
 abbrev pub status_without_words : ErrorKind → ℕ
 status_without_words kind.OutOfMemory = status_of OutOfMemory
 status_without_words _ = 2

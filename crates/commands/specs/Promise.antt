@@ -14,8 +14,8 @@ abbrev pub known_unless_write_failed : Result (Unit {0}) Fault → Option (List 
 known_unless_write_failed (Err Write) before = None
 known_unless_write_failed _ before = before
 
--- A service answered an input from the empty state, came to its end and was left by a crash. A second one answered another input on what
--- was left.
+-- A server ran from the empty state on one input and ended, and its device crashed. A second server ran on what the crash left, with
+-- another input.
 pub record GoesOn (g : Geometry) (first second : Result (Unit {0}) Fault)
     (input before written next_input next_before next_written : Option (List ℕ)) : Type 0 where
   -- the state that the crash left

@@ -34,13 +34,13 @@ use Rattle.commands.specs.declared.faults.Fault.{Fault}
 use Rattle.commands.specs.declared.faults.Fault.TheVariants.{Read, Write, OutOfMemory, Device, NoWorkers, NoTicketLeft, Open}
 use Rattle.commands.specs.declared.service.Service.{Service}
 
--- the numbers of a service in their order: its workers, its slots, and after how many records it makes a point
+-- the numbers of a service in their order: its workers, its slots, and after how many records it makes a checkpoint
 abbrev pub numbers_of_service : Service → List ℕ
 numbers_of_service s = s.workers ∷ s.slots ∷ s.every ∷ []
 
 -- ---- the device before and after, as a reader of it sees it
 
--- The device recovered to this state, with these numbers of a server in its header.
+-- The device recovered to this state, with this geometry in its header.
 pub record RecoveredTo (keeps : Type 0) (old : Medium) (g : Geometry) (start : State) : Type 0 where
   pub header : keeps → HasHeader g old.now
   pub recovered_before : keeps → holds g old.now ≡ Some start
@@ -72,7 +72,7 @@ HasServedNothing keeps old new input left before written = (w : ServedDevice kee
 -- What each end promises.
 -- No fault: the input has ended, and the output is that of the serial server for all of it, from the state to which the device
 -- recovered. The device recovers to the state where that server is then, with no record in force.
--- A failed read: just the lines that were read whole are answered, and the device recovers to the state behind them. No ticket left:
+-- A failed read: just the lines that were read whole are answered, and the device recovers to the state after them. No ticket left:
 -- just the lines before one whose message is in range.
 -- A failed device: the first lines of the serial server's output. A failed write: it is open what was written.
 -- No workers, or no memory: nothing was served. A device that can't be opened: nothing was read or written, and it is refused for
@@ -102,7 +102,7 @@ EndsOnDevice keeps s old new (Err _) input left before written = ⊥
 
 -- ---- the run behind it
 
--- the machine of a core that was just opened: each of the workers has a place, and nothing is lent there
+-- the machine of a core that was just opened: each of the workers has a place, and all are free
 abbrev pub machine_at_start : Service → CoreView → MachineView
 machine_at_start s start = with_lent start (replicate s.workers None)
 
@@ -168,7 +168,7 @@ pub record HasServedUntilCrash (s : Service) (old : Medium) (torn : Torn) (crash
 
 -- ---- a device in a file
 
--- The file could not be opened, or there was no memory for the words: nothing was read or written.
+-- The file could not be opened, or there was no memory for that or for the arguments: nothing was read or written.
 pub record HasNotBegun (end : Result (Unit {0}) Fault) (input left before written : Option (List ℕ)) : Type 0 where
   pub why : FileFault
   pub ends : end ≡ Err (fault_of_file why)

@@ -1,4 +1,4 @@
-//! What can go wrong once the words are read: the text that is printed of it, and the exit status.
+//! What can go wrong once the arguments are parsed: the text that is printed of it, and the exit status.
 ghost use Rattle.std.specs.Prelude.{◌≡◌};
 ghost use Rattle.commands.specs.Faults.{status_of, fault_of_file, of_plain, of_serve};
 ghost use Rattle.commands.specs.declared.faults.Fault.TheVariants.{Format, Open, OutOfMemory};

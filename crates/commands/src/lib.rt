@@ -1,6 +1,6 @@
-//! Does what the words of a call ask for: serves, makes a device or shows one. Prints faults, and gives their exit statuses.
+//! Does what the command-line arguments ask for: serves, makes a device or shows one. Prints faults, and gives their exit statuses.
 //!
-//! Only `program` knows the words of a call: a command takes what it works on as values.
+//! Only `program` knows the arguments: a command takes what it works on as values.
 #![tactic(auto)]
 
 mod again;

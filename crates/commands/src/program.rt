@@ -55,7 +55,7 @@ pub fn run<T: Files<File = File> + Threads + Wait + Sync, R: Read, W: Write>(
     }
 }
 
-/// Prints on `e` why the words give no request, and answers the exit status. A write that fails is not looked at.
+/// Prints on `e` why the arguments give no request, and answers the exit status. A write that fails is not looked at.
 fn report_refusal<E: Write>(refusal: ArgumentRefusal, e: &mut E) -> u8
     ensures { result ≡ status_of_refusal refusal }
 {
@@ -69,8 +69,8 @@ fn report_refusal<E: Write>(refusal: ArgumentRefusal, e: &mut E) -> u8
     }
 }
 
-/// Reads the words, the program's own name first, does what they ask for from `r` to `w`, prints a
-/// fault on `e`, and answers the exit status. Files are those of `rt`.
+/// Reads the arguments, the program's own name first, does what they ask for from `r` to `w`, prints a fault on `e`, and answers the exit
+/// status. Files are those of `rt`.
 pub fn command<T: Files<File = File> + Threads + Wait + Sync, R: Read, W: Write, E: Write>(
     rt: &T,
     alloc: Global,

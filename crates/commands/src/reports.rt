@@ -7,10 +7,10 @@ use crate::faults::Fault;
 use std::io;
 use std::io::{ErrorKind, Write};
 
-/// The exit status where the words are wrong.
+/// The exit status where the arguments are wrong.
 pub const WRONG_ARGUMENTS: u8 = 2;
 
-/// What is printed of words that are not UTF-8. `clap` prints it elsewhere, but here it takes text alone.
+/// What is printed of arguments that are not UTF-8. `clap` prints it elsewhere, but here it takes text alone.
 const NOT_TEXT: &str = "error: invalid UTF-8 was detected in one or more arguments
 
 For more information, try '--help'.
@@ -24,8 +24,8 @@ pub fn report<E: Write>(fault: Fault, e: &mut E) -> u8
     fault.status()
 }
 
-/// Prints on `e` why the program has no words, and answers the exit status: one of them is not UTF-8,
-/// or there was no memory for them. A write that fails is not looked at.
+/// Prints on `e` why the arguments could not be read, and answers the exit status: one of them is not UTF-8, or there was no memory for
+/// them. A write that fails is not looked at.
 pub fn report_unreadable_arguments<E: Write>(error: &io::Error, e: &mut E) -> u8
     ensures { result ≡ status_without_words (error_kind error.now) }
 {

@@ -13,7 +13,7 @@ pub struct Service {
     /// Lines that may be read and not be answered in the output. With none of them no line is read.
     pub slots: u16,
 
-    /// Records after which a consistency point is made. With 0 one is made only where the log has no room, and at the end.
+    /// Records after which a checkpoint is made. With 0 one is made only where the log has no room, and at the end.
     pub every: u16,
     pub ghost few: { workers ≤ 64 },
 }

@@ -14,7 +14,7 @@ pub struct FileBacked<F: BackingFile + Drop> {
 }
 
 impl<F: BackingFile + Drop> FileBacked<F> {
-    /// The device that this file is, as it is now.
+    /// A device over this file, with its present bytes.
     pub fn new(file: F) -> FileBacked<F>
         ensures { F.BackingFile.medium result.file ≡ F.BackingFile.medium file }
     {
@@ -22,7 +22,7 @@ impl<F: BackingFile + Drop> FileBacked<F> {
     }
 }
 
-/// What the device answers where its file answered this.
+/// The device's answer for this answer of its file.
 fn as_fault(answer: io::Result<()>) -> Result<(), DiskFault>
     ensures { result ≡ device_result answer }
 {

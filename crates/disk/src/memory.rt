@@ -74,7 +74,7 @@ impl MemDisk {
         self.bytes.as_slice()
     }
 
-    /// Lets the n-th call from now on fail, and later ones go on. An injected fault that was set before counts no more.
+    /// Makes the n-th call from now fail, and later ones work. It replaces a fault injected before.
     pub fn fail_at(&mut self, n: u64)
         requires { 0 < n }
         ensures { memory_of self.new ≡ record (memory_of self.old) { injected_fault = FailAt n } }
@@ -82,7 +82,7 @@ impl MemDisk {
         self.meter.injected_fault = InjectedFault::FailAt(n);
     }
 
-    /// Lets the n-th call from now on fail, and all later ones. An injected fault that was set before counts no more.
+    /// Makes the n-th call from now fail, and all later ones. It replaces a fault injected before.
     pub fn stop_at(&mut self, n: u64)
         requires { 0 < n }
         ensures { memory_of self.new ≡ record (memory_of self.old) { injected_fault = StopAt n } }

@@ -32,7 +32,7 @@ mod accessors;
 
 /// The log of a server and the images that keep it short, on a device that it owns.
 ///
-/// No call takes memory. After a fault of the device it has failed, and only calls that need no device are possible.
+/// No call takes memory. After a device fault it has failed: only calls that don't use the device may be made.
 #[derive(Drop)]
 pub struct Journal<D: Disk> {
     disk: D,
@@ -155,7 +155,7 @@ impl<D: Disk> Journal<D> {
         Ok(())
     }
 
-    /// Writes an image of what is committed, which a whole tree holds, and begins a new log.
+    /// Writes an image of the committed state, which the tree has (no part of it is checked out), and begins a new log.
     pub fn point(&mut self, tree: &Tree) -> Result<(), LogFault>
         requires sound { self.old.failed ≡ false }
         requires no_cut { self.old.left ≡ None }
@@ -195,8 +195,8 @@ impl<D: Disk> Journal<D> {
         Ok(())
     }
 
-    /// Begins a point: what is committed, which a whole tree holds, is kept as the state of the cut, and records go to the
-    /// other half from now on, after those in force. As many pieces are left to write as are dirty in the other image.
+    /// Begins a checkpoint of a snapshot of the committed state, which the tree has (no part of it is checked out): records go to the other
+    /// half from now on, after those in force. As many pieces are left to write as are dirty in the other image.
     pub fn cut(&mut self, tree: &Tree) -> Result<(), LogFault>
         requires sound { self.old.failed ≡ false }
         requires no_cut { self.old.left ≡ None }

@@ -20,8 +20,8 @@ fn write_head(bytes: &mut [u8])
     bytes[..IMAGE_HEAD_SIZE].copy_from_slice(&head_of(VERSION));
 }
 
-/// Makes bytes the image of what a whole tree holds. All extents but the dirty ones are there already: only the dirty ones
-/// are encoded.
+/// Makes bytes the image of the state of a tree of which no part is checked out. All extents but the dirty ones are there already: only the
+/// dirty ones are encoded.
 pub(crate) fn freeze(tree: &Tree, dirty: &[bool], bytes: &mut [u8])
     requires whole { IsWholeTree tree.now }
     requires dirty { length dirty.now ≡ piece_count tree.now.geometry }

@@ -172,7 +172,7 @@ the_last_ticket_is_not_given : answers_of (record { core = record (opened 0 empt
     ≡ outcomes.ArriveRefused arrivals.Exhausted ∷ outcomes.ArriveRefused arrivals.Range ∷ outcomes.Idle ∷ []
 the_last_ticket_is_not_given = refl
 
--- ---- consistency points in steps
+-- ---- checkpoints in steps
 
 the_steps_of_a_point : answers_of (one_hand 1 empty) (steps.Cut ∷ steps.Cut ∷ steps.Flip ∷ steps.Piece ∷ steps.Piece ∷ steps.Piece
     ∷ steps.Piece ∷ steps.Flip ∷ steps.Flip ∷ steps.Piece ∷ [])
@@ -287,7 +287,7 @@ the_volume_was_written = record {
   state = refl;
 }
 
--- What was logged and answered during a consistency point is in the log too.
+-- What was logged and answered during a checkpoint is in the log too.
 abbrev cut_run : List Event
 cut_run = events_of (one_hand 1 empty) (whole (MakeVol 0 0) ++ (steps.Cut ∷ whole (Create 0 0 0)))
 

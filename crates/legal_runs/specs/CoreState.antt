@@ -35,7 +35,7 @@ pub record CoreState : Type 0 where
   pub failed : Bool
   -- what was to be appended to the log at the failure
   pub doubt : List Msg
-  -- how many pieces are left to write, while a consistency point is in progress
+  -- how many pieces are left to write, while a checkpoint is in progress
   pub left : Option ℕ
 
 abbrev pub entry : Replied → Entry

@@ -66,7 +66,7 @@ abbrev pub answer : CoreState → List Replied → Outcome × CoreState
 answer w [] = (outcomes.Idle, w)
 answer w (a ∷ as') = (outcomes.Answered a.0 a.2, record w { logged = as' })
 
--- ---- consistency points: why each of their steps is refused, and what it does
+-- ---- checkpoints: why each of their steps is refused, and what it does
 
 abbrev pub point_refusal : CoreState → Option PointRefusal
 point_refusal w =
@@ -211,7 +211,7 @@ pub record IsFault (old : MachineState) (event : Event) : Type 0 where
   pub core : fault old.core event.step ≡ (event.outcome, event.state_after.core)
   pub hands : event.state_after.hands ≡ old.hands
 
--- The step did what it does; where it began a consistency point, with at most all pieces to write.
+-- The step did what it does; where it began a checkpoint, with at most all pieces to write.
 pub record IsWithoutFault (g : Geometry) (old : MachineState) (event : Event) : Type 0 where
   pub to_write : ℕ
   pub at_most : to_write ≤ piece_count g

@@ -9,8 +9,8 @@ use Rattle.legal_runs.specs.Runs.{IsLegal, answered_changes}
 use Rattle.legal_runs.specs.Crash.{IsLogAfter}
 use Rattle.legal_runs.specs.Laws.{IsIdle}
 
--- The crash came before it was open; or the server ran, from its start on, and the crash came when so many events or more
--- had ended.
+-- Either the crash came before the server was open; or the server ran from `start`, and the crash came when at least `ended` of the events
+-- were over.
 pub data Incarnation : Type 0 where
   Unopened : Incarnation
   Ran : (start : MachineState) → (events : List Event) → (ended : ℕ) → Incarnation

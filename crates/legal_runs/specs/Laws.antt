@@ -94,7 +94,7 @@ reports_failure (outcomes.LogFault faults.Device) = true
 reports_failure (outcomes.PointRefused points.Device) = true
 reports_failure _ = false
 
--- The device has failed: nothing arrives, is dispatched, is logged or comes into `doubt`, and no consistency point goes on.
+-- The device has failed: nothing arrives, is dispatched, is logged or comes into `doubt`, and no checkpoint goes on.
 pub record IsStopped (old new : CoreState) : Type 0 where
   pub failed : new.failed ≡ true
   pub waiting : new.waiting ≡ old.waiting

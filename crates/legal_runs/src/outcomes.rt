@@ -17,13 +17,13 @@ pub enum Step {
     Log(usize),
     /// The message that was logged first is answered.
     Answer,
-    /// A consistency point is made at once.
+    /// A checkpoint is made at once.
     Point,
-    /// A consistency point begins.
+    /// A checkpoint begins.
     Cut,
-    /// A piece of the consistency point in progress is written.
+    /// A piece of the checkpoint in progress is written.
     Piece,
-    /// The consistency point in progress ends.
+    /// The checkpoint in progress ends.
     Flip,
 }
 
@@ -52,15 +52,15 @@ pub enum Outcome {
     LogFault(CoreFault),
     /// The message with this ticket has this reply, and is held no more.
     Answered(u64, Reply),
-    /// A consistency point was made.
+    /// A checkpoint was made.
     Pointed,
-    /// A consistency point has begun.
+    /// A checkpoint has begun.
     Cut,
     /// This many pieces are left to write.
     Left(usize),
-    /// The consistency point has ended.
+    /// The checkpoint has ended.
     Flipped,
-    /// The step of a consistency point may not be made, or failed.
+    /// The step of a checkpoint may not be made, or failed.
     PointRefused(PointRefusal),
     /// There was nothing to do, and nothing changed.
     Idle,
@@ -88,7 +88,7 @@ pub enum CoreFault {
     Failed,
 }
 
-/// Why a step of a consistency point was not made.
+/// Why a step of a checkpoint was not made.
 #[derive(Clone, Copy, Debug, PartialEq, Eq)]
 pub enum PointRefusal {
     /// Some message is held.
@@ -97,9 +97,9 @@ pub enum PointRefusal {
     Device,
     /// The device has failed before.
     Failed,
-    /// A consistency point is in progress already.
+    /// A checkpoint is in progress already.
     Running,
-    /// No consistency point is in progress.
+    /// No checkpoint is in progress.
     NotRunning,
     /// Pieces are left to write.
     Unfinished,

@@ -17,8 +17,7 @@ use crate::parsing::{
 use affinity::Kind;
 use messages::Block;
 
-/// What a line is, its data not looked at. It takes a few bytes, where a message has room for a
-/// block.
+/// What a line is, its data not decoded. It is a few bytes, where a `Msg` has 512 for a block.
 #[derive(Clone, Copy)]
 pub enum Head<'a> {
     /// The line is no message.
@@ -151,7 +150,7 @@ fn write_parts(line: &[u8]) -> Option<([u16; 4], &[u8])>
     Some(([aggregate, volume, file, block], behind))
 }
 
-/// Puts the bytes that some digits encode where there is room for a block, and zeros after them.
+/// Decodes digits into a buffer of one block, and fills the rest with zeros.
 fn read_bytes(digits: &[u8], out: &mut [u8; 512]) -> Option<()>
     ensures { MatchOption result (bytes_in_word 512 digits.now ≡ None)
         (λ _. bytes_in_word 512 digits.now ≡ Some out.new) }
@@ -165,8 +164,7 @@ fn read_bytes(digits: &[u8], out: &mut [u8; 512]) -> Option<()>
     Some(())
 }
 
-/// Puts the block that some digits encode where there is room for one: no other bytes are moved.
-/// Where they encode none, it is unspecified what lies there then.
+/// Decodes digits into a block, in place, without a copy. Where they encode none, `content` is unspecified afterwards.
 pub fn read_block(digits: &[u8], content: &mut Block) -> Option<()>
     ensures { MatchOption result (block_in_word digits.now ≡ None)
         (λ _. block_in_word digits.now ≡ Some content.new) }

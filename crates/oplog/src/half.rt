@@ -95,7 +95,7 @@ impl Half {
         store(disk, self.start(), zeros(CHAIN_AREA + self.slots()))
     }
 
-    /// Writes 1 over so many gates from this one on, and syncs: then their records are in the front.
+    /// Sets `count` gates to 1, from gate `first` on, and syncs: then their records are in the front, if all before them are.
     fn open_gates<D: Disk>(self, disk: &mut D, first: usize, count: usize) -> Result<(), DiskFault>
         requires batch { count ≤ 64 }
         requires room { first + count ≤ self.geometry.half }
@@ -174,7 +174,7 @@ impl Half {
         Ok(())
     }
 
-    /// How many records its open front has. The gates are read into `gates`.
+    /// How many records its front has. The gates are read into `gates`.
     pub(crate) fn front<D: Disk>(self, disk: &mut D, gates: &mut [u8]) -> Result<usize, DiskFault>
         requires size { length gates.old ≡ self.geometry.half }
         requires whole { HasHalf self (D.medium disk.old) }

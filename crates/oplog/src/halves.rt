@@ -16,9 +16,9 @@ use messages::Msg;
 use std::alloc::{AllocError, Global};
 use std::marker::Model;
 
-/// The log of a device: which of its halves is named, which one records are appended to, and how many it has.
+/// The log of a device: which of its halves is named, which one records are appended to, and how many of its record slots are used.
 ///
-/// Only `new` takes memory. After a fault of the device it has failed, and only calls that ask for no device go on.
+/// Only `new` takes memory. After a device fault it has failed: only calls that don't use the device may be made.
 #[derive(Drop)]
 pub struct Halves {
     geometry: Geometry,
@@ -88,7 +88,7 @@ impl Halves {
         self.used = usize::from(self.geometry.half);
     }
 
-    /// The numbers of the device's server.
+    /// The geometry of the device.
     pub fn geometry(&self) -> Geometry
         ensures { result ≡ self.now.geometry }
     {
@@ -251,7 +251,7 @@ impl Halves {
         Ok(())
     }
 
-    /// How many records the open front of this half has.
+    /// How many records the front of this half has.
     pub fn front<D: Disk>(&mut self, disk: &mut D, half: usize) -> Result<usize, LogFault>
         requires sound { self.old.failed ≡ false }
         requires half { half < 2 }

@@ -178,8 +178,8 @@ impl ReorderBuffer {
         }
     }
 
-    /// Puts a line after the others; its ticket is the one behind theirs, if it has one. It is inlined, so that no line is copied
-    /// with the room for a reply that it doesn't have.
+    /// Puts a line after the others; its ticket is the one after theirs, if it has one. It is inlined, so that a pending line is not copied
+    /// with the unused space of a reply.
     #[inline(always)]
     pub fn push(&mut self, line: Line)
         requires room { length self.old.lines < self.old.slots }

@@ -1,4 +1,4 @@
--- Inner: Which of those that are first in their queues are conflict-free, each at the number of its affinity.
+-- Inner: For each affinity number, the message at the head of its queue if it is conflict-free.
 use Rattle.std.specs.Prelude.{◌≡◌, ◌+◌, ◌*◌, ◌<◌, ◌≤◌, ℕ, zero, suc, min, Bool, true, List, length, get_or, if◌then◌else◌, slice_index_or, Option, Some, None}
 use Rattle.std.specs.List.{find}
 use Rattle.affinity.specs.Interval.{Interval, IsAffinity}
@@ -33,16 +33,16 @@ abbrev pub AreNearRight : Geometry → Interval → List QueuedMessage → List 
 AreNearRight g a held waiting ready_table = (b : Interval) → IsAffinity g b → are_related_intervals a b ≡ true
     → IsFlagRight held waiting ready_table b.number
 
--- the last rank of one that is there
+-- the greatest rank of a message
 abbrev pub last_rank : ℕ
 last_rank = 18446744073709551614
 
--- how early it came: its ticket, but that the greatest two are one rank. What isn't there comes behind all.
+-- the rank of a message: its ticket (the two greatest share one rank). `None` ranks last.
 abbrev pub rank_of : Option QueuedMessage → ℕ
 rank_of None = 18446744073709551615
 rank_of (Some t) = min t.ticket last_rank
 
--- the earliest of one and of those that are ready at so many numbers from this one on and pass this test
+-- the oldest of `best` and the ready messages at n numbers from `from` on that pass the test
 abbrev pub earliest_from : (QueuedMessage → Bool) → List (Option QueuedMessage) → ℕ → ℕ → Option QueuedMessage → Option QueuedMessage
 earliest_from p ready_table from zero best = best
 earliest_from p ready_table from (suc n) best =

@@ -12,7 +12,7 @@ pub record RunQueueView : Type 0 where
   pub held : List QueuedMessage
   pub slots : ℕ
 
--- no one waits, and no one is held
+-- no message waits or is held
 abbrev pub queue_at_start : Geometry → ℕ → RunQueueView
 queue_at_start geometry slots = record { geometry = geometry; waiting = []; held = []; slots = slots }
 
@@ -20,7 +20,7 @@ queue_at_start geometry slots = record { geometry = geometry; waiting = []; held
 abbrev pub are_related_intervals : Interval → Interval → Bool
 are_related_intervals a b = contains a b.number || contains b a.number
 
--- whether no one of the others is at a related affinity
+-- whether none of the others is at a related affinity
 abbrev pub is_free_of : List QueuedMessage → QueuedMessage → Bool
 is_free_of others t = not (list_any (λ other. are_related_intervals t.affinity other.affinity) others)
 

@@ -51,7 +51,7 @@ impl Holders {
         }
     }
 
-    /// One more is held, at a number where no one is.
+    /// One more message is held, at a number where none is.
     pub(crate) fn hold(&mut self, queued: QueuedMessage)
         requires number { queued.affinity.number < self.old.numbers }
         requires free { find (has_number queued.affinity.number) self.old.messages ≡ None }

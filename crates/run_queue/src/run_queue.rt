@@ -57,9 +57,8 @@ fn blocks_of(g: &Geometry) -> usize
 impl RunQueue {
     ghost use Rattle.run_queue.specs.RunQueue.{queue_at_start, CameBefore, IsNext, HasJoined};
 
-    /// No one waits and no one is held. Arrivals will be at affinities of the geometry, in
-    /// slots below `slots`, which is below the greatest `usize`. There is room for any geometry.
-    /// `AllocError` where there is no memory.
+    /// No message waits or is held. Arrivals will be at affinities of the geometry, in slots below `slots`, which is below the greatest
+    /// `usize`. There is room for any geometry. `AllocError` where there is no memory.
     pub fn new(alloc: Global, geometry: &Geometry, slots: usize) -> Result<RunQueue, AllocError>
         requires { slots < usize.MAX }
         ensures { IfOk result (λ queue. queue ≡ queue_at_start geometry.now slots) }
@@ -76,7 +75,7 @@ impl RunQueue {
         })
     }
 
-    /// Goes over to another geometry, while no one waits and no one is held. Takes no memory.
+    /// Goes over to another geometry, while no message waits or is held. Takes no memory.
     pub fn begin(&mut self, geometry: &Geometry)
         requires none_waits { self.old.waiting ≡ [] }
         requires none_held { self.old.held ≡ [] }
@@ -85,9 +84,8 @@ impl RunQueue {
         self.geometry = *geometry;
     }
 
-    /// The first waiting message that may go: no one at a related affinity is held, or came
-    /// earlier and still waits, and there is `room` where it may change something. None where no one
-    /// may go.
+    /// The waiting message with the least ticket that may be dispatched: no message at a related affinity is held, or is older and waits;
+    /// and if it may change something, there is `room`. None if there is no such message.
     pub fn next(&self, room: bool) -> Option<QueuedMessage>
         ensures { result ≡ next_queued room self.now.held self.now.waiting }
     {
@@ -110,7 +108,7 @@ impl RunQueue {
         Some(queued.slot)
     }
 
-    /// One more waits, after all others. Its ticket is above theirs, and no one has its slot.
+    /// A message joins the end of the queue. Its ticket is above all others there, and its slot is unused.
     pub fn arrive(&mut self, queued: QueuedMessage)
         requires placed { IsAffinity self.old.geometry queued.affinity }
         requires later { CameBefore queued.ticket self.old.waiting }

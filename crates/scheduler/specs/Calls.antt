@@ -53,7 +53,7 @@ IsLogStep g old new n (Err faults.Device) =
     (old.failed ≡ false) × (length (batch old n) ≡ 0 → ⊥) × (new ≡ record old { failed = true; doubt = batch old n })
 IsLogStep g old new n (Err faults.Failed) = (old.failed ≡ true) × (new ≡ old)
 
--- ---- steps of a consistency point
+-- ---- steps of a checkpoint
 
 -- The step was made where there is no reason against it: so at `Ok`. Else it was refused for this reason, or the device
 -- failed.
@@ -104,7 +104,7 @@ abbrev pub log_outcome : Result ℕ CoreFault → Outcome
 log_outcome (Ok count) = outcomes.Logged count
 log_outcome (Err why) = outcomes.LogFault why
 
--- of a step of a consistency point, that answers so where it was made
+-- of a step of a checkpoint, that answers so where it was made
 abbrev pub step_outcome : {T : Type 0} → (T → Outcome) → Result T PointRefusal → Outcome
 step_outcome made (Ok x) = made x
 step_outcome made (Err why) = outcomes.PointRefused why

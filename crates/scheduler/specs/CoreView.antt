@@ -26,7 +26,7 @@ pub record CoreView : Type 0 where
   -- whether the device has failed, and what was to be appended to the log when it did
   pub failed : Bool
   pub doubt : List Msg
-  -- how many pieces are left to write, while a consistency point is in progress
+  -- how many pieces are left to write, while a checkpoint is in progress
   pub left : Option ℕ
   pub medium : Medium
 

@@ -12,7 +12,7 @@ use legal_runs::ArriveRefusal;
 use message::{Head, head_of_line, parse_line, read_block};
 use messages::{Block, Msg};
 
-/// The message of a kind without data and its numbers. It is made where it lies: no room for a block is moved.
+/// The message of a kind without data and its numbers. It is built in place: no 512-byte block is copied.
 fn message_without_data(kind: Kind, numbers: [u16; 4]) -> Msg
     requires { has_data kind ≡ false }
     ensures { result ≡ message_without_data kind numbers }
@@ -48,9 +48,9 @@ impl<D: Disk> Core<D> {
         }
     }
 
-    /// Takes in the message that a line encodes, the line given without its newline, and gives it the next ticket, as `arrive` does.
-    /// `None` where the line is no message: then nothing has changed. The message is made where it lies, and a block is decoded there: no
-    /// room for one is moved.
+    /// Takes in the message that a line encodes, the line given without its newline, and gives it the next ticket, as `arrive` does. `None`
+    /// where the line is no message: then nothing has changed. The message is built here, and the block of a `write` decoded here: but for
+    /// a `setlabel`, no parser returns a `Msg` that has to be copied.
     pub fn arrive_line(&mut self, line: &[u8]) -> Result<Option<u64>, ArriveRefusal>
         ensures arrives { ArrivesByLine self.old self.new (message_of line.now) result }
         ensures geometry { self.new.geometry ≡ self.old.geometry }

@@ -47,8 +47,8 @@ use std::marker::Model;
 
 /// The messages that a server has taken in, the tree that they run on, and the journal of what was carried out.
 ///
-/// All memory is taken by `open`. After a fault of the device nothing more arrives, is dispatched or is logged, and no
-/// consistency point goes on; jobs in flight are still given back, and what was logged is still answered.
+/// All memory is taken by `open`. After a fault of the device nothing more arrives, is dispatched or is logged, and no checkpoint goes on;
+/// jobs in flight are still given back, and what was logged is still answered.
 #[derive(Drop)]
 pub struct Core<D: Disk> {
     slots: Arena<Slot>,
@@ -111,9 +111,9 @@ fn holds_any(slots: &Arena<Slot>) -> bool
 impl<D: Disk> Core<D> {
     /// Opens a device that a crash may have left, for as many messages at once as there are slots.
     ///
-    /// Takes its own memory first: where there is none, the device is handed back as it was given. Then the device is opened
-    /// as `journal::open` does it, which reads it, finishes a cut that was in progress and makes a point, and with the same
-    /// faults. No message waits or is held then, the next ticket is 0, and the log has all its room, with no record in force.
+    /// Takes its own memory first: where there is none, the device is handed back as it was given. Then the device is opened as
+    /// `journal::open` does it, which reads it, finishes a cut that was in progress and makes a checkpoint, and with the same faults. No
+    /// message waits or is held then, the next ticket is 0, and the log has all its room, with no record in force.
     pub fn open(alloc: Global, d: D, slots: usize) -> Result<Core<D>, OpenError<D>>
         ensures opened { IfOk result (IsJustOpened slots) }
         ensures header { IfOk result (λ core. D.keeps → HasHeader core.geometry (D.medium d).now) }
@@ -128,7 +128,7 @@ impl<D: Disk> Core<D> {
             (λ core. OpeningCrashImages (D.medium d) core.medium)
             (λ e. OpeningCrashImages (D.medium d) (D.medium e.disk)) }
 
-        // What a longer device has behind its parts stays, also in what a crash leaves.
+        // What a longer device has after its parts stays, even in what a crash leaves.
         ensures beyond { D.keeps → (g : Geometry) → HasHeader g (D.medium d).now → MatchResult result
             (λ core. KeepsBeyond (layout_of g) (D.medium d) core.medium)
             (λ e. KeepsBeyond (layout_of g) (D.medium d) (D.medium e.disk)) }
@@ -319,7 +319,7 @@ impl<D: Disk> Core<D> {
         Some((taken.ticket, reply))
     }
 
-    // Why a consistency point can't begin.
+    // Why a checkpoint can't begin.
     fn point_refusal(&self) -> Option<PointRefusal>
         ensures { result ≡ point_refusal (core_state_of self.now) }
     {
@@ -335,7 +335,7 @@ impl<D: Disk> Core<D> {
         None
     }
 
-    /// Makes a consistency point, where no message is held: the log is empty then.
+    /// Makes a checkpoint, where no message is held: the log is empty then.
     pub fn point(&mut self) -> Result<(), PointRefusal>
         ensures state_after { IsPointStep (core_state_of self.old) (core_state_of self.new) (point_refusal (core_state_of self.old))
             (core_state_of self.new ≡ record (core_state_of self.old) { room = self.old.geometry.half }) result }
@@ -359,7 +359,7 @@ impl<D: Disk> Core<D> {
         Ok(())
     }
 
-    /// Begins a consistency point that goes on while messages are served: what is committed now is what it will hold.
+    /// Begins a checkpoint that goes on while messages are served: what is committed now is what it will hold.
     pub fn cut(&mut self) -> Result<(), PointRefusal>
         ensures state_after { IsPointStep (core_state_of self.old) (core_state_of self.new) (point_refusal (core_state_of self.old))
             ((n : ℕ) × (n ≤ piece_count self.old.geometry)
@@ -380,8 +380,7 @@ impl<D: Disk> Core<D> {
         Ok(())
     }
 
-    /// Writes the next piece of the consistency point in progress, and returns how many are left. With none left it
-    /// touches nothing.
+    /// Writes the next piece of the checkpoint in progress, and returns how many are left. With none left it touches nothing.
     pub fn piece(&mut self) -> Result<usize, PointRefusal>
         ensures state_after { IsPieceStep (core_state_of self.old) (core_state_of self.new) result }
         ensures geometry { self.new.geometry ≡ self.old.geometry }
@@ -403,7 +402,7 @@ impl<D: Disk> Core<D> {
         }
     }
 
-    /// Ends the consistency point in progress, once every piece is written.
+    /// Ends the checkpoint in progress, once every piece is written.
     pub fn flip(&mut self) -> Result<(), PointRefusal>
         ensures state_after { IsPointStep (core_state_of self.old) (core_state_of self.new) (flip_refusal (core_state_of self.old))
             (core_state_of self.new ≡ record (core_state_of self.old) { left = None }) result }
@@ -437,7 +436,7 @@ impl<D: Disk> Core<D> {
         self.slots.capacity()
     }
 
-    /// How many pieces are left to write, while a consistency point is in progress.
+    /// How many pieces are left to write, while a checkpoint is in progress.
     pub fn left(&self) -> Option<usize>
         ensures { result ≡ self.now.left }
     {

@@ -62,7 +62,7 @@ pub(crate) fn collect_loggable(
     found
 }
 
-// The first message that ran is logged, after all logged ones.
+// Moves the first message that ran to the end of the logged list.
 fn move_first(slots: &mut Arena<Slot>)
     requires chains { HasChains slots.old }
     requires some { 0 < length (chain_at slots.old 2) }
@@ -74,7 +74,7 @@ fn move_first(slots: &mut Arena<Slot>)
     slots.move_to(slot, LOGGED);
 }
 
-/// The first `count` messages that ran are logged, after all logged ones.
+/// Moves the first `count` messages that ran to the end of the logged list.
 pub(crate) fn move_ran(slots: &mut Arena<Slot>, count: usize)
     requires chains { HasChains slots.old }
     requires count { count ≤ length (chain_at slots.old 2) }

@@ -1,4 +1,4 @@
-//! How far the consistency point in progress goes on behind an answer, while a job is in flight, and before a reply is sent.
+//! How far the checkpoint in progress goes on after an answer, while a job is in flight, and before a reply is sent.
 use crate::serving_noting::{Count, Flag, Notes, Noting, Pieces};
 use crate::serving_running::{
     End, PIPED, Way, ends, holds, serve_lines, serve_on, session, writes,

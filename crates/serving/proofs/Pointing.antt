@@ -1,4 +1,4 @@
--- Steps of a consistency point: what is left of it, and that they fail only where the device does.
+-- Steps of a checkpoint: what is left of it, and that they fail only where the device does.
 use Rattle.std.proofs.Common.{◌≡◌, ◌≢◌, ℕ, ◌-◌, true, false, List, [], length, Option, Some, None, Result, Ok, Err, refl, ap, sym, subst, ◌∙◌}
 use Rattle.std.specs.Prelude.{Bool, if◌then◌else◌, is_some, nat_lt, MatchResult, OnErr, OnOk}
 use Rattle.std.proofs.lemmas.Bool.{true≢false}

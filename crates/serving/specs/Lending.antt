@@ -24,13 +24,13 @@ DispatchesTo g k old lent new new_lent dispatched.NoneEligible = IsNoGrant g old
 DispatchesTo g k old lent new new_lent dispatched.NoRoom = IsNoGrant g old new outcomes.NoRoom × (new_lent ≡ lent)
 DispatchesTo g k old lent new new_lent dispatched.Failed = (old.failed ≡ true) × (new ≡ old) × (new_lent ≡ lent)
 
--- Why no further message of this core state is dispatched: something is lent at each place, or no message may be.
+-- Why no further message of this core state is dispatched: no place is free, or no message may be.
 abbrev pub IsEndOfDispatch : Geometry → CoreState → List (Option JobView) → Dispatched → Type 0
 IsEndOfDispatch g w lent dispatched.Job = position is_none lent ≡ None
 IsEndOfDispatch g w lent dispatched.NoneEligible = IsNoGrant g w w outcomes.NoneEligible
 IsEndOfDispatch g w lent dispatched.NoRoom = IsNoGrant g w w outcomes.NoRoom
 IsEndOfDispatch g w lent dispatched.Failed = w.failed ≡ true
 
--- nothing is lent at any place
+-- no job is in flight
 abbrev pub NoneInFlight : List (Option JobView) → Type 0
 NoneInFlight lent = lent ≡ replicate (length lent) None

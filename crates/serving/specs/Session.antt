@@ -133,13 +133,12 @@ HasHalted p = p.output_failed ≡ false → p.core.failed ≡ true
 abbrev pub IsSessionStep : {A : Type 0} → SessionView → SessionView → Result A Halted → Type 0
 IsSessionStep old new result = (new.stop ≡ old.stop) × MatchResult result (λ _. new.output_failed ≡ old.output_failed) (λ _. HasHalted new)
 
--- Where a consistency point was to begin, and was answered so: it has begun, or waits for a message that is held; or the session has
--- halted.
+-- Where a checkpoint was to begin, and was answered so: it has begun, or waits for a message that is held; or the session has halted.
 abbrev pub BeginsOrWaits : Result (Unit {0}) PointRefusal → Result (Unit {0}) Halted → Type 0
 BeginsOrWaits (Ok _) result = OnErr result ⊥
 BeginsOrWaits (Err why) result = MatchResult result (λ _. why ≡ refusals.Held) (λ _. why ≢ refusals.Held)
 
--- how many steps a consistency point takes to its end, by how many of its pieces are left
+-- how many steps a checkpoint takes to its end, by how many of its pieces are left
 abbrev pub steps_left : Option ℕ → ℕ
 steps_left None = 0
 steps_left (Some n) = n + 1

@@ -1,4 +1,4 @@
-//! Consistency points of a session: when one is due, the one that begins then, and the one in progress, which is carried to its end.
+//! Checkpoints of a session: when one is due, the one that begins then, and the one in progress, which is carried to its end.
 
 ghost use Rattle.std.specs.Prelude.{◌≡◌, ◌+◌, ℕ, false, [], None, Some, IfOk, MatchBool, OnOk};
 ghost use Rattle.legal_runs.specs.CoreState.{held};
@@ -12,7 +12,7 @@ use legal_runs::PointRefusal;
 use messages::Reply;
 use std::io::Read;
 
-/// When consistency points are due. A wrong count makes them at other times, which no contract forbids.
+/// When checkpoints are due. A wrong count makes them at other times, which no contract forbids.
 #[derive(Clone, Copy)]
 pub(crate) struct CheckpointTrigger {
     /// After how many records one is due; 0: only where the log has no room.
@@ -34,8 +34,8 @@ impl CheckpointTrigger {
         }
     }
 
-    /// A consistency point was to begin, with this answer of the core. It has begun, or will where no message is held any more; else the
-    /// device has failed.
+    /// Takes the core's answer to `cut`: a checkpoint has begun; or (`Held`) one will, once no message is in progress; else the device has
+    /// failed.
     fn note_cut(&mut self, cut: Result<(), PointRefusal>) -> Result<(), Halted>
         ensures { BeginsOrWaits cut result }
     {
@@ -49,15 +49,15 @@ impl CheckpointTrigger {
         }
     }
 
-    /// Whether one is due by the number of records. None is while one is in progress, of which so many pieces are left.
+    /// Whether a checkpoint is due by the record count. None is while one is in progress (`left` is its number of unwritten pieces).
     pub(crate) fn is_due(&self, left: Option<usize>) -> bool {
         left.is_none() && self.every != 0 && self.since >= self.every
     }
 }
 
 impl<'c, R: Read, D: Disk, L: ReplySink<D>> Session<'c, R, D, L> {
-    /// Takes the consistency point in progress a step on, if there is one: to its next piece or, where all are written, to its end.
-    /// Whether there was one.
+    /// Takes the checkpoint in progress a step on, if there is one: to its next piece or, where all are written, to its end. Whether there
+    /// was one.
     pub(crate) fn advance_point(&mut self) -> Result<bool, Halted>
         ensures moves { IsSessionStep self.old self.new result }
         ensures same { (self.new.reorder_buffer ≡ self.old.reorder_buffer) × (self.new.reply_buffer ≡ self.old.reply_buffer)
@@ -80,7 +80,7 @@ impl<'c, R: Read, D: Disk, L: ReplySink<D>> Session<'c, R, D, L> {
         }
     }
 
-    /// Begins a consistency point, where none is in progress: it begins unless a message is held.
+    /// Begins a checkpoint, where none is in progress: it begins unless a message is held.
     pub(crate) fn begin_point(&mut self) -> Result<(), Halted>
         requires none { self.old.core.left ≡ None }
         ensures moves { IsSessionStep self.old self.new result }
@@ -90,8 +90,8 @@ impl<'c, R: Read, D: Disk, L: ReplySink<D>> Session<'c, R, D, L> {
         self.trigger.note_cut(cut)
     }
 
-    /// Where no job is in flight and no message may be dispatched or read: takes the consistency point in progress a step on, or begins
-    /// one where it is due or a message lacks only room in the log. Whether it did either.
+    /// Where no job is in flight and no message may be dispatched or read: takes the checkpoint in progress a step on, or begins one where
+    /// it is due or a message lacks only room in the log. Whether it did either.
     pub(crate) fn step_point(&mut self, lacks_room: bool) -> Result<bool, Halted>
         ensures moves { IsSessionStep self.old self.new result }
     {

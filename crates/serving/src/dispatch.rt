@@ -1,5 +1,5 @@
-//! One iteration of a session: messages are dispatched, and what was collected is logged in one go and answered; where nothing else
-//! can be done, it waits or begins a consistency point.
+//! One iteration of a session: messages are dispatched, and what was collected is logged in one go and answered; where nothing else can be
+//! done, it waits or takes a step of a checkpoint.
 
 ghost use Rattle.std.specs.Prelude.{◌≡◌, ◌<◌, ◌≤◌, ◌-◌, ◌↔◌, IsTrue, OnErr, OnOk, Some, [], None, false, is_none, length, position, true};
 ghost use Rattle.scheduler.specs.CoreView.{core_state_of};
@@ -21,11 +21,11 @@ use workers::{Bench, DispatchSeat};
 /// one of their gates.
 const BATCH: usize = 64;
 
-/// How many looks at all places in succession may be in vain before a batch is logged as it is: some ten times as long as a thread
-/// takes to wake up. Each further message spares the log a write, and no reply waits longer than that for a job that is slow.
+/// How many polls of all places in succession may find nothing before the batch is logged as it is: about ten times a thread's wake-up.
+/// Each further message saves a log write, and no reply waits longer than this for a slow job.
 const PATIENCE: usize = 16384;
 
-/// After how many looks other threads may go first, if they wait for a processor.
+/// After every so many polls the thread yields the processor once.
 const LOOKS: usize = 32;
 
 /// What was collected in one iteration, and what kept messages from being dispatched. `budget` falls with each message, so collecting ends;
@@ -70,7 +70,7 @@ impl Batch {
         self.budget == 0
     }
 
-    /// Whether it gains nothing by more: it is full, or what was collected is logged without a write.
+    /// Whether waiting for more gains nothing: it is full, or something was collected, and none of it needs a write.
     fn is_ripe(&self) -> bool {
         self.is_full() || self.has_come() && !self.changed
     }
@@ -89,8 +89,8 @@ enum Dispatched {
     Failed,
 }
 
-/// Offers what was granted to the workers at place k of a bench, the first where nothing is lent, if it is a job. It is inlined, so
-/// that the job isn't moved once more.
+/// Offers what was granted to the workers at place k of a bench, the first free place, if it is a job. It is inlined, so that the job isn't
+/// moved once more.
 #[inline(always)]
 fn offer_granted(
     bench: &Bench,
@@ -115,7 +115,7 @@ fn offer_granted(
     }
 }
 
-/// Spins once after look `looks`, and yields at every 32nd.
+/// Spins once after poll number `looks`, and yields after every 32nd.
 fn pause(looks: usize) {
     if looks % LOOKS == 0 {
         yield_now();
@@ -125,7 +125,7 @@ fn pause(looks: usize) {
 }
 
 impl<'c, R: Read, D: Disk, L: ReplySink<D>> Session<'c, R, D, L> {
-    /// Dispatches the eligible message with the least ticket to place k, the first where nothing is lent.
+    /// Dispatches the eligible message with the least ticket to place k, the first free one.
     fn dispatch_to(&mut self, k: usize) -> Dispatched
         requires first { position is_none self.old.dispatch_seat.lent ≡ Some k }
         ensures as_before { KeepsStopAndOutputFailed self.old self.new }
@@ -138,8 +138,8 @@ impl<'c, R: Read, D: Disk, L: ReplySink<D>> Session<'c, R, D, L> {
         offer_granted(self.bench, &mut self.dispatch_seat, k, granted)
     }
 
-    /// Dispatches eligible messages, the one with the least ticket first, until something is lent at each place or no further one can be
-    /// dispatched: why. `Dispatched::Job` means that no place is left.
+    /// Dispatches eligible messages, the one with the least ticket first, until no place is free or no further one can be dispatched: why.
+    /// `Dispatched::Job` means that no place is free.
     fn dispatch_all(&mut self) -> Dispatched
         ensures as_before { KeepsStopAndOutputFailed self.old self.new }
         ensures ended { IsEndOfDispatch self.new.core.geometry (core_state_of self.new.core) self.new.dispatch_seat.lent result }
@@ -153,8 +153,8 @@ impl<'c, R: Read, D: Disk, L: ReplySink<D>> Session<'c, R, D, L> {
         Dispatched::Job
     }
 
-    /// Dispatches messages, unless a consistency point is due by the number of records: whether one lacks only room in the
-    /// log. None is dispatched where the device has failed, as the next log reports.
+    /// Dispatches messages, unless a checkpoint is due by the record count: whether one lacks only room in the log. None is dispatched
+    /// where the device has failed, as the next log reports.
     fn dispatch_ready(&mut self) -> bool
         ensures as_before { KeepsStopAndOutputFailed self.old self.new }
     {
@@ -177,7 +177,7 @@ impl<'c, R: Read, D: Disk, L: ReplySink<D>> Session<'c, R, D, L> {
         Some(changed)
     }
 
-    /// Looks once at each place, and collects the results that were delivered, until the batch is full: whether there was one.
+    /// Polls each place once, and collects the results that were delivered, until the batch is full: whether there was one.
     fn collect_delivered(&mut self, batch: &mut Batch) -> bool
         ensures as_before { KeepsStopAndOutputFailed self.old self.new }
         ensures failed { self.new.core.failed ≡ self.old.core.failed }
@@ -196,7 +196,7 @@ impl<'c, R: Read, D: Disk, L: ReplySink<D>> Session<'c, R, D, L> {
         came
     }
 
-    /// Waits for the jobs in flight, and collects their results. Nothing is lent then.
+    /// Waits for the jobs in flight, and collects their results. Then no job is in flight.
     pub(crate) fn drain_workers<W: GatedRuntime>(&mut self, rt: &W)
         ensures as_before { KeepsStopAndOutputFailed self.old self.new }
         ensures failed { self.new.core.failed ≡ self.old.core.failed }
@@ -213,7 +213,7 @@ impl<'c, R: Read, D: Disk, L: ReplySink<D>> Session<'c, R, D, L> {
         }
     }
 
-    /// Dispatches messages and collects results, until the batch is worth a write of the log, nothing is lent any more, or nothing was
+    /// Dispatches messages and collects results, until the batch is worth a write of the log, no job is in flight any more, or nothing was
     /// collected in a while. Where something was, further messages are dispatched, so that jobs run meanwhile. It waits for nobody.
     fn dispatch_and_collect(&mut self) -> Batch
         ensures as_before { KeepsStopAndOutputFailed self.old self.new }
@@ -247,8 +247,8 @@ impl<'c, R: Read, D: Disk, L: ReplySink<D>> Session<'c, R, D, L> {
         or_halt(self.core.log(count))
     }
 
-    /// Logs what ran in one go, answers it, and retires the lines that are next in order. A consistency point in progress
-    /// goes on by one step after each answer.
+    /// Logs what ran in one go, answers it, and retires the lines that are next in order. A checkpoint in progress goes on by one step
+    /// after each answer.
     fn log_and_reply<W: GatedRuntime>(&mut self, rt: &W) -> Result<(), Halted>
         ensures moves { IsSessionStep self.old self.new result }
     {
@@ -270,8 +270,8 @@ impl<'c, R: Read, D: Disk, L: ReplySink<D>> Session<'c, R, D, L> {
         self.outstanding.saturating_sub(self.reorder_buffer.len()) >= slots - slots / 2
     }
 
-    /// Where no message is dispatched or collected: sends what waits. If then a line is held that may be read, this is all; else it waits
-    /// for a result where a job is in flight, or takes a step of a consistency point.
+    /// Where no message is dispatched or collected: sends what waits. If a buffered line may then be read, this is all; else it waits for a
+    /// result where a job is in flight, or takes a step of a checkpoint.
     fn flush_or_wait<W: GatedRuntime>(
         &mut self,
         rt: &W,
@@ -295,12 +295,13 @@ impl<'c, R: Read, D: Disk, L: ReplySink<D>> Session<'c, R, D, L> {
         })
     }
 
-    /// Whether each line that was read is retired, and no further one is held: its client may wait for what is to be sent.
+    /// Whether reading goes on, each line that was read is retired, and none is buffered: the client may wait for what is to be sent.
     fn has_caught_up(&self) -> bool {
         self.stop.is_none() && self.reorder_buffer.len() == 0 && !self.line_reader.holds_line()
     }
 
-    /// Does what can be done. Where lines were read just before, or results came, it waits for nothing, unless each line is retired.
+    /// One iteration. If lines were just read or results came, and some line is unanswered or buffered, or no more is read, it returns
+    /// without waiting; else it flushes, and may wait.
     pub(crate) fn advance<W: GatedRuntime>(
         &mut self,
         rt: &W,

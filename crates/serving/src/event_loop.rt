@@ -45,7 +45,7 @@ impl<'c, R: Read, D: Disk, L: ReplySink<D>> Session<'c, R, D, L> {
         }
     }
 
-    /// Why the loop ends, once no more is read, each line that was read is retired, and no consistency point is in progress.
+    /// Why the loop ends, once no more is read, each line that was read is retired, and no checkpoint is in progress.
     fn ended(&self) -> Option<ReadEnd>
         ensures { IfSome result (λ stop. (self.now.stop ≡ Some stop) × (self.now.reorder_buffer.lines ≡ []) × (self.now.core.left ≡ None)) }
     {
@@ -56,8 +56,8 @@ impl<'c, R: Read, D: Disk, L: ReplySink<D>> Session<'c, R, D, L> {
         }
     }
 
-    /// Sends all that waits, and at the end of the input makes the last consistency point: nothing waits or is held then, and the log is
-    /// empty after it. It halts where the device has failed.
+    /// Sends all that waits, and at the end of the input makes the last checkpoint: nothing waits or is held then, and the log is empty
+    /// after it. It halts where the device has failed.
     fn finish(&mut self, stop: ReadEnd) -> Result<(), Halted>
         requires all_retired { self.old.reorder_buffer.lines ≡ [] }
         requires none { self.old.core.left ≡ None }
@@ -103,9 +103,9 @@ impl<'c, R: Read, D: Disk, L: ReplySink<D>> DispatcherTask<Result<(), ServeFault
 
     ghost gives = { λ old new end. EndsBy new end × OnOk end (D.keeps → HasEmptyLog new.core) };
 
-    /// Serves line after line until the input ends, with a consistency point where one is due, and one at the end. All that was
-    /// answered is written when it returns, unless the output failed. Where several faults befall one call, one of the output goes
-    /// before one of the device, and that before the others.
+    /// Serves line after line until the input ends, with a checkpoint where one is due, and one at the end. All that was answered is
+    /// written when it returns, unless the output failed. If several things fail in one call, an output failure is reported rather than a
+    /// device failure, and that rather than any other.
     fn run_task<T: Wait, G: Gate>(&mut self, rt: &T, gate: &G) -> Result<(), ServeFault> {
         let rt = &(rt, gate);
         match self.serve_lines(rt) {

@@ -101,14 +101,14 @@ impl<'c, R: Read, D: Disk, L: ReplySink<D>> Session<'c, R, D, L> {
         }
     }
 
-    /// Whether a line is held that may be read.
+    /// Whether a line in the input buffer may be read.
     pub(crate) fn can_read(&self) -> bool {
         may_read(self.stop, self.outstanding, self.reorder_buffer.slots()) && self.line_reader.holds_line()
     }
 
-    /// Reads lines that are held, while fewer lines are outstanding than there are slots. Where all else was idle, the next line is read
-    /// first, also if none is held: others may come with it, and a change is logged with theirs, not by itself. None is read once reading
-    /// has ended.
+    /// Reads the lines in the input buffer, while fewer lines are outstanding than there are slots. Where all else was idle, the next line
+    /// is read first, even if none is buffered: others may come with it, and a change is logged with theirs, not by itself. None is read
+    /// once reading has ended.
     pub(crate) fn read_more(&mut self, last: Activity) -> Activity
         ensures output_failed { self.new.output_failed ≡ self.old.output_failed }
     {

@@ -2,10 +2,10 @@
 //! server writes.
 //!
 //! `serve` is the whole call, with its memory and its threads, for a writer; `serve_to` is the same for any sink of lines. The definitions
-//! are in `specs/`, and the laws that they obey are the contracts of the functions of `laws`, which do nothing. `session` has what a
-//! server holds while it serves, and what is always true of it. `input` reads a line. An iteration of `dispatch` dispatches messages,
-//! collects results, logs them and answers them. `output` sends the lines of the reorder buffer that are next in order, under the
-//! condition of `ReplySink`. `checkpoints` has the consistency points, and `event_loop` the loop from line to line with its ends.
+//! are in `specs/`, and the laws that they obey are the contracts of the functions of `laws`, which do nothing. `session` has what a server
+//! holds while it serves, and what is always true of it. `input` reads a line. An iteration of `dispatch` dispatches messages, collects
+//! results, logs them and answers them. `output` sends the lines of the reorder buffer that are next in order, under the condition of
+//! `ReplySink`. Checkpoints are made in `checkpoints`, and `event_loop` has the loop from line to line with its ends.
 #![tactic(auto)]
 
 mod checkpoints;

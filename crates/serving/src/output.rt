@@ -13,14 +13,14 @@ use message::WriteFault;
 use scheduler::Core;
 use std::io::Read;
 
-/// Where a server sends its lines. Its condition binds each call when it is made, in every body, also in one that never returns: what
-/// is sent was answered before, and whatever a crash leaves of the device then holds it.
+/// Where a server sends its lines. Its precondition holds wherever `send` is called, even in a function that never returns: what is sent
+/// was answered before, and whatever a crash leaves of the device then holds it.
 pub trait ReplySink<D: Disk> {
     ghost use Rattle.std.specs.Prelude.{List, ℕ, Option, OnOk};
     ghost use Rattle.std.specs.Io.KnownBytes.{Appends};
     ghost use Rattle.serving.specs.Output.{MaySend, Start};
 
-    /// Where the call of the server began whose lines are sent, once it has.
+    /// The state at the start of the `serve` call whose lines are sent; none before it.
     ghost start: { Option Start };
 
     /// What was sent, if it is known.
@@ -37,8 +37,8 @@ pub trait ReplySink<D: Disk> {
 }
 
 impl<'c, R: Read, D: Disk, L: ReplySink<D>> Session<'c, R, D, L> {
-    /// Answers the message that was logged first, if there is one: its line in the reorder buffer is completed then. Counts it for the
-    /// points if it changed something, saturating. Whether there was one.
+    /// Answers the message that was logged first, if there is one: its line in the reorder buffer is completed then. Whether there was one.
+    /// If it changed something, it counts towards the next checkpoint, saturating.
     pub(crate) fn answer_first<W: GatedRuntime>(&mut self, rt: &W) -> bool
         ensures as_before { KeepsStopAndOutputFailed self.old self.new }
         ensures dispatch_seat { self.new.dispatch_seat ≡ self.old.dispatch_seat }

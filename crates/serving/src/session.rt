@@ -59,7 +59,7 @@ pub(crate) struct Session<'c, R: Read, D: Disk, L: ReplySink<D>> {
     pub(crate) reorder_buffer: ReorderBuffer,
     /// The answers that wait to be sent.
     pub(crate) reply_buffer: ReplyBuffer,
-    /// When consistency points are due.
+    /// When checkpoints are due.
     pub(crate) trigger: CheckpointTrigger,
     /// The input.
     pub(crate) line_reader: LineReader<R>,

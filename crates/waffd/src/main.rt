@@ -8,7 +8,7 @@ use std::process::ExitCode;
 use std::{env, io};
 use streams::take_stream_numbers;
 
-/// The words that the program was called with, its own name first.
+/// The arguments that the program was called with, its own name first.
 fn called_with(rt: &HostRuntime) -> io::Result<Vec<String>> {
     let words = env::args(rt)?.collect(rt.alloc())?;
     Ok(words)

@@ -17,8 +17,7 @@ use parcel::{Done, Job};
 use std::alloc::{AllocError, Global};
 use std::marker::Model;
 
-/// The table at which one dispatcher and its workers meet. A clause sees which table it is, as whose
-/// `slots` the places are counted.
+/// The table at which one dispatcher and its workers meet. A contract sees the table's identity; its `slots` are the places.
 pub struct Bench {
     pub(crate) table: Table<JobCell, View, usize, Handoff, Global>,
 }
@@ -42,8 +41,7 @@ impl Model for Bench {
 }
 
 impl Bench {
-    /// A bench with `places` places, the dispatcher's seat and a seat for each worker. Nothing is lent.
-    /// It takes all memory that the bench will need.
+    /// A bench with `places` free places, the dispatcher's seat and a seat for each worker. It takes all memory that the bench will need.
     pub fn open(
         alloc: Global,
         places: usize,
@@ -67,8 +65,7 @@ impl Bench {
         Ok((Bench { table }, dispatch_seat, seats))
     }
 
-    /// Lends a job to the workers at place k, and wakes one that sleeps if none spins. Hands the job back
-    /// if something is lent there.
+    /// Offers a job to the workers at place k, and wakes one that sleeps if none spins. Hands the job back if the place is taken.
     #[inline(always)]
     pub fn offer(&self, seat: &mut DispatchSeat, k: usize, job: Job) -> Result<(), Job>
         requires { (seat.old.bench ≡ self.now) × (k < self.now.slots) }
@@ -180,7 +177,7 @@ fn ready_all(words: &Words, seat: &mut Seat, places: usize)
     }
 }
 
-// Offers a job at a place where nothing is lent.
+// Offers a job at a free place.
 #[inline(always)]
 fn put_offer(words: &Words, seat: &mut Seat, lent: &mut [bool], k: usize, job: Job)
     requires bench { (seat.old.table_id ≡ words.now.table_id) × (k < words.now.table_id.slots) }
@@ -197,7 +194,7 @@ fn put_offer(words: &Words, seat: &mut Seat, lent: &mut [bool], k: usize, job: J
     turn_to(seat, lent, k + 1, lent.len());
 }
 
-// Takes the slot of a place where something is lent, if its result was delivered. Else nothing changes.
+// Takes the slot of a place that isn't free, if the result of its job was delivered. Else nothing changes.
 fn try_collect(words: &Words, seat: &mut Seat, lent: &[bool], k: usize) -> bool
     requires bench { (seat.old.table_id ≡ words.now.table_id) × (k < words.now.table_id.slots) }
     requires dispatch_seat { IsDispatchSeat words.now.table_id seat.old.me lent.now }

@@ -63,14 +63,14 @@ impl DispatchSeat {
         self.lent.len()
     }
 
-    /// The first place where nothing is lent.
+    /// The first free place.
     pub fn first_free(&self) -> Option<usize>
         ensures { result ≡ position is_none self.now.lent }
     {
         first_down(&self.lent)
     }
 
-    /// Whether something is lent anywhere.
+    /// Whether some place is taken.
     pub fn any_lent(&self) -> bool
         ensures { IsFalse result ↔ (self.now.lent ≡ replicate (length self.now.lent) None) }
     {

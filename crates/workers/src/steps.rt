@@ -28,7 +28,7 @@ impl TableRule<JobCell, View, usize> for Handoff {
     ghost first = { λ places. Dispatcher places (replicate places None) };
 }
 
-// What its seat knows after each kind of step, and how a worker's view comes out of the dispatcher's.
+// What each kind of step makes of its seat's view, and the view of a worker's seat split off the dispatcher's.
 struct Joining;
 
 struct Readying;
@@ -82,7 +82,7 @@ pub fn split(words: &Words, seat: &mut Seat) -> Seat
     words.split_seat::<Joining>(seat)
 }
 
-/// Takes the slot of a place that was yet to be readied: the last of these.
+/// Takes the slot of place k, the last place whose slot was not taken yet.
 pub fn ready(words: &Words, seat: &mut Seat, k: usize)
     requires bench { IsAtBench words.now.table_id seat.old.table_id }
     requires place { k < words.now.table_id.slots }
@@ -93,7 +93,7 @@ pub fn ready(words: &Words, seat: &mut Seat, k: usize)
     words.store::<Readying>(seat, k + FIRST_PLACE, EMPTY);
 }
 
-/// Offers the job in the slot that the dispatcher's seat took last, which goes home.
+/// Offers the job in the slot that the dispatcher's seat took last. The slot goes back to the table.
 pub fn offer(words: &Words, seat: &mut Seat, k: usize)
     requires bench { IsAtBench words.now.table_id seat.old.table_id }
     requires place { k < words.now.table_id.slots }
