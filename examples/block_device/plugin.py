@@ -22,7 +22,7 @@ API_VERSION = 2  # of nbdkit
 #
 # The device has 256 stripes of 64 blocks, and each sector is a block. A log write takes up to 64 changes, of which no two
 # are of one stripe. So 64 consecutive sectors lie in the 64 stripes of one aggregate and go with one log write, and the next
-# 64 lie in the same stripes, so that few of them have to be written anew by a consistency point.
+# 64 lie in the same stripes, so that few of them have to be written anew by a checkpoint.
 
 SECTOR = 512
 AGGREGATES, VOLUMES, STRIPES, WIDTH, QUOTA = 4, 8, 8, 64, 64
@@ -134,7 +134,7 @@ class Server:
         return self._fault is not None
 
     def stop(self):
-        """Ends the input. The server answers what it has read, makes its last consistency point and ends."""
+        """Ends the input. The server answers what it has read, makes its last checkpoint and ends."""
         self._to_write.put(None)
         for thread in self._threads:
             thread.join()
