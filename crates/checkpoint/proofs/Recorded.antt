@@ -20,7 +20,7 @@ use Rattle.message.proofs.RecordLemmas.{record_says}
 use Rattle.oplog.specs.declared.fault.LogFault.{LogFault}
 use Rattle.oplog.specs.declared.fault.LogFault.TheVariants.{Device, BadRecord}
 use Rattle.oplog.specs.Log.{IsAbout, IsOfRecord}
-use Rattle.oplog.specs.Logged.{IsLogged, IsNoRecord}
+use Rattle.oplog.specs.Changing.{IsChangeInRange, IsNoRecord}
 use Rattle.oplog.proofs.BadRecords.{no_record_says_none}
 use Rattle.meaning.specs.Serial.{is_done, is_loggable, next_state, reply_to}
 use Rattle.meaning.specs.State.{State}
@@ -30,7 +30,7 @@ not_done Done differs = absurd (differs refl)
 not_done _ differs = refl
 
 -- of a message that is logged
-module _ (g : Geometry) (x : State) (m : Msg) (bytes : List ℕ) (whole : IsMessage m) (logged : IsLogged g m) (are : bytes ≡ record_of m) where
+module _ (g : Geometry) (x : State) (m : Msg) (bytes : List ℕ) (whole : IsMessage m) (logged : IsChangeInRange g m) (are : bytes ≡ record_of m) where
   decoded : apply g x bytes ≡ apply_decoded g x bytes (Some m)
   decoded = ap (λ (o : Option Msg). apply_decoded g x bytes o) (ap message_in_fields are ∙ record_says g m whole logged.1)
 
@@ -71,6 +71,6 @@ module _ {g h : Geometry} (same : h ≡ g) (x : State) (half i : ℕ) (bytes : L
       ∙ (λ j. Some (faults.BadRecord (sym about.0 j) (sym about.1 j)))
 
   -- So does one that isn't carried out.
-  pub not_run : (m : Msg) → IsMessage m → IsLogged h m → bytes ≡ record_of m → (reply_to g x m ≡ Done → ⊥) → record_fault g x half i bytes ≡ Some (faults.BadRecord half i)
+  pub not_run : (m : Msg) → IsMessage m → IsChangeInRange h m → bytes ≡ record_of m → (reply_to g x m ≡ Done → ⊥) → record_fault g x half i bytes ≡ Some (faults.BadRecord half i)
   not_run m whole logged are differs =
-      ap (λ (o : Option State). fault_if (is_none o) (faults.BadRecord half i) None) (not_carried g x m bytes whole (subst (λ (k : Geometry). IsLogged k m) same logged) are differs)
+      ap (λ (o : Option State). fault_if (is_none o) (faults.BadRecord half i) None) (not_carried g x m bytes whole (subst (λ (k : Geometry). IsChangeInRange k m) same logged) are differs)

@@ -2,7 +2,7 @@
 ghost use Rattle.std.specs.Prelude.{◌≡◌, ◌<◌, false, length, OnOk, IsTrue};
 ghost use Rattle.disk.specs.Memory.{medium_of};
 ghost use Rattle.oplog.specs.Calls.{HasParts, IsReadyFor};
-ghost use Rattle.oplog.specs.Logged.{AreLogged, IsLogged};
+ghost use Rattle.oplog.specs.Changing.{AreChangesInRange, IsChangeInRange};
 
 use affinity::{Geometry, changing, place_of};
 use disk::{Disk, MemDisk};
@@ -14,18 +14,18 @@ use std::alloc::{AllocError, Global};
 use std::process::Abort;
 use std::test::Fail;
 
-fn is_logged(g: &Geometry, m: &Msg) -> bool
-    ensures { IsTrue result → IsLogged g.now m.now }
+fn is_change_in_range(g: &Geometry, m: &Msg) -> bool
+    ensures { IsTrue result → IsChangeInRange g.now m.now }
 {
     changing(m.kind()) && place_of(g, m.kind(), m.numbers()).is_some()
 }
 
 /// Whether the log keeps each of these.
-fn are_logged(g: &Geometry, messages: &[Msg]) -> bool
-    ensures { IsTrue result → AreLogged g.now messages.now }
+fn are_changes_in_range(g: &Geometry, messages: &[Msg]) -> bool
+    ensures { IsTrue result → AreChangesInRange g.now messages.now }
 {
     for m in messages {
-        if !is_logged(g, m) {
+        if !is_change_in_range(g, m) {
             return false;
         }
     }
@@ -72,7 +72,9 @@ fn appends<D: Disk>(disk: &mut D, log: &mut Halves, messages: &[Msg]) -> bool
     ensures len { length (D.medium disk.new).now ≡ length (D.medium disk.old).now }
 {
     let g = log.geometry();
-    are_logged(&g, messages) && messages.len() <= log.room() && log.append(disk, messages).is_ok()
+    are_changes_in_range(&g, messages)
+        && messages.len() <= log.room()
+        && log.append(disk, messages).is_ok()
 }
 
 /// Which half the messages go to: the other one once it is named, or the other one after a chain.

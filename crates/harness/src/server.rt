@@ -1,7 +1,7 @@
 //! A server over a journal, for tests: what it holds, and its log.
 ghost use Rattle.std.specs.Prelude.{◌≡◌, IsTrue};
 ghost use Rattle.std.proofs.Props.{props};
-ghost use Rattle.oplog.specs.Logged.{AreLogged, IsLogged};
+ghost use Rattle.oplog.specs.Changing.{AreChangesInRange, IsChangeInRange};
 ghost use Rattle.parcel.specs.Tree.{IsWholeTree};
 
 use crate::{Counting, Counts, Questions, Wrong, told};
@@ -38,18 +38,18 @@ impl Act {
     }
 }
 
-fn is_logged(g: &Geometry, m: &Msg) -> bool
-    ensures { IsTrue result → IsLogged g.now m.now }
+fn is_change_in_range(g: &Geometry, m: &Msg) -> bool
+    ensures { IsTrue result → IsChangeInRange g.now m.now }
 {
     changing(m.kind()) && place_of(g, m.kind(), m.numbers()).is_some()
 }
 
 /// Whether the log keeps each of these.
-fn are_logged(g: &Geometry, messages: &[Msg]) -> bool
-    ensures { IsTrue result → AreLogged g.now messages.now }
+fn are_changes_in_range(g: &Geometry, messages: &[Msg]) -> bool
+    ensures { IsTrue result → AreChangesInRange g.now messages.now }
 {
     for m in messages {
-        if !is_logged(g, m) {
+        if !is_change_in_range(g, m) {
             return false;
         }
     }
@@ -87,7 +87,7 @@ impl<D: Disk> Server<D> {
     /// Carries these changes out, and logs them in one batch. After a fault the server is of no more use.
     pub fn log(&mut self, messages: &[Msg]) -> Result<(), Halt> {
         let g = self.journal.geometry();
-        let is_fit = are_logged(&g, messages) && messages.len() <= self.journal.room();
+        let is_fit = are_changes_in_range(&g, messages) && messages.len() <= self.journal.room();
         if !is_fit || !carry_out(&mut self.tree, messages) || self.journal.failed() {
             return Err(Halt::Unfit);
         }

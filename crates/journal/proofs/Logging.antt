@@ -31,7 +31,7 @@ use Rattle.oplog.specs.Changes.{IsReady}
 use Rattle.oplog.specs.Front.{chain, front}
 use Rattle.device_map.specs.Layout.{layout_of, image, other}
 use Rattle.oplog.specs.Log.{Log}
-use Rattle.oplog.specs.Logged.{records_of}
+use Rattle.oplog.specs.Changing.{records_of}
 use Rattle.oplog.specs.Recovery.{run}
 use Rattle.oplog.proofs.AfterCrash.{append_recovers, all_by_area}
 use Rattle.oplog.proofs.Kept.{run-append}

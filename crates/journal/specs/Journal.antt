@@ -7,7 +7,7 @@ use Rattle.journal.specs.DirtyPieces.{DirtyPieces}
 use Rattle.messages.specs.declared.Msg.{Msg}
 use Rattle.messages.specs.Messages.{IsMessage}
 use Rattle.device_map.specs.Layout.{layout_of}
-use Rattle.oplog.specs.Logged.{IsLogged}
+use Rattle.oplog.specs.Changing.{IsChangeInRange}
 use Rattle.oplog.specs.Recovery.{in_force, named_area}
 use Rattle.meaning.specs.Serial.{fold, is_loggable, next_state, reply_to}
 use Rattle.meaning.specs.State.{State}
@@ -46,7 +46,8 @@ pub record IsCommitted (j : JournalView) : Type 0 where
 -- Each of the messages is logged where they run from x on, one after the other: it is changing, in range, and done.
 abbrev pub AreCarriedOut : Geometry → State → List Msg → Type 0
 AreCarriedOut g x [] = Unit {0}
-AreCarriedOut g x (m ∷ ms) = IsMessage m × IsLogged g m × (is_loggable m (reply_to g x m) ≡ true) × AreCarriedOut g (next_state g x m) ms
+AreCarriedOut g x (m ∷ ms) = IsMessage m × IsChangeInRange g m × (is_loggable m (reply_to g x m) ≡ true)
+    × AreCarriedOut g (next_state g x m) ms
 
 -- These bytes recover to x with the first so many of these messages run on it.
 pub record HoldsSome (g : Geometry) (x : State) (ms : List Msg) (c : List ℕ) : Type 0 where

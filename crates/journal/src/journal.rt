@@ -12,7 +12,7 @@ ghost use Rattle.oplog.specs.Beyond.{KeepsBeyond};
 ghost use Rattle.oplog.specs.Costs.{Takes, batches};
 ghost use Rattle.device_map.specs.Layout.{layout_of};
 ghost use Rattle.oplog.specs.Log.{CountsLogFault, IsNotBad};
-ghost use Rattle.oplog.specs.Logged.{AreLogged, records_of};
+ghost use Rattle.oplog.specs.Changing.{AreChangesInRange, records_of};
 ghost use Rattle.parcel.specs.Tree.{IsWholeTree, state_in};
 ghost use Rattle.meaning.specs.Serial.{fold};
 ghost use Rattle.meaning.specs.State.{State};
@@ -124,7 +124,7 @@ impl<D: Disk> Journal<D> {
     pub fn log(&mut self, messages: &[Msg]) -> Result<(), LogFault>
         requires sound { self.old.failed ≡ false }
         requires room { length messages.now ≤ self.old.room }
-        requires logged { AreLogged self.old.geometry messages.now }
+        requires changes { AreChangesInRange self.old.geometry messages.now }
         requires carried_out { D.keeps → (x : State) → committed self.old ≡ Some x → AreCarriedOut self.old.geometry x messages.now }
 
         // A crash at any moment of the call leaves a device that recovers to what was committed, with the first m of

@@ -6,7 +6,7 @@ use Rattle.disk.specs.Device.{AreBytes}
 use Rattle.disk.proofs.Bytes.{bytes-range, byte-get_or}
 use Rattle.message.proofs.RecordLemmas.{said_whole}
 use Rattle.device_map.specs.Layout.{part_at, part_size, half}
-use Rattle.oplog.specs.Logged.{RecordsAreBytes, NoRecordSaysNone}
+use Rattle.oplog.specs.Changing.{RecordsAreBytes, NoRecordSaysNone}
 use Rattle.oplog.proofs.Slices.{slice_slice, half_sized, half_inside}
 
 -- a record as a range of the device

@@ -9,7 +9,7 @@ use Rattle.message.specs.Records.{record_of}
 use Rattle.device_map.specs.Layout.{Layout, half}
 use Rattle.oplog.specs.Front.{front}
 use Rattle.oplog.specs.Changes.{HasMore, Grew, IsReady, HasAll}
-use Rattle.oplog.specs.Logged.{records_of}
+use Rattle.oplog.specs.Changing.{records_of}
 use Rattle.oplog.proofs.Slices.{same_but_both, same_but_none}
 
 -- ---- lists

@@ -6,7 +6,7 @@ use Rattle.std.proofs.lemmas.Slice.{take-put_mid}
 use borrow.Rule.Slice.PartMut.{put_mid}
 use Rattle.messages.specs.declared.Msg.{Msg}
 use Rattle.message.specs.Records.{record_of}
-use Rattle.oplog.specs.Logged.{records_of}
+use Rattle.oplog.specs.Changing.{records_of}
 use Rattle.oplog.proofs.RecordRows.{AreRows}
 
 concat-push : (rs : List (List ℕ)) (r : List ℕ) → concat (rs ++ r ∷ []) ≡ concat rs ++ r

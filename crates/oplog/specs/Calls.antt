@@ -8,7 +8,7 @@ use Rattle.oplog.specs.declared.half.Half.{Half}
 use Rattle.device_map.specs.Layout.{layout_of, device_size, other}
 use Rattle.oplog.specs.Front.{front, record_at}
 use Rattle.oplog.specs.Changes.{ChangesOnly, Grew, HasAll, IsReady, IsSameButGates, IsSameButChain, IsSameButRoot, Cleared, Chained, Flipped}
-use Rattle.oplog.specs.Logged.{records_of}
+use Rattle.oplog.specs.Changing.{records_of}
 use Rattle.oplog.specs.Log.{Log, layout, IsOfRecord}
 
 -- ---- what they ask

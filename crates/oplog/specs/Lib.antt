@@ -5,7 +5,7 @@ pub mod Changes
 pub mod Log
 pub mod Crash
 pub mod Store
-pub mod Logged
+pub mod Changing
 pub mod Calls
 pub mod Costs
 pub mod Beyond

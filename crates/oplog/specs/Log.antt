@@ -7,7 +7,7 @@ use Rattle.message.specs.Records.{record_of}
 use Rattle.oplog.specs.declared.fault.LogFault.{LogFault}
 use Rattle.oplog.specs.declared.fault.LogFault.TheVariants.{Device, BadRecord}
 use Rattle.device_map.specs.Layout.{Layout, layout_of, other}
-use Rattle.oplog.specs.Logged.{IsNoRecord}
+use Rattle.oplog.specs.Changing.{IsNoRecord}
 
 pub record Log : Type 0 where
   pub geometry : Geometry

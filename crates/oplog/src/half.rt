@@ -5,7 +5,7 @@ ghost use Rattle.oplog.specs.Changes.{ChangesOnly};
 ghost use Rattle.oplog.specs.Costs.{Takes, batches};
 ghost use Rattle.oplog.specs.Front.{front, open_gates};
 ghost use Rattle.device_map.specs.Layout.{layout_of, part_at, half};
-ghost use Rattle.oplog.specs.Logged.{AreLogged};
+ghost use Rattle.oplog.specs.Changing.{AreChangesInRange};
 ghost use Rattle.oplog.specs.Store.{Stored};
 
 use crate::layout::{BATCH, CHAIN_AREA, MOST_RECORDS, RECORD_SIZE, half_at};
@@ -120,7 +120,7 @@ impl Half {
         messages: &[Msg],
         buffer: &mut Vec<u8>,
     ) -> Result<(), DiskFault>
-        requires logged { AreLogged self.geometry messages.now }
+        requires changes { AreChangesInRange self.geometry messages.now }
         requires batch { length messages.now ≤ 64 }
         requires room { used + length messages.now ≤ self.geometry.half }
         requires buffer { length messages.now * 520 ≤ vec_len buffer.old }
@@ -149,7 +149,7 @@ impl Half {
         messages: &[Msg],
         buffer: &mut Vec<u8>,
     ) -> Result<(), DiskFault>
-        requires logged { AreLogged self.geometry messages.now }
+        requires changes { AreChangesInRange self.geometry messages.now }
         requires room { used + length messages.now ≤ self.geometry.half }
         requires buffer { min self.geometry.half 64 * 520 ≤ vec_len buffer.old }
         requires whole { HasHalf self (D.medium disk.old) }

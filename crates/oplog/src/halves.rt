@@ -3,7 +3,7 @@ ghost use Rattle.std.specs.Prelude.{◌≡◌, ◌+◌, ◌*◌, ◌<◌, ◌≤
 ghost use Rattle.disk.specs.Device.{moments};
 ghost use Rattle.messages.specs.Messages.{IsMessage};
 ghost use Rattle.message.specs.Records.{record_of};
-ghost use Rattle.oplog.specs.Logged.{AreLogged, IsLogged, IsNoRecord};
+ghost use Rattle.oplog.specs.Changing.{AreChangesInRange, IsChangeInRange, IsNoRecord};
 
 use crate::LogFault;
 use crate::half::Half;
@@ -129,7 +129,7 @@ impl Halves {
     /// of them at a time as the buffer holds. With no message the device isn't touched.
     pub fn append<D: Disk>(&mut self, disk: &mut D, messages: &[Msg]) -> Result<(), LogFault>
         requires sound { self.old.failed ≡ false }
-        requires logged { AreLogged self.old.geometry messages.now }
+        requires changes { AreChangesInRange self.old.geometry messages.now }
         requires room { self.old.used + length messages.now ≤ self.old.geometry.half }
         requires whole { HasParts self.old (D.medium disk.old) }
         requires ready { D.keeps → IsReadyFor self.old (D.medium disk.old) }
@@ -285,7 +285,7 @@ impl Halves {
         requires i { i < self.old.geometry.half }
         requires whole { HasParts self.old (D.medium disk.old) }
         ensures record { D.keeps → IsOfRecordAt self.old half i (D.medium disk.old) result }
-        ensures logged { IfOk result (λ m. IsMessage m × IsLogged self.old.geometry m) }
+        ensures change { IfOk result (λ m. IsMessage m × IsChangeInRange self.old.geometry m) }
         ensures about { IsAbout half i result }
         ensures untouched { D.keeps → moments (D.medium disk.new) ≡ moments (D.medium disk.old) }
         ensures log { self.new ≡ log_after result self.old self.old }
@@ -300,7 +300,7 @@ impl Halves {
             self.failed = true;
             return Err(LogFault::Device);
         }
-        match logged_message(&self.geometry, &bytes) {
+        match change_in_record(&self.geometry, &bytes) {
             Some(m) => Ok(m),
             None => Err(LogFault::BadRecord(half, i)),
         }
@@ -308,8 +308,8 @@ impl Halves {
 }
 
 /// The changing message in range whose record these bytes are.
-fn logged_message(g: &Geometry, bytes: &[u8; 520]) -> Option<Msg>
-    ensures some { IfSome result (λ m. (bytes.now ≡ record_of m) × IsMessage m × IsLogged g.now m) }
+fn change_in_record(g: &Geometry, bytes: &[u8; 520]) -> Option<Msg>
+    ensures some { IfSome result (λ m. (bytes.now ≡ record_of m) × IsMessage m × IsChangeInRange g.now m) }
     ensures none { IsNone result → IsNoRecord g.now bytes.now }
 {
     decode(bytes, g).filter(|m| changing(m.kind()))

@@ -10,7 +10,7 @@ ghost use Rattle.std.specs.Prelude.{◌≡◌, ◌<◌, ℕ, [], List, get_or, l
 ghost use Rattle.oplog.specs.Crash.{AllByArea, AppendRecovers, ChainByArea, ChainedByArea, ClearByArea, FlipByArea, ImageByArea, TornRootRecovers};
 ghost use Rattle.oplog.specs.Front.{front, record_at};
 ghost use Rattle.device_map.specs.Layout.{Layout};
-ghost use Rattle.oplog.specs.Logged.{NoRecordSaysNone, RecordsAreBytes};
+ghost use Rattle.oplog.specs.Changing.{NoRecordSaysNone, RecordsAreBytes};
 ghost use Rattle.oplog.specs.Recovery.{Decoding};
 
 /// While records are appended to the current half, a crash leaves a device that recovers to the first m

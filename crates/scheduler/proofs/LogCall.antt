@@ -20,14 +20,14 @@ use Rattle.messages.specs.declared.Msg.{Msg}
 use Rattle.messages.specs.declared.Reply.{Reply}
 use Rattle.messages.specs.declared.Reply.TheVariants.{Done}
 use Rattle.oplog.specs.Costs.{Takes}
-use Rattle.oplog.specs.Logged.{AreLogged}
+use Rattle.oplog.specs.Changing.{AreChangesInRange}
 use Rattle.oplog.specs.declared.fault.LogFault.{LogFault}
 use Rattle.parcel.specs.Tree.{TreeView, state_in}
 use Rattle.meaning.specs.Serial.{fold}
 use Rattle.meaning.specs.State.{State}
 use Rattle.scheduler.proofs.Counting.{changing, changing-append, changing-cons, unlogged_of}
 use Rattle.scheduler.proofs.Chains.{same_slots}
-use Rattle.scheduler.proofs.Logging.{batch_at, batch_carried, batch_fits, batch_logged, doubt_core, log_core, log_throughout, log_state, same_batch, with_doubt, with_log}
+use Rattle.scheduler.proofs.Logging.{batch_at, batch_carried, batch_fits, batch_changes, doubt_core, log_core, log_throughout, log_state, same_batch, with_doubt, with_log}
 use Rattle.scheduler.specs.CoreView.{CoreView, RecoversThroughout}
 use Rattle.scheduler.specs.Moving.{HasLogged, changing_in, gathered}
 use Rattle.scheduler.specs.Parts.{IsCore, Parts, core_view_of, parts, replied_of, core_state_in}
@@ -136,8 +136,8 @@ module _ (keeps : Type 0) (row : Row Slot) (replies : List Reply) (tree : TreeVi
       pub log_fits : length passed ≤ journal.room
       log_fits = subst (λ (ms : List Msg). length ms ≤ journal.room) (sym passed_at) (batch_fits keeps p k n)
 
-      pub log_logged : AreLogged journal.geometry passed
-      log_logged = subst (AreLogged journal.geometry) (sym passed_at) (batch_logged keeps p k n)
+      pub log_changes : AreChangesInRange journal.geometry passed
+      log_changes = subst (AreChangesInRange journal.geometry) (sym passed_at) (batch_changes keeps p k n)
 
       pub log_carried : keeps → (x : State) → committed journal ≡ Some x → AreCarriedOut journal.geometry x passed
       log_carried keep x at =

@@ -23,7 +23,7 @@ use Rattle.legal_runs.specs.Laws.{AreApart, AreReplied, IsSoundCoreState}
 use Rattle.legal_runs.specs.CoreState.{Replied, CoreState, entries}
 use Rattle.messages.specs.Messages.{IsMessage, is_in_range, kind}
 use Rattle.messages.specs.declared.Msg.{Msg}
-use Rattle.oplog.specs.Logged.{AreLogged, IsLogged}
+use Rattle.oplog.specs.Changing.{AreChangesInRange, IsChangeInRange}
 use Rattle.parcel.specs.Holding.{TreeHolds}
 use Rattle.parcel.specs.Tree.{in_tree}
 use Rattle.meaning.proofs.Unchanged.{unlogged_changes_nothing}
@@ -61,12 +61,12 @@ module _ (g : Geometry) where
         | false ↦ λ e. subst (λ y. AreCarriedOut g y (loggable first)) (unlogged_changes_nothing g x a.1 (ap (is_loggable a.1) (sym h.0) ∙ e)) k
       ] refl
 
-  pub each_logged : (first : List Replied) → AreKnown g first → AllByRecursion (λ m. IsLogged g m) (loggable first)
-  each_logged [] known = tt
-  each_logged (a ∷ first) known =
-      let k = each_logged first known.1 in
+  pub each_changes : (first : List Replied) → AreKnown g first → AllByRecursion (λ m. IsChangeInRange g m) (loggable first)
+  each_changes [] known = tt
+  each_changes (a ∷ first) known =
+      let k = each_changes first known.1 in
       elim (is_loggable a.1 a.2) as (λ b. is_loggable a.1 a.2 ≡ b
-      → AllByRecursion (λ m. IsLogged g m) (map (λ (a : Replied). a.1) (cond b (a ∷ filter (λ a. is_loggable a.1 a.2) first) (filter (λ a. is_loggable a.1 a.2) first)))) [
+      → AllByRecursion (λ m. IsChangeInRange g m) (map (λ (a : Replied). a.1) (cond b (a ∷ filter (λ a. is_loggable a.1 a.2) first) (filter (λ a. is_loggable a.1 a.2) first)))) [
         | true ↦ λ e. ((first_true (is_changing (kind a.1)) _ e, known.0.1), k)
         | false ↦ λ e. k
       ] refl
@@ -90,8 +90,8 @@ module _ (keeps : Type 0) (p : Parts) (k : IsCore keeps p) (n : ℕ) where
       (known_from g (take n p.phases.ran) (all_front (IsPlaced g) (take n p.phases.ran) (drop n p.phases.ran)
       (subst (AllByRecursion (IsPlaced g)) (sym (take-append-drop n p.phases.ran)) k.placed.ran)))
 
-  pub batch_logged : AreLogged g (batch_at p n)
-  batch_logged = subst (AreLogged g) (sym same_batch) (All-from_recursion (λ m. IsLogged g m) (batch w n) (each_logged g (take n w.ran) known))
+  pub batch_changes : AreChangesInRange g (batch_at p n)
+  batch_changes = subst (AreChangesInRange g) (sym same_batch) (All-from_recursion (λ m. IsChangeInRange g m) (batch w n) (each_changes g (take n w.ran) known))
 
   pub batch_carried : AreCarriedOut g w.committed (batch_at p n)
   batch_carried =

@@ -3,7 +3,7 @@ use Rattle.std.proofs.Common.{Some, sym, ◌∙◌, ap, subst}
 use Rattle.std.proofs.lemmas.Result.{err_from_is_err_and}
 use Rattle.affinity.specs.declared.geometry.Geometry.{Geometry}
 use Rattle.oplog.specs.Log.{layout}
-use Rattle.oplog.specs.Logged.{IsLogged}
+use Rattle.oplog.specs.Changing.{IsChangeInRange}
 use Rattle.oplog.proofs.BadRecords.{records_are_bytes}
 use Rattle.parcel.specs.Tree.{state_in}
 use Rattle.checkpoint.proofs.Recorded.{carried, not_run, read_fault}
@@ -21,11 +21,11 @@ returns-in_err-m-clause-refused g c =
 
 pub returns-in-Done-clause-done : goal.returns-in-Done-clause-done
 returns-in-Done-clause-done g c = λ k.
-    carried c.args.tree.now.geometry (state_in c.args.tree.now) c.in_ok-m.m _ c.in_ok-m.ensures.logged.0
-    (subst (λ (i : Geometry). IsLogged i c.in_ok-m.m) c.requires.geometry c.in_ok-m.ensures.logged.1) (c.in_ok-m.ensures.record k) (sym c.in-Done.ensures.reply)
+    carried c.args.tree.now.geometry (state_in c.args.tree.now) c.in_ok-m.m _ c.in_ok-m.ensures.change.0
+    (subst (λ (i : Geometry). IsChangeInRange i c.in_ok-m.m) c.requires.geometry c.in_ok-m.ensures.change.1) (c.in_ok-m.ensures.record k) (sym c.in-Done.ensures.reply)
     ∙ ap (λ x. Some x) (sym c.step.ensures.state)
 
 pub returns-in_default-clause-refused : goal.returns-in_default-clause-refused
 returns-in_default-clause-refused g c = λ k.
     not_run c.requires.geometry (state_in c.args.tree.now) c.args.half c.args.i _ c.in_ok-m.m
-    c.in_ok-m.ensures.logged.0 c.in_ok-m.ensures.logged.1 (c.in_ok-m.ensures.record k) (λ done. c.in_default.not-Done (c.step.ensures.reply ∙ done))
+    c.in_ok-m.ensures.change.0 c.in_ok-m.ensures.change.1 (c.in_ok-m.ensures.record k) (λ done. c.in_default.not-Done (c.step.ensures.reply ∙ done))

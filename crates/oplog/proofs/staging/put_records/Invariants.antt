@@ -1,7 +1,7 @@
 -- The records so far lie in a row at the front, 520 bytes each.
 use Rattle.std.proofs.Common.{◌≡◌, ◌*◌, ◌≤◌, length, take}
 use Rattle.std.specs.List.{concat}
-use Rattle.oplog.specs.Logged.{records_of}
+use Rattle.oplog.specs.Changing.{records_of}
 use Rattle.oplog.proofs.RecordRows.{AreRows}
 use Rattle.oplog.proofs.staging.put_records.Given as goal
 

@@ -13,7 +13,7 @@ use Rattle.disk.proofs.Moments.{weaker}
 use Rattle.oplog.specs.Beyond.{KeepsBeyond}
 use Rattle.device_map.specs.Layout.{device_size, image_size, layout_of}
 use Rattle.oplog.specs.Log.{Log, layout}
-use Rattle.oplog.specs.Logged.{records_of}
+use Rattle.oplog.specs.Changing.{records_of}
 use Rattle.meaning.specs.Serial.{fold}
 use Rattle.meaning.specs.State.{State}
 use Rattle.journal.proofs.journal.Journal.log.Goals as goal

@@ -6,7 +6,7 @@ use Rattle.oplog.specs.Costs.{batches}
 use Rattle.oplog.proofs.Costs.{batch_left, one_batch, whole_batch}
 use Rattle.std.proofs.lemmas.Grind.{common_steps}
 use Rattle.device_map.specs.Layout.{layout_of}
-use Rattle.oplog.specs.Logged.{records_of}
+use Rattle.oplog.specs.Changing.{records_of}
 use Rattle.oplog.proofs.Batches.{SoFar, begun, messages_moments, messages_more}
 use Rattle.oplog.proofs.half.Half.append.Goals as goal
 

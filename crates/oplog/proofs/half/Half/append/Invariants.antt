@@ -3,7 +3,7 @@ use Rattle.std.proofs.Common.{◌≡◌, ◌<◌, ◌≤◌, ◌+◌, ◌-◌, �
 use Rattle.disk.specs.Moments.{moment}
 use Rattle.oplog.specs.Costs.{batches}
 use Rattle.device_map.specs.Layout.{layout_of}
-use Rattle.oplog.specs.Logged.{records_of}
+use Rattle.oplog.specs.Changing.{records_of}
 use Rattle.oplog.proofs.Batches.{SoFar}
 use Rattle.oplog.proofs.half.Half.append.Given as goal
 

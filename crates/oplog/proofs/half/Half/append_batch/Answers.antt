@@ -5,12 +5,12 @@ use Rattle.std.proofs.lemmas.Result.{on_ok_weaker}
 use Rattle.message.specs.Records.{record_of}
 use Rattle.message.proofs.RecordLemmas.{in_range_has_room}
 use Rattle.device_map.specs.Layout.{layout_of}
-use Rattle.oplog.specs.Logged.{records_of}
+use Rattle.oplog.specs.Changing.{records_of}
 use Rattle.oplog.proofs.BatchMoments.{bodies_moments, gates_moments, batch_added}
 use Rattle.oplog.proofs.half.Half.append_batch.Goals as goal
 
 pub stage-requires-clause-fit : goal.stage-requires-clause-fit
-stage-requires-clause-fit g c = λ k d within. in_range_has_room c.args.self.geometry (get_or c.args.messages.now k d) (c.requires.logged k d within).1
+stage-requires-clause-fit g c = λ k d within. in_range_has_room c.args.self.geometry (get_or c.args.messages.now k d) (c.requires.changes k d within).1
 
 pub returns-in_err-store-clause-any_moment : goal.returns-in_err-store-clause-any_moment
 returns-in_err-store-clause-any_moment g c = λ k.

@@ -17,8 +17,8 @@ returns-clause-record g c = λ k.
     let read : c.read_at.new.out ≡ bytes =
     record_read (layout_of c.self.inside.geometry) c.args.half c.requires.half now c.args.i few
     c.record_at.ensures (omega arith) (on_ok c.read_at.result _ (sym c.is_err.ensures.value ∙ c.if-is_err.false) (c.read_at.ensures.reads k).ok).1 in
-    subst (λ (log : Log). IsOfRecordAt log c.args.half c.args.i (g.D.Disk.medium c.args.disk.now) c.match-logged_message.result) c.self.view_is
-    (elim c.match-logged_message.branch [
+    subst (λ (log : Log). IsOfRecordAt log c.args.half c.args.i (g.D.Disk.medium c.args.disk.now) c.match-change_in_record.result) c.self.view_is
+    (elim c.match-change_in_record.branch [
       | in-Some w ↦ subst (λ r. IsOfRecord c.self.inside.geometry bytes r) (sym w.result-is) (sym read ∙ w.in-Some.ensures.some.0)
       | in-None w ↦ subst (λ r. IsOfRecord c.self.inside.geometry bytes r) (sym w.result-is) (λ m whole logged is. w.in-None.ensures.none refl m whole logged (read ∙ is))
     ])

@@ -13,7 +13,7 @@ use Rattle.oplog.specs.Beyond.{KeepsBeyond}
 use Rattle.oplog.specs.Costs.{batches}
 use Rattle.device_map.specs.Layout.{layout_of}
 use Rattle.scheduler.proofs.Journaling.{still_standing}
-use Rattle.scheduler.proofs.LogCall.{broken_from, broken_takes, doubt_call_core, doubt_call_state, log_call_core, log_call_throughout, log_call_state, log_carried, log_count, log_fits, log_unlogged, log_length, log_logged, log_low, log_ran, log_size, log_untouched, made_from, made_takes, none_taken, some_were_passed}
+use Rattle.scheduler.proofs.LogCall.{broken_from, broken_takes, doubt_call_core, doubt_call_state, log_call_core, log_call_throughout, log_call_state, log_carried, log_count, log_fits, log_unlogged, log_length, log_changes, log_low, log_ran, log_size, log_untouched, made_from, made_takes, none_taken, some_were_passed}
 use Rattle.scheduler.specs.CoreView.{CoreView, RecoversThroughout, core_state_of}
 use Rattle.scheduler.specs.Moving.{gathered}
 use Rattle.scheduler.specs.Parts.{core_view_of, parts, core_state_in}
@@ -39,7 +39,7 @@ log-requires g c = record {
       c.min-count.ensures c.collect_loggable-changing.new.batch.items (c.collect_loggable-changing.ensures.batch
       ∙ ap (λ (rs : List Reply). gathered c.self.inside.slots rs (take c.min-count.result (chain_at c.self.inside.slots 2))) c.deref.ensures.value)
       c.deref-2.result.now c.deref-2.ensures.value;
-  logged = log_logged g.D.Disk.keeps c.self.inside.slots c.self.inside.replies.items c.self.inside.tree c.self.inside.journal c.self.inside.queue
+  changes = log_changes g.D.Disk.keeps c.self.inside.slots c.self.inside.replies.items c.self.inside.tree c.self.inside.journal c.self.inside.queue
       c.self.inside.batch.items c.self.inside.next c.self.inside.unlogged c.self.inside.history.opened c.self.inside.history.since c.self.invariant.0
       c.self.invariant.1 (sym c.failed.ensures ∙ c.if-failed.false) c.args.n c.min-count.result c.self.inside.ran c.self.invariant.4
       c.min-count.ensures c.collect_loggable-changing.new.batch.items (c.collect_loggable-changing.ensures.batch

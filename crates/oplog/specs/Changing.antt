@@ -11,16 +11,16 @@ use Rattle.device_map.specs.Layout.{Layout, device_size, record_size}
 use Rattle.oplog.specs.Front.{record_at}
 
 -- Its kind is changing, and its numbers are in range.
-abbrev pub IsLogged : Geometry → Msg → Type 0
-IsLogged g m = (is_changing (kind m) ≡ true) × (is_in_range g m ≡ true)
+abbrev pub IsChangeInRange : Geometry → Msg → Type 0
+IsChangeInRange g m = (is_changing (kind m) ≡ true) × (is_in_range g m ≡ true)
 
 -- These bytes are the record of no such message.
 abbrev pub IsNoRecord : Geometry → List ℕ → Type 0
-IsNoRecord g bytes = (m : Msg) → IsMessage m → IsLogged g m → bytes ≢ record_of m
+IsNoRecord g bytes = (m : Msg) → IsMessage m → IsChangeInRange g m → bytes ≢ record_of m
 
 -- each of them is such a message
-abbrev pub AreLogged : Geometry → List Msg → Type 0
-AreLogged g messages = All (λ (m : Msg). IsLogged g m) messages
+abbrev pub AreChangesInRange : Geometry → List Msg → Type 0
+AreChangesInRange g messages = All (λ (m : Msg). IsChangeInRange g m) messages
 
 -- the records of messages, each as its bytes
 abbrev pub records_of : List Msg → List (List ℕ)
@@ -37,4 +37,4 @@ RecordsAreBytes = (g : Layout) (h i : ℕ) (c : List ℕ) → h < 2 → i < g.sl
 -- with other numbers than bytes.
 abbrev pub NoRecordSaysNone : Type 0
 NoRecordSaysNone = (g : Geometry) (bytes : List ℕ) → length bytes ≡ record_size → AreBytes bytes → IsNoRecord g bytes
-    → (m : Msg) → message_in_fields bytes ≡ Some m → IsLogged g m → bytes ≢ record_of m
+    → (m : Msg) → message_in_fields bytes ≡ Some m → IsChangeInRange g m → bytes ≢ record_of m

@@ -1,0 +1,13 @@
+-- This message is one that the log keeps, as are all before it.
+use Rattle.std.proofs.Common.{ℕ, get_or, subst}
+use Rattle.std.proofs.lemmas.List.{get_or_default}
+use borrow.Author.Count.{below_more}
+use Rattle.messages.specs.declared.Msg.{Msg}
+use Rattle.oplog.specs.Changing.{IsChangeInRange}
+use Rattle.durability_tests.proofs.oplog_common.are_changes_in_range.Goals as goal
+
+pub loop-m-preserved : goal.loop-m-preserved
+loop-m-preserved c =
+    below_more (λ (k : ℕ). (d : Msg) → IsChangeInRange c.args.g.now (get_or c.args.messages.now k d)) c.loop-m.m-index c.loop-m.invariant
+    (λ d. subst (λ (m : Msg). IsChangeInRange c.args.g.now m) (get_or_default c.args.messages.now c.loop-m.m-index _ d c.loop-m-test.true)
+    (c.is_change_in_range.ensures c.if-not-is_change_in_range.false))

@@ -1,0 +1,8 @@
+-- The log keeps each of the messages so far.
+use Rattle.std.proofs.Common.{ℕ, ◌<◌, get_or}
+use Rattle.messages.specs.declared.Msg.{Msg}
+use Rattle.oplog.specs.Changing.{IsChangeInRange}
+use Rattle.harness.proofs.server.are_changes_in_range.Given as goal
+
+abbrev pub invariant-loop-m : goal.invariant-loop-m
+invariant-loop-m l = (k : ℕ) → k < l.m-index → (d : Msg) → IsChangeInRange l.g (get_or l.messages k d)

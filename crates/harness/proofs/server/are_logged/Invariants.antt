@@ -1,8 +1,0 @@
--- The log keeps each of the messages so far.
-use Rattle.std.proofs.Common.{ℕ, ◌<◌, get_or}
-use Rattle.messages.specs.declared.Msg.{Msg}
-use Rattle.oplog.specs.Logged.{IsLogged}
-use Rattle.harness.proofs.server.are_logged.Given as goal
-
-abbrev pub invariant-loop-m : goal.invariant-loop-m
-invariant-loop-m l = (k : ℕ) → k < l.m-index → (d : Msg) → IsLogged l.g (get_or l.messages k d)
