@@ -15,7 +15,7 @@ use Rattle.disk.proofs.Outside.{same_before, same_behind}
 use Rattle.disk.proofs.Overlays.{overlaid_outside, length-overlaid, range-overlaid}
 use Rattle.image.specs.Image.{image_of, read, version_in}
 use Rattle.image.proofs.Reading.{read_again}
-use Rattle.oplog.specs.Front.{chain, front, gates, open_gates, rows}
+use Rattle.oplog.specs.Front.{chain, front, gates, count_open, rows}
 use Rattle.device_map.specs.Layout.{Layout, slice, layout_of, part_bytes, part_at, device_size, half, half_size, header, image, image_size}
 use Rattle.oplog.specs.Recovery.{named_area, in_force, is_laid_out, run, recovers_as}
 use Rattle.oplog.proofs.Slices.{slice_slice}
@@ -50,7 +50,7 @@ zeros_there c at n i k has few =
 
 -- ---- an empty device
 
-open_none : (n : ℕ) → open_gates (replicate n 0) ≡ 0
+open_none : (n : ℕ) → count_open (replicate n 0) ≡ 0
 open_none zero = refl
 open_none (suc n) = refl
 
@@ -77,7 +77,7 @@ module _ (g : Geometry) (c : List ℕ) (laid : IsLaid g c) where
   shut_0 = slice_slice c 128 (half_size g.half) 64 g.half (omega arith) ∙ zeros_there c 64 (64 + (64 + g.half)) 128 g.half laid.root (omega arith)
 
   no_front : front l 0 c ≡ []
-  no_front = ap (λ (n : ℕ). rows 520 n (drop (64 + g.half) (part_bytes l (half 0) c))) (ap open_gates shut_0 ∙ open_none g.half)
+  no_front = ap (λ (n : ℕ). rows 520 n (drop (64 + g.half) (part_bytes l (half 0) c))) (ap count_open shut_0 ∙ open_none g.half)
 
   image_there : part_bytes l (image 0) c ≡ image_of 2 g empty
   image_there =

@@ -9,7 +9,7 @@ use Rattle.journal.specs.Journal.{records_in}
 use Rattle.journal.proofs.Recovering.{open_by, shut_by, shut_force}
 use Rattle.oplog.specs.Changes.{HasMore, IsReady, IsSameBut}
 use Rattle.oplog.specs.Crash.{RecoversBy}
-use Rattle.oplog.specs.Front.{chain, front, gates, open_gates}
+use Rattle.oplog.specs.Front.{chain, front, gates, count_open}
 use Rattle.device_map.specs.Layout.{Layout, half, layout_of, other, part_bytes, root}
 use Rattle.oplog.specs.Recovery.{in_force, named_area}
 use Rattle.oplog.proofs.AfterCrash.{named_kept}
@@ -54,10 +54,10 @@ forced_calm g m calm c left = ap (records_in g) (calm_left m c calm left)
 -- ---- how many
 
 pub front_count : (l : Layout) (h k : ℕ) (m : Medium) → IsReady l h k m → length (front l h m.now) ≡ k
-front_count l h k m ready = length-rows (open_gates (gates l h m.now)) (drop (64 + l.slots) (part_bytes l (half h) m.now)) ∙ ready.used
+front_count l h k m ready = length-rows (count_open (gates l h m.now)) (drop (64 + l.slots) (part_bytes l (half h) m.now)) ∙ ready.used
 
 pub used_most : (l : Layout) (h k : ℕ) (m : Medium) → IsReady l h k m → k ≤ l.slots
 used_most l h k m ready =
-    let open_most : open_gates (gates l h m.now) ≤ length (gates l h m.now) = prefix_len-le-length (λ gate. gate == 1) (gates l h m.now) in
+    let open_most : count_open (gates l h m.now) ≤ length (gates l h m.now) = prefix_len-le-length (λ gate. gate == 1) (gates l h m.now) in
     let most : length (gates l h m.now) ≤ l.slots = omega (arith, length-take l.slots (drop 64 (part_bytes l (half h) m.now))) in
     omega (arith, open_most, most, ready.used)

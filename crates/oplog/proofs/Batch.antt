@@ -6,7 +6,7 @@ use Rattle.disk.specs.Device.{AreBytes, Medium, SameOutside, overlaid}
 use Rattle.disk.proofs.Leaves.{itself, calm_left, calm_range, range_kept}
 use Rattle.disk.proofs.Overlays.{overlaid_outside, range-overlaid, length-overlaid}
 use Rattle.device_map.specs.Layout.{Layout, slice, part_bytes, part_at, part_size, half, half_size, device_size}
-use Rattle.oplog.specs.Front.{gates_in, open_gates}
+use Rattle.oplog.specs.Front.{gates_in, count_open}
 use Rattle.oplog.specs.Changes.{IsSameBut, HasMore, After, Grew, IsReady, HasAll}
 use Rattle.oplog.specs.Store.{Stored}
 use Rattle.oplog.proofs.Slices.{within, slice_slice, same_but, same_but_both, half_sized, half_inside}
@@ -47,7 +47,7 @@ module _ (g : Layout) (h k : ℕ) (more : List (List ℕ)) (is_half : h < 2) (si
           old = after.old;
           left = after.left;
           change = grown [] after.old c (change (body_at g.slots k) (length more * 520) after.old c body_room same)
-              (bodies_written g.slots k (length more * 520) (part_bytes g (half h) after.old) (part_bytes g (half h) c) (ap (λ (l : List ℕ). open_gates (gates_in g.slots l)) kept ∙ ready.used)
+              (bodies_written g.slots k (length more * 520) (part_bytes g (half h) after.old) (part_bytes g (half h) c) (ap (λ (l : List ℕ). count_open (gates_in g.slots l)) kept ∙ ready.used)
               (in_half (body_at g.slots k) (length more * 520) after.old c body_room same));
         };
       }
@@ -102,7 +102,7 @@ module _ (g : Layout) (h k : ℕ) (more : List (List ℕ)) (is_half : h < 2) (si
         has_all = grown more w0.now c all_same (gates_written g.slots k more sized room (part_bytes g (half h) w0.now)
             (part_bytes g (half h) w1.now) (part_bytes g (half h) c) ready.used ready.shut bodies_in stand gates_in_half open_in)
 
-        pub used_all : open_gates (gates_in g.slots (part_bytes g (half h) c)) ≡ k + length more
+        pub used_all : count_open (gates_in g.slots (part_bytes g (half h) c)) ≡ k + length more
         used_all = now_used g.slots k more sized room (part_bytes g (half h) w0.now) (part_bytes g (half h) w1.now) (part_bytes g (half h) c)
             ready.used ready.shut bodies_in stand gates_in_half open_in
 

@@ -4,18 +4,18 @@ use Rattle.std.proofs.Common.{◌≡◌, ℕ, zero, suc, ◌+◌, true, List, []
 use Rattle.disk.specs.Device.{Medium, begun}
 use Rattle.disk.proofs.Leaves.{calm_left}
 use Rattle.device_map.specs.Layout.{Layout}
-use Rattle.oplog.specs.Front.{open_gates, front}
+use Rattle.oplog.specs.Front.{count_open, front}
 use Rattle.oplog.specs.Changes.{Grew}
 use Rattle.oplog.specs.Recovery.{Decoding, named_area, in_force, current, recovers}
 
 -- ---- the front ends at the first gate that isn't 1
-second_is_not_open : open_gates (1 ∷ 77 ∷ 1 ∷ 0 ∷ []) ≡ 1
+second_is_not_open : count_open (1 ∷ 77 ∷ 1 ∷ 0 ∷ []) ≡ 1
 second_is_not_open = refl
 
-first_is_not_open : open_gates (0 ∷ 1 ∷ 1 ∷ 1 ∷ []) ≡ 0
+first_is_not_open : count_open (0 ∷ 1 ∷ 1 ∷ 1 ∷ []) ≡ 0
 first_is_not_open = refl
 
-all_are_open : open_gates (1 ∷ 1 ∷ 1 ∷ 1 ∷ []) ≡ 4
+all_are_open : count_open (1 ∷ 1 ∷ 1 ∷ 1 ∷ []) ≡ 4
 all_are_open = refl
 
 -- ---- a device of 8,840 bytes

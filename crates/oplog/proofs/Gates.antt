@@ -3,47 +3,47 @@ use Rattle.std.proofs.Common.{◌≡◌, ℕ, zero, suc, ◌+◌, ◌-◌, ◌�
 use Rattle.std.proofs.lemmas.Bool.{eqb-true}
 use Rattle.std.proofs.lemmas.List.{take-append-drop, drop-drop, drop-replicate, length-take}
 use Rattle.disk.specs.Device.{SameOutside}
-use Rattle.oplog.specs.Front.{open_gates}
+use Rattle.oplog.specs.Front.{count_open}
 
-opened_first : (gate : ℕ) (gates : List ℕ) (t : Bool) → eqb gate 1 ≡ t → take (open_gates gates) gates ≡ replicate (open_gates gates) 1
-    → take (cond t (1 + open_gates gates) 0) (gate ∷ gates) ≡ replicate (cond t (1 + open_gates gates) 0) 1
+opened_first : (gate : ℕ) (gates : List ℕ) (t : Bool) → eqb gate 1 ≡ t → take (count_open gates) gates ≡ replicate (count_open gates) 1
+    → take (cond t (1 + count_open gates) 0) (gate ∷ gates) ≡ replicate (cond t (1 + count_open gates) 0) 1
 opened_first gate gates true is rest =
     let one : gate ≡ 1 = eqb-true gate 1 is in
-    let more : 1 + open_gates gates ≡ suc (open_gates gates) = omega arith in
+    let more : 1 + count_open gates ≡ suc (count_open gates) = omega arith in
     rw more (λ i. one i ∷ rest i)
 opened_first gate gates false is rest = refl
 
 -- The gates before the first that isn't 1 are 1.
-opened : (gates : List ℕ) → take (open_gates gates) gates ≡ replicate (open_gates gates) 1
+opened : (gates : List ℕ) → take (count_open gates) gates ≡ replicate (count_open gates) 1
 opened [] = refl
 opened (gate ∷ gates) = opened_first gate gates (eqb gate 1) refl (opened gates)
 
-open_ones : (k : ℕ) (gates : List ℕ) → open_gates (replicate k 1 ++ gates) ≡ k + open_gates gates
+open_ones : (k : ℕ) (gates : List ℕ) → count_open (replicate k 1 ++ gates) ≡ k + count_open gates
 open_ones zero gates = omega arith
 open_ones (suc k) gates = omega (arith, open_ones k gates)
 
-pub open_none : (m : ℕ) → open_gates (replicate m 0) ≡ 0
+pub open_none : (m : ℕ) → count_open (replicate m 0) ≡ 0
 open_none zero = refl
 open_none (suc m) = refl
 
-pub open_within : (gates : List ℕ) (m : ℕ) → open_gates (gates ++ replicate m 0) ≤ length gates
+pub open_within : (gates : List ℕ) (m : ℕ) → count_open (gates ++ replicate m 0) ≤ length gates
 open_within [] m = omega (arith, open_none m)
 open_within (gate ∷ gates) m =
-    elim (eqb gate 1) as (λ (t : Bool). cond t (1 + open_gates (gates ++ replicate m 0)) 0 ≤ suc (length gates)) [
+    elim (eqb gate 1) as (λ (t : Bool). cond t (1 + count_open (gates ++ replicate m 0)) 0 ≤ suc (length gates)) [
       | true ↦ omega (arith, open_within gates m)
       | false ↦ omega arith
     ]
 
-pub open_at_most : (gates : List ℕ) → open_gates gates ≤ length gates
+pub open_at_most : (gates : List ℕ) → count_open gates ≤ length gates
 open_at_most [] = omega arith
 open_at_most (gate ∷ gates) =
-    elim (eqb gate 1) as (λ (t : Bool). cond t (1 + open_gates gates) 0 ≤ suc (length gates)) [
+    elim (eqb gate 1) as (λ (t : Bool). cond t (1 + count_open gates) 0 ≤ suc (length gates)) [
       | true ↦ omega (arith, open_at_most gates)
       | false ↦ omega arith
     ]
 
 -- Behind k open gates there are only shut ones, and n of those are written.
-module _ (k n m : ℕ) (old c : List ℕ) (used : open_gates old ≡ k) (shut : drop k old ≡ replicate m 0) (same : SameOutside k n old c) where
+module _ (k n m : ℕ) (old c : List ℕ) (used : count_open old ≡ k) (shut : drop k old ≡ replicate m 0) (same : SameOutside k n old c) where
   before : take k c ≡ replicate k 1
   before = same.before ∙ subst (λ (k : ℕ). take k old ≡ replicate k 1) used (opened old)
 
@@ -56,15 +56,15 @@ module _ (k n m : ℕ) (old c : List ℕ) (used : open_gates old ≡ k) (shut : 
       ∙ ap (λ (l : List ℕ). replicate k 1 ++ l) (sym (take-append-drop n (drop k c)) ∙ ap (λ (l : List ℕ). take n (drop k c) ++ l) (drop-drop n k c ∙ still_shut))
 
   -- whatever is in their place
-  pub torn_gates : (j : ℕ) × (j ≤ n) × (open_gates c ≡ k + j)
+  pub torn_gates : (j : ℕ) × (j ≤ n) × (count_open c ≡ k + j)
   torn_gates =
       let more = take n (drop k c) in
-      let few : open_gates (more ++ replicate (m - n) 0) ≤ n = omega (arith, open_within more (m - n), length-take n (drop k c)) in
-      (open_gates (more ++ replicate (m - n) 0), few, ap open_gates parted ∙ open_ones k (more ++ replicate (m - n) 0))
+      let few : count_open (more ++ replicate (m - n) 0) ≤ n = omega (arith, open_within more (m - n), length-take n (drop k c)) in
+      (count_open (more ++ replicate (m - n) 0), few, ap count_open parted ∙ open_ones k (more ++ replicate (m - n) 0))
 
   -- when all of them are open
-  pub full_gates : take n (drop k c) ≡ replicate n 1 → open_gates c ≡ k + n
+  pub full_gates : take n (drop k c) ≡ replicate n 1 → count_open c ≡ k + n
   full_gates ones =
       let all : c ≡ replicate k 1 ++ (replicate n 1 ++ replicate (m - n) 0) = parted ∙ ap (λ (l : List ℕ). replicate k 1 ++ (l ++ replicate (m - n) 0)) ones in
-      let counted : open_gates c ≡ k + open_gates (replicate n 1 ++ replicate (m - n) 0) = ap open_gates all ∙ open_ones k _ in
+      let counted : count_open c ≡ k + count_open (replicate n 1 ++ replicate (m - n) 0) = ap count_open all ∙ open_ones k _ in
       omega (arith, counted, open_ones n (replicate (m - n) 0), open_none (m - n))

@@ -5,7 +5,7 @@ use Rattle.std.proofs.lemmas.List.{append-nil, drop-drop, take-append-drop, take
 use Rattle.disk.specs.Device.{SameOutside}
 use Rattle.disk.proofs.Outside.{same_take, same_drop, same_before}
 use Rattle.device_map.specs.Layout.{slice}
-use Rattle.oplog.specs.Front.{open_gates, rows, gates_in, front_in}
+use Rattle.oplog.specs.Front.{count_open, rows, gates_in, front_in}
 use Rattle.oplog.proofs.Slices.{within, slice_slice}
 use Rattle.oplog.proofs.Gates.{torn_gates, full_gates, still_shut}
 use Rattle.oplog.proofs.RecordRows.{AreRows, rows_same, rows-add, rows_of}
@@ -20,7 +20,7 @@ abbrev pub body_at : ℕ → ℕ → ℕ
 body_at slots k = 64 + slots + k * 520
 
 -- Bodies are written behind a front of k records.
-module _ (slots k n : ℕ) (old new : List ℕ) (used : open_gates (gates_in slots old) ≡ k) (same : SameOutside (body_at slots k) n old new) where
+module _ (slots k n : ℕ) (old new : List ℕ) (used : count_open (gates_in slots old) ≡ k) (same : SameOutside (body_at slots k) n old new) where
   same_gates : gates_in slots new ≡ gates_in slots old
   same_gates = same_before (body_at slots k) n old new same 64 slots (omega arith)
 
@@ -31,14 +31,14 @@ module _ (slots k n : ℕ) (old new : List ℕ) (used : open_gates (gates_in slo
   bodies_written = record {
     area = same_take (body_at slots k) n old new same 64 (omega arith);
     front =
-        ap (λ (gates : List ℕ). rows 520 (open_gates gates) (drop (64 + slots) new)) same_gates
+        ap (λ (gates : List ℕ). rows 520 (count_open gates) (drop (64 + slots) new)) same_gates
         ∙ subst (λ (j : ℕ). rows 520 j (drop (64 + slots) new) ≡ rows 520 j (drop (64 + slots) old)) (sym used) same_rows
         ∙ sym (append-nil (front_in slots old));
   }
 
 -- Then their gates are written, from `mid` on.
 module _ (slots k : ℕ) (more : List (List ℕ)) (sized : AreRows more) (room : k + length more ≤ slots) (old mid new : List ℕ)
-    (used : open_gates (gates_in slots old) ≡ k) (shut : drop k (gates_in slots old) ≡ replicate (slots - k) 0)
+    (used : count_open (gates_in slots old) ≡ k) (shut : drop k (gates_in slots old) ≡ replicate (slots - k) 0)
     (bodies : SameOutside (body_at slots k) (length more * 520) old mid) (stand : slice mid (body_at slots k) (length more * 520) ≡ concat more)
     (gates : SameOutside (64 + k) (length more) mid new) where
   area : take 64 new ≡ take 64 old
@@ -51,7 +51,7 @@ module _ (slots k : ℕ) (more : List (List ℕ)) (sized : AreRows more) (room :
       subst (λ (l : List ℕ). SameOutside k (length more) l (gates_in slots new)) before (within 64 slots k (length more) mid new room gates)
 
   -- so many of the records are in force
-  fronts : (j : ℕ) → j ≤ length more → open_gates (gates_in slots new) ≡ k + j → front_in slots new ≡ front_in slots old ++ take j more
+  fronts : (j : ℕ) → j ≤ length more → count_open (gates_in slots new) ≡ k + j → front_in slots new ≡ front_in slots old ++ take j more
   fronts j few opened =
       let records : drop (64 + slots) new ≡ drop (64 + slots) mid = same_drop (64 + k) (length more) mid new gates (64 + slots) (omega (arith, room)) in
       let first : rows 520 k (drop (64 + slots) mid) ≡ front_in slots old = same_rows slots k (length more * 520) old mid used bodies ∙ sym (ap (λ (j : ℕ). rows 520 j (drop (64 + slots) old)) used) in
@@ -69,7 +69,7 @@ module _ (slots k : ℕ) (more : List (List ℕ)) (sized : AreRows more) (room :
 
   -- when all gates are open
   module _ (ones : slice new (64 + k) (length more) ≡ replicate (length more) 1) where
-    pub now_used : open_gates (gates_in slots new) ≡ k + length more
+    pub now_used : count_open (gates_in slots new) ≡ k + length more
     now_used = full_gates k (length more) (slots - k) (gates_in slots old) (gates_in slots new) used shut gates_changed (slice_gates ∙ ones)
       where
         slice_gates : slice (gates_in slots new) k (length more) ≡ slice new (64 + k) (length more)

@@ -3,7 +3,7 @@ use Rattle.std.proofs.Common.{◌≡◌, ◌≢◌, ◌<◌, ℕ, zero, suc, Boo
 use Rattle.std.proofs.lemmas.Bool.{cases_eq}
 use Rattle.std.proofs.lemmas.List.{append_assoc, append-nil, drop-drop, get_or-take}
 use Rattle.device_map.specs.Layout.{Layout, part_bytes, device_size, header, root, half, image, other}
-use Rattle.oplog.specs.Front.{chain, front, front_in, open_gates, rows}
+use Rattle.oplog.specs.Front.{chain, front, front_in, count_open, rows}
 use Rattle.oplog.specs.Recovery.{Decoding, named_area, current_of, in_force, run, is_laid_out, recovers_as}
 use Rattle.oplog.specs.Changes.{IsSameBut, IsSameButChain, HasMore}
 
@@ -31,7 +31,7 @@ front_beside slots old new beside =
     let from : (k : ℕ) → drop (1 + k) new ≡ drop (1 + k) old = λ k. sym (drop-drop k 1 new) ∙ ap (λ (l : List ℕ). drop k l) beside ∙ drop-drop k 1 old in
     let count : 1 + (63 + slots) ≡ 64 + slots = omega arith in
     let records : drop (64 + slots) new ≡ drop (64 + slots) old = subst (λ (k : ℕ). drop k new ≡ drop k old) count (from (63 + slots)) in
-    λ i. rows 520 (open_gates (take slots (from 63 i))) (records i)
+    λ i. rows 520 (count_open (take slots (from 63 i))) (records i)
 
 module _ {S : Type 0} (means : Decoding S) where
   pub run-append : (x : Option S) (rs ss : List (List ℕ)) → run means x (rs ++ ss) ≡ run means (run means x rs) ss

@@ -8,7 +8,7 @@ use Rattle.disk.proofs.Moments.{weaker}
 use Rattle.disk.proofs.Outside.{same_drop}
 use Rattle.disk.proofs.Overlays.{overlaid_outside, range-overlaid, length-overlaid, item-overlaid}
 use Rattle.device_map.specs.Layout.{Layout, slice, part_bytes, part_at, part_size, half, root, device_size}
-use Rattle.oplog.specs.Front.{open_gates, gates}
+use Rattle.oplog.specs.Front.{count_open, gates}
 use Rattle.oplog.specs.Changes.{IsSameButGates, IsSameButChain, IsSameButRoot, After, Cleared, Chained, Flipped}
 use Rattle.oplog.specs.Store.{Stored}
 use Rattle.oplog.proofs.Slices.{LiesIn, within, same_but, half_sized, half_inside}
@@ -60,7 +60,7 @@ module _ (g : Layout) (h at : ℕ) (bytes : List ℕ) (is_half : h < 2) (place :
       zeros = zeros;
       chain = sym (get_or-take (64 + g.slots) (part_bytes g (half h) w1.now) 0 0 (omega arith)) ∙ ap (λ (l : List ℕ). get_or l 0 0) zeros ∙ get_or-replicate (64 + g.slots) 0 0 0 (omega arith);
       ready = record {
-        used = ap open_gates shut ∙ open_none g.slots;
+        used = ap count_open shut ∙ open_none g.slots;
         shut = let all : g.slots ≡ g.slots - 0 = omega arith in shut ∙ ap (λ (n : ℕ). replicate n 0) all;
         calm = calm_range (part_at g (half h)) (part_size g (half h)) w1 stored.calm (omega (arith, long, fits, half_sized g h is_half, half_inside g h is_half));
       };

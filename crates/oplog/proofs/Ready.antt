@@ -4,7 +4,7 @@ use Rattle.std.proofs.lemmas.Bool.{eq-eqb}
 use Rattle.disk.specs.Device.{Medium, IsSynced}
 use Rattle.disk.proofs.Leaves.{calm_range}
 use Rattle.device_map.specs.Layout.{Layout, layout_of, part_at, part_size, half, other, device_size}
-use Rattle.oplog.specs.Front.{open_gates, gates_in}
+use Rattle.oplog.specs.Front.{count_open, gates_in}
 use Rattle.oplog.specs.Changes.{IsSameBut, IsReady, Cleared, Chained, Flipped}
 use Rattle.oplog.specs.Log.{Log, chained, flipped}
 use Rattle.oplog.specs.Store.{Touched}
@@ -15,7 +15,7 @@ pub ready_kept : {g : Layout} {h k p : ℕ} {w w' : Medium} → h < 2 → half h
 ready_kept {g} {h} {k} {w'} is_half apart fits ready same calm =
     let kept = same.others (half h) apart in
     record {
-      used = ap (λ (l : List ℕ). open_gates (gates_in g.slots l)) kept ∙ ready.used;
+      used = ap (λ (l : List ℕ). count_open (gates_in g.slots l)) kept ∙ ready.used;
       shut = ap (λ (l : List ℕ). drop k (gates_in g.slots l)) kept ∙ ready.shut;
       calm = calm_range (part_at g (half h)) (part_size g (half h)) w' calm (omega (arith, fits, half_sized g h is_half, half_inside g h is_half));
     }
@@ -25,7 +25,7 @@ pub ready_beside : {g : Layout} {h k p i n at : ℕ} {w w' : Medium} → half h 
 ready_beside {g} {h} {k} apart lies wrote ready =
     let kept = other_part (half h) lies apart wrote.now in
     record {
-      used = ap (λ (l : List ℕ). open_gates (gates_in g.slots l)) kept ∙ ready.used;
+      used = ap (λ (l : List ℕ). count_open (gates_in g.slots l)) kept ∙ ready.used;
       shut = ap (λ (l : List ℕ). drop k (gates_in g.slots l)) kept ∙ ready.shut;
       calm = other_part (half h) lies apart wrote.unsynced ∙ ready.calm;
     }

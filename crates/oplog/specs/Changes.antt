@@ -4,7 +4,7 @@ use Rattle.disk.specs.Device.{Medium, IsCrashImage, IsSynced}
 use Rattle.disk.specs.Moments.{CrashImagesAre}
 use Rattle.device_map.specs.Layout.{Layout, slice, root, half, part_bytes, part_at, part_size, device_size, chain_area}
 use Rattle.oplog.specs.Recovery.{named_area}
-use Rattle.oplog.specs.Front.{chain, gates, front, open_gates, IsShutBehind}
+use Rattle.oplog.specs.Front.{chain, gates, front, count_open, IsShutBehind}
 
 -- ---- from the bytes old to the bytes c
 
@@ -62,7 +62,7 @@ IsSyncedIn g p m = slice m.unsynced (part_at g p) (part_size g p) ≡ replicate 
 
 -- Half h has k records in its front and gates 0 behind them, and nothing in it is unsynced.
 pub record IsReady (g : Layout) (h k : ℕ) (m : Medium) : Type 0 where
-  pub used : open_gates (gates g h m.now) ≡ k
+  pub used : count_open (gates g h m.now) ≡ k
   pub shut : IsShutBehind g h k m.now
   pub calm : IsSyncedIn g (half h) m
 

@@ -4,8 +4,8 @@ use Rattle.std.specs.List.{prefix_len}
 use Rattle.device_map.specs.Layout.{Layout, slice, part_bytes, half, chain_area, record_size}
 
 -- how many gates are 1 before the first that isn't
-abbrev pub open_gates : List ℕ → ℕ
-open_gates gates = prefix_len (λ gate. gate == 1) gates
+abbrev pub count_open : List ℕ → ℕ
+count_open gates = prefix_len (λ gate. gate == 1) gates
 
 -- the first n rows of this width
 abbrev pub rows : ℕ → ℕ → List ℕ → List (List ℕ)
@@ -22,7 +22,7 @@ gates_in slots h = slice h chain_area slots
 
 -- the open front: the records, each as its bytes, before the first gate that isn't 1
 abbrev pub front_in : ℕ → List ℕ → List (List ℕ)
-front_in slots h = rows record_size (open_gates (gates_in slots h)) (drop (chain_area + slots) h)
+front_in slots h = rows record_size (count_open (gates_in slots h)) (drop (chain_area + slots) h)
 
 -- record i, whatever its gate is
 abbrev pub record_in : ℕ → ℕ → List ℕ → List ℕ

@@ -3,7 +3,7 @@ ghost use Rattle.std.specs.Prelude.{◌≡◌, ◌+◌, ◌*◌, ◌<◌, ◌≤
 ghost use Rattle.disk.specs.Device.{IsDeviceCall, SameOutside, moments};
 ghost use Rattle.oplog.specs.Changes.{ChangesOnly};
 ghost use Rattle.oplog.specs.Costs.{Takes, batches};
-ghost use Rattle.oplog.specs.Front.{front, open_gates};
+ghost use Rattle.oplog.specs.Front.{front, count_open};
 ghost use Rattle.device_map.specs.Layout.{layout_of, part_at, half};
 ghost use Rattle.oplog.specs.Changing.{AreChangesInRange};
 ghost use Rattle.oplog.specs.Store.{Stored};
@@ -192,7 +192,7 @@ impl Half {
 
 /// How many of these are 1 before the first that isn't.
 fn count_open(gates: &[u8]) -> usize
-    ensures { result ≡ open_gates gates.now }
+    ensures { result ≡ count_open gates.now }
 {
     gates.iter().take_while(|gate| **gate == 1).count()
 }
