@@ -1,7 +1,7 @@
 -- The range that a sync looks at, after each call.
 use Rattle.std.proofs.Common.{◌≡◌, ◌⊎◌, ℕ, ◌+◌, ◌-◌, ◌≤◌, false, List, length, replicate, sym, subst, arith}
 use Rattle.disk.specs.Device.{Medium, SameOutside, overlaid, marked, written}
-use Rattle.disk.specs.GhostDevice.{lost}
+use Rattle.disk.specs.GhostDevice.{failed_write}
 use Rattle.disk.specs.Span.{HoldsUnsynced}
 use Rattle.disk.proofs.Outside.{covered, same_back, same_both, wider}
 use Rattle.disk.proofs.Overlays.{length-overlaid, overlaid_outside, marked_outside}
@@ -15,8 +15,8 @@ module _ (a e b f at n : ℕ) (m : Medium) (kept : List ℕ) (ordered : a ≤ e)
       (covered a e b f ordered grows holds.marks)
       (wider at n m.unsynced (marked m.unsynced at n) (marked_outside m.unsynced at n) b (f - b) from (omega (arith, from, to)))
 
-  pub holds_lost : HoldsUnsynced b f (lost at n m) kept
-  holds_lost = record {
+  pub holds_failed_write : HoldsUnsynced b f (failed_write at n m) kept
+  holds_failed_write = record {
     inside = inside;
     kept = covered a e b f ordered grows holds.kept;
     marks = marks;

@@ -7,7 +7,7 @@ use Rattle.disk.specs.declared.injected_fault.InjectedFault.TheVariants.{Off}
 use Rattle.disk.specs.declared.torn.Torn.{Torn}
 use Rattle.disk.specs.declared.memory.MemDisk.{MemDisk}
 use Rattle.disk.specs.Device.{Medium, begun, overlaid, written, synced, failed}
-use Rattle.disk.specs.GhostDevice.{lost}
+use Rattle.disk.specs.GhostDevice.{failed_write}
 use Rattle.disk.specs.InjectedFault.{fails_next, counted_down}
 use Rattle.disk.specs.Torn.{torn_byte, torn_from}
 
@@ -57,7 +57,8 @@ after_read (Err Device) m = record (counted m) { medium = failed m.medium }
 abbrev pub after_write : Result (Unit {0}) DiskFault → ℕ → List ℕ → Memory → Memory
 after_write (Ok _) at bytes m = record (counted m) { medium = written at bytes m.medium; asked = overlaid m.asked at bytes }
 after_write (Err OutOfRange) at bytes m = m
-after_write (Err Device) at bytes m = record (counted m) { medium = lost at (length bytes) m.medium; asked = overlaid m.asked at bytes }
+after_write (Err Device) at bytes m =
+    record (counted m) { medium = failed_write at (length bytes) m.medium; asked = overlaid m.asked at bytes }
 
 abbrev pub after_sync : Result (Unit {0}) DiskFault → Memory → Memory
 after_sync (Ok _) m = record (counted m) { medium = synced m.medium; kept = m.medium.now }

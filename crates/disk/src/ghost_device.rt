@@ -15,7 +15,7 @@ pub(crate) enum Call {
     /// The bytes were written from this offset on.
     Wrote(u64),
     /// The bytes were to be written from this offset on, and a read gives what it gave before.
-    Lost(u64),
+    FailedWrite(u64),
     Synced,
     /// A read or a sync failed.
     Failed,

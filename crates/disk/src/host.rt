@@ -71,7 +71,7 @@ impl<T: FileExt + OpenFile + Drop> BackingFile for HostFile<T> {
     fn write_all_at(&mut self, bytes: &[u8], at: u64) -> io::Result<()> {
         let answer = self.file.write_all_at(bytes, at);
         if answer.is_err() {
-            self.ghost_device.note(&Call::Lost(at), bytes);
+            self.ghost_device.note(&Call::FailedWrite(at), bytes);
         } else {
             self.ghost_device.note(&Call::Wrote(at), bytes);
         }

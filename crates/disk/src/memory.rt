@@ -186,7 +186,7 @@ impl Disk for MemDisk {
         overlay(&mut self.asked, start, bytes);
         mark(&mut self.unsynced, start, bytes.len());
         if fails {
-            self.ghost_device.note(&Call::Lost(at), bytes);
+            self.ghost_device.note(&Call::FailedWrite(at), bytes);
             return Err(DiskFault::Device);
         }
         overlay(&mut self.bytes, start, bytes);

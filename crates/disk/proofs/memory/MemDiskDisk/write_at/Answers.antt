@@ -4,7 +4,7 @@ use Rattle.std.proofs.lemmas.Grind.{common_steps}
 use Rattle.disk.specs.Device.{AreBytes, Medium}
 use Rattle.disk.specs.Span.{HoldsUnsynced}
 use Rattle.disk.proofs.Bytes.{bytes_fit, bytes-overlaid}
-use Rattle.disk.proofs.Spans.{holds_lost, holds_written}
+use Rattle.disk.proofs.Spans.{holds_failed_write, holds_written}
 use Rattle.disk.proofs.memory.MemDiskDisk.write_at.Goals as goal
 
 pub invariant_of-self : goal.invariant_of-self
@@ -18,7 +18,7 @@ invariant_of-self c =
       asked_size = grind (arith, common_steps);
       unsynced_size = grind (arith, common_steps);
       holds_unsynced = subst (λ (m : Medium). HoldsUnsynced span.start span.end m self.kept.items) (sym c.note.ensures)
-          (holds_lost self.span.start self.span.end span.start span.end c.args.at _ self.ghost_device.medium self.kept.items self.span.ordered
+          (holds_failed_write self.span.start self.span.end span.start span.end c.args.at _ self.ghost_device.medium self.kept.items self.span.ordered
           (omega (arith, c.in_ok-start.ensures.start, c.in_ok-start.ensures.inside))
           (omega (arith, c.in_ok-start.ensures.start, c.in_ok-start.ensures.inside))
           (omega (arith, c.in_ok-start.ensures.start, c.in_ok-start.ensures.inside)) c.with-self.ensures.holds_old self.holds_unsynced);
