@@ -10,7 +10,7 @@ use Rattle.affinity.proofs.Numbers.{geometry_same}
 use Rattle.clap.specs.Words.{IsAmong, Text, kind_of}
 use Rattle.meaning.specs.Output.{WritesOutput, IsBeginning}
 use Rattle.meaning.specs.State.{empty}
-use Rattle.commands.specs.Ends.{EndsMaking, EndsServing}
+use Rattle.commands.specs.Ends.{EndsMaking, EndsInMemory}
 use Rattle.commands.specs.Serving.{EndsInFile}
 use Rattle.commands.specs.declared.service.Service.{Service}
 use Rattle.commands.proofs.Services.{service_same}
@@ -101,7 +101,7 @@ served_on_nothing words (refusal.Words error) asks reason = absurd (no_mistake w
 pub served : (words : List Text) (request : Request) {g : Geometry} (end : Result (Unit {0}) Fault) {input left old new : Option (List ℕ)} → Asks words request
     → AsksPlain words g → Ends request end input left old new → EndsPlain g (status_at end) input left old new
 served words (Plain h) {g} end {input} {left} {old} {new} given asks ends =
-    (end, refl, subst (λ k. EndsServing k end input left old new) (geometry_same h g (given.2 ∙ sym asks.2)) ends)
+    (end, refl, subst (λ k. EndsInMemory k end input left old new) (geometry_same h g (given.2 ∙ sym asks.2)) ends)
 served words (Format path h) end given asks ends = absurd (asks.1.0 given.1)
 served words (Show path) end given asks ends = absurd (asks.1.1 given.1)
 served words (Serve path s) end given asks ends = absurd (asks.1.2 given.1)

@@ -18,7 +18,7 @@ use Rattle.serving.specs.Serve.{HasEmptyLog, ServesSo}
 use Rattle.serving.specs.declared.server.ServeFault.{ServeFault}
 use Rattle.serving.specs.declared.server.ServeFault.TheVariants as faults
 use Rattle.commands.specs.Faults.{as_fault}
-use Rattle.commands.specs.Serving.{EndsOnDevice, CrashesSafely, HasNoRecords, HasServedBy, HasServedNothing, IsIncarnation, RecoversFor, RecoveredTo, ServedDevice, machine_at_start, run_behind}
+use Rattle.commands.specs.Serving.{EndsOnDevice, CrashesSafely, HasNoRecords, HasServedBy, HasServedNothing, IsIncarnation, RecoversFor, RecoveredTo, ServedDevice, machine_at_start, legal_run_of}
 use Rattle.commands.specs.declared.service.Service.{Service}
 
 -- no message is in a core that was just opened
@@ -55,7 +55,7 @@ module _ (keeps : Type 0) (s : Service) (old : Medium) (start now : CoreView) (e
     served = served;
     leaves = leaves;
     given_back = refl;
-    incarnation = let behind = run_behind keeps (machine_at_start s start) now input before written end served.run in is_incarnation fresh header recovered_before behind.0 behind.1 behind.2;
+    incarnation = let behind = legal_run_of keeps (machine_at_start s start) now input before written end served.run in is_incarnation fresh header recovered_before behind.0 behind.1 behind.2;
   }
 
 -- such a service crashes safely

@@ -1,7 +1,7 @@
 -- Statement for engineers: How a call ends, and with which status.
 use Rattle.std.specs.Prelude.{◌≡◌, ◌⊎◌, ℕ, List, Option, Result, Ok, Err}
 use Rattle.affinity.specs.declared.geometry.Geometry.{Geometry}
-use Rattle.commands.specs.Ends.{EndsMaking, EndsServing, EndsShowing}
+use Rattle.commands.specs.Ends.{EndsMaking, EndsInMemory, EndsShowing}
 use Rattle.commands.specs.Faults.{status_of}
 use Rattle.commands.specs.Serving.{EndsInFile, numbers_of_service}
 use Rattle.commands.specs.declared.faults.Fault.{Fault}
@@ -20,7 +20,7 @@ abbrev pub Ends : Request → Result (Unit {0}) Fault → Option (List ℕ) → 
 Ends (Help text) (Ok _) input left old new = left ≡ input
 Ends (Help text) (Err Write) input left old new = left ≡ input
 Ends (Help text) (Err _) input left old new = ⊥
-Ends (Plain g) end input left old new = EndsServing g end input left old new
+Ends (Plain g) end input left old new = EndsInMemory g end input left old new
 Ends (Format path g) end input left old new = (left ≡ input) × EndsMaking g end old new
 Ends (Show path) end input left old new = (left ≡ input) × EndsShowing end old new
 Ends (Serve path given) end input left old new = (s : Service) × (numbers_of_service s ≡ with_at_most_64_workers (service_numbers given))
@@ -38,7 +38,7 @@ status_of_refusal refusal.GeometryOutOfRange = status_of GeometryOutOfRange
 
 -- The service came to an end that has this status.
 abbrev pub EndsPlain : Geometry → ℕ → Option (List ℕ) → Option (List ℕ) → Option (List ℕ) → Option (List ℕ) → Type 0
-EndsPlain g status input left old new = (end : Result (Unit {0}) Fault) × (status ≡ status_at end) × EndsServing g end input left old new
+EndsPlain g status input left old new = (end : Result (Unit {0}) Fault) × (status ≡ status_at end) × EndsInMemory g end input left old new
 
 -- The making of a device came to an end that has this status.
 abbrev pub EndsFormat : Geometry → ℕ → Option (List ℕ) → Option (List ℕ) → Type 0

@@ -14,12 +14,13 @@ use Rattle.commands.specs.declared.faults.Fault.TheVariants.{Read, Write, OutOfM
 
 -- What was written where the service came to this end, and what is left of the input: all that the serial server writes for the input, and
 -- nothing is left; the answers to all whole lines that were taken; the first lines of the output. A failed write leaves it open.
-abbrev pub EndsServing : Geometry → Result (Unit {0}) Fault → Option (List ℕ) → Option (List ℕ) → Option (List ℕ) → Option (List ℕ) → Type 0
-EndsServing g (Ok _) input left old new = WritesOutput input old new (λ read written. written ≡ serial_out g empty read) × IsAtEnd left
-EndsServing g (Err Read) input left old new = WritesOutput input old new (AnswersWholeLines g empty left)
-EndsServing g (Err Write) input left old new = Unit {0}
-EndsServing g (Err OutOfMemory) input left old new = WritesOutput input old new (IsBeginning g empty)
-EndsServing g (Err _) input left old new = ⊥
+abbrev pub EndsInMemory : Geometry → Result (Unit {0}) Fault → Option (List ℕ) → Option (List ℕ) → Option (List ℕ) → Option (List ℕ)
+    → Type 0
+EndsInMemory g (Ok _) input left old new = WritesOutput input old new (λ read written. written ≡ serial_out g empty read) × IsAtEnd left
+EndsInMemory g (Err Read) input left old new = WritesOutput input old new (AnswersWholeLines g empty left)
+EndsInMemory g (Err Write) input left old new = Unit {0}
+EndsInMemory g (Err OutOfMemory) input left old new = WritesOutput input old new (IsBeginning g empty)
+EndsInMemory g (Err _) input left old new = ⊥
 
 -- A device was made and its length printed, or it was not made and nothing was written. A failed write leaves open what was written. What
 -- the file holds is open.

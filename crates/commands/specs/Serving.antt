@@ -107,17 +107,17 @@ abbrev pub machine_at_start : Service → CoreView → MachineView
 machine_at_start s start = with_lent start (replicate s.workers None)
 
 -- the run behind what was served, whatever the end: the lines that were taken, and the events, each with the device as it left it
-abbrev pub run_behind : (keeps : Type 0) (start : MachineView) (now : CoreView) (input before written : Option (List ℕ))
+abbrev pub legal_run_of : (keeps : Type 0) (start : MachineView) (now : CoreView) (input before written : Option (List ℕ))
     (end : Result (Unit {0}) ServeFault)
     → HasRunSo keeps start now input before written end
     → (taken : List (List ℕ)) × (stages : List Stage) × HasRunLines keeps start now input taken stages
-run_behind keeps start now input before written (Ok _) h = (h.served.taken, h.served.stages, h.served.run)
-run_behind keeps start now input before written (Err serve_faults.Device) h = (h.1.taken, h.1.stages, h.1.run)
-run_behind keeps start now input before written (Err serve_faults.Write) h = h
-run_behind keeps start now input before written (Err serve_faults.Read) h = (h.taken, h.stages, h.run)
-run_behind keeps start now input before written (Err serve_faults.Exhausted) h = (h.taken, h.stages, h.run)
-run_behind keeps start now input before written (Err serve_faults.NoWorkers) h = (h.taken, h.stages, h.run)
-run_behind keeps start now input before written (Err serve_faults.OutOfMemory) h = (h.taken, h.stages, h.run)
+legal_run_of keeps start now input before written (Ok _) h = (h.served.taken, h.served.stages, h.served.run)
+legal_run_of keeps start now input before written (Err serve_faults.Device) h = (h.1.taken, h.1.stages, h.1.run)
+legal_run_of keeps start now input before written (Err serve_faults.Write) h = h
+legal_run_of keeps start now input before written (Err serve_faults.Read) h = (h.taken, h.stages, h.run)
+legal_run_of keeps start now input before written (Err serve_faults.Exhausted) h = (h.taken, h.stages, h.run)
+legal_run_of keeps start now input before written (Err serve_faults.NoWorkers) h = (h.taken, h.stages, h.run)
+legal_run_of keeps start now input before written (Err serve_faults.OutOfMemory) h = (h.taken, h.stages, h.run)
 
 -- With this run it is an incarnation of the device, in the sense of the law of incarnations in `runs`, for every k: it was opened, it made
 -- the run, and the crash comes at any crash point since event k ended.
@@ -143,7 +143,7 @@ pub record HasServedBy (keeps : Type 0) (s : Service) (old new : Medium) (end : 
   pub served : ServesSo keeps s.workers start (now, end) input left before written
   pub leaves : keeps → RecoversNow now
   pub given_back : new ≡ now.medium
-  pub incarnation : keeps → let behind = run_behind keeps (machine_at_start s start) now input before written end served.run
+  pub incarnation : keeps → let behind = legal_run_of keeps (machine_at_start s start) now input before written end served.run
       in IsIncarnation s start old new behind.1
 
 -- So it was; or the device could not be opened. A crash while it is opened leaves what recovers to the same, or is refused for the

@@ -1,5 +1,5 @@
 //! `waffd plain`: the serial server, without a device.
-ghost use Rattle.commands.specs.Ends.{EndsServing};
+ghost use Rattle.commands.specs.Ends.{EndsInMemory};
 
 use crate::faults::Fault;
 use affinity::Geometry;
@@ -14,7 +14,7 @@ pub fn answer_input<R: Read, W: Write>(
     r: &mut R,
     w: &mut W,
 ) -> Result<(), Fault>
-    ensures { EndsServing geometry.now result (R.remaining r.old) (R.remaining r.new)
+    ensures { EndsInMemory geometry.now result (R.remaining r.old) (R.remaining r.new)
         (W.contents w.old) (W.contents w.new) }
 {
     Ok(serve_from(alloc, geometry, r, w)?)
