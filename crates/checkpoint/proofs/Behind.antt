@@ -30,7 +30,7 @@ image_fine g number now is_image long are some =
 -- by the records behind those of the named half
 pub refused_behind : (g : Geometry) (c : List ℕ) (n : ℕ) (x : State) → NamedHolds g c n true x → refused g c ≡ records_fault g x (other n) (front (layout_of g) (other n) c)
 refused_behind g c n x is =
-    past_chain g c is.header is.whole n is.named is.sound is.first is.decoded is.one ∙ named_sound g is.first n c x is.ran
+    past_chain g c is.header is.long_enough n is.named is.sound is.first is.decoded is.one ∙ named_sound g is.first n c x is.ran
     ∙ ap (λ (t : Bool). behind g is.first n c t (Some x)) (sym is.chain)
 
 none_behind : (g : Geometry) (h : ℕ) (o : Option State) → fault_or_later (BadRecord h) (first_bad_record g 0 o []) None ≡ None

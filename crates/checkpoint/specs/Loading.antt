@@ -82,7 +82,7 @@ in_force_fault g x n c =
 -- the image to this one.
 pub record NamedHolds (g : Geometry) (c : List ℕ) (area : ℕ) (chained : Bool) (x : State) : Type 0 where
   pub header : HasHeader g c
-  pub whole : device_size (layout_of g) ≤ length c
+  pub long_enough : device_size (layout_of g) ≤ length c
   pub named : area ≡ named_area (layout_of g) c
   pub chain : chained ≡ (chain (layout_of g) area c == 1)
   pub one : are_chained (layout_of g) c ≡ false

@@ -91,7 +91,7 @@ fn shut_gate<D: Disk>(disk: &mut D) -> Result<(), DiskFault>
 fn lay_out<D: Disk>(disk: &mut D, zeros: &[u8], g: &Geometry) -> Result<(), DiskFault>
     requires zeros { zeros.now ≡ replicate (length zeros.now) 0 }
     requires some { 0 < length zeros.now }
-    requires whole { device_size (layout_of g.now) ≤ length (D.medium disk.old).now }
+    requires long_enough { device_size (layout_of g.now) ≤ length (D.medium disk.old).now }
     ensures any_moment { D.keeps → ChangesOnly (D.medium disk.old) (D.medium disk.new)
         (SameOutside 64 (device_size (layout_of g.now) - 64)) }
     ensures laid { OnOk result (D.keeps → IsLaid g.now (D.medium disk.new).now) }
@@ -109,7 +109,7 @@ fn lay_out<D: Disk>(disk: &mut D, zeros: &[u8], g: &Geometry) -> Result<(), Disk
 
 /// Writes the header of a device that has all else, its gate last.
 fn open_gate<D: Disk>(disk: &mut D, g: &Geometry) -> Result<(), DiskFault>
-    requires whole { device_size (layout_of g.now) ≤ length (D.medium disk.old).now }
+    requires long_enough { device_size (layout_of g.now) ≤ length (D.medium disk.old).now }
     requires shut { D.keeps → IsShutNow (length (D.medium disk.old).now) (D.medium disk.old) }
     requires laid { D.keeps → IsLaid g.now (D.medium disk.old).now }
     ensures any_moment { D.keeps → CrashImagesAre (D.medium disk.old) (D.medium disk.new)
@@ -131,7 +131,7 @@ fn open_gate<D: Disk>(disk: &mut D, g: &Geometry) -> Result<(), DiskFault>
 fn format_on<D: Disk>(disk: &mut D, zeros: &[u8], g: &Geometry) -> Result<(), DiskFault>
     requires zeros { zeros.now ≡ replicate (length zeros.now) 0 }
     requires some { 0 < length zeros.now }
-    requires whole { device_size (layout_of g.now) ≤ length (D.medium disk.old).now }
+    requires long_enough { device_size (layout_of g.now) ≤ length (D.medium disk.old).now }
     ensures any_moment { D.keeps → CrashImagesAre (D.medium disk.old) (D.medium disk.new)
         (FormatCrashImages g.now (D.medium disk.old)) }
     ensures recovers { OnOk result (D.keeps → holds g.now (D.medium disk.new).now ≡ Some empty) }

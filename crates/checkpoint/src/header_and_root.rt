@@ -21,7 +21,7 @@ const HEADING_SIZE: usize = HEADER_SIZE + ROOT_ZONE_SIZE;
 /// The geometry of a device with a header, which is long enough for all its parts.
 pub fn read_header<D: Disk>(disk: &mut D) -> Result<Geometry, OpenFault>
     ensures header { IfOk result (λ g. D.keeps → HasHeader g (D.medium disk.old).now) }
-    ensures whole { IfOk result (λ g. device_size (layout_of g) ≤ length (D.medium disk.old).now) }
+    ensures long_enough { IfOk result (λ g. device_size (layout_of g) ≤ length (D.medium disk.old).now) }
     ensures refused { IfErr result (λ e. D.keeps → IsRefused (D.medium disk.old).now e) }
     ensures by_header { IfErr result (λ e. IsOfHeader e) }
     ensures untouched { D.keeps → moments (D.medium disk.new) ≡ moments (D.medium disk.old) }

@@ -35,7 +35,7 @@ pub(crate) fn is_chained<D: Disk>(
     half: usize,
 ) -> Result<bool, OpenFault>
     requires half { half < 2 }
-    requires whole { device_size (layout_of g.now) ≤ length (D.medium disk.old).now }
+    requires long_enough { device_size (layout_of g.now) ≤ length (D.medium disk.old).now }
     ensures chained { IfOk result (λ b. D.keeps →
         b ≡ (chain (layout_of g.now) half (D.medium disk.old).now == 1)) }
     ensures device { IfErr result (λ e. e ≡ Device) }
@@ -71,7 +71,7 @@ pub(crate) fn version_of<D: Disk>(
     number: usize,
 ) -> Result<u8, OpenFault>
     requires number { number < 2 }
-    requires whole { device_size (layout_of g.now) ≤ length (D.medium disk.old).now }
+    requires long_enough { device_size (layout_of g.now) ≤ length (D.medium disk.old).now }
     ensures version { IfOk result (λ v. D.keeps →
         v ≡ version_in (part_bytes (layout_of g.now) (image number) (D.medium disk.old).now)) }
     ensures known { IfOk result (λ v. is_version v ≡ true) }

@@ -208,6 +208,6 @@ goes_on {g} {s} {began} {crashed} last {first} {second} next_left made calm h en
     record {
       now = one.now;
       recovers = one.recovers;
-      whole = serves_so g began made s _ first _ _ _ _ h.ends;
+      all_answered = serves_so g began made s _ first _ _ _ _ h.ends;
       next = serves_so g crashed.medium one.holds_now s last second _ next_left _ _ ends;
     }

@@ -22,7 +22,7 @@ pub record GoesOn (g : Geometry) (first second : Result (Unit {0}) Fault)
   pub now : State
   pub recovers : WritesOutput input (known_unless_write_failed first before) written (RecoversTo g empty now)
   -- without a fault all of the input was answered
-  pub whole : OnOk first (WritesOutput input before written (λ bytes out. out ≡ serial_out g empty bytes))
+  pub all_answered : OnOk first (WritesOutput input before written (λ bytes out. out ≡ serial_out g empty bytes))
   pub next : OnOk second (WritesOutput next_input next_before next_written (λ bytes out. out ≡ serial_out g now bytes))
 
 -- ---- the same of the bytes of a device

@@ -36,7 +36,7 @@ fn are_changes_in_range(g: &Geometry, messages: &[Msg]) -> bool
 fn change_halves<D: Disk>(disk: &mut D, log: &mut Halves) -> Result<(), LogFault>
     requires sound { log.old.failed ≡ false }
     requires current_is_named { log.old.current ≡ log.old.named }
-    requires whole { HasParts log.old (D.medium disk.old) }
+    requires long_enough { HasParts log.old (D.medium disk.old) }
     ensures ready { OnOk result (D.keeps → IsReadyFor log.new (D.medium disk.new)) }
     ensures geometry { log.new.geometry ≡ log.old.geometry }
     ensures sound { OnOk result (log.new.failed ≡ false) }
@@ -52,7 +52,7 @@ fn chain_halves<D: Disk>(disk: &mut D, log: &mut Halves) -> Result<(), LogFault>
     requires sound { log.old.failed ≡ false }
     requires current_is_named { log.old.current ≡ log.old.named }
     requires half { log.old.named < 2 }
-    requires whole { HasParts log.old (D.medium disk.old) }
+    requires long_enough { HasParts log.old (D.medium disk.old) }
     ensures ready { OnOk result (D.keeps → IsReadyFor log.new (D.medium disk.new)) }
     ensures geometry { log.new.geometry ≡ log.old.geometry }
     ensures sound { OnOk result (log.new.failed ≡ false) }
@@ -66,7 +66,7 @@ fn chain_halves<D: Disk>(disk: &mut D, log: &mut Halves) -> Result<(), LogFault>
 /// Appends these, if there is room and the log keeps them, and gives whether it did.
 fn appends<D: Disk>(disk: &mut D, log: &mut Halves, messages: &[Msg]) -> bool
     requires sound { log.old.failed ≡ false }
-    requires whole { HasParts log.old (D.medium disk.old) }
+    requires long_enough { HasParts log.old (D.medium disk.old) }
     requires ready { D.keeps → IsReadyFor log.old (D.medium disk.old) }
     ensures geometry { log.new.geometry ≡ log.old.geometry }
     ensures len { length (D.medium disk.new).now ≡ length (D.medium disk.old).now }

@@ -42,10 +42,10 @@ module _ (g : Geometry) (c : List ℕ) (n : ℕ) (x : State) (is : NamedHolds g 
   shut = sym is.chain
 
   pub alone_holds : holds g c ≡ Some x
-  alone_holds = recovers_for g c is.header is.whole n is.named is.sound is.first is.decoded is.one x (alone_ran g is.first n c x is.ran shut)
+  alone_holds = recovers_for g c is.header is.long_enough n is.named is.sound is.first is.decoded is.one x (alone_ran g is.first n c x is.ran shut)
 
   pub alone_fine : refused g c ≡ None
-  alone_fine = not_refused g c is.header is.whole n is.named is.sound is.first is.decoded is.one (alone_sound g is.first n c x is.ran shut)
+  alone_fine = not_refused g c is.header is.long_enough n is.named is.sound is.first is.decoded is.one (alone_sound g is.first n c x is.ran shut)
 
 pub alone_recovers : (log : Log) (m : Medium) (x : State) → NamedHolds log.geometry m.now log.named false x → IsSynced m → IsAlone log m
 alone_recovers log m x is calm = record {
@@ -68,19 +68,19 @@ module _ (g : Geometry) (c : List ℕ) (n : ℕ) (x : State) (is : NamedHolds g 
   pub laid_out : is_laid_out (means g) (layout_of g) c ≡ true
   laid_out =
       let is_head : is_header g (part_bytes (layout_of g) header c) ≡ true = (bytes_eq-Decides (part_bytes (layout_of g) header c) (header_of g)).1 is.header in
-      let whole : nat_le (device_size (layout_of g)) (length c) ≡ true = le-leb (device_size (layout_of g)) (length c) is.whole in
+      let whole : nat_le (device_size (layout_of g)) (length c) ≡ true = le-leb (device_size (layout_of g)) (length c) is.long_enough in
       λ i. is_head i && whole i && not (is.one i)
 
   pub behind_refused : (e : OpenFault) → IsFaultOfBytes (records_fault g x (other n) (front (layout_of g) (other n) c)) e → IsRefused c e
   behind_refused e fault =
-      records_refused g c is.header is.whole n is.named is.sound is.first is.decoded is.one e (other_refused g is.first n c x is.ran follows e fault)
+      records_refused g c is.header is.long_enough n is.named is.sound is.first is.decoded is.one e (other_refused g is.first n c x is.ran follows e fault)
 
   module _ (y : State) (more : run (means g) (Some x) (front (layout_of g) (other n) c) ≡ Some y) where
     pub behind_holds : holds g c ≡ Some y
-    behind_holds = recovers_for g c is.header is.whole n is.named is.sound is.first is.decoded is.one y (both_ran g is.first n c x is.ran follows y more)
+    behind_holds = recovers_for g c is.header is.long_enough n is.named is.sound is.first is.decoded is.one y (both_ran g is.first n c x is.ran follows y more)
 
     pub behind_fine : refused g c ≡ None
-    behind_fine = not_refused g c is.header is.whole n is.named is.sound is.first is.decoded is.one (both_sound g is.first n c x is.ran follows y more)
+    behind_fine = not_refused g c is.header is.long_enough n is.named is.sound is.first is.decoded is.one (both_sound g is.first n c x is.ran follows y more)
 
 pub unfinished_cut : (log : Log) (m : Medium) (x : State) (bytes : List ℕ) → NamedHolds log.geometry m.now log.named true x → IsSynced m
     → IsState log.geometry x → bytes ≡ image_of 2 log.geometry x → IsUnfinished log bytes m
@@ -135,14 +135,14 @@ pub record HasRoom (g : Geometry) (p : Parts) : Type 0 where
 -- loaded with this log, of parts that had the room that it asks for
 pub are_loaded : {p q : Parts} {log : Log} {m : Medium} → q.halves ≡ log → log.failed ≡ false → log.current ≡ log.named → IsWholeTree q.tree
     → q.tree.geometry ≡ log.geometry → KeepsRoom p q → HasRoom log.geometry p → device_size (layout_of log.geometry) ≤ length m.now → AreLoaded q m
-are_loaded {q} {log} {m} is_log fine current_is_named tree geometry kept room whole =
+are_loaded {q} {log} {m} is_log fine current_is_named tree geometry kept room long_enough =
     let same : q.halves.geometry ≡ log.geometry = ap (λ (l : Log). l.geometry) is_log in
     record {
       tree = tree;
       geometry = geometry ∙ sym same;
       fine = ap (λ (l : Log). l.failed) is_log ∙ fine;
       current_is_named = ap (λ (l : Log). l.current) is_log ∙ current_is_named ∙ sym (ap (λ (l : Log). l.named) is_log);
-      whole = subst (λ (h : Geometry). device_size (layout_of h) ≤ length m.now) (sym same) whole;
+      long_enough = subst (λ (h : Geometry). device_size (layout_of h) ≤ length m.now) (sym same) long_enough;
       frozen = kept.frozen ∙ room.frozen ∙ sym (ap image_size same);
       named_dirty = (λ i. length (kept.named_dirty i).items) ∙ room.named_dirty ∙ sym (ap piece_count same);
       other_dirty = (λ i. length (kept.other_dirty i).items) ∙ room.other_dirty ∙ sym (ap piece_count same);
@@ -162,9 +162,9 @@ made {p} {q} {r} {w3} taken same room loaded room' tree log long =
       fine = ap (λ (l : Log). l.failed) log ∙ loaded.fine;
       current_is_named = ap (λ (l : Log). l.current) log ∙ sym (ap (λ (l : Log). l.named) log);
       used = ap (λ (l : Log). l.used) log;
-      whole =
+      long_enough =
           subst (λ (h : Geometry). device_size (layout_of h) ≤ length w3.now) (sym is)
-          (subst (λ (n : ℕ). device_size (layout_of q.halves.geometry) ≤ n) (sym long) loaded.whole);
+          (subst (λ (n : ℕ). device_size (layout_of q.halves.geometry) ≤ n) (sym long) loaded.long_enough);
       frozen = kept.frozen ∙ taken.frozen ∙ sym (ap image_size (is ∙ same));
       named_dirty = (λ i. length (kept.named_dirty i).items) ∙ taken.named_dirty ∙ sym (ap piece_count (is ∙ same));
       other_dirty = (λ i. length (kept.other_dirty i).items) ∙ taken.other_dirty ∙ sym (ap piece_count (is ∙ same));

@@ -37,7 +37,7 @@ module _ (g : Geometry) (n : ℕ) (is_area : n < 2) (a c : List ℕ) (same : Are
   held_same : (x : State) → named_area (layout_of g) c ≡ n → NamedHolds g a n true x → NamedHolds g c n true x
   held_same x names is = record {
     header = same.header ∙ is.header;
-    whole = subst (λ (k : ℕ). device_size (layout_of g) ≤ k) (sym same.size) is.whole;
+    long_enough = subst (λ (k : ℕ). device_size (layout_of g) ≤ k) (sym same.size) is.long_enough;
     named = sym names;
     chain = is.chain ∙ sym (ap (λ (l : List ℕ). chain_in l == 1) (same.halves n is_area));
     one = chains_same ∙ is.one;
@@ -125,9 +125,9 @@ module _ (g : Geometry) (n : ℕ) (is_area : n < 2) (x : State) (w0 w1 : Medium)
     by_other c change names =
         let same = kept (other n) c (omega arith) change in
         let decoded : read g (part_bytes (layout_of g) (image (other n)) w1.now) ≡ Some x = ap (λ (l : List ℕ). read g l) imaged.is ∙ reads in
-        let fine = image_fine g (other n) w1.now (omega arith) now_held.whole are (ap is_some decoded) in
+        let fine = image_fine g (other n) w1.now (omega arith) now_held.long_enough are (ap is_some decoded) in
         let shut = other_shut g n w1.now is_area now_held.one (sym now_held.chain) in
-        refused_alone g c (same.header ∙ now_held.header) (subst (λ (k : ℕ). device_size (layout_of g) ≤ k) (sym same.size) now_held.whole) (sym names)
+        refused_alone g c (same.header ∙ now_held.header) (subst (λ (k : ℕ). device_size (layout_of g) ≤ k) (sym same.size) now_held.long_enough) (sym names)
         (ap (λ (l : List ℕ). image_fault g l) same.image ∙ fine) (ap (λ (l : List ℕ). read g l) same.image ∙ decoded)
         (ap (λ (l : List ℕ). chain_in l == 1) (same.halves (other n) (omega arith)) ∙ shut)
         ∙ ap (λ rs. records_fault g x (other n) rs) (front_same g (other n) (omega arith) w1.now c same (other n) (omega arith) ∙ behind_same) ∙ sym was

@@ -56,7 +56,7 @@ pub record AreLoaded (p : Parts) (m : Medium) : Type 0 where
   pub geometry : p.tree.geometry ≡ p.halves.geometry
   pub fine : p.halves.failed ≡ false
   pub current_is_named : p.halves.current ≡ p.halves.named
-  pub whole : HasParts p.halves m
+  pub long_enough : HasParts p.halves m
   pub frozen : length p.frozen.items ≡ image_size p.halves.geometry
   pub named_dirty : length p.named_dirty.items ≡ piece_count p.halves.geometry
   pub other_dirty : length p.other_dirty.items ≡ piece_count p.halves.geometry
@@ -75,7 +75,7 @@ pub record IsMade (p : Parts) (m : Medium) : Type 0 where
   pub fine : p.halves.failed ≡ false
   pub current_is_named : p.halves.current ≡ p.halves.named
   pub used : p.halves.used ≡ 0
-  pub whole : HasParts p.halves m
+  pub long_enough : HasParts p.halves m
   pub frozen : length p.frozen.items ≡ image_size p.halves.geometry
   pub named_dirty : length p.named_dirty.items ≡ piece_count p.halves.geometry
   pub other_dirty : length p.other_dirty.items ≡ piece_count p.halves.geometry

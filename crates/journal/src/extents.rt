@@ -40,7 +40,7 @@ fn write_run<D: Disk>(
     requires order { from ≤ end }
     requires inside { end ≤ length bytes.now }
     requires size { length bytes.now ≡ image_size g.now }
-    requires whole { device_size (layout_of g.now) ≤ length (D.medium disk.old).now }
+    requires long_enough { device_size (layout_of g.now) ≤ length (D.medium disk.old).now }
     ensures any_moment { D.keeps → ChangesOnly (D.medium disk.old) (D.medium disk.new)
         (IsSameBut (layout_of g.now) (image area)) }
     ensures written { OnOk result (D.keeps → image_in g.now area (D.medium disk.new)
@@ -81,7 +81,7 @@ pub(crate) fn write_image<D: Disk>(
     requires area { area < 2 }
     requires size { length bytes.now ≡ image_size g.now }
     requires dirty { length dirty.now ≡ piece_count g.now }
-    requires whole { device_size (layout_of g.now) ≤ length (D.medium disk.old).now }
+    requires long_enough { device_size (layout_of g.now) ≤ length (D.medium disk.old).now }
     requires clean { D.keeps →
         AgreeOnClean g.now dirty.now (image_in g.now area (D.medium disk.old)) bytes.now }
     ensures any_moment { D.keeps → ChangesOnly (D.medium disk.old) (D.medium disk.new)
@@ -119,7 +119,7 @@ pub(crate) fn write_extent<D: Disk>(
     requires area { area < 2 }
     requires n { n < piece_count g.now }
     requires size { length bytes.now ≡ image_size g.now }
-    requires whole { device_size (layout_of g.now) ≤ length (D.medium disk.old).now }
+    requires long_enough { device_size (layout_of g.now) ≤ length (D.medium disk.old).now }
     ensures any_moment { D.keeps → ChangesOnly (D.medium disk.old) (D.medium disk.new)
         (IsSameBut (layout_of g.now) (image area)) }
     ensures written { OnOk result (D.keeps → IsPatchedAt g.now n bytes.now

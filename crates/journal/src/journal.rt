@@ -99,7 +99,7 @@ impl<D: Disk> Journal<D> {
         requires fine { halves.failed ≡ false }
         requires current_is_named { halves.current ≡ halves.named }
         requires used { halves.used ≤ halves.geometry.half }
-        requires whole { HasParts halves (D.medium disk) }
+        requires long_enough { HasParts halves (D.medium disk) }
         requires frozen { length frozen.items ≡ image_size halves.geometry }
         requires named_dirty { length named_dirty.items ≡ piece_count halves.geometry }
         requires other_dirty { length other_dirty.items ≡ piece_count halves.geometry }

@@ -158,7 +158,7 @@ fn load_in_order<D: Disk>(
 ) -> Result<(), OpenFault>
     requires taken { AreUnloaded parts.old }
     requires header { D.keeps → HasHeader parts.old.tree.geometry (D.medium disk.old).now }
-    requires whole { device_size (layout_of parts.old.tree.geometry) ≤ length (D.medium disk.old).now }
+    requires long_enough { device_size (layout_of parts.old.tree.geometry) ≤ length (D.medium disk.old).now }
     requires buffer { parts.old.tree.geometry.quota * 520 ≤ length buffer.old }
     requires calm { D.keeps → IsSynced (D.medium disk.old) }
     ensures any_moment { D.keeps →

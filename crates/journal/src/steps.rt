@@ -31,7 +31,7 @@ pub(crate) fn point_on<D: Disk>(
     requires sound { halves.old.failed ≡ false }
     requires size { length bytes.now ≡ image_size halves.old.geometry }
     requires dirty { length dirty.now ≡ piece_count halves.old.geometry }
-    requires whole { HasParts halves.old (D.medium disk.old) }
+    requires long_enough { HasParts halves.old (D.medium disk.old) }
     requires current_is_named { halves.old.current ≡ halves.old.named }
     requires alone { D.keeps → IsAlone halves.old (D.medium disk.old) }
     requires image { D.keeps →
@@ -63,7 +63,7 @@ pub(crate) fn point_on<D: Disk>(
 /// Begins a cut: the other half is cleared, and put in force after the named one.
 pub(crate) fn cut_on<D: Disk>(halves: &mut Halves, disk: &mut D) -> Result<(), LogFault>
     requires sound { halves.old.failed ≡ false }
-    requires whole { HasParts halves.old (D.medium disk.old) }
+    requires long_enough { HasParts halves.old (D.medium disk.old) }
     requires current_is_named { halves.old.current ≡ halves.old.named }
     requires alone { D.keeps → IsAlone halves.old (D.medium disk.old) }
     ensures any_moment { D.keeps →
@@ -90,7 +90,7 @@ pub(crate) fn flip_on<D: Disk>(
     bytes: &[u8],
 ) -> Result<(), LogFault>
     requires sound { halves.old.failed ≡ false }
-    requires whole { HasParts halves.old (D.medium disk.old) }
+    requires long_enough { HasParts halves.old (D.medium disk.old) }
     requires apart { halves.old.current ≡ other halves.old.named }
     requires written { D.keeps → IsWritten halves.old bytes.now (D.medium disk.old) }
     ensures any_moment { D.keeps →
@@ -125,7 +125,7 @@ pub(crate) fn finish_on<D: Disk>(
     requires size { length bytes.now ≡ image_size halves.old.geometry }
     requires dirty { length dirty.now ≡ piece_count halves.old.geometry }
     requires all { AreAllDirty halves.old.geometry dirty.now }
-    requires whole { HasParts halves.old (D.medium disk.old) }
+    requires long_enough { HasParts halves.old (D.medium disk.old) }
     requires current_is_named { halves.old.current ≡ halves.old.named }
     requires unfinished { D.keeps → IsUnfinished halves.old bytes.now (D.medium disk.old) }
     ensures any_moment { D.keeps →

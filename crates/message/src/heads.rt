@@ -118,7 +118,7 @@ fn block_arguments(line: &[u8]) -> Option<[u16; 4]>
     ensures value { (make : ℕ → ℕ → ℕ → ℕ → Msg) → of_block make (words line.now)
         ≡ option_map (λ ns. make (slice_index ns 0) (slice_index ns 1) (slice_index ns 2)
         (slice_index ns 3)) result }
-    ensures whole { IfSome result (λ ns. filled (slice_index ns 0 ∷ slice_index ns 1
+    ensures zeros { IfSome result (λ ns. filled (slice_index ns 0 ∷ slice_index ns 1
         ∷ slice_index ns 2 ∷ slice_index ns 3 ∷ []) ≡ ns) }
 {
     let (aggregate, volume, file, block) = block_numbers(line)?;

@@ -131,7 +131,7 @@ impl Halves {
         requires sound { self.old.failed ≡ false }
         requires changes { AreChangesInRange self.old.geometry messages.now }
         requires room { self.old.used + length messages.now ≤ self.old.geometry.half }
-        requires whole { HasParts self.old (D.medium disk.old) }
+        requires long_enough { HasParts self.old (D.medium disk.old) }
         requires ready { D.keeps → IsReadyFor self.old (D.medium disk.old) }
 
         // A crash at any moment of the call leaves the front with the first m of the messages.
@@ -169,7 +169,7 @@ impl Halves {
     pub fn clear_other<D: Disk>(&mut self, disk: &mut D) -> Result<(), LogFault>
         requires sound { self.old.failed ≡ false }
         requires current_is_named { self.old.current ≡ self.old.named }
-        requires whole { HasParts self.old (D.medium disk.old) }
+        requires long_enough { HasParts self.old (D.medium disk.old) }
         ensures any_moment { D.keeps → Clears self.old (D.medium disk.old) (D.medium disk.new) }
         ensures cleared { OnOk result (D.keeps →
             HasCleared self.old (D.medium disk.old) (D.medium disk.new)) }
@@ -196,7 +196,7 @@ impl Halves {
         requires sound { self.old.failed ≡ false }
         requires current_is_named { self.old.current ≡ self.old.named }
         requires cleared { self.old.cleared ≡ true }
-        requires whole { HasParts self.old (D.medium disk.old) }
+        requires long_enough { HasParts self.old (D.medium disk.old) }
         ensures any_moment { D.keeps → Chains self.old (D.medium disk.old) (D.medium disk.new) }
         ensures chained { OnOk result (D.keeps →
             HasChained self.old (D.medium disk.old) (D.medium disk.new)) }
@@ -224,7 +224,7 @@ impl Halves {
     /// current half and its room stay.
     pub fn flip_root<D: Disk>(&mut self, disk: &mut D) -> Result<(), LogFault>
         requires sound { self.old.failed ≡ false }
-        requires whole { HasParts self.old (D.medium disk.old) }
+        requires long_enough { HasParts self.old (D.medium disk.old) }
         ensures any_moment { D.keeps → Flips self.old (D.medium disk.old) (D.medium disk.new) }
         ensures flipped { OnOk result (D.keeps →
             HasFlipped self.old (D.medium disk.old) (D.medium disk.new)) }
@@ -255,7 +255,7 @@ impl Halves {
     pub fn front<D: Disk>(&mut self, disk: &mut D, half: usize) -> Result<usize, LogFault>
         requires sound { self.old.failed ≡ false }
         requires half { half < 2 }
-        requires whole { HasParts self.old (D.medium disk.old) }
+        requires long_enough { HasParts self.old (D.medium disk.old) }
         ensures front { IfOk result (λ n. D.keeps → HasFront self.old half n (D.medium disk.old)) }
         ensures within { IfOk result (λ n. n ≤ self.old.geometry.half) }
         ensures untouched { D.keeps → moments (D.medium disk.new) ≡ moments (D.medium disk.old) }
@@ -283,7 +283,7 @@ impl Halves {
         requires sound { self.old.failed ≡ false }
         requires half { half < 2 }
         requires i { i < self.old.geometry.half }
-        requires whole { HasParts self.old (D.medium disk.old) }
+        requires long_enough { HasParts self.old (D.medium disk.old) }
         ensures record { D.keeps → IsOfRecordAt self.old half i (D.medium disk.old) result }
         ensures change { IfOk result (λ m. IsMessage m × IsChangeInRange self.old.geometry m) }
         ensures about { IsAbout half i result }

@@ -10,15 +10,15 @@ use Rattle.oplog.proofs.Beyond.{beyond_then, beyond_write}
 use Rattle.checkpoint.proofs.formatting.format_on.Goals as goal
 
 pub returns-in_err-shut_gate-clause-any_moment : goal.returns-in_err-shut_gate-clause-any_moment
-returns-in_err-shut_gate-clause-any_moment g c = λ k. shut_moments c.args.g.now _ c.requires.whole _ (c.shut_gate.ensures.any_moment k)
+returns-in_err-shut_gate-clause-any_moment g c = λ k. shut_moments c.args.g.now _ c.requires.long_enough _ (c.shut_gate.ensures.any_moment k)
 
 pub returns-in_err-lay_out-clause-any_moment : goal.returns-in_err-lay_out-clause-any_moment
 returns-in_err-lay_out-clause-any_moment g c = λ k.
-    laid_moments c.args.g.now _ c.requires.whole _ _ (c.shut_gate.ensures.any_moment k) (c.in_ok-shut_gate.ensures.shut k) 64 _ (omega arith) (c.lay_out.ensures.any_moment k)
+    laid_moments c.args.g.now _ c.requires.long_enough _ _ (c.shut_gate.ensures.any_moment k) (c.in_ok-shut_gate.ensures.shut k) 64 _ (omega arith) (c.lay_out.ensures.any_moment k)
 
 pub returns-clause-any_moment : goal.returns-clause-any_moment
 returns-clause-any_moment g c = λ k.
-    opened_moments c.args.g.now _ c.requires.whole _ _ (c.shut_gate.ensures.any_moment k) (c.in_ok-shut_gate.ensures.shut k) 64 _ (omega arith) (c.lay_out.ensures.any_moment k) _
+    opened_moments c.args.g.now _ c.requires.long_enough _ _ (c.shut_gate.ensures.any_moment k) (c.in_ok-shut_gate.ensures.shut k) 64 _ (omega arith) (c.lay_out.ensures.any_moment k) _
     (subst (λ (n : ℕ). CrashImagesAre (g.D.Disk.medium c.lay_out.new.disk) (g.D.Disk.medium c.open_gate.new.disk)
     (λ l. IsShut n l ⊎ (holds c.args.g.now l ≡ Some empty))) (c.lay_out.ensures.call.1 ∙ c.shut_gate.ensures.call.1)
     (c.open_gate.ensures.any_moment k))

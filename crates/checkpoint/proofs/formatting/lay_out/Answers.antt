@@ -36,7 +36,7 @@ returns-clause-any_moment g c = λ k.
     (changed_within (omega (arith, c.image_at-2.ensures)) (omega (arith, c.image_at-2.ensures, image_some c.args.g.now)) (c.store.ensures.any_moment k))
 
 pub store-requires : goal.store-requires
-store-requires g c = omega (arith, c.image_at-2.ensures, image_some c.args.g.now, c.requires.whole, c.write_zeros.ensures.call.1, c.write_zeros-2.ensures.call.1, c.write_zeros-3.ensures.call.1)
+store-requires g c = omega (arith, c.image_at-2.ensures, image_some c.args.g.now, c.requires.long_enough, c.write_zeros.ensures.call.1, c.write_zeros-2.ensures.call.1, c.write_zeros-3.ensures.call.1)
 
 pub returns-clause-laid : goal.returns-clause-laid
 returns-clause-laid g c = λ k.
@@ -45,4 +45,4 @@ returns-clause-laid g c = λ k.
     let second = c.in_ok-write_zeros-2.ensures.written k ∙ (λ i. overlaid (first i) (c.half_at.ensures i) (replicate (64 + c.from-front.ensures i) 0)) in
     let third = c.in_ok-write_zeros-3.ensures.written k ∙ (λ i. overlaid (second i) (c.image_at.ensures i) (replicate (c.image_size.ensures.size i) 0)) in
     let fourth = (c.in_ok-store.ensures.stored k).now ∙ (λ i. overlaid (third i) (c.image_at-2.ensures i) (2 ∷ [])) in
-    subst (λ (l : List ℕ). IsLaid c.args.g.now l) (sym fourth) (laid_out c.args.g.now start c.requires.whole)
+    subst (λ (l : List ℕ). IsLaid c.args.g.now l) (sym fourth) (laid_out c.args.g.now start c.requires.long_enough)

@@ -28,7 +28,7 @@ returns-in_err-version-clause-refused g c =
     let image_as : image_fault c.in_ok-tree.tree.geometry (part_bytes (layout_of c.in_ok-tree.tree.geometry) (image c.in_ok-area.area) (g.D.Disk.medium c.named_area.new.disk).now)
     ≡ image_fault c.in_ok-g.g (part_bytes (layout_of c.in_ok-g.g) (image c.in_ok-area.area) now) =
     λ i. image_fault (c.in_ok-tree.ensures.geometry i) (part_bytes (layout_of (c.in_ok-tree.ensures.geometry i)) (image c.in_ok-area.area) (second i)) in
-    image_refused c.in_ok-g.g now (c.in_ok-g.ensures.header k) c.in_ok-g.ensures.whole c.in_ok-area.area names _
+    image_refused c.in_ok-g.g now (c.in_ok-g.ensures.header k) c.in_ok-g.ensures.long_enough c.in_ok-area.area names _
     (subst (λ (o : Option OpenFault). IsFaultOfBytes o c.in_err-version.field-0.0) image_as (c.in_err-version.ensures.refused k)))
 
 pub returns-in_err-chained-clause-refused : goal.returns-in_err-chained-clause-refused
@@ -46,7 +46,7 @@ returns-in_err-chained-clause-refused g c =
     let third = same_bytes (g.D.Disk.medium c.args.disk.now) (g.D.Disk.medium c.read_image.new.disk)
     (c.read_image.ensures.untouched k ∙ c.named_area.ensures.untouched k ∙ c.read_header.ensures.untouched k) in
     let good = sym image_as ∙ c.in_ok-version.ensures.sound k in
-    chain_refused c.in_ok-g.g now (c.in_ok-g.ensures.header k) c.in_ok-g.ensures.whole c.in_ok-area.area names good _
+    chain_refused c.in_ok-g.g now (c.in_ok-g.ensures.header k) c.in_ok-g.ensures.long_enough c.in_ok-area.area names good _
     (subst (λ (bytes : List ℕ). IsFaultOfBytes (fault_if (are_chained (layout_of c.in_ok-g.g) bytes) BadChain None) c.in_err-chained.field-0.0) third (c.in_err-chained.ensures.refused k)))
 
 pub replay_in_force-requires-clause-chained : goal.replay_in_force-requires-clause-chained
@@ -77,7 +77,7 @@ returns-in_err-records-clause-refused g c =
     let decoded : read c.in_ok-g.g (part_bytes (layout_of c.in_ok-g.g) (image c.in_ok-area.area) now) ≡ Some state =
     sym (λ i. read (c.in_ok-tree.ensures.geometry i) (part_bytes (layout_of (c.in_ok-tree.ensures.geometry i)) (image c.in_ok-area.area) (second i))) ∙ c.in_ok-version.ensures.read k in
     let one = sym (ap (λ (bytes : List ℕ). are_chained (layout_of c.in_ok-g.g) bytes) third) ∙ c.in_ok-chained.ensures.sound k in
-    records_refused c.in_ok-g.g now (c.in_ok-g.ensures.header k) c.in_ok-g.ensures.whole c.in_ok-area.area names good state decoded one _
+    records_refused c.in_ok-g.g now (c.in_ok-g.ensures.header k) c.in_ok-g.ensures.long_enough c.in_ok-area.area names good state decoded one _
     (subst (λ (o : Option OpenFault). IsFaultOfBytes o c.in_err-records.field-0.0) (λ i. in_force_fault (geometry i) state c.in_ok-area.area (fourth i)) (c.in_err-records.ensures.refused k)))
 
 pub returns-clause-loaded : goal.returns-clause-loaded
@@ -100,29 +100,29 @@ returns-clause-loaded g c = λ k.
     sym (λ i. read (c.in_ok-tree.ensures.geometry i) (part_bytes (layout_of (c.in_ok-tree.ensures.geometry i)) (image c.in_ok-area.area) (second i))) ∙ c.in_ok-version.ensures.read k in
     let one = sym (ap (λ (bytes : List ℕ). are_chained (layout_of c.in_ok-g.g) bytes) third) ∙ c.in_ok-chained.ensures.sound k in
     loaded (c.in_ok-records.ensures.geometry ∙ geometry) (c.in_ok-g.ensures.header k)
-    (not_refused c.in_ok-g.g now (c.in_ok-g.ensures.header k) c.in_ok-g.ensures.whole c.in_ok-area.area names good state decoded one
+    (not_refused c.in_ok-g.g now (c.in_ok-g.ensures.header k) c.in_ok-g.ensures.long_enough c.in_ok-area.area names good state decoded one
     (sym (λ i. in_force_fault (geometry i) state c.in_ok-area.area (fourth i)) ∙ c.in_ok-records.ensures.sound k))
     names
     (c.in_ok-version.ensures.version k ∙ (λ i. version_in (part_bytes (layout_of (c.in_ok-tree.ensures.geometry i)) (image c.in_ok-area.area) (second i))))
     (c.in_ok-records.ensures.count k ∙ (λ i. length (in_force (layout_of (geometry i)) c.in_ok-area.area (fourth i))))
-    (recovers_for c.in_ok-g.g now (c.in_ok-g.ensures.header k) c.in_ok-g.ensures.whole c.in_ok-area.area names good state decoded one (state_in c.replay_in_force.new.tree)
+    (recovers_for c.in_ok-g.g now (c.in_ok-g.ensures.header k) c.in_ok-g.ensures.long_enough c.in_ok-area.area names good state decoded one (state_in c.replay_in_force.new.tree)
     (sym (λ i. run (means (geometry i)) (Some state) (in_force (layout_of (geometry i)) c.in_ok-area.area (fourth i))) ∙ c.in_ok-records.ensures.done k))
 
 pub returns-in_err-tree-clause-memory : goal.returns-in_err-tree-clause-memory
 returns-in_err-tree-clause-memory g c =
-    behind_header _ g.D.Disk.keeps (g.D.Disk.medium c.args.disk.now).now (λ k. record { geometry = c.in_ok-g.g; header = c.in_ok-g.ensures.header k; parts = c.in_ok-g.ensures.whole })
+    behind_header _ g.D.Disk.keeps (g.D.Disk.medium c.args.disk.now).now (λ k. record { geometry = c.in_ok-g.g; header = c.in_ok-g.ensures.header k; parts = c.in_ok-g.ensures.long_enough })
 
 pub returns-in_err-version-clause-memory : goal.returns-in_err-version-clause-memory
 returns-in_err-version-clause-memory g c =
-    behind_header _ g.D.Disk.keeps (g.D.Disk.medium c.args.disk.now).now (λ k. record { geometry = c.in_ok-g.g; header = c.in_ok-g.ensures.header k; parts = c.in_ok-g.ensures.whole })
+    behind_header _ g.D.Disk.keeps (g.D.Disk.medium c.args.disk.now).now (λ k. record { geometry = c.in_ok-g.g; header = c.in_ok-g.ensures.header k; parts = c.in_ok-g.ensures.long_enough })
 
 pub returns-in_err-chained-clause-memory : goal.returns-in_err-chained-clause-memory
 returns-in_err-chained-clause-memory g c =
-    behind_header _ g.D.Disk.keeps (g.D.Disk.medium c.args.disk.now).now (λ k. record { geometry = c.in_ok-g.g; header = c.in_ok-g.ensures.header k; parts = c.in_ok-g.ensures.whole })
+    behind_header _ g.D.Disk.keeps (g.D.Disk.medium c.args.disk.now).now (λ k. record { geometry = c.in_ok-g.g; header = c.in_ok-g.ensures.header k; parts = c.in_ok-g.ensures.long_enough })
 
 pub returns-in_err-records-clause-memory : goal.returns-in_err-records-clause-memory
 returns-in_err-records-clause-memory g c =
-    behind_header _ g.D.Disk.keeps (g.D.Disk.medium c.args.disk.now).now (λ k. record { geometry = c.in_ok-g.g; header = c.in_ok-g.ensures.header k; parts = c.in_ok-g.ensures.whole })
+    behind_header _ g.D.Disk.keeps (g.D.Disk.medium c.args.disk.now).now (λ k. record { geometry = c.in_ok-g.g; header = c.in_ok-g.ensures.header k; parts = c.in_ok-g.ensures.long_enough })
 
 pub returns-in_err-g-clause-memory : goal.returns-in_err-g-clause-memory
 returns-in_err-g-clause-memory g c =

@@ -80,7 +80,7 @@ returns-clause-loaded g c = λ k.
     let log = ap (λ (l : Log). l.geometry) c.name.ensures ∙ ap (λ (l : Log). l.geometry) c.requires.log in
     record {
       header = c.requires.header k;
-      whole = c.requires.parts;
+      long_enough = c.requires.parts;
       named = c.in_ok-area.ensures.area k ∙ ap (λ (h : Geometry). named_area (layout_of h) now) c.geometry-g.ensures;
       chain = c.in_ok-chained.ensures.chained k ∙ (λ i. chain (layout_of (c.geometry-g.ensures i)) c.in_ok-area.area (second i) == 1);
       one = sym (λ i. are_chained (layout_of (c.geometry-g.ensures i)) (second i)) ∙ c.in_ok-chained.ensures.sound k;

@@ -17,7 +17,7 @@ read-requires g c =
       part_inside (layout_of c.args.g.now) (image c.args.number),
       image_sized (layout_of c.args.g.now) c.args.number c.requires.number,
       image_some c.args.g.now,
-      c.requires.whole,
+      c.requires.long_enough,
     )
 
 pub returns-then-not-has_head-clause-refused : goal.returns-then-not-has_head-clause-refused

@@ -38,7 +38,7 @@ returns-clause-written g c = λ k.
     let place : c.loop-i.at ≡ extent_at c.args.g.now c.args.n = c.loop-i.invariant ∙ ap (extent_at c.args.g.now) last in
     let count : c.loop-i.at + c.extent_size.result - c.loop-i.at ≡ extent_size c.args.g.now c.args.n = omega (arith, c.extent_size.ensures.size) in
     let old : List ℕ = image_in c.args.g.now c.args.area (g.D.Disk.medium c.args.disk.now) in
-    one_patched c.requires.n c.requires.size (image_long c.args.g.now c.args.area (g.D.Disk.medium c.args.disk.now) c.requires.area c.requires.whole) place
+    one_patched c.requires.n c.requires.size (image_long c.args.g.now c.args.area (g.D.Disk.medium c.args.disk.now) c.requires.area c.requires.long_enough) place
     (c.in_ok-write_run.ensures.written k ∙ ap (λ (m : ℕ). overlaid old c.loop-i.at (slice c.args.bytes.now c.loop-i.at m)) count)
 
 pub returns-in_err-write_run-clause-takes : goal.returns-in_err-write_run-clause-takes

@@ -60,7 +60,7 @@ loop-n-preserved g c =
             so_far = λ k.
                 along_patch w.from-is (ap (λ d. g.D.Disk.medium d) w.disk-is)
                 (patch_passed c.loop-n.n c.args.dirty.now (c.requires.clean k) few clean c.loop-n.invariant.place (omega (arith, c.extent_size.ensures.size))
-                (patched (c.loop-n.invariant.so_far k) (w.write_run.ensures.any_moment k) c.requires.area c.requires.size c.requires.whole
+                (patched (c.loop-n.invariant.so_far k) (w.write_run.ensures.any_moment k) c.requires.area c.requires.size c.requires.long_enough
                 c.loop-n.invariant.order (omega (arith, inside, c.loop-n.invariant.place)) (w.write_run.ensures.same k) (w.in_ok-write_run.ensures.written k)));
           }
       | else-not-is_dirty w ↦
@@ -100,9 +100,9 @@ pub returns-clause-written : goal.returns-clause-written
 returns-clause-written g c = λ k.
     let all : c.loop-n.n ≡ piece_count c.args.g.now = grind (arith, common_steps) in
     let end : c.loop-n.at ≡ image_size c.args.g.now = c.loop-n.invariant.place ∙ ap (extent_at c.args.g.now) all ∙ extent_end c.args.g.now in
-    patch_synced c.requires.area c.requires.size c.requires.whole
+    patch_synced c.requires.area c.requires.size c.requires.long_enough
     (along_patch (sym end) refl
-    (patched (c.loop-n.invariant.so_far k) (c.write_run-2.ensures.any_moment k) c.requires.area c.requires.size c.requires.whole
+    (patched (c.loop-n.invariant.so_far k) (c.write_run-2.ensures.any_moment k) c.requires.area c.requires.size c.requires.long_enough
     c.loop-n.invariant.order (omega (arith, end)) (c.write_run-2.ensures.same k) (c.in_ok-write_run-2.ensures.written k)))
     ((c.in_ok-sync_image.ensures.syncs k).ok)
 

@@ -39,7 +39,7 @@ pub returns-in_ok-write-clause-written : goal.returns-in_ok-write-clause-written
 returns-in_ok-write-clause-written g c = λ k.
     run_written c.args.g.now c.args.area c.requires.area c.image_at.ensures c.args.from _ (g.D.Disk.medium c.args.disk.now) (g.D.Disk.medium c.write.new.disk)
     (run_inside c.args.bytes.now c.args.from c.args.end _ c.requires.order c.requires.inside c.requires.size)
-    c.requires.whole (c.in_ok-write.ensures.written k)
+    c.requires.long_enough (c.in_ok-write.ensures.written k)
 
 pub returns-else-from-end-clause-any_moment : goal.returns-else-from-end-clause-any_moment
 returns-else-from-end-clause-any_moment g c = λ k. part_begun (layout_of c.args.g.now) (image c.args.area) _

@@ -129,7 +129,7 @@ replay_behind-requires-clause-loaded g c =
     are_loaded {p = c.args.parts.now} c.in_ok-named.ensures.log refl refl c.in_ok-named.ensures.whole c.in_ok-named.ensures.geometry
     (record { frozen = refl; named_dirty = refl; other_dirty = refl; due = refl })
     (record { frozen = taken.frozen; named_dirty = taken.named_dirty; other_dirty = taken.other_dirty; all = taken.all })
-    (omega (arith, c.requires.whole, c.load_named.ensures.call.1))
+    (omega (arith, c.requires.long_enough, c.load_named.ensures.call.1))
 
 pub returns-then-not-named-clause-loaded : goal.returns-then-not-named-clause-loaded
 returns-then-not-named-clause-loaded g c =
@@ -137,7 +137,7 @@ returns-then-not-named-clause-loaded g c =
     are_loaded {p = c.args.parts.now} c.in_ok-named.ensures.log refl refl c.in_ok-named.ensures.whole c.in_ok-named.ensures.geometry
     (record { frozen = refl; named_dirty = refl; other_dirty = refl; due = refl })
     (record { frozen = taken.frozen; named_dirty = taken.named_dirty; other_dirty = taken.other_dirty; all = taken.all })
-    (omega (arith, c.requires.whole, c.load_named.ensures.call.1))
+    (omega (arith, c.requires.long_enough, c.load_named.ensures.call.1))
 
 pub returns-then-not-named-clause-room : goal.returns-then-not-named-clause-room
 returns-then-not-named-clause-room g c = record { frozen = refl; named_dirty = refl; other_dirty = refl; due = refl }

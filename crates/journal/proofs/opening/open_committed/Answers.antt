@@ -53,7 +53,7 @@ returns-in_err-load_in_order-clause-any_moment g c = λ k.
     let t = c.in_ok-parts.parts.tree.geometry in
     let only = c.read_header.ensures.untouched k in
     let head = subst (λ (h : Geometry). HasHeader h w0.now) (sym c.in_ok-parts.ensures.geometry) (c.in_ok-g.ensures.header k) in
-    let fits = subst (λ (h : Geometry). device_size (layout_of h) ≤ length w0.now) (sym c.in_ok-parts.ensures.geometry) c.in_ok-g.ensures.whole in
+    let fits = subst (λ (h : Geometry). device_size (layout_of h) ≤ length w0.now) (sym c.in_ok-parts.ensures.geometry) c.in_ok-g.ensures.long_enough in
     as_alike t w0 w2 head fits (still_after t w0 w1 w2 (c.requires.calm k) only (c.load_in_order.ensures.any_moment k))
     (alike_after t w0 w1 w2 head (c.requires.calm k) only (c.load_in_order.ensures.alike k))
 
@@ -86,7 +86,7 @@ returns-in_err-last_point-clause-any_moment g c = λ k.
     let t = c.in_ok-parts.parts.tree.geometry in
     let only = c.read_header.ensures.untouched k in
     let head = subst (λ (h : Geometry). HasHeader h w0.now) (sym c.in_ok-parts.ensures.geometry) (c.in_ok-g.ensures.header k) in
-    let fits = subst (λ (h : Geometry). device_size (layout_of h) ≤ length w0.now) (sym c.in_ok-parts.ensures.geometry) c.in_ok-g.ensures.whole in
+    let fits = subst (λ (h : Geometry). device_size (layout_of h) ≤ length w0.now) (sym c.in_ok-parts.ensures.geometry) c.in_ok-g.ensures.long_enough in
     let w3 = g.D.Disk.medium c.last_point.new.disk in
     let fine = sym (ap (λ (l : List ℕ). refused t l) (same_bytes w0 w1 only)) ∙ c.in_ok-load_in_order.ensures.sound k in
     let later = subst (λ (h : Geometry). RecoversStill h w2 w3) c.in_ok-load_in_order.ensures.geometry (c.last_point.ensures.any_moment k) in
@@ -100,7 +100,7 @@ returns-clause-any_moment g c = λ k.
     let t = c.in_ok-parts.parts.tree.geometry in
     let only = c.read_header.ensures.untouched k in
     let head = subst (λ (h : Geometry). HasHeader h w0.now) (sym c.in_ok-parts.ensures.geometry) (c.in_ok-g.ensures.header k) in
-    let fits = subst (λ (h : Geometry). device_size (layout_of h) ≤ length w0.now) (sym c.in_ok-parts.ensures.geometry) c.in_ok-g.ensures.whole in
+    let fits = subst (λ (h : Geometry). device_size (layout_of h) ≤ length w0.now) (sym c.in_ok-parts.ensures.geometry) c.in_ok-g.ensures.long_enough in
     let w3 = g.D.Disk.medium c.last_point.new.disk in
     let fine = sym (ap (λ (l : List ℕ). refused t l) (same_bytes w0 w1 only)) ∙ c.in_ok-load_in_order.ensures.sound k in
     let later = subst (λ (h : Geometry). RecoversStill h w2 w3) c.in_ok-load_in_order.ensures.geometry (c.last_point.ensures.any_moment k) in
@@ -142,15 +142,15 @@ returns-in_err-g-clause-memory g c =
 
 pub returns-in_err-parts-clause-memory : goal.returns-in_err-parts-clause-memory
 returns-in_err-parts-clause-memory g c =
-    behind_header _ g.D.Disk.keeps (g.D.Disk.medium c.args.disk.now).now (λ k. record { geometry = c.in_ok-g.g; header = c.in_ok-g.ensures.header k; parts = c.in_ok-g.ensures.whole })
+    behind_header _ g.D.Disk.keeps (g.D.Disk.medium c.args.disk.now).now (λ k. record { geometry = c.in_ok-g.g; header = c.in_ok-g.ensures.header k; parts = c.in_ok-g.ensures.long_enough })
 
 pub returns-in_err-load_in_order-clause-memory : goal.returns-in_err-load_in_order-clause-memory
 returns-in_err-load_in_order-clause-memory g c =
-    behind_header _ g.D.Disk.keeps (g.D.Disk.medium c.args.disk.now).now (λ k. record { geometry = c.in_ok-g.g; header = c.in_ok-g.ensures.header k; parts = c.in_ok-g.ensures.whole })
+    behind_header _ g.D.Disk.keeps (g.D.Disk.medium c.args.disk.now).now (λ k. record { geometry = c.in_ok-g.g; header = c.in_ok-g.ensures.header k; parts = c.in_ok-g.ensures.long_enough })
 
 pub returns-in_err-last_point-clause-memory : goal.returns-in_err-last_point-clause-memory
 returns-in_err-last_point-clause-memory g c =
-    behind_header _ g.D.Disk.keeps (g.D.Disk.medium c.args.disk.now).now (λ k. record { geometry = c.in_ok-g.g; header = c.in_ok-g.ensures.header k; parts = c.in_ok-g.ensures.whole })
+    behind_header _ g.D.Disk.keeps (g.D.Disk.medium c.args.disk.now).now (λ k. record { geometry = c.in_ok-g.g; header = c.in_ok-g.ensures.header k; parts = c.in_ok-g.ensures.long_enough })
 
 pub returns-in_err-g-clause-synced : goal.returns-in_err-g-clause-synced
 returns-in_err-g-clause-synced g c =

@@ -132,7 +132,7 @@ returns-clause-loaded g c =
     are_loaded {p = c.args.parts.now} log before.fine refl c.in_ok-replay.ensures.whole geometry
     (record { frozen = room.frozen; named_dirty = room.named_dirty; other_dirty = room.other_dirty; due = room.due })
     (record { frozen = before.frozen; named_dirty = before.named_dirty; other_dirty = before.other_dirty; all = before.all })
-    (omega (arith, before.whole, c.finish_cut.ensures.call.1, c.replay.ensures.call.1))
+    (omega (arith, before.long_enough, c.finish_cut.ensures.call.1, c.replay.ensures.call.1))
 
 pub returns-clause-room : goal.returns-clause-room
 returns-clause-room g c =

@@ -48,14 +48,14 @@ returns-clause-begun g c = λ k.
     let are = g.met.D.Disk.bytes c.clear_other.new.disk in
     record {
       at = record {
-        recovers = begun_recovers geometry named _ is_area w0 w1 w2 recovers clears cleared chains are c.requires.whole chained;
-        ready = begun_ready geometry named _ is_area w0 w1 w2 recovers clears cleared chains are c.requires.whole chained;
+        recovers = begun_recovers geometry named _ is_area w0 w1 w2 recovers clears cleared chains are c.requires.long_enough chained;
+        ready = begun_ready geometry named _ is_area w0 w1 w2 recovers clears cleared chains are c.requires.long_enough chained;
         calm = chained.calm;
       };
-      none = begun_none geometry named _ is_area w0 w1 w2 recovers clears cleared chains are c.requires.whole chained;
-      forced = begun_forced geometry named _ is_area w0 w1 w2 recovers clears cleared chains are c.requires.whole chained
+      none = begun_none geometry named _ is_area w0 w1 w2 recovers clears cleared chains are c.requires.long_enough chained;
+      forced = begun_forced geometry named _ is_area w0 w1 w2 recovers clears cleared chains are c.requires.long_enough chained
           (g.met.D.Disk.bytes c.args.disk.now) (g.met.D.Disk.bytes c.open_chain.new.disk);
-      images = begun_images geometry named _ is_area w0 w1 w2 recovers clears cleared chains are c.requires.whole chained;
+      images = begun_images geometry named _ is_area w0 w1 w2 recovers clears cleared chains are c.requires.long_enough chained;
     }
 
 pub returns-in_err-clear_other-clause-beyond : goal.returns-in_err-clear_other-clause-beyond

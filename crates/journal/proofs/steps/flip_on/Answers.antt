@@ -60,7 +60,7 @@ returns-clause-flipped g c = λ k.
       at = record {
         recovers = named_recovers geometry named c.args.halves.now.used _ c.args.bytes.now w0 written.by.recovers is_area written.by.some written.is written.behind w2 are flipped;
         ready = named_ready geometry named c.args.halves.now.used _ c.args.bytes.now w0 written.by.recovers is_area written.by.some written.is
-            written.behind w2 are flipped c.requires.whole written.ready;
+            written.behind w2 are flipped c.requires.long_enough written.ready;
         calm = flipped.calm;
       };
       before = named_before geometry named c.args.halves.now.used _ c.args.bytes.now w0 written.by.recovers is_area written.by.some written.is written.behind w2 are flipped;

@@ -79,13 +79,13 @@ returns-clause-pointed g c = λ k.
     let are = g.met.D.Disk.bytes c.write_image.new.disk in
     record {
       at = record {
-        recovers = now_recovers geometry named _ is_area w0 w1 recovers clears w2 writes some c.args.bytes.now (c.requires.image k) cleared imaged w3 are c.requires.whole flipped;
-        ready = now_ready geometry named _ is_area w0 w1 recovers clears w2 writes some c.args.bytes.now (c.requires.image k) cleared imaged w3 are c.requires.whole flipped;
+        recovers = now_recovers geometry named _ is_area w0 w1 recovers clears w2 writes some c.args.bytes.now (c.requires.image k) cleared imaged w3 are c.requires.long_enough flipped;
+        ready = now_ready geometry named _ is_area w0 w1 recovers clears w2 writes some c.args.bytes.now (c.requires.image k) cleared imaged w3 are c.requires.long_enough flipped;
         calm = flipped.calm;
       };
-      emptied = now_emptied geometry named _ is_area w0 w1 recovers clears w2 writes some c.args.bytes.now (c.requires.image k) cleared imaged w3 are c.requires.whole flipped;
-      is = now_is geometry named _ is_area w0 w1 recovers clears w2 writes some c.args.bytes.now (c.requires.image k) cleared imaged w3 are c.requires.whole flipped;
-      kept = now_kept geometry named _ is_area w0 w1 recovers clears w2 writes some c.args.bytes.now (c.requires.image k) cleared imaged w3 are c.requires.whole flipped;
+      emptied = now_emptied geometry named _ is_area w0 w1 recovers clears w2 writes some c.args.bytes.now (c.requires.image k) cleared imaged w3 are c.requires.long_enough flipped;
+      is = now_is geometry named _ is_area w0 w1 recovers clears w2 writes some c.args.bytes.now (c.requires.image k) cleared imaged w3 are c.requires.long_enough flipped;
+      kept = now_kept geometry named _ is_area w0 w1 recovers clears w2 writes some c.args.bytes.now (c.requires.image k) cleared imaged w3 are c.requires.long_enough flipped;
     }
 
 pub returns-in_err-clear_other-clause-beyond : goal.returns-in_err-clear_other-clause-beyond

@@ -15,7 +15,7 @@ stage-requires-clause-fit g c = λ k d within. in_range_has_room c.args.self.geo
 pub returns-in_err-store-clause-any_moment : goal.returns-in_err-store-clause-any_moment
 returns-in_err-store-clause-any_moment g c = λ k.
     bodies_moments (layout_of c.args.self.geometry) c.args.self.number c.args.used (records_of c.args.messages.now) c.args.self.number_range c.stage.ensures.sizes
-    (omega (arith, length-map c.args.messages.now record_of)) _ _ c.requires.whole (g.met.D.Disk.bytes c.args.disk.now) (c.requires.ready k) _ _
+    (omega (arith, length-map c.args.messages.now record_of)) _ _ c.requires.long_enough (g.met.D.Disk.bytes c.args.disk.now) (c.requires.ready k) _ _
     (omega (arith, c.record_at.ensures)) (ap (λ (l : List ℕ). take (length c.args.messages.now * 520) l) c.as_slice.ensures.value
     ∙ c.stage.ensures.staged)
     (c.store.ensures.any_moment k)
@@ -23,7 +23,7 @@ returns-in_err-store-clause-any_moment g c = λ k.
 pub returns-clause-any_moment : goal.returns-clause-any_moment
 returns-clause-any_moment g c = λ k.
     gates_moments (layout_of c.args.self.geometry) c.args.self.number c.args.used (records_of c.args.messages.now) c.args.self.number_range c.stage.ensures.sizes
-    (omega (arith, length-map c.args.messages.now record_of)) _ _ c.requires.whole (g.met.D.Disk.bytes c.args.disk.now) (c.requires.ready k) _ _
+    (omega (arith, length-map c.args.messages.now record_of)) _ _ c.requires.long_enough (g.met.D.Disk.bytes c.args.disk.now) (c.requires.ready k) _ _
     (omega (arith, c.record_at.ensures)) (ap (λ (l : List ℕ). take (length c.args.messages.now * 520) l) c.as_slice.ensures.value
     ∙ c.stage.ensures.staged)
     (c.in_ok-store.ensures.stored k) _ _ (sym (length-map c.args.messages.now record_of)) (c.in_ok-store.ensures.any_moment k) (c.open_gates.ensures.any_moment k)
@@ -33,7 +33,7 @@ returns-clause-added g c =
     on_ok_weaker c.open_gates.result
     (λ opened k.
     batch_added (layout_of c.args.self.geometry) c.args.self.number c.args.used (records_of c.args.messages.now) c.args.self.number_range c.stage.ensures.sizes
-    (omega (arith, length-map c.args.messages.now record_of)) _ _ c.requires.whole (g.met.D.Disk.bytes c.args.disk.now) (c.requires.ready k) _ _
+    (omega (arith, length-map c.args.messages.now record_of)) _ _ c.requires.long_enough (g.met.D.Disk.bytes c.args.disk.now) (c.requires.ready k) _ _
     (omega (arith, c.record_at.ensures)) (ap (λ (l : List ℕ). take (length c.args.messages.now * 520) l) c.as_slice.ensures.value
     ∙ c.stage.ensures.staged)
     (c.in_ok-store.ensures.stored k) _ _ (sym (length-map c.args.messages.now record_of)) (opened k))

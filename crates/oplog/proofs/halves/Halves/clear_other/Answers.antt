@@ -38,7 +38,7 @@ returns-clause-cleared g c = λ k.
     let w1 = g.D.Disk.medium c.clear.new.disk in
     let l = layout_of c.self.inside.geometry in
     let h = other c.self.inside.named in
-    let whole = subst (λ (log : Log). HasParts log w0) (sym c.self.view_is) c.requires.whole in
+    let whole = subst (λ (log : Log). HasParts log w0) (sym c.self.view_is) c.requires.long_enough in
     subst (λ (log : Log). HasCleared log w0 w1) c.self.view_is
     (cleared l h (part_at l (half h)) (replicate (64 + l.slots) 0) (omega arith) refl refl _ _ whole
     (on_ok c.clear.result _ (sym c.is_err.ensures.value ∙ c.if-is_err.false) c.clear.ensures.cleared k))

@@ -25,7 +25,7 @@ returns-clause-any_moment g c = λ k.
 
 pub returns-clause-chained : goal.returns-clause-chained
 returns-clause-chained g c = λ k.
-    let whole = subst (λ (log : Log). HasParts log (g.D.Disk.medium c.args.disk.now)) (sym c.self.view_is) c.requires.whole in
+    let whole = subst (λ (log : Log). HasParts log (g.D.Disk.medium c.args.disk.now)) (sym c.self.view_is) c.requires.long_enough in
     subst (λ (log : Log). HasChained log (g.D.Disk.medium c.args.disk.now) (g.D.Disk.medium c.store.new.disk)) c.self.view_is
     (chained (layout_of c.self.inside.geometry) c.self.inside.named c.start.result c.self.invariant.0 (at_half _ _ _ _ c.start.ensures (omega (arith, c.self.invariant.0))) _ _ whole
     (on_ok c.store.result _ (sym c.is_err.ensures.value ∙ c.if-is_err.false) c.store.ensures.stored k))
