@@ -151,7 +151,7 @@ fn write_parts(line: &[u8]) -> Option<([u16; 4], &[u8])>
 }
 
 /// Decodes digits into a buffer of one block, and fills the rest with zeros.
-fn read_bytes(digits: &[u8], out: &mut [u8; 512]) -> Option<()>
+fn decode_bytes(digits: &[u8], out: &mut [u8; 512]) -> Option<()>
     ensures { MatchOption result (bytes_in_word 512 digits.now ≡ None)
         (λ _. bytes_in_word 512 digits.now ≡ Some out.new) }
 {
@@ -165,9 +165,9 @@ fn read_bytes(digits: &[u8], out: &mut [u8; 512]) -> Option<()>
 }
 
 /// Decodes digits into a block, in place, without a copy. Where they encode none, `content` is unspecified afterwards.
-pub fn read_block(digits: &[u8], content: &mut Block) -> Option<()>
+pub fn decode_block(digits: &[u8], content: &mut Block) -> Option<()>
     ensures { MatchOption result (block_in_word digits.now ≡ None)
         (λ _. block_in_word digits.now ≡ Some content.new) }
 {
-    read_bytes(digits, &mut content.0)
+    decode_bytes(digits, &mut content.0)
 }

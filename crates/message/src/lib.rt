@@ -12,7 +12,7 @@ mod records;
 mod reply_buffer;
 
 pub use carried::{know_block, know_message};
-pub use heads::{Head, head_of_line, read_block};
+pub use heads::{Head, decode_block, head_of_line};
 pub use lent_reader::{LentReader, Loan};
 pub use messages::{Block, Msg, Refusal, Reply};
 pub use parsing::parse_line;

@@ -20,8 +20,8 @@ use crate::PlainFault;
 use crate::server::Server;
 use affinity::{Geometry, Kind, changing};
 use message::{
-    Found, Head, LentReader, LineReader, Loan, ReplyBuffer, WriteFault, head_of_line, parse_line,
-    read_block,
+    Found, Head, LentReader, LineReader, Loan, ReplyBuffer, WriteFault, decode_block, head_of_line,
+    parse_line,
 };
 use messages::{Block, Msg, Refusal, Reply};
 use std::alloc::{AllocError, Global};
@@ -165,7 +165,7 @@ fn answer_write(
     ensures out_of_memory { OnErr result (out.new ≡ out.old) }
 {
     let mut content = Block([0; 512]);
-    if read_block(digits, &mut content).is_none() {
+    if decode_block(digits, &mut content).is_none() {
         out.add_no_message();
         return Ok(());
     }

@@ -9,7 +9,7 @@ use crate::Core;
 use affinity::Kind;
 use disk::Disk;
 use legal_runs::ArriveRefusal;
-use message::{Head, head_of_line, parse_line, read_block};
+use message::{Head, decode_block, head_of_line, parse_line};
 use messages::{Block, Msg};
 
 /// The message of a kind without data and its numbers. It is built in place: no 512-byte block is copied.
@@ -64,7 +64,7 @@ impl<D: Disk> Core<D> {
             }
             Head::Writes(numbers, digits) => {
                 let mut content = Block([0; 512]);
-                let is_block = read_block(digits, &mut content).is_some();
+                let is_block = decode_block(digits, &mut content).is_some();
                 if !is_block {
                     return Ok(None);
                 }

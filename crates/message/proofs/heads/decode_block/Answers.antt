@@ -3,7 +3,7 @@ use Rattle.std.proofs.Common.{◌≡◌, ℕ, List, Option, Some, None}
 use Rattle.std.specs.Prelude.{MatchOption}
 use Rattle.messages.specs.Lines.{block_in_word, bytes_in_word}
 use Rattle.message.proofs.Blocks.{bytes_block, no_block}
-use Rattle.message.proofs.heads.read_block.Goals as goal
+use Rattle.message.proofs.heads.decode_block.Goals as goal
 
 -- what is shown of the bytes is shown of the block
 told : (r : Option (Unit {0})) (digits out : List ℕ) → MatchOption r (bytes_in_word 512 digits ≡ None) (λ _. bytes_in_word 512 digits ≡ Some out)
@@ -12,4 +12,4 @@ told (Some u) digits out h = bytes_block digits (record { 0 = out }) h
 told None digits out h = no_block digits h
 
 pub returns : goal.returns
-returns c = told c.read_bytes.result c.args.digits.now c.read_bytes.new.out c.read_bytes.ensures
+returns c = told c.decode_bytes.result c.args.digits.now c.decode_bytes.new.out c.decode_bytes.ensures

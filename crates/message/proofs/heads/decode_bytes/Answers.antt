@@ -1,7 +1,7 @@
 -- Pairs of digits, one to 512 of them, are decoded to the front of the zeros; all else spells no bytes.
 use Rattle.std.proofs.Common.{sym, refl, arith, inl, inr}
 use Rattle.message.proofs.Blocks.{no_bytes, bytes_decoded, bytes_not_decoded}
-use Rattle.message.proofs.heads.read_bytes.Goals as goal
+use Rattle.message.proofs.heads.decode_bytes.Goals as goal
 
 pub returns-then-size-eq0 : goal.returns-then-size-eq0
 returns-then-size-eq0 c = no_bytes 512 c.args.digits.now (λ bytes h.
