@@ -11,5 +11,5 @@ mod Nearby
 mod Clearing
 mod Earliest
 mod Ready
-mod Blocks
+mod Chunks
 mod Turning

@@ -48,6 +48,6 @@ earliest_from p ready_table from zero best = best
 earliest_from p ready_table from (suc n) best =
     earlier (earliest_from p ready_table from n best) (if_passes p (ready_in ready_table (from + n)))
 
--- None of the sixteen numbers of a block has a rank that is less than the one of the block.
+-- None of the sixteen numbers of a chunk has a rank that is less than the one of the chunk.
 abbrev pub AreLeast : List (Option QueuedMessage) → List ℕ → Type 0
-AreLeast ready_table least = (block i : ℕ) → i < 16 → get_or least block 0 ≤ rank_of (ready_in ready_table (16 * block + i))
+AreLeast ready_table least = (chunk i : ℕ) → i < 16 → get_or least chunk 0 ≤ rank_of (ready_in ready_table (16 * chunk + i))

@@ -5,7 +5,7 @@ ghost use Rattle.run_queue.specs.Order.{is_earlier, earlier};
 ghost use Rattle.run_queue.specs.ReadyTable.{earliest_from, if_passes, ready_in};
 
 use crate::QueuedMessage;
-use crate::ready_table::{BLOCK, ReadyTable};
+use crate::ready_table::{CHUNK, ReadyTable};
 
 // Whether there is room for it.
 fn has_room(room: bool, queued: &QueuedMessage) -> bool
@@ -40,14 +40,14 @@ fn better(room: bool, ready_table: &ReadyTable, best: usize, number: usize) -> u
     }
 }
 
-/// The number of the earliest of these ready messages: the best so far, and those in a block for which there is room.
-pub(crate) fn best_in(room: bool, ready_table: &ReadyTable, best: usize, block: usize) -> usize
-    requires { block ≤ 4096 }
+/// The number of the earliest of these ready messages: the best so far, and those in a chunk for which there is room.
+pub(crate) fn best_in(room: bool, ready_table: &ReadyTable, best: usize, chunk: usize) -> usize
+    requires { chunk ≤ 4096 }
     ensures { ready_in ready_table.now result
-        ≡ earliest_from (has_room room) ready_table.now (16 * block) 16 (ready_in ready_table.now best) }
+        ≡ earliest_from (has_room room) ready_table.now (16 * chunk) 16 (ready_in ready_table.now best) }
 {
     let mut found = best;
-    for number in block * BLOCK..(block + 1) * BLOCK {
+    for number in chunk * CHUNK..(chunk + 1) * CHUNK {
         if ready_table.rank(number) <= ready_table.bound(found) {
             found = better(room, ready_table, found, number);
         }

@@ -6,8 +6,8 @@ use crate::QueuedMessage;
 use std::alloc::{AllocError, Global};
 use std::marker::Model;
 
-/// How many numbers there are in a block.
-pub(crate) const BLOCK: usize = 16;
+/// How many numbers there are in a chunk.
+pub(crate) const CHUNK: usize = 16;
 
 /// The last rank that a ready message may have. The greatest `u64` means that none is ready.
 const LAST_RANK: u64 = u64::MAX - 1;
@@ -15,14 +15,14 @@ const LAST_RANK: u64 = u64::MAX - 1;
 /// For each number of an affinity the first message that waits there, if it is conflict-free: its ready flag is set then.
 ///
 /// `next` is called often and looks for the earliest ready message. So each has a rank, which is its ticket, and the
-/// least rank of each block of numbers is kept: most blocks are passed by it alone.
+/// least rank of each chunk of numbers is kept: most chunks are passed by it alone.
 ///
 /// All memory is taken by `new`.
 #[derive(Drop)]
 pub(crate) struct ReadyTable {
     ready: Vec<Option<QueuedMessage>>, // by number
     ranks: Vec<u64>, // by number
-    least: Vec<u64>, // by block
+    least: Vec<u64>, // by chunk
 }
 
 impl Model for ReadyTable {
@@ -49,7 +49,7 @@ impl ReadyTable {
             ready.push_reserved(None);
         }
         let ranks = vec![in alloc; u64::MAX; numbers]?;
-        let least = vec![in alloc; u64::MAX; numbers / BLOCK + 1]?;
+        let least = vec![in alloc; u64::MAX; numbers / CHUNK + 1]?;
         Ok(ReadyTable {
             ready,
             ranks,
@@ -89,11 +89,11 @@ impl ReadyTable {
         self.rank(number).min(LAST_RANK)
     }
 
-    /// The least rank in a block: no ready message there has a lower one.
-    pub(crate) fn least(&self, block: usize) -> u64
-        ensures { (i : ℕ) → i < 16 → result ≤ rank_of (ready_in self.now (16 * block + i)) }
+    /// The least rank in a chunk: no ready message there has a lower one.
+    pub(crate) fn least(&self, chunk: usize) -> u64
+        ensures { (i : ℕ) → i < 16 → result ≤ rank_of (ready_in self.now (16 * chunk + i)) }
     {
-        match self.least.get(block) {
+        match self.least.get(chunk) {
             Some(least) => *least,
             None => 0,
         }
@@ -109,8 +109,8 @@ impl ReadyTable {
         self.ready[number] = ready;
         self.ranks[number] = rank;
         if rank != was {
-            let block = number / BLOCK;
-            self.least[block] = least_from(&self.ranks, block * BLOCK);
+            let chunk = number / CHUNK;
+            self.least[chunk] = least_from(&self.ranks, chunk * CHUNK);
         }
     }
 }
@@ -125,13 +125,13 @@ fn rank_of(ready: &Option<QueuedMessage>) -> u64
     }
 }
 
-// The least of the ranks in a block, which begins at this number.
+// The least of the ranks in a chunk, which begins at this number.
 fn least_from(ranks: &[u64], from: usize) -> u64
     requires { from ≤ 65536 }
     ensures { (i : ℕ) → i < 16 → result ≤ get_or ranks.now (from + i) 18446744073709551615 }
 {
     let mut least = u64::MAX;
-    for number in from..ranks.len().min(from + BLOCK) {
+    for number in from..ranks.len().min(from + CHUNK) {
         least = least.min(ranks[number]);
     }
     least

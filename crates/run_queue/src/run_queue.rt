@@ -7,7 +7,7 @@ ghost use Rattle.run_queue.specs.RunQueue.{next_queued, has_slot, has_number, wi
 use crate::QueuedMessage;
 use crate::candidates::best_in;
 use crate::holders::Holders;
-use crate::ready_table::{BLOCK, ReadyTable};
+use crate::ready_table::{CHUNK, ReadyTable};
 use crate::update_ready::{update_ready, update_ready_near};
 use crate::waiting::Queues;
 use affinity::{Affinity, Geometry, Place};
@@ -46,12 +46,12 @@ impl Model for RunQueue {
     ghost invariant = { λ t. QueueInvariant t.geometry t.slots t.waiting t.held t.ready_table };
 }
 
-/// How many blocks of ready flags hold those of a geometry's affinities.
-fn blocks_of(g: &Geometry) -> usize
+/// How many chunks of ready flags hold those of a geometry's affinities.
+fn chunks_of(g: &Geometry) -> usize
     ensures few { result ≤ 4097 }
     ensures all { server_size g.now ≤ 16 * result }
 {
-    usize::from(Affinity::at(g, Place::Serial).end()) / BLOCK + 1
+    usize::from(Affinity::at(g, Place::Serial).end()) / CHUNK + 1
 }
 
 impl RunQueue {
@@ -76,7 +76,7 @@ impl RunQueue {
     }
 
     /// Goes over to another geometry, while no message waits or is held. Takes no memory.
-    pub fn begin(&mut self, geometry: &Geometry)
+    pub fn set_geometry(&mut self, geometry: &Geometry)
         requires none_waits { self.old.waiting ≡ [] }
         requires none_held { self.old.held ≡ [] }
         ensures { self.new ≡ queue_at_start geometry.now self.old.slots }
@@ -90,10 +90,10 @@ impl RunQueue {
         ensures { result ≡ next_queued room self.now.held self.now.waiting }
     {
         let mut best = self.ready_table.len(); // none is ready there
-        for block in 0..blocks_of(&self.geometry) {
+        for chunk in 0..chunks_of(&self.geometry) {
             // Most are passed by their least ranks alone.
-            if self.ready_table.least(block) <= self.ready_table.bound(best) {
-                best = best_in(room, &self.ready_table, best, block);
+            if self.ready_table.least(chunk) <= self.ready_table.bound(best) {
+                best = best_in(room, &self.ready_table, best, chunk);
             }
         }
         self.ready_table.at(best).copied()
@@ -131,7 +131,7 @@ impl RunQueue {
     }
 
     /// Dispatches the message that `next` gave: it waits no longer, and is held. All others stay.
-    pub fn go(&mut self, queued: QueuedMessage)
+    pub fn dispatch(&mut self, queued: QueuedMessage)
         requires { IsNext self.old queued }
         ensures waiting { self.new ≡
             record self.old { waiting = without_slot queued.slot self.old.waiting; held = self.new.held } }

@@ -163,7 +163,7 @@ impl<D: Disk> Core<D> {
             mut queue,
             batch,
         } = memory;
-        queue.begin(&journal.geometry());
+        queue.set_geometry(&journal.geometry());
         Ok(Core {
             slots,
             replies,
@@ -241,7 +241,7 @@ impl<D: Disk> Core<D> {
             unreachable!()
         };
         let g = self.journal.geometry();
-        self.queue.go(queued);
+        self.queue.dispatch(queued);
         self.slots.move_to(number, OUT);
         self.unlogged += more;
         Granted::Job(Job::new(g, ticket, message, standing, parcels))

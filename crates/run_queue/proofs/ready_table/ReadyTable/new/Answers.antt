@@ -3,7 +3,7 @@ use Rattle.std.proofs.Common.{◌≡◌, ◌∙◌, ◌+◌, ◌/◌, ℕ, zero,
 use Rattle.std.proofs.lemmas.List.{length-replicate}
 use Rattle.run_queue.specs.ReadyTable.{AreLeast, rank_of}
 use Rattle.run_queue.specs.declared.queued_message.QueuedMessage.{QueuedMessage}
-use Rattle.run_queue.proofs.Blocks.{none-least}
+use Rattle.run_queue.proofs.Chunks.{none-least}
 use Rattle.run_queue.proofs.ready_table.ReadyTable.new.Goals as goal
 
 no_ranks : (n : ℕ) → replicate n 18446744073709551615 ≡ map rank_of (replicate {A = Option QueuedMessage} n None)

@@ -1,4 +1,4 @@
--- The rank of what is ready is at its number, and the least one of its block is known.
+-- The rank of what is ready is at its number, and the least one of its chunk is known.
 use Rattle.std.proofs.Common.{◌≡◌, ◌∙◌, ℕ, ◌+◌, ◌*◌, ◌/◌, ◌<◌, List, length, get_or, map, Option, None, ap, sym, subst, arith}
 use Rattle.std.specs.Prelude.{slice_set}
 use Rattle.std.proofs.Math.ListN.{get_or-map}
@@ -6,7 +6,7 @@ use Rattle.std.proofs.Math.Nat.{lt-mul-div-succ, mul-div-le}
 use Rattle.std.proofs.lemmas.List.{length-set, map-set}
 use Rattle.run_queue.specs.ReadyTable.{ready_in, rank_of}
 use Rattle.run_queue.specs.declared.queued_message.QueuedMessage.{QueuedMessage}
-use Rattle.run_queue.proofs.Blocks.{least-found, least-kept}
+use Rattle.run_queue.proofs.Chunks.{least-found, least-kept}
 use Rattle.run_queue.proofs.ready_table.ReadyTable.set.Goals as goal
 
 ranks_set : (ready_table : List (Option QueuedMessage)) (ranks : List ℕ) (n rank : ℕ) (o : Option QueuedMessage) → ranks ≡ map rank_of ready_table → rank ≡ rank_of o
@@ -25,7 +25,7 @@ invariant_of-self c =
     let o = c.args.ready in
     let are = ranks_set ready_table c.self.inside.ranks.items n c.rank_of-rank.result o c.self.invariant.0 c.rank_of-rank.ensures in
     let many = length-set ready_table n o in
-    let blocks = length-set least (n / 16) c.least_from.result in
+    let chunks = length-set least (n / 16) c.least_from.result in
     let few = c.self.invariant.2 in
     let all = c.self.invariant.3 in
     let within = subst (λ (now : List (Option QueuedMessage)). n < length now) (sym c.self.view_is) c.requires in
@@ -40,7 +40,7 @@ invariant_of-self c =
           ∙ rank-at (slice_set ready_table n o) _ (16 * (n / 16) + i) are in
           omega (arith, low, rank)),
       omega (arith, many, few),
-      blocks ∙ all ∙ ap (λ k. k / 16 + 1) (sym many),
+      chunks ∙ all ∙ ap (λ k. k / 16 + 1) (sym many),
     )
 
 pub invariant_of-self-else-rank-was : goal.invariant_of-self-else-rank-was

@@ -1,34 +1,34 @@
--- Each block was looked at, or none in it is before the best one.
+-- Each chunk was looked at, or none in it is before the best one.
 use Rattle.std.proofs.Common.{◌≡◌, ◌∙◌, ◌+◌, ◌*◌, sym, ap, arith, Option}
 use Rattle.run_queue.specs.RunQueue.{RunQueueView, has_room, next_queued}
 use Rattle.run_queue.specs.ReadyTable.{earliest_from, ready_in}
 use Rattle.run_queue.specs.declared.queued_message.QueuedMessage.{QueuedMessage}
-use Rattle.run_queue.proofs.Blocks.{below-from}
+use Rattle.run_queue.proofs.Chunks.{below-from}
 use Rattle.run_queue.proofs.Earliest.{first_below, below-start, below-all, all-passed}
 use Rattle.run_queue.proofs.Ready.{past-ready_table}
 use Rattle.run_queue.proofs.run_queue.RunQueue.next.Goals.{then-least-bound, else-least-bound}
 use Rattle.run_queue.proofs.run_queue.RunQueue.next.Goals as goal
 
-pub loop-block-init : goal.loop-block-init
-loop-block-init c =
+pub loop-chunk-init : goal.loop-chunk-init
+loop-chunk-init c =
     past-ready_table c.self.inside.ready_table c.len-best.result (omega arith)
     ∙ below-start c.self.inside.geometry c.args.room c.self.inside.held.messages c.self.inside.waiting.messages c.self.invariant.rows.waiting_placed c.self.invariant.rows.ascends
 
-pub loop-block-preserved : goal.loop-block-preserved
-loop-block-preserved c =
+pub loop-chunk-preserved : goal.loop-chunk-preserved
+loop-chunk-preserved c =
     let room = c.args.room in
     let held = c.self.inside.held.messages in
     let waiting = c.self.inside.waiting.messages in
     let ready_table = c.self.inside.ready_table in
-    let from = 16 * c.loop-block.block in
-    let next : from + 16 ≡ 16 * (c.loop-block.block + 1) = omega arith in
-    let step : earliest_from (has_room room) ready_table from 16 (ready_in ready_table c.loop-block.best) ≡ first_below room held waiting (16 * (c.loop-block.block + 1)) =
-    ap (λ (o : Option QueuedMessage). earliest_from (has_room room) ready_table from 16 o) c.loop-block.invariant
+    let from = 16 * c.loop-chunk.chunk in
+    let next : from + 16 ≡ 16 * (c.loop-chunk.chunk + 1) = omega arith in
+    let step : earliest_from (has_room room) ready_table from 16 (ready_in ready_table c.loop-chunk.best) ≡ first_below room held waiting (16 * (c.loop-chunk.chunk + 1)) =
+    ap (λ (o : Option QueuedMessage). earliest_from (has_room room) ready_table from 16 o) c.loop-chunk.invariant
     ∙ below-from c.self.inside.geometry room held waiting c.self.invariant.rows.waiting_placed c.self.invariant.rows.ascends ready_table c.self.invariant.right.right from 16
     ∙ ap (λ n. first_below room held waiting n) next in
     elim c.if-least-bound.branch [
       | then-least-bound w ↦ ap (λ i. ready_in ready_table i) w.best-is ∙ w.best_in-best.ensures ∙ step
-      | else-least-bound w ↦ ap (λ i. ready_in ready_table i) w.best-is ∙ sym (all-passed (has_room room) ready_table from 16 (ready_in ready_table c.loop-block.best)
+      | else-least-bound w ↦ ap (λ i. ready_in ready_table i) w.best-is ∙ sym (all-passed (has_room room) ready_table from 16 (ready_in ready_table c.loop-chunk.best)
           (λ i below. let low = c.least.ensures i below in omega (arith, low, w.if-least-bound.false, c.bound.ensures))) ∙ step
     ]
 
@@ -39,7 +39,7 @@ returns c =
     let waiting = c.self.inside.waiting.messages in
     c.copied.ensures
     ∙ c.at.ensures
-    ∙ c.loop-block.invariant
-    ∙ below-all c.self.inside.geometry room held waiting c.self.invariant.rows.waiting_placed c.self.invariant.rows.ascends (16 * c.loop-block.block)
-    (omega (arith, c.blocks_of-block-end.ensures.all, c.loop-block-test.false))
+    ∙ c.loop-chunk.invariant
+    ∙ below-all c.self.inside.geometry room held waiting c.self.invariant.rows.waiting_placed c.self.invariant.rows.ascends (16 * c.loop-chunk.chunk)
+    (omega (arith, c.chunks_of-chunk-end.ensures.all, c.loop-chunk-test.false))
     ∙ ap (λ (q : RunQueueView). next_queued room q.held q.waiting) c.self.view_is

@@ -1,9 +1,9 @@
--- The best one so far is ready, the first one that may go at a number of an earlier block.
+-- The best one so far is ready, the first one that may go at a number of an earlier chunk.
 use Rattle.std.proofs.Common.{◌≡◌, ◌*◌}
 use Rattle.run_queue.specs.ReadyTable.{ready_in}
 use Rattle.run_queue.proofs.Earliest.{first_below}
 use Rattle.run_queue.proofs.run_queue.RunQueue.next.Given as goal
 
-abbrev pub invariant-loop-block : goal.invariant-loop-block
-invariant-loop-block l =
-    ready_in l.self-inside.ready_table l.best ≡ first_below l.room l.self-inside.held.messages l.self-inside.waiting.messages (16 * l.block)
+abbrev pub invariant-loop-chunk : goal.invariant-loop-chunk
+invariant-loop-chunk l =
+    ready_in l.self-inside.ready_table l.best ≡ first_below l.room l.self-inside.held.messages l.self-inside.waiting.messages (16 * l.chunk)

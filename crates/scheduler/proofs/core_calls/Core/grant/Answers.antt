@@ -68,7 +68,7 @@ invariant_of-self g c =
     let v = c.self.invariant in
     let rows = c.move_to.ensures.row in
     subst (λ (row : Row Slot). HasChains row × IsCore g.D.Disk.keeps (parts row c.self.inside.replies.items c.lend.new.self c.self.inside.journal
-    c.go.new.self c.self.inside.batch.items c.self.inside.next (c.self.inside.unlogged + c.one_if-more.result) c.self.inside.history.opened
+    c.dispatch.new.self c.self.inside.batch.items c.self.inside.next (c.self.inside.unlogged + c.one_if-more.result) c.self.inside.history.opened
     c.self.inside.history.since)
     × (capacity_of row ≤ vec_capacity c.self.inside.batch) × (length c.self.inside.replies.items ≡ capacity_of row) × (c.self.inside.ran ≡ length (slots_on row c.self.inside.replies.items 2)))
     (sym rows) (
@@ -80,7 +80,7 @@ invariant_of-self g c =
           c.self.inside.batch.items c.self.inside.next c.self.inside.unlogged c.self.inside.history.opened c.self.inside.history.since
           c.self.invariant.0 c.self.invariant.1 _ (ap (nat_lt c.self.inside.unlogged) c.room.ensures.room) c.in-Ok.queued c.in-Ok.ensures.next
           c.in-Some.slot.now (sym (ap option_copied c.in-Some.is) ∙ c.get.ensures.value) c.lend.new.self c.in-Some-lend.standing
-          c.in-Some-lend.parcels c.in-Some-lend.ensures.some c.lend.ensures.geometry c.go.new.self c.go.ensures.waiting c.go.ensures.held
+          c.in-Some-lend.parcels c.in-Some-lend.ensures.some c.lend.ensures.geometry c.dispatch.new.self c.dispatch.ensures.waiting c.dispatch.ensures.held
           c.one_if-more.result c.one_if-more.ensures,
       subst (λ (n : ℕ). n ≤ vec_capacity c.self.inside.batch) (sym (grant_size g.D.Disk.keeps c.self.inside.slots c.self.inside.replies.items
           c.self.inside.tree c.self.inside.journal c.self.inside.queue c.self.inside.batch.items c.self.inside.next c.self.inside.unlogged
@@ -99,20 +99,20 @@ invariant_of-self g c =
 pub returns-clause-state_after : goal.returns-clause-state_after
 returns-clause-state_after g c =
     subst (λ (o : CoreView). IsGrantOf o.geometry (core_state_of o) (core_state_in
-    (parts c.move_to.new.self c.self.inside.replies.items c.lend.new.self c.self.inside.journal c.go.new.self c.self.inside.batch.items
+    (parts c.move_to.new.self c.self.inside.replies.items c.lend.new.self c.self.inside.journal c.dispatch.new.self c.self.inside.batch.items
     c.self.inside.next (c.self.inside.unlogged + c.one_if-more.result) c.self.inside.history.opened c.self.inside.history.since)) c.new.result)
     c.self.view_is
     (subst (λ (row : Row Slot). IsGrantOf c.self.inside.journal.geometry
     (core_state_in (parts c.self.inside.slots c.self.inside.replies.items c.self.inside.tree c.self.inside.journal c.self.inside.queue
     c.self.inside.batch.items c.self.inside.next c.self.inside.unlogged c.self.inside.history.opened c.self.inside.history.since))
-    (core_state_in (parts row c.self.inside.replies.items c.lend.new.self c.self.inside.journal c.go.new.self c.self.inside.batch.items
+    (core_state_in (parts row c.self.inside.replies.items c.lend.new.self c.self.inside.journal c.dispatch.new.self c.self.inside.batch.items
     c.self.inside.next (c.self.inside.unlogged + c.one_if-more.result) c.self.inside.history.opened c.self.inside.history.since)) c.new.result)
     (sym c.move_to.ensures.row)
     (subst (λ (job : JobView). IsGrantOf c.self.inside.journal.geometry
     (core_state_in (parts c.self.inside.slots c.self.inside.replies.items c.self.inside.tree c.self.inside.journal c.self.inside.queue
     c.self.inside.batch.items c.self.inside.next c.self.inside.unlogged c.self.inside.history.opened c.self.inside.history.since))
     (core_state_in (parts (after_move c.self.inside.slots c.in-Ok.queued.slot 1) c.self.inside.replies.items c.lend.new.self
-    c.self.inside.journal c.go.new.self c.self.inside.batch.items c.self.inside.next (c.self.inside.unlogged + c.one_if-more.result)
+    c.self.inside.journal c.dispatch.new.self c.self.inside.batch.items c.self.inside.next (c.self.inside.unlogged + c.one_if-more.result)
     c.self.inside.history.opened c.self.inside.history.since)) job)
     (sym (c.new.ensures ∙ ap (λ (h : Geometry). record {
       geometry = h;
@@ -125,5 +125,5 @@ returns-clause-state_after g c =
     c.self.inside.batch.items c.self.inside.next c.self.inside.unlogged c.self.inside.history.opened c.self.inside.history.since
     c.self.invariant.0 c.self.invariant.1 _ (ap (nat_lt c.self.inside.unlogged) c.room.ensures.room) c.in-Ok.queued c.in-Ok.ensures.next
     c.in-Some.slot.now (sym (ap option_copied c.in-Some.is) ∙ c.get.ensures.value) c.lend.new.self c.in-Some-lend.standing
-    c.in-Some-lend.parcels c.in-Some-lend.ensures.some c.lend.ensures.geometry c.go.new.self c.go.ensures.waiting c.go.ensures.held
+    c.in-Some-lend.parcels c.in-Some-lend.ensures.some c.lend.ensures.geometry c.dispatch.new.self c.dispatch.ensures.waiting c.dispatch.ensures.held
     c.one_if-more.result c.one_if-more.ensures (sym c.failed.ensures ∙ c.if-failed.false))))

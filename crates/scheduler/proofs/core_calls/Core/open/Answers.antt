@@ -34,10 +34,11 @@ invariant_of-result g c =
     let whole = c.in_ok-journal.ensures.tree.1 in
     let holds : keeps → (committed journal ≡ Some (state_in tree)) × IsCommitted journal = λ k. let o = c.in_ok-journal.ensures.opened k in (o.is, o.sound) in
     let row = c.in-Ok.ensures.row in
-    let queue = c.begin.ensures ∙ ap (λ (q : RunQueueView). queue_at_start c.geometry.result q.slots) c.in-Ok.ensures.queue ∙ ap (λ (h : Geometry). queue_at_start h c.args.slots) c.geometry.ensures in
+    let queue = c.set_geometry.ensures ∙ ap (λ (q : RunQueueView). queue_at_start c.geometry.result q.slots) c.in-Ok.ensures.queue
+    ∙ ap (λ (h : Geometry). queue_at_start h c.args.slots) c.geometry.ensures in
     let size = opened_size keeps c.args.slots replies tree journal same whole holds memory.slots row in (
       opened_chains keeps c.args.slots replies tree journal same whole holds memory.slots row c.in-Ok.ensures.parted,
-      opened_parts keeps c.args.slots replies tree journal same whole holds memory.slots row c.begin.new.self memory.batch.items
+      opened_parts keeps c.args.slots replies tree journal same whole holds memory.slots row c.set_geometry.new.self memory.batch.items
           c.begun.result.opened c.begun.result.since queue c.in-Ok.ensures.batch c.begun.ensures.0 c.begun.ensures.1,
       subst (λ (n : ℕ). n ≤ vec_capacity memory.batch) (sym size) c.in-Ok.ensures.room,
       c.in-Ok.ensures.replies ∙ sym size,

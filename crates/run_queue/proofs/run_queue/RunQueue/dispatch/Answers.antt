@@ -3,7 +3,7 @@ use Rattle.std.proofs.Common.{◌≡◌, arith, sym, subst, find, Some, refl}
 use Rattle.run_queue.specs.RunQueue.{RunQueueView, IsNext, has_number}
 use Rattle.run_queue.proofs.Nearby.{number-below}
 use Rattle.run_queue.proofs.Turning.{next-placed, next-first, next-free, rows-gone, kept-gone}
-use Rattle.run_queue.proofs.run_queue.RunQueue.go.Goals as goal
+use Rattle.run_queue.proofs.run_queue.RunQueue.dispatch.Goals as goal
 
 pub hold-requires-clause-number : goal.hold-requires-clause-number
 hold-requires-clause-number c =

@@ -1,4 +1,4 @@
--- The ranks of ready messages, block by block.
+-- The ranks of ready messages, chunk by chunk.
 use Rattle.std.proofs.Common.{◌≡◌, ◌≢◌, ◌∙◌, ℕ, zero, suc, ◌+◌, ◌*◌, ◌/◌, ◌<◌, ◌≤◌, Bool, List, length, get_or, replicate, Option, None, ap, sym, inl, inr, arith}
 use Rattle.std.specs.Prelude.{slice_set}
 use Rattle.std.proofs.Math.Nat.{lt-mul-div-succ, mul-div-le}
@@ -22,49 +22,49 @@ ready_in-same ready_table n o here = get_or-set_same ready_table n o None here
 pub ready_in-other : (ready_table : List (Option QueuedMessage)) (n k : ℕ) (o : Option QueuedMessage) → k ≢ n → ready_in (slice_set ready_table n o) k ≡ ready_in ready_table k
 ready_in-other ready_table n k o other = get_or-set_other ready_table n k o None other
 
--- a rank stays, so that of the block does
+-- a rank stays, so that of the chunk does
 pub least-kept : (ready_table : List (Option QueuedMessage)) (least : List ℕ) (n : ℕ) (o : Option QueuedMessage) → n < length ready_table → AreLeast ready_table least
     → rank_of o ≡ rank_of (ready_in ready_table n) → AreLeast (slice_set ready_table n o) least
-least-kept ready_table least n o here are same block i below = elim (cases_eq (16 * block + i) n) [
-  | inl at ↦ (let was = are block i below in
+least-kept ready_table least n o here are same chunk i below = elim (cases_eq (16 * chunk + i) n) [
+  | inl at ↦ (let was = are chunk i below in
       let old = ap (λ k. rank_of (ready_in ready_table k)) at in
       let new = ap (λ k. rank_of (ready_in (slice_set ready_table n o) k)) at ∙ ap (λ m. rank_of m) (ready_in-same ready_table n o here) in
       omega (arith, was, old, new, same))
-  | inr other ↦ (let was = are block i below in
-      let new = ap (λ m. rank_of m) (ready_in-other ready_table n (16 * block + i) o other) in
+  | inr other ↦ (let was = are chunk i below in
+      let new = ap (λ m. rank_of m) (ready_in-other ready_table n (16 * chunk + i) o other) in
       omega (arith, was, new))
 ]
 
--- the least rank of its block is found anew
+-- the least rank of its chunk is found anew
 pub least-found : (ready_table : List (Option QueuedMessage)) (least : List ℕ) (n found : ℕ) (o : Option QueuedMessage) → AreLeast ready_table least → n / 16 < length least
     → ((i : ℕ) → i < 16 → found ≤ rank_of (ready_in (slice_set ready_table n o) (16 * (n / 16) + i)))
     → AreLeast (slice_set ready_table n o) (slice_set least (n / 16) found)
-least-found ready_table least n found o are here new block i below = elim (cases_eq block (n / 16)) [
+least-found ready_table least n found o are here new chunk i below = elim (cases_eq chunk (n / 16)) [
   | inl at ↦ (let low = new i below in
       let value = ap (λ k. get_or (slice_set least (n / 16) found) k 0) at ∙ get_or-set_same least (n / 16) found 0 here in
       let update_ready = ap (λ k. rank_of (ready_in (slice_set ready_table n o) (16 * k + i))) at in
       omega (arith, low, value, update_ready))
-  | inr other ↦ (let low = are block i below in
+  | inr other ↦ (let low = are chunk i below in
       let over : n < 16 * (n / 16 + 1) = lt-mul-div-succ n (omega arith) in
       let under = mul-div-le n 16 in
-      let away : 16 * block + i ≢ n = λ same. other (omega (arith, over, under, same, below)) in
-      let value = get_or-set_other least (n / 16) block found 0 other in
-      let update_ready = ap (λ m. rank_of m) (ready_in-other ready_table n (16 * block + i) o away) in
+      let away : 16 * chunk + i ≢ n = λ same. other (omega (arith, over, under, same, below)) in
+      let value = get_or-set_other least (n / 16) chunk found 0 other in
+      let update_ready = ap (λ m. rank_of m) (ready_in-other ready_table n (16 * chunk + i) o away) in
       omega (arith, low, value, update_ready))
 ]
 
 -- ---- at the start
 
-pub none-least : (numbers blocks : ℕ) → AreLeast (replicate numbers None) (replicate blocks 18446744073709551615)
-none-least numbers blocks block i below =
-    let none = ap (λ m. rank_of m) (none-ready numbers (16 * block + i)) in
-    let low = at_most blocks block in
+pub none-least : (numbers chunks : ℕ) → AreLeast (replicate numbers None) (replicate chunks 18446744073709551615)
+none-least numbers chunks chunk i below =
+    let none = ap (λ m. rank_of m) (none-ready numbers (16 * chunk + i)) in
+    let low = at_most chunks chunk in
     omega (arith, none, low)
   where
-    at_most : (blocks block : ℕ) → get_or (replicate blocks 18446744073709551615) block 0 ≤ 18446744073709551615
-    at_most zero block = omega arith
-    at_most (suc blocks) zero = omega arith
-    at_most (suc blocks) (suc block) = at_most blocks block
+    at_most : (chunks chunk : ℕ) → get_or (replicate chunks 18446744073709551615) chunk 0 ≤ 18446744073709551615
+    at_most zero chunk = omega arith
+    at_most (suc chunks) zero = omega arith
+    at_most (suc chunks) (suc chunk) = at_most chunks chunk
 
 -- ---- who goes first
 

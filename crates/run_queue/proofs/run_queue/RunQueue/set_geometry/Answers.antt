@@ -2,7 +2,7 @@
 use Rattle.std.proofs.Common.{◌≡◌, [], subst, sym}
 use Rattle.run_queue.specs.RunQueue.{RunQueueView}
 use Rattle.run_queue.proofs.Turning.{messages-begun}
-use Rattle.run_queue.proofs.run_queue.RunQueue.begin.Goals as goal
+use Rattle.run_queue.proofs.run_queue.RunQueue.set_geometry.Goals as goal
 
 pub invariant_of-self : goal.invariant_of-self
 invariant_of-self c =
