@@ -20,7 +20,7 @@ fn is_loggable(message: &Msg, reply: &Reply) -> bool
 }
 
 // Appends a message that ran to the batch if the log keeps it.
-fn keep(message: &Msg, reply: &Reply, batch: &mut Vec<Msg>)
+fn push_if_loggable(message: &Msg, reply: &Reply, batch: &mut Vec<Msg>)
     requires room { length batch.old.items < vec_capacity batch.old }
     ensures batch { batch.new.items ≡ batch.old.items ++ loggable ((0, message.now, reply.now) ∷ []) }
     ensures few { length batch.new.items ≤ length batch.old.items + 1 }
@@ -55,7 +55,7 @@ pub(crate) fn collect_loggable(
         let Some(slot) = slots.get(i) else {
             unreachable!()
         };
-        keep(&slot.message, &replies[i], batch);
+        push_if_loggable(&slot.message, &replies[i], batch);
         found += one_if(changing(slot.message.kind()));
         at = slots.next(i);
     }

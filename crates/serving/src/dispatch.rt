@@ -23,10 +23,10 @@ const BATCH: usize = 64;
 
 /// How many polls of all places in succession may find nothing before the batch is logged as it is: about ten times a thread's wake-up.
 /// Each further message saves a log write, and no reply waits longer than this for a slow job.
-const PATIENCE: usize = 16384;
-
 /// After every so many polls the thread yields the processor once.
-const LOOKS: usize = 32;
+const MAX_POLLS: usize = 16384;
+
+const POLLS_PER_YIELD: usize = 32;
 
 /// What was collected in one iteration, and what kept messages from being dispatched. `budget` falls with each message, so collecting ends;
 /// no contract says that it begins at `BATCH`.
@@ -71,7 +71,7 @@ impl Batch {
     }
 
     /// Whether waiting for more gains nothing: it is full, or something was collected, and none of it needs a write.
-    fn is_ripe(&self) -> bool {
+    fn is_ready_to_log(&self) -> bool {
         self.is_full() || self.has_come() && !self.changed
     }
 }
@@ -116,8 +116,8 @@ fn offer_granted(
 }
 
 /// Spins once after poll number `looks`, and yields after every 32nd.
-fn pause(looks: usize) {
-    if looks % LOOKS == 0 {
+fn pause(polls: usize) {
+    if polls % POLLS_PER_YIELD == 0 {
         yield_now();
     } else {
         spin_loop();
@@ -200,7 +200,7 @@ impl<'c, R: Read, D: Disk, L: ReplySink<D>> Session<'c, R, D, L> {
     pub(crate) fn drain_workers<W: GatedRuntime>(&mut self, rt: &W)
         ensures as_before { KeepsStopAndOutputFailed self.old self.new }
         ensures failed { self.new.core.failed ≡ self.old.core.failed }
-        ensures home { NoneInFlight self.new.dispatch_seat.lent }
+        ensures none_in_flight { NoneInFlight self.new.dispatch_seat.lent }
     {
         for _ in rt.forever() {
             let mut batch = Batch::new(false);
@@ -220,14 +220,14 @@ impl<'c, R: Read, D: Disk, L: ReplySink<D>> Session<'c, R, D, L> {
     {
         let lacks_room = self.dispatch_ready();
         let mut batch = Batch::new(lacks_room);
-        let mut looks = 0;
-        while looks < PATIENCE && !batch.is_ripe() && self.dispatch_seat.any_lent() {
+        let mut polls = 0;
+        while polls < MAX_POLLS && !batch.is_ready_to_log() && self.dispatch_seat.any_lent() {
             if self.collect_delivered(&mut batch) {
                 batch.lacks_room = self.dispatch_ready();
-                looks = 0;
+                polls = 0;
             } else {
-                looks += 1;
-                pause(looks);
+                polls += 1;
+                pause(polls);
             }
         }
         batch

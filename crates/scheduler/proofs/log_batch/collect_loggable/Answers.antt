@@ -22,8 +22,8 @@ pub unreachable-requires-in_default-get : goal.unreachable-requires-in_default-g
 unreachable-requires-in_default-get c = ran_is_there c.args.slots.now c.args.replies.now c.requires.chains c.loop.counter c.in-Some.i (sym c.loop.invariant.at ∙ c.in-Some.is)
     (sym c.get.ensures.value ∙ ap option_copied c.in_default-get.is)
 
-pub keep-requires : goal.keep-requires
-keep-requires c = record {
+pub push_if_loggable-requires : goal.push_if_loggable-requires
+push_if_loggable-requires c = record {
   room =
       let few = c.loop.invariant.short in
       let low = c.loop-test.true in
@@ -44,8 +44,8 @@ loop-preserved c =
           c.loop.found c.one_if-found.result c.loop.invariant.found
           (c.one_if-found.ensures ∙ ap (λ b. cond b 1 0) (c.changing.ensures ∙ ap is_changing c.kind.ensures));
       few = let is = c.one_if-found.ensures in let one = at_most_one c.changing.result in let few = c.loop.invariant.few in omega (arith, is, one, few);
-      batch = c.keep.ensures.batch
+      batch = c.push_if_loggable.ensures.batch
           ∙ gathered_more c.args.slots.now c.args.replies.now c.requires.chains c.loop.counter c.in-Some.i first c.in-Some-get.slot.now value _ refl c.loop.batch.items c.loop.invariant.batch;
-      short = let more = c.keep.ensures.few in let few = c.loop.invariant.short in omega (arith, more, few);
-      capacity = c.keep.ensures.capacity ∙ c.loop.invariant.capacity;
+      short = let more = c.push_if_loggable.ensures.few in let few = c.loop.invariant.short in omega (arith, more, few);
+      capacity = c.push_if_loggable.ensures.capacity ∙ c.loop.invariant.capacity;
     }

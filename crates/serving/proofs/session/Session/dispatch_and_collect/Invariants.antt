@@ -3,8 +3,8 @@ use Rattle.std.proofs.Common.{◌≤◌, ◌+◌, ◌-◌, ◌*◌}
 use Rattle.serving.specs.Session.{KeepsStopAndOutputFailed}
 use Rattle.serving.proofs.session.Session.dispatch_and_collect.Given as goal
 
-abbrev pub invariant-loop-looks : goal.invariant-loop-looks
-invariant-loop-looks g l = KeepsStopAndOutputFailed l.fn.self l.self × (l.looks ≤ 16384)
+abbrev pub invariant-loop-polls : goal.invariant-loop-polls
+invariant-loop-polls g l = KeepsStopAndOutputFailed l.fn.self l.self × (l.polls ≤ 16384)
 
-abbrev pub decreases-loop-looks : goal.decreases-loop-looks
-decreases-loop-looks g l = l.batch.budget * 16385 + (16384 - l.looks)
+abbrev pub decreases-loop-polls : goal.decreases-loop-polls
+decreases-loop-polls g l = l.batch.budget * 16385 + (16384 - l.polls)
