@@ -92,5 +92,5 @@ with_tickets (Completed ticket reply ∷ rest) = Completed ticket reply ∷ with
 with_tickets (_ ∷ rest) = with_tickets rest
 
 -- a reply to this ticket leaves these lines as they are
-abbrev pub AreLeft : ℕ → List Line → Type 0
-AreLeft ticket lines = (reply : Reply) → map (complete_one ticket reply) lines ≡ lines
+abbrev pub AreUnaffected : ℕ → List Line → Type 0
+AreUnaffected ticket lines = (reply : Reply) → map (complete_one ticket reply) lines ≡ lines

@@ -3,7 +3,7 @@
 ghost use Rattle.std.specs.Prelude.{◌≡◌, ◌<◌, ◌≤◌, ◌+◌, ◌↔◌, ◌++◌, ◌∷◌, [], IfOk, IsTrue, MatchBool, MatchOption, ℕ, drop, length, map, take};
 ghost use Rattle.std.specs.VecDeque.{deque_len};
 ghost use Rattle.message.specs.Waiting.{FitsReply};
-ghost use Rattle.reorder_buffer.specs.ReorderBuffer.{Line, complete_one, AreFrom, AreConsecutive, AreLeft, IsOf, can_retire, retired_text, text, with_tickets};
+ghost use Rattle.reorder_buffer.specs.ReorderBuffer.{Line, complete_one, AreFrom, AreConsecutive, AreUnaffected, IsOf, can_retire, retired_text, text, with_tickets};
 
 use message::ReplyBuffer;
 use messages::{Refusal, Reply};
@@ -96,8 +96,8 @@ fn first_ticket(ticketed: &VecDeque<Line>) -> Option<u64>
 fn places_of(ticketed: &VecDeque<Line>, ticket: u64) -> Range<usize>
     requires { AreConsecutive ticketed.now.items }
     ensures within { (result.start ≤ result.end) × (result.end ≤ deque_len ticketed.now) }
-    ensures before { AreLeft ticket (take result.start ticketed.now.items) }
-    ensures behind { AreLeft ticket (drop result.end ticketed.now.items) }
+    ensures before { AreUnaffected ticket (take result.start ticketed.now.items) }
+    ensures behind { AreUnaffected ticket (drop result.end ticketed.now.items) }
 {
     let Some(first) = first_ticket(ticketed) else {
         return 0..0;
