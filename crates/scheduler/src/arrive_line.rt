@@ -37,7 +37,7 @@ fn message_without_data(kind: Kind, numbers: [u16; 4]) -> Msg
 
 impl<D: Disk> Core<D> {
     /// Takes in a message that a line encodes.
-    fn arrive_spelled(&mut self, m: &Msg) -> Result<Option<u64>, ArriveRefusal>
+    fn arrive_message(&mut self, m: &Msg) -> Result<Option<u64>, ArriveRefusal>
         ensures arrives { ArrivesByLine self.old self.new (Some m.now) result }
         ensures geometry { self.new.geometry ≡ self.old.geometry }
         ensures untouched { self.new.medium ≡ self.old.medium }
@@ -60,7 +60,7 @@ impl<D: Disk> Core<D> {
             Head::NoMessage => Ok(None),
             Head::WithoutData(kind, numbers) => {
                 let message = message_without_data(kind, numbers);
-                self.arrive_spelled(&message)
+                self.arrive_message(&message)
             }
             Head::Writes(numbers, digits) => {
                 let mut content = Block([0; 512]);
@@ -70,10 +70,10 @@ impl<D: Disk> Core<D> {
                 }
                 let [a, v, f, b] = numbers;
                 let message = Msg::Write(a, v, f, b, content);
-                self.arrive_spelled(&message)
+                self.arrive_message(&message)
             }
             Head::SetsLabel => match parse_line(line) {
-                Some(message) => self.arrive_spelled(&message),
+                Some(message) => self.arrive_message(&message),
                 None => Ok(None),
             },
         }
