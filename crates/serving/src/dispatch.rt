@@ -23,9 +23,9 @@ const BATCH: usize = 64;
 
 /// How many polls of all places in succession may find nothing before the batch is logged as it is: about ten times a thread's wake-up.
 /// Each further message saves a log write, and no reply waits longer than this for a slow job.
-/// After every so many polls the thread yields the processor once.
 const MAX_POLLS: usize = 16384;
 
+/// After every so many polls the thread yields the processor once.
 const POLLS_PER_YIELD: usize = 32;
 
 /// What was collected in one iteration, and what kept messages from being dispatched. `budget` falls with each message, so collecting ends;
