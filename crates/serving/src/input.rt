@@ -20,7 +20,11 @@ use std::io::Read;
 /// Takes the line of these bytes into the reorder buffer, and its message, if it is one in range, into the core; one out of range takes no
 /// ticket. `Err` is why no more is read: the core refuses the message for another reason, and the line isn't taken in. Where the reorder
 /// buffer has a place for the line, the core has a slot for its message.
-fn take<D: Disk>(core: &mut Core<D>, reorder_buffer: &mut ReorderBuffer, line: &[u8]) -> Result<(), ReadEnd>
+fn take<D: Disk>(
+    core: &mut Core<D>,
+    reorder_buffer: &mut ReorderBuffer,
+    line: &[u8],
+) -> Result<(), ReadEnd>
     requires room { length reorder_buffer.old.lines < reorder_buffer.old.slots }
     requires order { AreConsecutive (with_tickets reorder_buffer.old.lines ++ Pending core.old.next ∷ []) }
     ensures takes { (hands : List Holding) → Holds (record { core = core.old; hands = hands })
@@ -75,7 +79,11 @@ impl<'c, R: Read, D: Disk, L: ReplySink<D>> Session<'c, R, D, L> {
             return false;
         }
         match self.line_reader.next_line() {
-            Ok(Found::Line) => match take(&mut self.core, &mut self.reorder_buffer, self.line_reader.line()) {
+            Ok(Found::Line) => match take(
+                &mut self.core,
+                &mut self.reorder_buffer,
+                self.line_reader.line(),
+            ) {
                 Ok(()) => {
                     self.outstanding += 1;
                     true
@@ -103,7 +111,8 @@ impl<'c, R: Read, D: Disk, L: ReplySink<D>> Session<'c, R, D, L> {
 
     /// Whether a line in the input buffer may be read.
     pub(crate) fn can_read(&self) -> bool {
-        may_read(self.stop, self.outstanding, self.reorder_buffer.slots()) && self.line_reader.holds_line()
+        may_read(self.stop, self.outstanding, self.reorder_buffer.slots())
+            && self.line_reader.holds_line()
     }
 
     /// Reads the lines in the input buffer, while fewer lines are outstanding than there are slots. Where all else was idle, the next line
@@ -114,7 +123,8 @@ impl<'c, R: Read, D: Disk, L: ReplySink<D>> Session<'c, R, D, L> {
     {
         let mut read = Activity::Idle;
         while may_read(self.stop, self.outstanding, self.reorder_buffer.slots())
-            && (matches!((last, read), (Activity::Idle, Activity::Idle)) || self.line_reader.holds_line())
+            && (matches!((last, read), (Activity::Idle, Activity::Idle))
+                || self.line_reader.holds_line())
             && self.read_next()
         {
             read = Activity::Busy;
