@@ -11,4 +11,4 @@ mod places;
 pub use affinities::{Affinity, related};
 pub use geometry::{BadGeometry, Geometry};
 pub use kinds::{Kind, changing};
-pub use places::{Place, group_of, place_of};
+pub use places::{Place, group_of, is_in_range, place_of};

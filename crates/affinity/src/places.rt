@@ -62,8 +62,9 @@ fn place_by(g: &Geometry, k: Kind, n: [u16; 4]) -> Place
     }
 }
 
-/// Whether the numbers that the kind has are in range.
-fn is_in_range(g: &Geometry, k: Kind, n: [u16; 4]) -> bool
+/// Whether the numbers that the kind has are in range: whether there is a place for a message of
+/// this kind with these numbers, without finding it.
+pub fn is_in_range(g: &Geometry, k: Kind, n: [u16; 4]) -> bool
     ensures { result ≡ is_in_range g.now k n }
 {
     let [a, v, f, b] = n;

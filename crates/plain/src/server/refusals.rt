@@ -9,7 +9,7 @@ ghost use Rattle.meaning.specs.ByKind.{refusal_by};
 ghost use Rattle.plain.specs.Server.{server_state, IsCounted};
 
 use super::Server;
-use affinity::{Geometry, Kind, group_of, place_of};
+use affinity::{Geometry, Kind, group_of, is_in_range};
 use messages::{Msg, Refusal};
 
 /// A refusal where a test fails.
@@ -65,7 +65,7 @@ impl Server {
         ensures { result ≡ refusal_by g.now (server_state self.now) kind numbers }
     {
         let [a, v, f, b] = numbers;
-        if place_of(g, kind, numbers).is_none() {
+        if !is_in_range(g, kind, numbers) {
             return Some(Refusal::Range);
         }
         match kind {
