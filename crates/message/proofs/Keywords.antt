@@ -1,14 +1,15 @@
 -- The message of a line by its first word.
-use Rattle.std.proofs.Common.{◌≡◌, ℕ, ◌≤◌, Bool, true, false, cond, List, [], ◌∷◌, length, Option, Some, None, refl, ap, sym, ◌∙◌, inl, inr, ◌⊎◌}
+use Rattle.std.proofs.Common.{◌≡◌, ℕ, ◌<◌, ◌≤◌, Bool, true, false, cond, List, [], ◌∷◌, length, get_or, Option, Some, None, refl, ap, sym, ◌∙◌, inl, inr, ◌⊎◌, arith}
 use Rattle.std.specs.Prelude.{◌==◌}
 use Rattle.std.specs.Str.{bytes_eq}
-use Rattle.std.proofs.lemmas.Bool.{both_ways, cond-false, eqb-false, false_from_ne_true, le-ltb}
+use Rattle.std.proofs.lemmas.Bool.{both_ways, cases_lt, cond-false, eqb-false, false_from_ne_true, le-ltb, ne_eqb}
 use Rattle.std.proofs.lemmas.Option.{same_Some}
 use Rattle.std.proofs.lemmas.Slice.Eq.{bytes_eq-Decides}
 use Rattle.affinity.specs.declared.kinds.Kind.{Kind}
 use Rattle.affinity.specs.declared.kinds.Kind.TheVariants.{MakeVol, DropVol, Create, Delete, Seal, Unseal, Write, Punch, Read, List as ListFiles, Usage, Summary, SetLabel, Label}
 use Rattle.messages.specs.Lines.{words}
 use Rattle.messages.specs.Grammar.{message_of, of_words, of_kind, keyword, kind_named, named_among, all_kinds, ◌>>=◌}
+use Rattle.message.proofs.Words.{none_before, words_whole, goes_on}
 
 pub by_words : (line : List ℕ) (ws : List (List ℕ)) → length line ≤ 1100 → words line ≡ ws → message_of line ≡ of_words ws
 unfolding message_of
@@ -125,3 +126,41 @@ no_length word k others fails = sym (names_none word (λ j is. elim (others j) [
   | inl other ↦ other (ap length is)
   | inr same ↦ both_ways (bytes_eq word (keyword k)) fails ((bytes_eq-Decides word (keyword k)).1 (is ∙ ap keyword same))
 ]))
+
+-- ---- a line whose first nine bytes have no space
+
+keyword_short : (k : Kind) → length (keyword k) ≤ 8
+keyword_short MakeVol = omega arith
+keyword_short DropVol = omega arith
+keyword_short Create = omega arith
+keyword_short Delete = omega arith
+keyword_short Seal = omega arith
+keyword_short Unseal = omega arith
+keyword_short Write = omega arith
+keyword_short Punch = omega arith
+keyword_short Read = omega arith
+keyword_short ListFiles = omega arith
+keyword_short Usage = omega arith
+keyword_short Summary = omega arith
+keyword_short SetLabel = omega arith
+keyword_short Label = omega arith
+
+long_word : (word : List ℕ) → 8 < length word → None ≡ kind_named word
+long_word word long = sym (names_none word (λ k is. let short = keyword_short k in omega (arith, ap length is, short, long)))
+
+module _ (line : List ℕ) (none : (k : ℕ) → k ≤ 8 → k < length line → get_or line k 0 ≡ 32 → ⊥) where
+  -- a line that is a keyword is one word
+  pub keyword_alone : (k : Kind) → Some k ≡ kind_named line → words line ≡ line ∷ []
+  keyword_alone k named =
+      let short = keyword_short k in
+      let is = ap length (its_keyword line k (sym named)) in
+      words_whole line 9 (omega (arith, short, is)) (none_before line 9 (λ i low high. none i (omega arith) high))
+
+  -- one that is none has no message: its first word is the line, or too long for a keyword
+  pub no_keyword : length line ≤ 1100 → None ≡ kind_named line → message_of line ≡ None
+  no_keyword fits named = elim (cases_lt 9 (length line)) [
+    | inl long ↦
+        let first = goes_on line 8 (omega arith) (none_before line 8 (λ i low high. none i (omega arith) high)) (ne_eqb _ 32 (none 8 (omega arith) (omega arith))) in
+        without_kind line first.word first.behind fits first.parts (long_word first.word first.long)
+    | inr short ↦ without_kind line line [] fits (words_whole line 9 (omega arith) (none_before line 9 (λ i low high. none i (omega arith) high))) named
+  ]

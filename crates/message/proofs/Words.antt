@@ -1,11 +1,10 @@
 -- A line and its words.
 use Rattle.std.proofs.Common.{◌≡◌, ℕ, zero, suc, ◌+◌, ◌-◌, ◌<◌, ◌≤◌, true, false, cond, eqb, List, [], ◌∷◌, ◌++◌, length, Option, Some, None, length-drop, get_or, take, drop, refl, ap, sym, ◌∙◌, arith}
-use Rattle.std.proofs.lemmas.Bool.{false_from_ne_true}
+use Rattle.std.proofs.lemmas.Bool.{ne_eqb}
 use Rattle.std.proofs.lemmas.List.{take_all, drop_more, take-append-drop}
 use Rattle.std.specs.Prelude.{if◌then◌else◌, ◌==◌}
 use Rattle.std.specs.List.{AllByRecursion, join_with_byte, slice_split, onto_first}
 use Rattle.std.proofs.lemmas.List.Splits.{join_with_byte-slice_split}
-use Rattle.memchr.specs.Find.{Nowhere, Passes, is_byte}
 use Rattle.messages.specs.Lines.{words, in_first}
 
 -- no byte of the word is a space
@@ -53,11 +52,11 @@ words-join w (v ∷ ws) h = words_space w (join_with_byte 32 (v ∷ ws)) h.0 ∙
 
 -- ---- the first space of a line
 
--- no byte before the first space is one
-pub none_before : (line : List ℕ) (i : ℕ) → Nowhere (Passes (is_byte 32) line) 0 i → HasNoSpace (take i line)
+-- no byte before this place is a space
+pub none_before : (line : List ℕ) (i : ℕ) → ((k : ℕ) → k < i → k < length line → get_or line k 0 ≡ 32 → ⊥) → HasNoSpace (take i line)
 none_before line zero h = tt
 none_before [] (suc i) h = tt
-none_before (b ∷ line) (suc i) h = (false_from_ne_true (b == 32) (h 0 (omega arith) (omega arith)), none_before line i (λ k low high. h (suc k) (omega arith) (omega arith)))
+none_before (b ∷ line) (suc i) h = (ne_eqb b 32 (h 0 (omega arith) (omega arith)), none_before line i (λ k low high. h (suc k) (omega arith) (omega arith)))
 
 pub words_split : (line : List ℕ) (i : ℕ) → i < length line → HasNoSpace (take i line) → get_or line i 0 ≡ 32
     → words line ≡ take i line ∷ words (take (length line - (i + 1)) (drop (i + 1) line))

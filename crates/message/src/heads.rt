@@ -12,7 +12,7 @@ ghost use Rattle.message.specs.declared.heads.Head.TheVariants.{NoMessage, Witho
 use crate::LONGEST_LINE;
 use crate::decoding::decode_to_slice;
 use crate::parsing::{
-    block_numbers, file_numbers, kind_named, number_before_space, split_at_space, volume_numbers,
+    block_numbers, file_numbers, kind_named, number_before_space, split_keyword, volume_numbers,
 };
 use affinity::Kind;
 use messages::Block;
@@ -38,7 +38,7 @@ pub fn head_of_line(line: &[u8]) -> Head<'_>
     if line.len() > LONGEST_LINE {
         return Head::NoMessage;
     }
-    match split_at_space(line) {
+    match split_keyword(line) {
         Some((word, arguments)) => match kind_named(word) {
             Some(kind) => head_of_kind(kind, arguments),
             None => Head::NoMessage,

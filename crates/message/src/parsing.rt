@@ -1,6 +1,6 @@
 //! The message that a line spells.
 
-ghost use Rattle.std.specs.Prelude.{◌≡◌, ℕ, ◌<◌, ◌∷◌, [], true, ◌↔◌, length, slice_index, IsTrue, MatchOption, option_map};
+ghost use Rattle.std.specs.Prelude.{◌≡◌, ◌≢◌, ℕ, ◌<◌, ◌≤◌, ◌∷◌, [], true, ◌↔◌, length, slice_index, IsTrue, MatchOption, option_map};
 ghost use Rattle.std.specs.Str.{all_ascii_digits};
 ghost use Rattle.std.specs.Str.Parse.{digits_value};
 ghost use Rattle.messages.specs.declared.Msg.{Msg};
@@ -10,8 +10,10 @@ ghost use Rattle.messages.specs.Grammar.{message_of, Spells, first_number, of_ki
 
 use crate::LONGEST_LINE;
 use affinity::Kind;
-use memchr::memchr;
 use messages::{Block, Msg};
+
+/// How many bytes the longest keyword has.
+const LONGEST_KEYWORD: usize = 8;
 
 /// The message that a line spells, the line given without its newline; `None` where it spells none.
 pub fn parse_line(line: &[u8]) -> Option<Msg>
@@ -21,13 +23,30 @@ pub fn parse_line(line: &[u8]) -> Option<Msg>
     if line.len() > LONGEST_LINE {
         return None;
     }
-    match split_at_space(line) {
+    match split_keyword(line) {
         Some((word, arguments)) => of_kind(kind_named(word)?, arguments),
         None => match kind_named(line)? {
             Kind::Summary => Some(Msg::Summary),
             _ => None,
         },
     }
+}
+
+/// The first word of a line and what comes after the space behind it, where the space is among the
+/// first nine bytes. Where it is not, no first word is a keyword but the whole line, so that a line
+/// isn't searched to its end.
+pub(crate) fn split_keyword(line: &[u8]) -> Option<(&[u8], &[u8])>
+    ensures { MatchOption result
+        ((k : ℕ) → k ≤ LONGEST_KEYWORD → k < length line.now → slice_index line.now k ≢ 32)
+        (λ p. words line.now ≡ p.0.now ∷ words p.1.now) }
+{
+    let most = line.len().min(LONGEST_KEYWORD + 1);
+    for end in 0..most {
+        if line[end] == b' ' {
+            return Some((&line[..end], &line[end + 1..]));
+        }
+    }
+    None
 }
 
 /// The kind that a word names. Words of one length are compared at once, as numbers are.
@@ -225,14 +244,6 @@ fn plain_number(value: u32, word: &[u8]) -> Option<u16>
         return None;
     }
     Some(value as u16)
-}
-
-/// The first word of a line and what comes after the space behind it, where there is a space.
-pub(crate) fn split_at_space(line: &[u8]) -> Option<(&[u8], &[u8])>
-    ensures { MatchOption result (words line.now ≡ line.now ∷ []) (λ p. words line.now ≡ p.0.now ∷ words p.1.now) }
-{
-    let end = memchr(b' ', line)?;
-    Some((&line[..end], &line[end + 1..]))
 }
 
 /// Whether there is a zero in front of other digits.

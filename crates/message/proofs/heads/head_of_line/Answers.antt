@@ -3,7 +3,7 @@ use Rattle.std.proofs.Common.{[], sym, subst}
 use Rattle.messages.specs.Lines.{words}
 use Rattle.message.specs.Heads.{IsHead}
 use Rattle.messages.proofs.FirstLines.{too_long}
-use Rattle.message.proofs.Keywords.{with_kind, without_kind}
+use Rattle.message.proofs.Keywords.{with_kind, without_kind, keyword_alone, no_keyword}
 use Rattle.message.proofs.heads.head_of_line.Goals as goal
 
 pub returns-then-line-gt-LONGEST_LINE : goal.returns-then-line-gt-LONGEST_LINE
@@ -22,9 +22,10 @@ returns-in-None-kind_named c =
 
 pub returns-in-Some-kind_named-2 : goal.returns-in-Some-kind_named-2
 returns-in-Some-kind_named-2 c =
+    let line = c.args.line.now in
     let k = c.in-Some-kind_named-2 in
-    subst (IsHead c.head_of_word.result) (sym (with_kind c.args.line.now c.args.line.now [] k.kind c.if-line-gt-LONGEST_LINE.false c.in-None.ensures k.ensures)) c.head_of_word.ensures
+    let alone = keyword_alone line c.in-None.ensures k.kind k.ensures in
+    subst (IsHead c.head_of_word.result) (sym (with_kind line line [] k.kind c.if-line-gt-LONGEST_LINE.false alone k.ensures)) c.head_of_word.ensures
 
 pub returns-in-None-kind_named-2 : goal.returns-in-None-kind_named-2
-returns-in-None-kind_named-2 c =
-    without_kind c.args.line.now c.args.line.now [] c.if-line-gt-LONGEST_LINE.false c.in-None.ensures c.in-None-kind_named-2.ensures
+returns-in-None-kind_named-2 c = no_keyword c.args.line.now c.in-None.ensures c.if-line-gt-LONGEST_LINE.false c.in-None-kind_named-2.ensures

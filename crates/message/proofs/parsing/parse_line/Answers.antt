@@ -6,7 +6,7 @@ use Rattle.messages.specs.declared.Msg.{Msg}
 use Rattle.messages.specs.Lines.{words}
 use Rattle.messages.specs.Grammar.{message_of, Spells, of_kind}
 use Rattle.messages.proofs.FirstLines.{too_long}
-use Rattle.message.proofs.Keywords.{with_kind, without_kind, needs_words}
+use Rattle.message.proofs.Keywords.{with_kind, without_kind, needs_words, keyword_alone, no_keyword}
 use Rattle.message.proofs.Spelling.{read_iff_spelled}
 use Rattle.message.proofs.parsing.parse_line.Goals as goal
 
@@ -33,13 +33,13 @@ returns-in_ok-kind_named-in-Some c =
 pub returns-in_err-kind_named-in-None : goal.returns-in_err-kind_named-in-None
 returns-in_err-kind_named-in-None c =
     both c.args.line.now _ (c.from_residual-in_err-kind_named-in-None.ensures
-    ∙ sym (without_kind c.args.line.now c.args.line.now [] c.if-line-gt-LONGEST_LINE.false c.in-None.ensures c.in_err-kind_named-in-None.ensures))
+    ∙ sym (no_keyword c.args.line.now c.in-None.ensures c.if-line-gt-LONGEST_LINE.false c.in_err-kind_named-in-None.ensures))
 
 pub returns-in-Summary : goal.returns-in-Summary
 returns-in-Summary c =
     let k = c.in_ok-kind_named-in-None in
     both c.args.line.now _ (sym (
-    with_kind c.args.line.now c.args.line.now [] k.field-0 c.if-line-gt-LONGEST_LINE.false c.in-None.ensures k.ensures
+    with_kind c.args.line.now c.args.line.now [] k.field-0 c.if-line-gt-LONGEST_LINE.false (keyword_alone c.args.line.now c.in-None.ensures k.field-0 k.ensures) k.ensures
     ∙ ap (λ (kind : Kind). of_kind kind []) c.in-Summary.is
     ))
 
@@ -47,6 +47,6 @@ pub returns-in_default : goal.returns-in_default
 returns-in_default c =
     let k = c.in_ok-kind_named-in-None in
     both c.args.line.now _ (sym (
-    with_kind c.args.line.now c.args.line.now [] k.field-0 c.if-line-gt-LONGEST_LINE.false c.in-None.ensures k.ensures
+    with_kind c.args.line.now c.args.line.now [] k.field-0 c.if-line-gt-LONGEST_LINE.false (keyword_alone c.args.line.now c.in-None.ensures k.field-0 k.ensures) k.ensures
     ∙ needs_words k.field-0 c.in_default.not-Summary
     ))
