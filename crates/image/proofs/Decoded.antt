@@ -21,7 +21,7 @@ use Rattle.image.specs.Pieces.{piece_count, pieces_of_volume, piece_size, piece_
 use Rattle.image.proofs.Counted.{entries_are_blocks, entries_few, content_is, content_of, few_of_stripe}
 use Rattle.image.proofs.Cuts.{is_piece, piece_there}
 use Rattle.image.proofs.Numbers.{size_there}
-use Rattle.image.proofs.FileNumber.{number_of, number_small}
+use Rattle.meaning.proofs.FileNumber.{number_of, number_small}
 use Rattle.image.proofs.Measures.{IsMeasured, all-take, all-drop, all-zeros, all_joined, entries_good, entries_most}
 use Rattle.image.proofs.Order.{one_of}
 use Rattle.image.proofs.Reading.{sealed_decoded, number_decoded, eight_bytes}

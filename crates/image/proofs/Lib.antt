@@ -1,5 +1,4 @@
 -- The lemmas of this crate: the pieces of an image, their sizes and places, what they spell, and how they are read.
-pub mod FileNumber
 pub mod Measures
 pub mod Numbers
 pub mod Cuts

@@ -21,7 +21,7 @@ use Rattle.stripe.proofs.EntryBytes.{entries_again}
 use Rattle.image.specs.Pieces.{has_volume, volume_piece_number, volume_piece, stripe_entries, entry_if, joined_below, label_bytes, label_in, bytes_at}
 use Rattle.image.specs.Image.{image_of, decoded_state, read, is_image, is_version, version_in, piece_in}
 use Rattle.image.proofs.Cuts.{volume_again, stripe_again}
-use Rattle.image.proofs.FileNumber.{number_small, bits_there}
+use Rattle.meaning.proofs.FileNumber.{number_small, bits_there}
 use Rattle.image.proofs.Measures.{entries_good, state_is_measured}
 
 -- ---- the blocks of a stripe

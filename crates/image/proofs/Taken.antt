@@ -11,7 +11,7 @@ use Rattle.stripe.specs.Stripe.{content_at}
 use Rattle.image.specs.Pieces.{pieces_of_volume, piece_count, piece_size, aggregate_of, volume_of, part_of, volume_piece_number, stripe_piece_number, has_volume, is_made_in, is_sealed_in, has_file_in, label_in, block_in, decoded_by, with_piece, with_part}
 use Rattle.image.specs.Image.{piece_in, decoded_before}
 use Rattle.image.proofs.Numbers.{part_there, size_there, aggregate_there, volume_there, number_there, in_volumes, in_aggregates}
-use Rattle.image.proofs.FileNumber.{bits_there}
+use Rattle.meaning.proofs.FileNumber.{bits_there}
 use Rattle.image.proofs.Decoded.{is_volume_there}
 
 -- the first n pieces, and zeros in the place of the others

@@ -14,6 +14,9 @@ pub mod Taking
 -- For the serial server: the keys of ordered maps, and the tests by kind.
 pub mod Keys
 pub mod ByKind
+-- The files of a volume as a number.
+pub mod FileNumber
+pub mod FileBits
 -- For this crate.
 mod Effects
 mod Examples

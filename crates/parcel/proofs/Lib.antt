@@ -14,7 +14,6 @@ pub mod Starting
 mod Examples
 pub mod OneVolume
 pub mod GroupCounts
-pub mod FileBits
 pub mod StripeRows
 pub mod StripeTotals
 pub mod Summing

@@ -20,7 +20,7 @@ use Rattle.parcel.specs.Shown.{volume_facts, files_in, blocks_below}
 use Rattle.parcel.specs.declared.parts.Logical.{Logical}
 use Rattle.parcel.specs.declared.parts.Vol.{Vol}
 use Rattle.parcel.specs.declared.pieces.volumes.VolumePiece.{VolumePiece}
-use Rattle.image.proofs.FileNumber.{sum_bits, bits_back}
+use Rattle.meaning.proofs.FileNumber.{sum_bits, bits_back}
 use Rattle.image.proofs.Decoded.{label_is}
 use Rattle.parcel.proofs.Shows.{has_none}
 

@@ -2,7 +2,7 @@
 use Rattle.std.proofs.Common.{◌≡◌, ◌∙◌, length, arith}
 use Rattle.parcel.specs.Dropping.{Empties}
 use Rattle.parcel.specs.Fits.{FitsStripe}
-use Rattle.parcel.proofs.FileBits.{none_below}
+use Rattle.meaning.proofs.FileBits.{none_below}
 use Rattle.parcel.proofs.StripeRows.{pairs_from_places, still_fit, still_whole, fits_emptied, whole_emptied}
 use Rattle.parcel.proofs.running.at_aggregate.clear_files.Goals as goal
 

@@ -3,7 +3,7 @@ use Rattle.std.proofs.Common.{◌<◌, refl, sym, ◌∙◌, arith}
 use Rattle.messages.specs.declared.Msg.TheVariants.{Create}
 use Rattle.parcel.specs.Shown.{by_logical, has_file}
 use Rattle.parcel.specs.Volume.{only}
-use Rattle.parcel.proofs.FileBits.{with_bit, with_bit_has, with_bit_below}
+use Rattle.meaning.proofs.FileBits.{with_bit, with_bit_has, with_bit_below}
 use Rattle.parcel.proofs.OneVolume.{passed, create_tests, effect_create}
 use Rattle.parcel.proofs.running.at_logical.create.Goals as goal
 

@@ -7,7 +7,7 @@ use Rattle.parcel.specs.Dropping.{DropsFile}
 use Rattle.parcel.specs.Fits.{FitsStripe}
 use Rattle.parcel.specs.Shown.{by_logical, blocks_of, has_file}
 use Rattle.parcel.specs.Volume.{only}
-use Rattle.parcel.proofs.FileBits.{few_bits, without_bit, without_bit_has, without_bit_below}
+use Rattle.meaning.proofs.FileBits.{few_bits, without_bit, without_bit_has, without_bit_below}
 use Rattle.parcel.proofs.OneVolume.{passed, delete_tests, effect_delete}
 use Rattle.parcel.proofs.StripeRows.{pairs_from_places, still_fit, still_whole, fits_without_file, whole_without_file, blocks_without_file}
 use Rattle.parcel.proofs.running.at_logical.delete.Goals as goal

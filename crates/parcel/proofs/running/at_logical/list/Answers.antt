@@ -6,7 +6,7 @@ use Rattle.messages.specs.declared.Reply.TheVariants.{Files}
 use Rattle.meaning.specs.State.{sum_below}
 use Rattle.parcel.specs.Shown.{by_logical}
 use Rattle.parcel.specs.Volume.{only}
-use Rattle.image.proofs.FileNumber.{bits_back}
+use Rattle.meaning.proofs.FileNumber.{bits_back}
 use Rattle.parcel.proofs.OneVolume.{at_volume, passed, list_tests}
 use Rattle.parcel.proofs.running.at_logical.list.Goals as goal
 

@@ -1,13 +1,14 @@
--- The files of a volume as the bits of a number, and back.
-use Rattle.std.proofs.Common.{◌≡◌, ℕ, zero, suc, ◌+◌, ◌*◌, ◌%◌, ◌^◌, ◌<◌, ◌≤◌, Bool, true, false, refl, sym, ◌∙◌, ap, arith, ⊎_elim}
-use Rattle.std.specs.Prelude.{◌==◌, if◌then◌else◌}
+-- The files of a volume as the bits of a number, and back; and how many they are.
+use Rattle.std.proofs.Common.{◌≡◌, ℕ, zero, suc, ◌+◌, ◌*◌, ◌%◌, ◌^◌, ◌<◌, ◌≤◌, Bool, true, false, refl, sym, ◌∙◌, ap, arith, ⊎_elim, mod-lt}
+use Rattle.std.specs.Prelude.{◌==◌, if◌then◌else◌, count_ones}
 use Rattle.std.specs.Int.{bit_at}
-use Rattle.std.proofs.lemmas.Bool.{cases_lt, cases_eq, eq-eqb, ne_eqb}
-use Rattle.std.proofs.lemmas.Nat.{mod-pow-add}
-use Rattle.std.proofs.lemmas.Nat.Bits.{bit_at_above, bit_at-lt}
+use Rattle.std.proofs.lemmas.Bool.{cases_lt, cases_eq, eq-eqb, ne_eqb, eqb-true, eqb-false}
+use Rattle.std.proofs.lemmas.Nat.{mod-pow-add, ones_cat, ones_le_self, zero_from_ones}
+use Rattle.std.proofs.lemmas.Nat.Bits.{bit_at_above, bit_at-lt, same_from_bits}
 use Rattle.std.proofs.Math.Nat.{pow-succ', mod-eq_of_lt}
 use Rattle.messages.specs.Replies.{has_file}
-use Rattle.meaning.specs.State.{sum_below}
+use Rattle.meaning.specs.State.{sum_below, count_below, one_if}
+use Rattle.meaning.proofs.FileBits.{none_below}
 
 pub sum_bits : (n m : ℕ) → sum_below n (λ f. if has_file m f then 2 ^ f else 0) ≡ m % 2 ^ n
 sum_bits zero m = omega arith
@@ -28,6 +29,26 @@ sum_bits (suc n) m =
     let goal : sum_below n (λ f. if has_file m f then 2 ^ f else 0) + (if has_file m n then 2 ^ n else 0) ≡ m % 2 ^ (1 + n) = omega (arith, before, high, none, times) in
     goal ∙ ap (λ k. m % 2 ^ k) same)
     (cases_eq (bit_at m n) 1)
+
+one_bit : (b : ℕ) → b < 2 → one_if (b == 1) ≡ count_ones b
+one_bit zero low = let few = ones_le_self 0 in omega (arith, few)
+one_bit (suc zero) low =
+    ⊎_elim
+    (λ (none : count_ones 1 ≡ 0). let wrong = zero_from_ones 1 none in absurd (omega (arith, wrong)))
+    (λ (some : count_ones 1 ≡ 0 → ⊥). let few = ones_le_self 1 in omega (arith, few, some))
+    (cases_eq (count_ones 1) 0)
+one_bit (suc (suc b)) low = absurd (omega (arith, low))
+
+count_bits : (n m : ℕ) → count_below n (has_file m) ≡ count_ones (m % 2 ^ n)
+count_bits zero m = let few = ones_le_self (m % 2 ^ 0) in omega (arith, few)
+count_bits (suc n) m =
+    let before = count_bits n m in
+    let high : m % 2 ^ (1 + n) ≡ bit_at m n * 2 ^ n + m % 2 ^ n = mod-pow-add m 1 n in
+    let both = ones_cat n (bit_at m n) (m % 2 ^ n) (mod-lt m (none_below n)) in
+    let bit = one_bit (bit_at m n) (bit_at-lt m n) in
+    let same : 1 + n ≡ suc n = omega arith in
+    let goal : count_below n (has_file m) + one_if (has_file m n) ≡ count_ones (m % 2 ^ (1 + n)) = omega (arith, before, ap count_ones high, both, bit) in
+    goal ∙ ap (λ k. count_ones (m % 2 ^ k)) same
 
 -- a number below 2 ^ n is the sum of its bits
 pub bits_back : (n m : ℕ) → m < 2 ^ n → sum_below n (λ f. if has_file m f then 2 ^ f else 0) ≡ m
@@ -80,3 +101,24 @@ bits_there n t within f =
     none_behind : (b : Bool) → (b ≡ true → f < n) → n ≤ f → b ≡ false
     none_behind false within no_less = refl
     none_behind true within no_less = absurd (omega (arith, within refl, no_less))
+
+-- ---- a number that has no bit from n on
+
+module _ (n m : ℕ) (within : (f : ℕ) → has_file m f ≡ true → f < n) where
+  -- its bits below n make it
+  pub number_within : sum_below n (λ f. if has_file m f then 2 ^ f else 0) ≡ m
+  number_within = same_from_bits _ m (λ f. same_bit _ _ (bit_at-lt _ f) (bit_at-lt m f) (bits_there n (has_file m) within f))
+    where
+      same_bit : (b c : ℕ) → b < 2 → c < 2 → (b == 1) ≡ (c == 1) → b ≡ c
+      same_bit b c low high same =
+          ⊎_elim
+          (λ (one : b ≡ 1). one ∙ sym (eqb-true c 1 (sym same ∙ eq-eqb b 1 one)))
+          (λ (other : b ≡ 1 → ⊥). let also = eqb-false c 1 (sym same ∙ ne_eqb b 1 other) in omega (arith, low, high, other, also))
+          (cases_eq b 1)
+
+  pub below_within : m < 2 ^ n
+  below_within = let small = number_small n (has_file m) in omega (arith, small, number_within)
+
+  -- as many are set as the number has ones
+  pub count_within : count_below n (has_file m) ≡ count_ones m
+  count_within = count_bits n m ∙ ap count_ones (mod-eq_of_lt below_within)
