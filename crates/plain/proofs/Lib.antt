@@ -5,6 +5,7 @@ pub mod Asked
 -- The maps of a server.
 pub mod ServerCounts
 pub mod Writes
+pub mod Volumes
 pub mod Lengths
 pub mod Removals
 pub mod RemovalOrders

@@ -7,12 +7,10 @@ use Rattle.std.specs.declared.cmp.Ordering.{Ordering}
 use Rattle.std.specs.declared.cmp.Ordering.TheVariants.{Less, Equal, Greater}
 use Rattle.std.specs.declared.ops.Bound.TheVariants.{Included, Unbounded}
 use Rattle.std.specs.BTreeMap as map
-use Rattle.std.specs.BTreeSet as set
 use Rattle.std.specs.BTreeMap.{BTreeMap}
-use Rattle.std.specs.BTreeSet.{BTreeSet}
 use Rattle.std.specs.BTreeMap.Range.{IsLeBy, IsRangeOf}
 use Rattle.std.proofs.lemmas.Bool.{true≢false, false_from_ne_true}
-use Rattle.meaning.specs.State.{VolumeKey, FileKey, BlockKey, is_file_of, is_block_of_file}
+use Rattle.meaning.specs.State.{VolumeKey, FileKey, BlockKey, is_block_of, is_block_of_file}
 use Rattle.meaning.specs.KeyOrders.{volume_order, by_file, by_block}
 use Rattle.meaning.proofs.Keys.{at_volume, at_file, the_volume, the_file}
 
@@ -69,21 +67,30 @@ no_block_of_file m {a = a} {v} {f} {k} h e other q of = false_from_ne_true _ (λ
     let at = subst (IsRangeOf by_block (Included (a, v, f, 0)) Unbounded m) e h in
     other (the_file a v f (k.0, k.1, k.2) (within_file a v f k q at.1.0.0 (at.2 q (first_of_file a v f q of, tt) there) of)))
 
--- ---- the files of a volume
+-- ---- the blocks of a volume
 
-first_of_volume : (a v : ℕ) (q : FileKey) → is_file_of a v q ≡ true → IsLeBy by_file (a, v, 0) q
-first_of_volume a v q e = from_tied (volume_order (a, v) (q.0, q.1)) q.2 (at_volume a v (q.0, q.1) ∙ e)
+from_both : (r s : Ordering) → is_gt r ≡ false → is_gt s ≡ false → is_gt (ordering_then r s) ≡ false
+from_both Less s h k = refl
+from_both Equal s h k = k
+from_both Greater s h k = h
 
-within_volume : (a v : ℕ) (k q : FileKey) → IsLeBy by_file (a, v, 0) k → IsLeBy by_file k q → is_file_of a v q ≡ true → is_file_of a v k ≡ true
+first_of_volume : (a v : ℕ) (q : BlockKey) → is_block_of a v q ≡ true → IsLeBy by_block (a, v, 0, 0) q
+first_of_volume a v q e =
+    from_both (by_file (a, v, 0) (q.0, q.1, q.2)) (nat_cmp 0 q.3) (from_tied (volume_order (a, v) (q.0, q.1)) q.2 (at_volume a v (q.0, q.1) ∙ e)) (none_below_zero q.3)
+
+within_volume : (a v : ℕ) (k q : BlockKey) → IsLeBy by_block (a, v, 0, 0) k → IsLeBy by_block k q → is_block_of a v q ≡ true → is_block_of a v k ≡ true
 within_volume a v k q from to e =
     let here : VolumeKey = (k.0, k.1) in
-    let after = first_part (volume_order (a, v) here) (nat_cmp 0 k.2) from in
-    let before = subst (λ (p : VolumeKey). is_gt (volume_order here p) ≡ false) (sym (the_volume a v (q.0, q.1) e)) (first_part (volume_order here (q.0, q.1)) (nat_cmp k.2 q.2) to) in
+    let file : FileKey = (k.0, k.1, k.2) in
+    let after = first_part (volume_order (a, v) here) (nat_cmp 0 k.2) (first_part (by_file (a, v, 0) file) (nat_cmp 0 k.3) from) in
+    let upto = first_part (volume_order here (q.0, q.1)) (nat_cmp k.2 q.2) (first_part (by_file file (q.0, q.1, q.2)) (nat_cmp k.3 q.3) to) in
+    let before = subst (λ (p : VolumeKey). is_gt (volume_order here p) ≡ false) (sym (the_volume a v (q.0, q.1) e)) upto in
     sym (at_volume a v here) ∙ both_ways (volume_order (a, v) here) (volume_order here (a, v)) (volume_total.antisymm (a, v) here) after before
 
--- where the first key from there on is no file of the volume, the volume has none
-pub no_file_of_volume : (s : BTreeSet FileKey) {r rest : List FileKey} {a v : ℕ} {k : FileKey} → set.IsKeyRangeOf by_file (Included (a, v, 0)) Unbounded s r → r ≡ k ∷ rest
-    → (◌≡◌ {A = VolumeKey} (a, v) (k.0, k.1) → ⊥) → (q : FileKey) → is_file_of a v q ≡ true → set.contains by_file s q ≡ false
-no_file_of_volume s {a = a} {v} {k} h e other q of = false_from_ne_true _ (λ there.
-    let at = subst (set.IsKeyRangeOf by_file (Included (a, v, 0)) Unbounded s) e h in
+-- where the first key from there on is no block of the volume, the volume has none
+pub no_block_of_volume : {X : Type 0} (m : BTreeMap BlockKey X) {r rest : List (BlockKey × X)} {a v : ℕ} {k : BlockKey} {x : X}
+    → IsRangeOf by_block (Included (a, v, 0, 0)) Unbounded m r → r ≡ (k, x) ∷ rest
+    → (◌≡◌ {A = VolumeKey} (a, v) (k.0, k.1) → ⊥) → (q : BlockKey) → is_block_of a v q ≡ true → is_some (map.get by_block m q) ≡ false
+no_block_of_volume m {a = a} {v} {k} h e other q of = false_from_ne_true _ (λ there.
+    let at = subst (IsRangeOf by_block (Included (a, v, 0, 0)) Unbounded m) e h in
     other (the_volume a v (k.0, k.1) (within_volume a v k q at.1.0.0 (at.2 q (first_of_volume a v q of, tt) there) of)))

@@ -1,27 +1,17 @@
 -- What is left where blocks, files or a volume are removed.
-use Rattle.std.proofs.Common.{◌≡◌, ℕ, ◌+◌, ◌<◌, Bool, true, false, cond, refl, ap, sym, ◌∙◌, subst, arith}
-use Rattle.std.specs.Prelude.{◌&&◌, ◌==◌, not, if◌then◌else◌, Option, None, Some, is_some}
-use Rattle.std.specs.BTreeMap.{is_at}
+use Rattle.std.proofs.Common.{◌≡◌, ℕ, ◌+◌, ◌<◌, Bool, true, false, refl, ap, sym, subst, arith}
+use Rattle.std.specs.Prelude.{◌&&◌, ◌==◌, if◌then◌else◌, Option, None, Some, is_some}
 use Rattle.std.proofs.lemmas.Bool.{true≢false}
 use Rattle.affinity.specs.declared.geometry.Geometry.{Geometry}
 use Rattle.affinity.specs.Geometry.{group}
-use Rattle.messages.specs.declared.Msg.TheVariants.{Delete, Punch}
-use Rattle.meaning.specs.State.{State, IsState, Set, Map, VolumeKey, FileKey, BlockKey, dropping, clearing, is_volume, is_file, is_block, is_file_of, is_block_of, is_block_of_file, one_if, group_count}
+use Rattle.messages.specs.declared.Msg.TheVariants.{Punch}
+use Rattle.meaning.specs.State.{State, BlockKey, is_block, is_block_of, is_block_of_file, one_if, group_count}
 use Rattle.meaning.specs.Serial.{effect}
-use Rattle.meaning.specs.KeyOrders.{volume_order, by_file}
 use Rattle.plain.specs.Server.{StripeKey, is_stripe}
-use Rattle.meaning.specs.Removals.{without_blocks, without_files}
-use Rattle.meaning.proofs.Keys.{and_cond, at_volume, at_file, the_block, picks_file, picks_block}
+use Rattle.meaning.specs.Removals.{without_blocks}
+use Rattle.meaning.proofs.Keys.{the_block, picks_file, picks_block}
 use Rattle.plain.proofs.ServerCounts.{one_more}
 use Rattle.plain.proofs.Writes.{AreCounts}
-
--- ---- what answers as after a removal is the set or map without the key
-
-pub no_label_of : {X : Type 0} (m n : Map VolumeKey X) (a v : ℕ) → ((k : VolumeKey) → n k ≡ cond (is_at (volume_order (a, v)) k) None (m k)) → n ≡ clearing (is_volume a v) m
-no_label_of m n a v h i k = (h k ∙ ap (λ b. cond b None (m k)) (at_volume a v k)) i
-
-pub no_file : (s t : Set FileKey) (a v f : ℕ) → ((k : FileKey) → t k ≡ cond (is_at (by_file (a, v, f)) k) false (s k)) → t ≡ dropping (is_file a v f) s
-no_file s t a v f h i k = (h k ∙ ap (λ b. cond b false (s k)) (at_file a v f k) ∙ and_cond (is_file a v f k) (s k)) i
 
 -- ---- a block that is taken out
 
@@ -69,35 +59,14 @@ twice_cleared : {X : Type 0} (p q : Bool) (o : Option X) → (if p then None els
 twice_cleared true q o = refl
 twice_cleared false q o = refl
 
-twice_dropped : (p q r : Bool) → (not p && (not (p && q) && r)) ≡ (not p && r)
-twice_dropped true q r = refl
-twice_dropped false q r = refl
+-- a block of a volume that goes before the others
+pub block_before_volume : (x : State) (a v f b : ℕ) → without_blocks (is_block_of a v) (effect x (Punch a v f b)) ≡ without_blocks (is_block_of a v) x
+block_before_volume x a v f b = λ i. record x { blocks = λ k. twice (is_block_of a v k) (f == k.2) (b == k.3) (x.blocks k) i }
+  where
+    twice : {X : Type 0} (p q r : Bool) (o : Option X) → (if p then None else if p && q && r then None else o) ≡ (if p then None else o)
+    twice true q r o = refl
+    twice false q r o = refl
 
 -- a block of a file that goes before the others
 pub block_before_others : (x : State) (a v f b : ℕ) → without_blocks (is_block_of_file a v f) (effect x (Punch a v f b)) ≡ without_blocks (is_block_of_file a v f) x
 block_before_others x a v f b = λ i. record x { blocks = λ k. twice_cleared (is_block_of_file a v f k) (b == k.3) (x.blocks k) i }
-
--- a file of a volume that goes before the others
-pub file_before_others : (x : State) (a v f : ℕ) → without_files a v (effect x (Delete a v f)) ≡ without_files a v x
-file_before_others x a v f = λ i. record x {
-  files = λ k. twice_dropped (is_file_of a v k) (f == k.2) (x.files k) i;
-  blocks = λ k. twice_cleared (is_block_of a v k) (f == k.2) (x.blocks k) i;
-}
-
--- a volume that has no files
-pub no_files_left : (g : Geometry) (x : State) (a v : ℕ) → IsState g x → ((k : FileKey) → is_file_of a v k ≡ true → x.files k ≡ false) → without_files a v x ≡ x
-no_files_left g x a v h none =
-    (λ i. record (nothing_cleared (is_block_of a v) x no_block i) { files = λ k. at k i })
-  where
-    no_block : (k : BlockKey) → is_block_of a v k ≡ true → is_some (x.blocks k) ≡ false
-    no_block k is = not_there (is_some (x.blocks k)) refl
-      where
-        not_there : (t : Bool) → is_some (x.blocks k) ≡ t → t ≡ false
-        not_there true e = absurd (true≢false (sym (h.blocks k e).1 ∙ none (k.0, k.1, k.2) is))
-        not_there false e = refl
-
-    at : (k : FileKey) → (not (is_file_of a v k) && x.files k) ≡ x.files k
-    at k = elim (is_file_of a v k) as (λ t. is_file_of a v k ≡ t → (not t && x.files k) ≡ x.files k) [
-      | true ↦ λ is. sym (none k is)
-      | false ↦ λ e. refl
-    ] refl

@@ -1,27 +1,29 @@
 -- The totals of a volume and of the whole server.
-use Rattle.std.proofs.Common.{◌≡◌, ℕ, ◌*◌, ◌^◌, ◌<◌, ◌≤◌, sym, arith}
-use Rattle.std.specs.BTreeSet as set
+use Rattle.std.proofs.Common.{◌≡◌, ℕ, ◌*◌, ◌^◌, ◌<◌, ◌≤◌, true, refl, ap, sym, ◌∙◌, arith}
+use Rattle.std.specs.Prelude.{if◌then◌else◌, None, Some, count_ones}
 use Rattle.std.specs.BTreeMap as map
 use Rattle.std.proofs.lemmas.Nat.{mul-le}
-use Rattle.std.proofs.Math.Nat.{pow-le-pow_right, lt_of_not-le}
 use Rattle.affinity.specs.declared.geometry.Geometry.{Geometry}
+use Rattle.messages.specs.declared.Block.{Block}
+use Rattle.messages.specs.Replies.{has_file}
 use Rattle.plain.specs.declared.server.Server.{Server}
-use Rattle.meaning.specs.State.{State, IsState, one_if, file_count, block_count, over_volumes}
+use Rattle.plain.specs.declared.server.Volume.{Volume}
+use Rattle.meaning.specs.State.{State, Map, VolumeKey, BlockKey, IsState, one_if, sum_below, count_below, file_count, block_count, over_volumes}
 use Rattle.meaning.specs.Serial.{file_bits}
-use Rattle.meaning.specs.KeyOrders.{volume_order, by_file, by_block}
-use Rattle.plain.specs.Server.{server_state}
-use Rattle.meaning.proofs.Sums.{one_if-le}
-use Rattle.meaning.proofs.Counts.{bits-lt, file_count-le, block_count-le, over_volumes-le}
-use Rattle.plain.proofs.Lengths.{volumes_length, files_length, blocks_length}
+use Rattle.meaning.specs.KeyOrders.{volume_order, by_block}
+use Rattle.plain.specs.Server.{server_state, state_of, volume_has_file}
+use Rattle.meaning.proofs.FileBits.{few_bits}
+use Rattle.meaning.proofs.FileNumber.{number_within, below_within, count_within}
+use Rattle.meaning.proofs.Sums.{one_if-le, sum_same, sum_zero}
+use Rattle.meaning.proofs.Counts.{file_count-le, block_count-le, over_volumes-le}
+use Rattle.plain.proofs.Walks.{total}
+use Rattle.plain.proofs.Lengths.{found_worth, volumes_length, volumes_worth, blocks_length}
 
 -- ---- one volume
 
-pub bits-few_in_volume : (g : Geometry) (x : State) (a v : ℕ) → file_bits g x a v < 2 ^ 64
-bits-few_in_volume g x a v =
-    let below = bits-lt g.files (λ f. x.files (a, v, f)) in
-    let range = g.files_range in
-    let top : 2 ^ g.files ≤ 2 ^ 64 = pow-le-pow_right {n = 2} (omega arith) {i = g.files} {j = 64} (omega arith) in
-    omega (arith, below, top)
+-- how many files a volume has
+abbrev pub file_number : Volume → ℕ
+file_number w = count_ones w.files
 
 pub blocks-few_in_volume : (g : Geometry) (x : State) (a v : ℕ) → block_count g x a v ≤ 16384
 blocks-few_in_volume g x a v =
@@ -29,11 +31,32 @@ blocks-few_in_volume g x a v =
     let range : g.files * g.blocks ≤ 64 * 256 = mul-le g.files g.blocks 64 256 g.files_range.1 g.blocks_range.1 in
     omega arith
 
--- a number whose power of two is less than that of 64
-pub small_power : (k n : ℕ) → 2 ^ k ≤ n → n < 2 ^ 64 → k < 64
-small_power k n le lt = lt_of_not-le (λ from.
-    let more : 2 ^ 64 ≤ 2 ^ k = pow-le-pow_right {n = 2} (omega arith) {i = 64} {j = k} from in
-    omega (arith, le, lt, more))
+-- what a volume of this state has as its files
+module _ (g : Geometry) (volumes : Map VolumeKey Volume) (blocks : Map BlockKey Block) (is : IsState g (state_of volumes blocks)) (a v : ℕ) where
+  within : {w : Volume} → volumes (a, v) ≡ Some w → (f : ℕ) → has_file w.files f ≡ true → f < g.files
+  within there f has = (is.files (a, v, f) (ap (λ o. volume_has_file o f) there ∙ has)).0
+
+  -- they are a number of 64 bits
+  pub files_fit : {w : Volume} → volumes (a, v) ≡ Some w → w.files < 2 ^ 64
+  files_fit {w} there = few_bits g.files w.files (below_within g.files w.files (within there)) g.files_range.1
+
+  pub listed : {w : Volume} → volumes (a, v) ≡ Some w → file_bits g (state_of volumes blocks) a v ≡ w.files
+  listed {w} there = ap (λ o. sum_below g.files (λ f. if volume_has_file o f then 2 ^ f else 0)) there ∙ number_within g.files w.files (within there)
+
+  pub none_listed : volumes (a, v) ≡ None → file_bits g (state_of volumes blocks) a v ≡ 0
+  none_listed none = ap (λ o. sum_below g.files (λ f. if volume_has_file o f then 2 ^ f else 0)) none ∙ sum_zero g.files
+
+  pub files_counted : {w : Volume} → volumes (a, v) ≡ Some w → file_count g (state_of volumes blocks) a v ≡ count_ones w.files
+  files_counted {w} there = ap (λ o. count_below g.files (volume_has_file o)) there ∙ count_within g.files w.files (within there)
+
+  pub none_counted : volumes (a, v) ≡ None → file_count g (state_of volumes blocks) a v ≡ 0
+  none_counted none = ap (λ o. count_below g.files (volume_has_file o)) none ∙ sum_zero g.files
+
+  pub files_found : found_worth file_number (volumes (a, v)) ≡ file_count g (state_of volumes blocks) a v
+  files_found = elim (volumes (a, v)) as (λ o. volumes (a, v) ≡ o → found_worth file_number o ≡ file_count g (state_of volumes blocks) a v) [
+    | None ↦ λ none. sym (none_counted none)
+    | Some w ↦ λ there. sym (files_counted there)
+  ] refl
 
 -- ---- the whole server
 
@@ -41,11 +64,12 @@ small : (g : Geometry) (c : ℕ) → g.aggregates * (g.volumes * c) ≤ 4 * (8 *
 small g c = mul-le g.aggregates (g.volumes * c) 4 (8 * c) g.aggregates_range.1 (mul-le g.volumes c 8 c g.volumes_range.1 (omega arith))
 
 module _ (g : Geometry) (server : Server) (is : IsState g (server_state server)) where
-  pub volumes_total : set.IsOrdered volume_order server.made → set.btree_set_len server.made ≡ over_volumes g (λ a v. one_if ((server_state server).made (a, v)))
-  volumes_total ordered = sym (volumes_length g server.made ordered is.made)
+  pub volumes_total : map.IsOrdered volume_order server.volumes → map.btree_map_len server.volumes ≡ over_volumes g (λ a v. one_if ((server_state server).made (a, v)))
+  volumes_total ordered = sym (volumes_length g server.volumes ordered is.made)
 
-  pub files_total : set.IsOrdered by_file server.files → set.btree_set_len server.files ≡ over_volumes g (file_count g (server_state server))
-  files_total ordered = sym (files_length g server.files ordered (λ k has. let there = is.files k has in let volume = is.made (k.0, k.1) there.1 in (volume.0, volume.1, there.0)))
+  pub files_total : map.IsOrdered volume_order server.volumes → total file_number (map.values server.volumes) ≡ over_volumes g (file_count g (server_state server))
+  files_total ordered = sym (volumes_worth g file_number server.volumes ordered is.made)
+      ∙ sum_same g.aggregates _ _ (λ a. sum_same g.volumes _ _ (λ v. files_found g (map.get volume_order server.volumes) (map.get by_block server.blocks) is a v))
 
   pub blocks_total : map.IsOrdered by_block server.blocks → map.btree_map_len server.blocks ≡ over_volumes g (block_count g (server_state server))
   blocks_total ordered = sym (blocks_length g server.blocks ordered (λ k has.

@@ -1,9 +1,9 @@
 -- What a walk over the keys of one volume, in their order, adds up to.
-use Rattle.std.proofs.Common.{◌≡◌, ℕ, ◌+◌, ◌^◌, ◌<◌, Bool, true, false, cond, List, [], ◌∷◌, length, refl, ap, sym, ◌∙◌, subst, arith}
-use Rattle.std.specs.Prelude.{◌&&◌, ◌||◌, not, if◌then◌else◌, map as map_list, filter, Some, unwrap_or}
+use Rattle.std.proofs.Common.{◌≡◌, ℕ, ◌+◌, ◌<◌, Bool, true, false, cond, List, [], ◌∷◌, refl, ap, sym, ◌∙◌, subst, arith}
+use Rattle.std.specs.Prelude.{◌&&◌, not, map as map_list, filter, Some, unwrap_or}
 use Rattle.std.specs.Ordering.{nat_cmp, ordering_then, is_eq, is_le, eq_by_cmp, MatchOrdering}
 use Rattle.std.specs.Cmp.{ranks}
-use Rattle.std.specs.List.{AllByRecursion, list_any, IsDistinct}
+use Rattle.std.specs.List.{AllByRecursion, IsDistinct}
 use Rattle.std.specs.Map.{lookup}
 use Rattle.std.specs.declared.cmp.Ordering.{Ordering}
 use Rattle.std.specs.declared.cmp.Ordering.TheVariants.{Less, Equal, Greater}
@@ -11,14 +11,11 @@ use Rattle.std.specs.declared.ops.Bound.TheVariants.{Included, Excluded}
 use Rattle.std.specs.BTreeMap as map
 use Rattle.std.specs.BTreeMap.{is_at}
 use Rattle.std.specs.BTreeMap.Range.{range_contains, entries_between}
-use Rattle.std.specs.BTreeSet as set
-use Rattle.std.specs.BTreeSet.{BTreeSet}
 use Rattle.std.proofs.lemmas.Bool.{and_parts, true≢false, false_from_ne_true}
 use Rattle.std.proofs.lemmas.Map.Keys.{IsDistinct-from_sorted, IsDistinct-head, IsDistinct-tail}
 use Rattle.affinity.specs.declared.geometry.Geometry.{Geometry}
 use Rattle.plain.specs.declared.server.Server.{Server}
-use Rattle.meaning.specs.State.{FileKey, is_file, sum_below, one_if, file_count, block_count}
-use Rattle.meaning.specs.Serial.{file_bits}
+use Rattle.meaning.specs.State.{FileKey, is_file, sum_below, block_count}
 use Rattle.meaning.specs.KeyOrders.{volume_order, by_file}
 use Rattle.plain.specs.Server.{server_state, IsCounted}
 use Rattle.meaning.proofs.Keys.{at_volume, at_file, the_volume, the_file, picks_volume, picks_file}
@@ -116,46 +113,6 @@ module _ {E : Type 0} (key : E → FileKey) (weight : E → ℕ) (a v n : ℕ) w
         | false ↦ λ other. rest ∙ sum_below-same n _ _ (λ i lt. sym (ap (λ t. cond t (weight e) (at i es))
             (false_from_ne_true _ (λ is. true≢false (sym (between a v n i lt) ∙ ap (is_between a v n) (this_key i (key e) is) ∙ other)))))
       ] refl
-
--- ---- a set of files
-
-same_keys : (ks : List FileKey) → map_list (λ k. k) ks ≡ ks
-same_keys [] = refl
-same_keys (k ∷ ks) = ap (λ rest. k ∷ rest) (same_keys ks)
-
-module _ (weight : ℕ → ℕ) (a v n : ℕ) where
-  in_set : (i : ℕ) (ks : List FileKey) → at (λ k. k) (λ (k : FileKey). weight k.2) a v n i ks ≡ (if list_any (is_at (by_file (a, v, i))) ks then weight i else 0)
-  in_set i [] = refl
-  in_set i (k ∷ ks) = elim (is_at (by_file (a, v, i)) k) as (λ t. is_at (by_file (a, v, i)) k ≡ t
-      → cond t (weight k.2) (at (λ k. k) (λ (k : FileKey). weight k.2) a v n i ks)
-      ≡ (if t || list_any (is_at (by_file (a, v, i))) ks then weight i else 0)) [
-        | true ↦ λ is. ap weight (sym (ap (λ k. k.2) (this_key (λ k. k) (λ (k : FileKey). weight k.2) a v n i k is)))
-        | false ↦ λ other. in_set i ks
-      ] refl
-
-  pub files_walked : (s : BTreeSet FileKey) → set.IsOrdered by_file s
-      → total (λ (k : FileKey). weight k.2) (set.keys_between by_file (Included (a, v, 0)) (Excluded (a, v, n)) s) ≡ sum_below n (λ i. if set.contains by_file s (a, v, i) then weight i else 0)
-  files_walked s ordered =
-      walked (λ k. k) (λ (k : FileKey). weight k.2) a v n s.keys (subst (IsDistinct (eq_by_cmp by_file)) (sym (same_keys s.keys)) (IsDistinct-from_sorted by_file s.keys ordered))
-      ∙ sum_same n _ _ (λ i. in_set i s.keys)
-
-module _ (g : Geometry) (server : Server) (a v : ℕ) where
-  pub bits_walked : set.IsOrdered by_file server.files → total (λ (k : FileKey). 2 ^ k.2)
-      (set.keys_between by_file (Included (a, v, 0)) (Excluded (a, v, g.files)) server.files) ≡ file_bits g (server_state server) a v
-  bits_walked ordered = files_walked (λ i. 2 ^ i) a v g.files server.files ordered
-
-  pub count_walked : set.IsOrdered by_file server.files → length (set.keys_between by_file (Included (a, v, 0)) (Excluded (a, v, g.files)) server.files) ≡ file_count g (server_state server) a v
-  count_walked ordered =
-      let all = files_walked (λ i. 1) a v g.files server.files ordered ∙ sum_same g.files _ _ (λ i. as_one (set.contains by_file server.files (a, v, i))) in
-      sym (one_each (set.keys_between by_file (Included (a, v, 0)) (Excluded (a, v, g.files)) server.files)) ∙ all
-    where
-      as_one : (b : Bool) → (if b then 1 else 0) ≡ one_if b
-      as_one true = refl
-      as_one false = refl
-
-      one_each : (ks : List FileKey) → total (λ (k : FileKey). 1) ks ≡ length ks
-      one_each [] = refl
-      one_each (k ∷ ks) = let rest = one_each ks in omega (arith, rest)
 
 -- ---- the blocks that are noted for the stripes
 

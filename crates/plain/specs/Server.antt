@@ -1,21 +1,41 @@
 -- Inner: The state that the maps of a server hold.
-use Rattle.std.specs.Prelude.{◌≡◌, ℕ, Bool, ◌&&◌, ◌==◌, unwrap_or}
-use Rattle.std.specs.BTreeSet as set
+use Rattle.std.specs.Prelude.{◌≡◌, ℕ, Bool, false, ◌&&◌, ◌==◌, List, Option, None, Some, is_some, unwrap_or}
 use Rattle.std.specs.BTreeMap as map
 use Rattle.affinity.specs.declared.geometry.Geometry.{Geometry}
-use Rattle.meaning.specs.State.{State, IsState, group_count}
+use Rattle.messages.specs.declared.Block.{Block}
+use Rattle.messages.specs.Replies.{has_file}
+use Rattle.meaning.specs.State.{State, Map, VolumeKey, BlockKey, IsState, group_count}
 use Rattle.meaning.specs.KeyOrders.{volume_order, by_file, by_block}
 use Rattle.plain.specs.declared.server.Server.{Server}
+use Rattle.plain.specs.declared.server.Volume.{Volume}
+
+-- ---- what is known of a volume, where it is made
+
+abbrev pub volume_is_sealed : Option Volume → Bool
+volume_is_sealed None = false
+volume_is_sealed (Some volume) = volume.sealed
+
+abbrev pub volume_has_file : Option Volume → ℕ → Bool
+volume_has_file None f = false
+volume_has_file (Some volume) f = has_file volume.files f
+
+abbrev pub volume_label : Option Volume → Option (List ℕ)
+volume_label None = None
+volume_label (Some volume) = Some volume.label
+
+-- the state by the volumes and the blocks at each key
+abbrev pub state_of : Map VolumeKey Volume → Map BlockKey Block → State
+state_of volumes blocks = record {
+  made = λ k. is_some (volumes k);
+  sealed = λ k. volume_is_sealed (volumes k);
+  files = λ k. volume_has_file (volumes (k.0, k.1)) k.2;
+  blocks = blocks;
+  labels = λ k. volume_label (volumes k);
+}
 
 -- the state that the maps hold
 abbrev pub server_state : Server → State
-server_state server = record {
-  made = set.contains volume_order server.made;
-  sealed = set.contains volume_order server.sealed;
-  files = set.contains by_file server.files;
-  blocks = map.get by_block server.blocks;
-  labels = map.get volume_order server.labels;
-}
+server_state server = state_of (map.get volume_order server.volumes) (map.get by_block server.blocks)
 
 -- ---- the blocks of each stripe (a, v, s)
 

@@ -13,7 +13,7 @@ use affinity::{Geometry, Kind};
 use message::{know_block, know_message};
 use messages::{Block, Msg, Refusal, Reply};
 use std::alloc::{AllocError, Global};
-use std::collections::{BTreeMap, BTreeSet};
+use std::collections::BTreeMap;
 
 mod blocks;
 mod effects;
@@ -23,20 +23,21 @@ mod removals;
 mod replies;
 mod totals;
 
+/// What a volume has, its blocks apart.
+#[derive(Clone, Copy)]
+struct Volume {
+    sealed: bool,
+    label: [u8; 32],
+
+    /// File `f` is there where bit `f` is set.
+    files: u64,
+}
+
 /// The state of a serial server.
 #[derive(Drop)]
 pub(crate) struct Server {
     /// The volumes that are made.
-    made: BTreeSet<(u16, u16)>,
-
-    /// The volumes that are sealed.
-    sealed: BTreeSet<(u16, u16)>,
-
-    /// The label of each volume that is made.
-    labels: BTreeMap<(u16, u16), [u8; 32]>,
-
-    /// The files that there are, by volume.
-    files: BTreeSet<(u16, u16, u16)>,
+    volumes: BTreeMap<(u16, u16), Volume>,
 
     /// The blocks, by file.
     blocks: BTreeMap<(u16, u16, u16, u16), Block>,
@@ -53,10 +54,7 @@ impl Server {
         ensures sound { (g : Geometry) → IsConsistent g result }
     {
         Server {
-            made: BTreeSet::new(alloc),
-            sealed: BTreeSet::new(alloc),
-            labels: BTreeMap::new(alloc),
-            files: BTreeSet::new(alloc),
+            volumes: BTreeMap::new(alloc),
             blocks: BTreeMap::new(alloc),
             used: BTreeMap::new(alloc),
         }

@@ -1,26 +1,27 @@
 //! What a message that passes its tests changes.
 
-ghost use Rattle.std.specs.Prelude.{◌≡◌, OnOk, OnErr, None, false};
+ghost use Rattle.std.specs.Prelude.{◌≡◌, ◌<◌, OnOk, OnErr, None, true, false};
 ghost use Rattle.affinity.specs.declared.geometry.Geometry.{Geometry};
 ghost use Rattle.messages.specs.declared.Msg.{Msg};
 ghost use Rattle.message.specs.Heads.{message_without_data, has_data};
 ghost use Rattle.meaning.specs.Serial.{refusal, effect};
 ghost use Rattle.plain.specs.Server.{server_state, IsCounted, IsConsistent};
 
-use super::Server;
+use super::{Server, Volume};
 use affinity::{Geometry, Kind};
 use messages::Msg;
 use std::alloc::AllocError;
 
 impl Server {
-    /// Sets the label of a volume.
-    pub(super) fn set_label(&mut self, a: u16, v: u16, bytes: &[u8; 32]) -> Result<(), AllocError>
-        ensures state { OnOk result (server_state self.new ≡ effect (server_state self.old) (Msg.SetLabel a v bytes.now)) }
-        ensures unchanged { OnErr result (server_state self.new ≡ server_state self.old) }
+    /// Sets the label of a volume that is made.
+    pub(super) fn set_label(&mut self, a: u16, v: u16, bytes: &[u8; 32])
+        requires made { (server_state self.old).made (a, v) ≡ true }
+        ensures state { server_state self.new ≡ effect (server_state self.old) (Msg.SetLabel a v bytes.now) }
         ensures counted { (g : Geometry) → IsCounted g self.old → IsCounted g self.new }
     {
-        self.labels.insert((a, v), *bytes)?;
-        Ok(())
+        if let Some(volume) = self.volumes.get_mut(&(a, v)) {
+            volume.label = *bytes;
+        }
     }
 
     /// Makes a volume that isn't there, with a label of zeros.
@@ -30,42 +31,47 @@ impl Server {
         ensures unchanged { OnErr result (server_state self.new ≡ server_state self.old) }
         ensures counted { (g : Geometry) → IsCounted g self.old → IsCounted g self.new }
     {
-        self.made.insert((a, v))?;
-        match self.set_label(a, v, &[0; 32]) {
-            Ok(()) => Ok(()),
-            Err(e) => {
-                self.made.remove(&(a, v));
-                Err(e)
-            }
+        let volume = Volume {
+            sealed: false,
+            label: [0; 32],
+            files: 0,
+        };
+        self.volumes.insert((a, v), volume)?;
+        Ok(())
+    }
+
+    /// Makes a file in a volume that is made.
+    pub(super) fn insert_file(&mut self, a: u16, v: u16, f: u16)
+        requires made { (server_state self.old).made (a, v) ≡ true }
+        requires file { f < 64 }
+        ensures state { server_state self.new ≡ effect (server_state self.old) (Msg.Create a v f) }
+        ensures counted { (g : Geometry) → IsCounted g self.old → IsCounted g self.new }
+    {
+        if let Some(volume) = self.volumes.get_mut(&(a, v)) {
+            volume.files |= 1 << f;
         }
     }
 
-    /// Makes a file in a volume.
-    pub(super) fn insert_file(&mut self, a: u16, v: u16, f: u16) -> Result<(), AllocError>
-        ensures state { OnOk result (server_state self.new ≡ effect (server_state self.old) (Msg.Create a v f)) }
-        ensures unchanged { OnErr result (server_state self.new ≡ server_state self.old) }
+    /// Seals a volume that is made, whether it was sealed or not.
+    pub(super) fn seal_volume(&mut self, a: u16, v: u16)
+        requires made { (server_state self.old).made (a, v) ≡ true }
+        ensures state { server_state self.new ≡ effect (server_state self.old) (Msg.Seal a v) }
         ensures counted { (g : Geometry) → IsCounted g self.old → IsCounted g self.new }
     {
-        self.files.insert((a, v, f))?;
-        Ok(())
+        if let Some(volume) = self.volumes.get_mut(&(a, v)) {
+            volume.sealed = true;
+        }
     }
 
-    /// Seals a volume, whether it was sealed or not.
-    pub(super) fn seal_volume(&mut self, a: u16, v: u16) -> Result<(), AllocError>
-        ensures state { OnOk result (server_state self.new ≡ effect (server_state self.old) (Msg.Seal a v)) }
-        ensures unchanged { OnErr result (server_state self.new ≡ server_state self.old) }
-        ensures counted { (g : Geometry) → IsCounted g self.old → IsCounted g self.new }
-    {
-        self.sealed.insert((a, v))?;
-        Ok(())
-    }
-
-    /// Unseals a volume, whether it was sealed or not.
+    /// Unseals a volume that is made, whether it was sealed or not.
     pub(super) fn unseal_volume(&mut self, a: u16, v: u16)
+        requires made { (server_state self.old).made (a, v) ≡ true }
         ensures state { server_state self.new ≡ effect (server_state self.old) (Msg.Unseal a v) }
         ensures counted { (g : Geometry) → IsCounted g self.old → IsCounted g self.new }
     {
-        self.sealed.remove(&(a, v));
+        if let Some(volume) = self.volumes.get_mut(&(a, v)) {
+            volume.sealed = false;
+        }
     }
 
     /// Carries out a message that passes its tests.
@@ -79,13 +85,13 @@ impl Server {
         match m {
             Msg::MakeVol(a, v) => self.insert_volume(*a, *v)?,
             Msg::DropVol(a, v) => self.remove_volume(g, *a, *v),
-            Msg::Create(a, v, f) => self.insert_file(*a, *v, *f)?,
+            Msg::Create(a, v, f) => self.insert_file(*a, *v, *f),
             Msg::Delete(a, v, f) => self.remove_file(g, *a, *v, *f),
-            Msg::Seal(a, v) => self.seal_volume(*a, *v)?,
+            Msg::Seal(a, v) => self.seal_volume(*a, *v),
             Msg::Unseal(a, v) => self.unseal_volume(*a, *v),
             Msg::Write(a, v, f, b, content) => self.put_block(g, *a, *v, *f, *b, content)?,
             Msg::Punch(a, v, f, b) => self.remove_block(g, *a, *v, *f, *b),
-            Msg::SetLabel(a, v, bytes) => self.set_label(*a, *v, bytes)?,
+            Msg::SetLabel(a, v, bytes) => self.set_label(*a, *v, bytes),
             Msg::Read(..) | Msg::List(..) | Msg::Usage(..) | Msg::Summary | Msg::Label(..) => {}
         }
         Ok(())
@@ -109,9 +115,9 @@ impl Server {
         match kind {
             Kind::MakeVol => self.insert_volume(a, v)?,
             Kind::DropVol => self.remove_volume(g, a, v),
-            Kind::Create => self.insert_file(a, v, f)?,
+            Kind::Create => self.insert_file(a, v, f),
             Kind::Delete => self.remove_file(g, a, v, f),
-            Kind::Seal => self.seal_volume(a, v)?,
+            Kind::Seal => self.seal_volume(a, v),
             Kind::Unseal => self.unseal_volume(a, v),
             Kind::Punch => self.remove_block(g, a, v, f, b),
             Kind::Write => unreachable!(),

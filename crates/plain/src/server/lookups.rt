@@ -1,30 +1,37 @@
 //! What the server has: volumes, files, blocks, and how many blocks a stripe has.
 
 ghost use Rattle.std.specs.Prelude.{◌≡◌, is_some};
+ghost use Rattle.messages.specs.Replies.{has_file};
 ghost use Rattle.plain.specs.Server.{server_state, noted};
 
 use super::Server;
+
+/// Whether there is a file with this number among those whose bits are set.
+pub(super) fn has_file(files: u64, f: u16) -> bool
+    ensures { result ≡ has_file files f }
+{
+    if f >= 64 {
+        return false;
+    }
+    (files >> f) & 1 == 1
+}
 
 impl Server {
     /// Whether a volume is made.
     pub(super) fn has_volume(&self, a: u16, v: u16) -> bool
         ensures { result ≡ (server_state self.now).made (a, v) }
     {
-        self.made.contains(&(a, v))
+        self.volumes.contains_key(&(a, v))
     }
 
     /// Whether a volume is sealed.
     pub(super) fn is_sealed(&self, a: u16, v: u16) -> bool
         ensures { result ≡ (server_state self.now).sealed (a, v) }
     {
-        self.sealed.contains(&(a, v))
-    }
-
-    /// Whether there is a file.
-    pub(super) fn has_file(&self, a: u16, v: u16, f: u16) -> bool
-        ensures { result ≡ (server_state self.now).files (a, v, f) }
-    {
-        self.files.contains(&(a, v, f))
+        match self.volumes.get(&(a, v)) {
+            Some(volume) => volume.sealed,
+            None => false,
+        }
     }
 
     /// Whether there is a block.

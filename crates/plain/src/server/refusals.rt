@@ -2,13 +2,14 @@
 
 ghost use Rattle.std.specs.Prelude.{◌≡◌, ◌||◌, if◌then◌else◌, None, Some, is_some, nat_lt};
 ghost use Rattle.affinity.specs.Geometry.{group};
-ghost use Rattle.messages.specs.declared.Refusal.TheVariants.{File, Sealed, Volume};
+ghost use Rattle.messages.specs.declared.Refusal.TheVariants.{Exists, File, Sealed, Volume};
 ghost use Rattle.meaning.specs.State.{group_count};
 ghost use Rattle.meaning.specs.Serial.{refusal};
 ghost use Rattle.meaning.specs.ByKind.{refusal_by};
 ghost use Rattle.plain.specs.Server.{server_state, IsCounted};
 
 use super::Server;
+use super::lookups::has_file;
 use affinity::{Geometry, Kind, group_of, is_in_range};
 use messages::{Msg, Refusal};
 
@@ -41,9 +42,9 @@ impl Server {
         ensures { result ≡ (if (server_state self.now).made (a, v)
             then (if (server_state self.now).sealed (a, v) then Some Sealed else None) else Some Volume) }
     {
-        match self.refusal_to_ask(a, v) {
-            Some(why) => Some(why),
-            None => refused_if(self.is_sealed(a, v), Refusal::Sealed),
+        match self.volumes.get(&(a, v)) {
+            Some(volume) => refused_if(volume.sealed, Refusal::Sealed),
+            None => Some(Refusal::Volume),
         }
     }
 
@@ -53,9 +54,34 @@ impl Server {
             then (if (server_state self.now).sealed (a, v) then Some Sealed
             else (if (server_state self.now).files (a, v, f) then None else Some File)) else Some Volume) }
     {
-        match self.refusal_to_change(a, v) {
-            Some(why) => Some(why),
-            None => refused_if(!self.has_file(a, v, f), Refusal::File),
+        match self.volumes.get(&(a, v)) {
+            Some(volume) if volume.sealed => Some(Refusal::Sealed),
+            Some(volume) => refused_if(!has_file(volume.files, f), Refusal::File),
+            None => Some(Refusal::Volume),
+        }
+    }
+
+    /// Why a file can't be made, if it can't.
+    fn refusal_to_create(&self, a: u16, v: u16, f: u16) -> Option<Refusal>
+        ensures { result ≡ (if (server_state self.now).made (a, v)
+            then (if (server_state self.now).sealed (a, v) then Some Sealed
+            else (if (server_state self.now).files (a, v, f) then Some Exists else None)) else Some Volume) }
+    {
+        match self.volumes.get(&(a, v)) {
+            Some(volume) if volume.sealed => Some(Refusal::Sealed),
+            Some(volume) => refused_if(has_file(volume.files, f), Refusal::Exists),
+            None => Some(Refusal::Volume),
+        }
+    }
+
+    /// Why a question about a file is refused, if it is.
+    fn refusal_to_read(&self, a: u16, v: u16, f: u16) -> Option<Refusal>
+        ensures { result ≡ (if (server_state self.now).made (a, v)
+            then (if (server_state self.now).files (a, v, f) then None else Some File) else Some Volume) }
+    {
+        match self.volumes.get(&(a, v)) {
+            Some(volume) => refused_if(!has_file(volume.files, f), Refusal::File),
+            None => Some(Refusal::Volume),
         }
     }
 
@@ -72,20 +98,14 @@ impl Server {
             Kind::Summary => None,
             Kind::MakeVol => refused_if(self.has_volume(a, v), Refusal::Exists),
             Kind::DropVol | Kind::SetLabel => self.refusal_to_change(a, v),
-            Kind::Create => match self.refusal_to_change(a, v) {
-                Some(why) => Some(why),
-                None => refused_if(self.has_file(a, v, f), Refusal::Exists),
-            },
+            Kind::Create => self.refusal_to_create(a, v, f),
             Kind::Delete => self.refusal_to_change_file(a, v, f),
             Kind::Punch => self.refusal_to_change_file(a, v, f),
             Kind::Write => match self.refusal_to_change_file(a, v, f) {
                 Some(why) => Some(why),
                 None => refused_if(!self.has_room(g, a, v, f, b), Refusal::Space),
             },
-            Kind::Read => match self.refusal_to_ask(a, v) {
-                Some(why) => Some(why),
-                None => refused_if(!self.has_file(a, v, f), Refusal::File),
-            },
+            Kind::Read => self.refusal_to_read(a, v, f),
             Kind::Seal | Kind::Unseal => self.refusal_to_ask(a, v),
             Kind::List | Kind::Usage => self.refusal_to_ask(a, v),
             Kind::Label => self.refusal_to_ask(a, v),

@@ -2,13 +2,12 @@
 
 ghost use Rattle.std.specs.Prelude.{◌≡◌, ◌+◌, ◌<◌, true, false, is_some, IfSome, IfNone};
 ghost use Rattle.std.specs.BTreeMap.{btree_map_len};
-ghost use Rattle.std.specs.BTreeSet.{btree_set_len};
 ghost use Rattle.affinity.specs.declared.geometry.Geometry.{Geometry};
 ghost use Rattle.messages.specs.declared.Msg.{Msg};
-ghost use Rattle.meaning.specs.State.{FileKey, BlockKey, one_if, is_block_of_file, is_file_of};
+ghost use Rattle.meaning.specs.State.{BlockKey, one_if, is_block_of, is_block_of_file};
 ghost use Rattle.meaning.specs.Serial.{effect};
 ghost use Rattle.plain.specs.Server.{StripeKey, is_stripe, server_state, noted, IsCounted, IsConsistent};
-ghost use Rattle.meaning.specs.Removals.{without_blocks, without_files};
+ghost use Rattle.meaning.specs.Removals.{without_blocks};
 
 use super::Server;
 use affinity::{Geometry, group_of};
@@ -20,7 +19,6 @@ impl Server {
         ensures noted { (k : StripeKey) → noted self.new k + one_if (is_stripe a v s k) ≡ noted self.old k }
         ensures state { server_state self.new ≡ server_state self.old }
         ensures blocks { self.new.blocks ≡ self.old.blocks }
-        ensures files { self.new.files ≡ self.old.files }
     {
         if let Some(count) = self.used.get_mut(&(a, v, s)) {
             *count -= 1;
@@ -34,7 +32,6 @@ impl Server {
         ensures counted { IsCounted g.now self.new }
         ensures len { btree_map_len self.new.blocks + one_if (is_some ((server_state self.old).blocks (a, v, f, b)))
             ≡ btree_map_len self.old.blocks }
-        ensures files { self.new.files ≡ self.old.files }
     {
         if self.blocks.remove(&(a, v, f, b)).is_some() {
             self.note_one_less(a, v, group_of(g, f, b));
@@ -61,7 +58,6 @@ impl Server {
         requires sound { IsConsistent g.now self.old }
         ensures state { server_state self.new ≡ without_blocks (is_block_of_file a v f) (server_state self.old) }
         ensures counted { IsCounted g.now self.new }
-        ensures files { self.new.files ≡ self.old.files }
     {
         while let Some(b) = self.next_block_of_file(a, v, f) {
             self.remove_block(g, a, v, f, b);
@@ -70,37 +66,41 @@ impl Server {
 
     /// Removes a file with its blocks. It takes no memory.
     pub(super) fn remove_file(&mut self, g: &Geometry, a: u16, v: u16, f: u16)
+        requires file { f < 64 }
+        requires made { (server_state self.old).made (a, v) ≡ true }
         requires sound { IsConsistent g.now self.old }
         ensures state { server_state self.new ≡ effect (server_state self.old) (Msg.Delete a v f) }
         ensures counted { IsCounted g.now self.new }
-        ensures len { btree_set_len self.new.files + one_if ((server_state self.old).files (a, v, f)) ≡ btree_set_len self.old.files }
     {
         self.clear_file(g, a, v, f);
-        self.files.remove(&(a, v, f));
+        if let Some(volume) = self.volumes.get_mut(&(a, v)) {
+            volume.files &= !(1 << f);
+        }
     }
 
-    /// The number of a file of the volume, where it has one.
-    fn next_file_of_volume(&self, a: u16, v: u16) -> Option<u16>
-        ensures found { IfSome result (λ f. (server_state self.now).files (a, v, f) ≡ true) }
-        ensures none { IfNone result ((k : FileKey) → is_file_of a v k ≡ true → (server_state self.now).files k ≡ false) }
+    /// The file and the number of a block of the volume, where it has one.
+    fn next_block_of_volume(&self, a: u16, v: u16) -> Option<(u16, u16)>
+        ensures found { IfSome result (λ p. is_some ((server_state self.now).blocks (a, v, p.0, p.1)) ≡ true) }
+        ensures none { IfNone result ((k : BlockKey) → is_block_of a v k ≡ true
+            → is_some ((server_state self.now).blocks k) ≡ false) }
     {
-        let key = self.files.range((a, v, 0)..).next()?;
-        let (of_a, of_v, f) = *key;
+        let (key, _) = self.blocks.range((a, v, 0, 0)..).next()?;
+        let (of_a, of_v, f, b) = *key;
         if of_a == a && of_v == v {
-            Some(f)
+            Some((f, b))
         } else {
             None
         }
     }
 
-    /// Removes all files of a volume, with their blocks.
-    fn remove_files(&mut self, g: &Geometry, a: u16, v: u16)
+    /// Takes all its blocks out of a volume.
+    fn clear_volume(&mut self, g: &Geometry, a: u16, v: u16)
         requires sound { IsConsistent g.now self.old }
-        ensures state { server_state self.new ≡ without_files a v (server_state self.old) }
+        ensures state { server_state self.new ≡ without_blocks (is_block_of a v) (server_state self.old) }
         ensures counted { IsCounted g.now self.new }
     {
-        while let Some(f) = self.next_file_of_volume(a, v) {
-            self.remove_file(g, a, v, f);
+        while let Some((f, b)) = self.next_block_of_volume(a, v) {
+            self.remove_block(g, a, v, f, b);
         }
     }
 
@@ -110,9 +110,7 @@ impl Server {
         ensures state { server_state self.new ≡ effect (server_state self.old) (Msg.DropVol a v) }
         ensures counted { IsCounted g.now self.new }
     {
-        self.remove_files(g, a, v);
-        self.made.remove(&(a, v));
-        self.sealed.remove(&(a, v));
-        self.labels.remove(&(a, v));
+        self.clear_volume(g, a, v);
+        self.volumes.remove(&(a, v));
     }
 }

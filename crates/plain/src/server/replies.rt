@@ -45,8 +45,8 @@ impl Server {
     pub(super) fn label_of(&self, a: u16, v: u16) -> Reply
         ensures { (g : Geometry) → result ≡ accepted_reply g (server_state self.now) (Msg.Label a v) }
     {
-        match self.labels.get(&(a, v)) {
-            Some(bytes) => Reply::Label(*bytes),
+        match self.volumes.get(&(a, v)) {
+            Some(volume) => Reply::Label(volume.label),
             None => Reply::Label([0; 32]),
         }
     }

@@ -3,7 +3,7 @@
 ghost use Rattle.std.specs.Prelude.{◌≡◌};
 ghost use Rattle.affinity.specs.declared.geometry.Geometry.{Geometry};
 ghost use Rattle.messages.specs.declared.Msg.{Msg};
-ghost use Rattle.meaning.specs.State.{file_count, block_count};
+ghost use Rattle.meaning.specs.State.{file_count, block_count, over_volumes};
 ghost use Rattle.meaning.specs.Serial.{accepted_reply};
 ghost use Rattle.plain.specs.Server.{server_state, IsCounted, IsConsistent};
 
@@ -12,24 +12,27 @@ use affinity::Geometry;
 use messages::{Msg, Reply};
 
 impl Server {
-    /// Which files a volume has: file `f` is bit `f` of the number. It walks these files alone.
+    /// Which files a volume has: file `f` is bit `f` of the number.
     #[inline(always)]
     pub(crate) fn list_files(&self, g: &Geometry, a: u16, v: u16) -> Reply
+        requires sound { IsConsistent g.now self.now }
         ensures { result ≡ accepted_reply g.now (server_state self.now) (Msg.List a v) }
     {
-        let mut bits = 0;
-        for key in self.files.range((a, v, 0)..(a, v, g.files)) {
-            bits += 1u64 << key.2;
+        match self.volumes.get(&(a, v)) {
+            Some(volume) => Reply::Files(volume.files),
+            None => Reply::Files(0),
         }
-        Reply::Files(bits)
     }
 
-    /// How many files a volume has. It walks these files alone.
+    /// How many files a volume has.
     fn files_of(&self, g: &Geometry, a: u16, v: u16) -> u32
+        requires sound { IsConsistent g.now self.now }
         ensures { result ≡ file_count g.now (server_state self.now) a v }
     {
-        let files = self.files.range((a, v, 0)..(a, v, g.files)).count();
-        files as u32
+        match self.volumes.get(&(a, v)) {
+            Some(volume) => volume.files.count_ones(),
+            None => 0,
+        }
     }
 
     /// How many blocks a volume has: the numbers noted for its stripes. It walks these notes
@@ -54,22 +57,32 @@ impl Server {
         Reply::Usage {
             files: self.files_of(g, a, v),
             blocks: self.blocks_of(g, a, v),
-            sealed: self.sealed.contains(&(a, v)),
+            sealed: self.is_sealed(a, v),
         }
     }
 
-    /// How much all volumes hold, and how many they are. The maps know their own lengths, so this
-    /// looks nothing up.
+    /// How many files there are. It walks the volumes that are made.
+    fn all_files(&self, g: &Geometry) -> u32
+        requires sound { IsConsistent g.now self.now }
+        ensures { result ≡ over_volumes g.now (file_count g.now (server_state self.now)) }
+    {
+        let mut total = 0;
+        for volume in self.volumes.values() {
+            total += volume.files.count_ones();
+        }
+        total
+    }
+
+    /// How much all volumes hold, and how many they are.
     pub(super) fn summary_of(&self, g: &Geometry) -> Reply
         requires sound { IsConsistent g.now self.now }
         ensures { result ≡ accepted_reply g.now (server_state self.now) Msg.Summary }
     {
-        let volumes = self.made.len();
-        let files = self.files.len();
+        let volumes = self.volumes.len();
         let blocks = self.blocks.len();
         Reply::Summary {
             volumes: volumes as u32,
-            files: files as u32,
+            files: self.all_files(g),
             blocks: blocks as u32,
         }
     }

@@ -16,7 +16,6 @@ loop-b-preserved c =
         counted = c.remove_block.ensures.counted;
       };
       same = ap (without_blocks (is_block_of_file c.args.a c.args.v c.args.f)) c.remove_block.ensures.state ∙ block_before_others x c.args.a c.args.v c.args.f c.in-Some.b ∙ c.loop-b.invariant.same;
-      files = c.remove_block.ensures.files ∙ c.loop-b.invariant.files;
     }
 
 pub loop-b-smaller : goal.loop-b-smaller

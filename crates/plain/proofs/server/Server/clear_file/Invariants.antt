@@ -10,7 +10,6 @@ abbrev pub invariant-loop-b : goal.invariant-loop-b
 invariant-loop-b l = record {
   sound : IsConsistent l.g l.self;
   same : without_blocks (is_block_of_file l.a l.v l.f) (server_state l.self) ≡ without_blocks (is_block_of_file l.a l.v l.f) (server_state l.initial.self);
-  files : l.self.files ≡ l.initial.self.files;
 }
 
 abbrev pub decreases-loop-b : goal.decreases-loop-b

@@ -1,11 +1,14 @@
--- An insertion adds its key alone, which is the effect of a create.
-use Rattle.std.specs.BTreeSet as set
-use Rattle.meaning.specs.KeyOrders.{by_file}
-use Rattle.plain.specs.Server.{server_state}
-use Rattle.meaning.proofs.Keys.{one_file}
+-- The volume that is found changes so, and no other: the effect of a create.
+use Rattle.std.proofs.Common.{rules, Some, refl, sym}
+use Rattle.std.specs.BTreeMap as map
+use Rattle.meaning.specs.KeyOrders.{volume_order, by_block}
+use Rattle.meaning.proofs.FileBits.{with_bit}
+use Rattle.plain.proofs.Volumes.{new_file_state}
 use Rattle.plain.proofs.server.Server.insert_file.Goals as goal
 
-pub returns-clause-state : goal.returns-clause-state
-returns-clause-state c = λ i. record (server_state c.args.self.now) {
-  files = one_file (set.contains by_file c.args.self.now.files) (set.contains by_file c.insert.new.self) c.args.a c.args.v c.args.f c.in_ok-insert.ensures.updates.0 i;
-}
+pub returns-in-Some-clause-state : goal.returns-in-Some-clause-state
+returns-in-Some-clause-state c =
+    let was = sym c.in-Some.ensures.value in
+    let now = record c.in-Some.volume.now { files = with_bit c.in-Some.volume.now.files c.args.f } in
+    new_file_state (map.get volume_order c.args.self.now.volumes) (map.get volume_order (c.get_mut.follows.lender now)) c.args.a c.args.v (Some now)
+    ((c.get_mut.follows.holds now).3 (search rules)).0 (map.get by_block c.args.self.now.blocks) was c.args.f c.requires.file refl

@@ -1,19 +1,12 @@
--- Where there is no memory for the label, the volume is taken out again, and none is made that wasn't before.
-use Rattle.std.proofs.Common.{ap, ◌∙◌}
-use Rattle.std.specs.BTreeSet as set
-use Rattle.meaning.specs.KeyOrders.{volume_order}
-use Rattle.meaning.proofs.Keys.{one_volume, no_volume, volume_taken_back}
+-- A volume with nothing in it comes to its key, which is the effect of a makevol.
+use Rattle.std.proofs.Common.{refl, sym}
+use Rattle.std.specs.BTreeMap as map
+use Rattle.meaning.specs.KeyOrders.{volume_order, by_block}
+use Rattle.plain.proofs.Removals.{is_none}
+use Rattle.plain.proofs.Volumes.{new_volume_state}
 use Rattle.plain.proofs.server.Server.insert_volume.Goals as goal
 
-pub returns-in-Err-clause-unchanged : goal.returns-in-Err-clause-unchanged
-returns-in-Err-clause-unchanged c =
-    let a = c.args.a in
-    let v = c.args.v in
-    let old = set.contains volume_order c.args.self.now.made in
-    let with = set.contains volume_order c.insert.new.self in
-    let after = set.contains volume_order c.set_label.new.self.made in
-    let without = set.contains volume_order c.remove.new.self in
-    λ i. record (c.in-Err.ensures.unchanged i) {
-      made = volume_taken_back old after without a v (ap (λ x. x.made) c.in-Err.ensures.unchanged
-          ∙ one_volume old with a v c.in_ok-insert.ensures.updates.0) (no_volume after without a v c.remove.ensures.updates.0) c.requires.absent i;
-    }
+pub returns-clause-state : goal.returns-clause-state
+returns-clause-state c =
+    new_volume_state (map.get volume_order c.args.self.now.volumes) (map.get volume_order c.insert.new.self) c.args.a c.args.v _
+    c.in_ok-insert.ensures.updates.0 (map.get by_block c.args.self.now.blocks) (sym (is_none _ c.requires.absent)) refl

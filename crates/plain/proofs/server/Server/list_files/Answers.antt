@@ -1,21 +1,15 @@
--- The keys that are walked are the files of the volume, each with its own bit, so that the sum fits into 64 bits.
-use Rattle.std.proofs.Common.{◌^◌, ap, ◌∙◌, arith}
-use Rattle.std.proofs.lemmas.Nat.{one_shl}
-use Rattle.meaning.specs.State.{FileKey}
-use Rattle.plain.specs.Server.{server_state}
-use Rattle.plain.proofs.Totals.{bits-few_in_volume, small_power}
-use Rattle.plain.proofs.Walks.{total, bits_walked}
+-- The number of a volume has its files as its bits, and one that isn't there has none.
+use Rattle.std.proofs.Common.{ap, sym}
+use Rattle.messages.specs.declared.Reply.TheVariants.{Files}
+use Rattle.std.specs.BTreeMap as map
+use Rattle.meaning.specs.KeyOrders.{volume_order, by_block}
+use Rattle.plain.proofs.Totals.{listed, none_listed}
 use Rattle.plain.proofs.server.Server.list_files.Goals as goal
 
-pub loop-key-init : goal.loop-key-init
-loop-key-init c =
-    let all = ap (total (λ (k : FileKey). 2 ^ k.2)) (c.into_iter-key-iterator.ensures.into_iter_gives ∙ c.range-key-items.ensures.between tt)
-    ∙ bits_walked c.args.g.now c.args.self.now c.args.a c.args.v c.range-key-items.ensures.ordered in
-    omega (arith, all)
+pub returns-in-Some : goal.returns-in-Some
+returns-in-Some c = ap Files (sym (listed c.args.g.now (map.get volume_order c.args.self.now.volumes) (map.get by_block c.args.self.now.blocks)
+    c.requires.sound.state c.args.a c.args.v (sym c.in-Some.ensures.value)))
 
-pub overflow_add-bits : goal.overflow_add-bits
-overflow_add-bits c =
-    let few = bits-few_in_volume c.args.g.now (server_state c.args.self.now) c.args.a c.args.v in
-    let left = ap (total (λ (k : FileKey). 2 ^ k.2)) c.in-Some.ensures.steps in
-    let bit = one_shl c.in-Some.key.now.2 64 (small_power c.in-Some.key.now.2 _ (omega (arith, c.loop-key.invariant, left)) few) in
-    omega (arith, c.loop-key.invariant, left, few, bit)
+pub returns-in-None : goal.returns-in-None
+returns-in-None c = ap Files (sym (none_listed c.args.g.now (map.get volume_order c.args.self.now.volumes) (map.get by_block c.args.self.now.blocks)
+    c.requires.sound.state c.args.a c.args.v (sym c.in-None.ensures.value)))

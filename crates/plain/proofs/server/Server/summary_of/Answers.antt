@@ -1,8 +1,8 @@
--- All keys are in range, so the lengths of the two sets and the map are the totals, which fit into 32 bits.
+-- All keys are in range, so the lengths of the two maps are totals, which fit into 32 bits.
 use Rattle.std.proofs.Common.{◌∙◌, arith}
 use Rattle.messages.specs.declared.Reply.TheVariants.{Summary}
 use Rattle.plain.specs.Server.{server_state}
-use Rattle.plain.proofs.Totals.{volumes_total, files_total, blocks_total, volumes-few, files-few, blocks-few}
+use Rattle.plain.proofs.Totals.{volumes_total, blocks_total, volumes-few, blocks-few}
 use Rattle.plain.proofs.server.Server.summary_of.Goals as goal
 
 pub overflow_cast-result : goal.overflow_cast-result
@@ -13,12 +13,6 @@ overflow_cast-result c =
 
 pub overflow_cast-result-2 : goal.overflow_cast-result-2
 overflow_cast-result-2 c =
-    let total = files_total c.args.g.now c.args.self.now c.requires.sound.state c.len-files.ensures.ordered in
-    let few = files-few c.args.g.now (server_state c.args.self.now) in
-    omega (arith, c.len-files.ensures.len)
-
-pub overflow_cast-result-3 : goal.overflow_cast-result-3
-overflow_cast-result-3 c =
     let total = blocks_total c.args.g.now c.args.self.now c.requires.sound.state c.len-blocks.ensures.ordered in
     let few = blocks-few c.args.g.now (server_state c.args.self.now) in
     omega (arith, c.len-blocks.ensures.len)
@@ -26,5 +20,5 @@ overflow_cast-result-3 c =
 pub returns : goal.returns
 returns c = λ i. Summary
     ((c.len-volumes.ensures.len ∙ volumes_total c.args.g.now c.args.self.now c.requires.sound.state c.len-volumes.ensures.ordered) i)
-    ((c.len-files.ensures.len ∙ files_total c.args.g.now c.args.self.now c.requires.sound.state c.len-files.ensures.ordered) i)
+    (c.all_files.ensures i)
     ((c.len-blocks.ensures.len ∙ blocks_total c.args.g.now c.args.self.now c.requires.sound.state c.len-blocks.ensures.ordered) i)

@@ -1,0 +1,18 @@
+-- The files of the volumes that are walked are all files, which fit into 32 bits.
+use Rattle.std.proofs.Common.{ap, ◌∙◌, arith}
+use Rattle.plain.specs.Server.{server_state}
+use Rattle.plain.proofs.Walks.{total}
+use Rattle.plain.proofs.Totals.{file_number, files_total, files-few}
+use Rattle.plain.proofs.server.Server.all_files.Goals as goal
+
+pub loop-volume-init : goal.loop-volume-init
+loop-volume-init c =
+    let all = ap (total file_number) (c.into_iter-volume-iterator.ensures.into_iter_gives ∙ c.values-volume-items.ensures.rest)
+    ∙ files_total c.args.g.now c.args.self.now c.requires.sound.state c.values-volume-items.ensures.ordered in
+    omega (arith, all)
+
+pub overflow_add-total : goal.overflow_add-total
+overflow_add-total c =
+    let few = files-few c.args.g.now (server_state c.args.self.now) in
+    let left = ap (total file_number) c.in-Some.ensures.steps in
+    omega (arith, c.loop-volume.invariant, left, few)
