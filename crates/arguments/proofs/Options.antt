@@ -1,21 +1,47 @@
 -- The options of a command, and the numbers that they give.
-use Rattle.std.proofs.Common.{◌≡◌, ◌&&◌, refl, ℕ, Bool, true, false, not, List, [], ◌∷◌, length, Option, Some, None, nat_lt, ltb-true, lt-ltb}
+use Rattle.std.proofs.Common.{◌≡◌, ◌∙◌, ◌+◌, ◌<◌, ◌&&◌, ap, refl, ℕ, get_or, take, Bool, true, false, not, List, [], ◌∷◌, length, Option, Some, None, nat_lt, ltb-true, lt-ltb, pos}
 use Rattle.std.specs.Prelude.{Result, Ok, Err, option_and_then, option_map, unwrap_or}
 use Rattle.std.specs.Borrow.{Bor}
 use Rattle.std.specs.Char.{digit_value}
 use Rattle.std.specs.List.{list_all}
 use Rattle.std.specs.Str.Parse.{AllDigits, ParsesUnsigned, digits_value, without_leading_plus}
 use Rattle.std.proofs.lemmas.Bool.{and_parts, not-true}
+use Rattle.std.proofs.lemmas.List.Sums.{fold_more}
 use Rattle.affinity.specs.declared.geometry.Geometry.{Geometry}
 use Rattle.affinity.specs.Geometry.{numbers_of}
 use Rattle.affinity.specs.Limits.{AreInRange}
-use Rattle.clap.specs.Words.{Text}
+use Rattle.clap.specs.Words.{App, Text, new_app, with_rule, with_subcommand}
 use Rattle.clap.specs.Matches.{ReadsOne}
-use Rattle.arguments.specs.Arguments.{number_of}
+use Rattle.arguments.specs.Arguments.{device_rule, number_of, rule_within}
+use Rattle.arguments.specs.Tables.{CommandRow, OptionRow, command_app, with_commands, with_options}
 
 -- a command that is plain has no argument for the commands below it
 pub no_globals : (groups external globals rest : Bool) → (groups && (external && (not globals && rest))) ≡ true → globals ≡ false
 no_globals groups external globals rest plain = not-true _ (and_parts _ _ (and_parts _ _ (and_parts _ _ plain).1).1).0
+
+-- an option leaves a command plain
+options_are_plain : (options : List OptionRow) (a : App) → (with_options a options).top.is_plain ≡ a.top.is_plain
+options_are_plain [] a = refl
+options_are_plain (option ∷ options) a = options_are_plain options (with_rule a (rule_within option.0.now (pos option.2) (pos option.3)))
+
+row_is_plain : (name : Text) (has_device : Bool) (options : List OptionRow) → (command_app name has_device options).top.is_plain ≡ true
+unfolding command_app
+row_is_plain name true options = options_are_plain options (with_rule (new_app name) device_rule)
+row_is_plain name false options = options_are_plain options (new_app name)
+
+pub is_plain_in_row : {a : App} (name : Text) (has_device : Bool) (options : List OptionRow) → a ≡ command_app name has_device options → a.top.is_plain ≡ true
+is_plain_in_row name has_device options is = ap (λ (a : App). a.top.is_plain) is ∙ row_is_plain name has_device options
+
+-- one more option, and one more command
+pub one_more_option : (a : App) (options : List OptionRow) (i : ℕ) (d : OptionRow) → i < length options
+    → with_options a (take (i + 1) options)
+    ≡ with_rule (with_options a (take i options)) (rule_within (get_or options i d).0.now (pos (get_or options i d).2) (pos (get_or options i d).3))
+one_more_option a options i d lt = fold_more (λ b option. with_rule b (rule_within option.0.now (pos option.2) (pos option.3))) a options i d lt
+
+pub one_more_command : (a : App) (rows : List CommandRow) (i : ℕ) (d : CommandRow) → i < length rows
+    → with_commands a (take (i + 1) rows)
+    ≡ with_subcommand (with_commands a (take i rows)) (command_app (get_or rows i d).0.now (get_or rows i d).2 (get_or rows i d).3.now).top
+one_more_command a rows i d lt = fold_more (λ b row. with_subcommand b (command_app row.0.now row.2 row.3.now).top) a rows i d lt
 
 -- the text that is given, or none
 pub unwrap_or-now : (given : Option (Bor (List ℕ))) (none : Bor (List ℕ)) → none.now ≡ [] → (unwrap_or given none).now ≡ unwrap_or (option_map (λ s. s.now) given) []

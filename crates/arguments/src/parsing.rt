@@ -1,13 +1,14 @@
 //! The arguments that the program is called with, and what they ask for.
-ghost use Rattle.std.specs.Prelude.{◌≡◌, IfOk, IfErr, false, fold, map, string_bytes};
-ghost use Rattle.clap.specs.Words.{app_of, found_of, new_app, rows_of, rule_of, subcommand_rows_of, with_rule};
-ghost use Rattle.arguments.specs.Arguments.{Asks, GivesGeometry, IsReason, IsRequested, answer_of, device_in, device_rule, number_in, number_rule, numbers_in, rule_within, service_in, service_numbers, waffd, bare, plain, format, serve, with_numbers, with_service};
+ghost use Rattle.std.specs.Prelude.{◌≡◌, IfOk, IfErr, false, map, pos, string_bytes};
+ghost use Rattle.clap.specs.Words.{app_of, found_of, rows_of, rule_of, subcommand_rows_of};
+ghost use Rattle.arguments.specs.Arguments.{Asks, GivesGeometry, IsReason, IsRequested, answer_of, device_in, device_rule, number_in, numbers_in, rule_within, service_in, service_numbers, waffd, bare};
+ghost use Rattle.arguments.specs.Tables.{command_app, with_commands, with_options};
 ghost use Rattle.arguments.specs.declared.parsing.ArgumentRefusal.TheVariants.{OutOfMemory};
 
 use affinity::{BadGeometry, Geometry};
 use clap::builder::ValueParser;
 use clap::error::ErrorKind;
-use clap::{Arg, ArgMatches, Command, value_parser};
+use clap::{Arg, ArgMatches, Command};
 use std::alloc::{AllocError, Global};
 
 /// What `--version` prints behind the program's name: its version, and the kit and the logic with which it is proved. The letter behind the
@@ -27,34 +28,88 @@ const SHOW: &str = "Tells what the device in a file holds, and leaves it as it i
 /// What help prints of the file of a device.
 const DEVICE: &str = "The file of the device";
 
-/// The options of a geometry, in the order of its numbers: the name of each, and what help prints of it.
-const NUMBERS: [(&str, &str); 8] = [
-    ("aggregates", "Aggregates, 1 to 4 [default: 1]"),
-    ("volumes", "Volumes of each aggregate, 1 to 8 [default: 4]"),
-    ("stripes", "Stripes of each volume, 1 to 8 [default: 4]"),
+/// An option that takes a number: its name, what help prints of it, the least number that it takes and the greatest one.
+type NumberOption<'a> = (&'a str, &'a str, u16, u16);
+
+/// The options of a geometry, in the order of its numbers. Each takes all that fits: `Geometry::new` refuses what is out of range.
+const NUMBERS: [NumberOption<'static>; 8] = [
+    ("aggregates", "Aggregates, 1 to 4 [default: 1]", 0, u16::MAX),
+    (
+        "volumes",
+        "Volumes of each aggregate, 1 to 8 [default: 4]",
+        0,
+        u16::MAX,
+    ),
+    (
+        "stripes",
+        "Stripes of each volume, 1 to 8 [default: 4]",
+        0,
+        u16::MAX,
+    ),
     (
         "width",
         "Blocks in a row in one stripe, 1 to 64 [default: 4]",
+        0,
+        u16::MAX,
     ),
-    ("files", "Files of each volume, 1 to 64 [default: 16]"),
-    ("blocks", "Blocks of each file, 1 to 256 [default: 64]"),
+    (
+        "files",
+        "Files of each volume, 1 to 64 [default: 16]",
+        0,
+        u16::MAX,
+    ),
+    (
+        "blocks",
+        "Blocks of each file, 1 to 256 [default: 64]",
+        0,
+        u16::MAX,
+    ),
     (
         "quota",
         "Blocks that a stripe can hold, 1 to 64 [default: 64]",
+        0,
+        u16::MAX,
     ),
     (
         "half",
         "Records in each half of the log, 4 to 1024 [default: 256]",
+        0,
+        u16::MAX,
     ),
 ];
 
-// What help prints of the options of a service.
-const WORKERS: &str = "Threads that run messages, 0 to 64 [default: 2]";
+/// The options of a service, in the order of its numbers.
+const SERVICE: [NumberOption<'static>; 3] = [
+    (
+        "workers",
+        "Threads that run messages, 0 to 64 [default: 2]",
+        0,
+        64,
+    ),
+    (
+        "slots",
+        "Lines that are read and not answered yet, 1 to 1024 [default: 16]",
+        1,
+        1024,
+    ),
+    (
+        "every",
+        "Changes between consistency points, 0 to 1024; 0 makes them where the log is full [default: 0]",
+        0,
+        1024,
+    ),
+];
 
-const SLOTS: &str = "Lines that are read and not answered yet, 1 to 1024 [default: 16]";
+/// A command: its name, what help prints of it, whether it is given a device, and its options.
+type CommandRow<'a> = (&'a str, &'a str, bool, &'a [NumberOption<'a>]);
 
-const EVERY: &str =
-    "Changes between consistency points, 0 to 1024; 0 makes them where the log is full [default: 0]";
+/// The commands of the program, in the order in which help prints them.
+const COMMANDS: [CommandRow<'static>; 4] = [
+    ("plain", PLAIN, false, &NUMBERS),
+    ("format", FORMAT, true, &NUMBERS),
+    ("show", SHOW, true, &[]),
+    ("serve", SERVE, true, &SERVICE),
+];
 
 /// The numbers that the arguments give for a service.
 #[derive(Clone, Copy)]
@@ -114,27 +169,15 @@ fn answered<'a>(error: clap::Error) -> Result<Request<'a>, ArgumentRefusal>
     Ok(Request::Help(error))
 }
 
-/// An option that takes a number from 0 to 65535.
-fn number<'a>(alloc: Global, name: &'a str, help: &'a str) -> Arg<'a>
-    ensures rule { rule_of result ≡ number_rule name.entry.now }
-    ensures local { result.global ≡ false }
-{
-    Arg::new(alloc, name)
-        .long(name)
-        .value_name("N")
-        .value_parser(value_parser!(u16))
-        .help(help)
-}
-
 /// An option that takes a number from `least` to `most`.
-fn number_within<'a>(alloc: Global, name: &'a str, help: &'a str, least: i64, most: i64) -> Arg<'a>
-    ensures rule { rule_of result ≡ rule_within name.entry.now least most }
+fn number<'a>(alloc: Global, name: &'a str, help: &'a str, least: u16, most: u16) -> Arg<'a>
+    ensures rule { rule_of result ≡ rule_within name.entry.now (pos least) (pos most) }
     ensures local { result.global ≡ false }
 {
     Arg::new(alloc, name)
         .long(name)
         .value_name("N")
-        .value_parser(ValueParser::signed(least, most))
+        .value_parser(ValueParser::signed(i64::from(least), i64::from(most)))
         .help(help)
 }
 
@@ -149,67 +192,37 @@ fn device<'a>(alloc: Global) -> Arg<'a>
         .help(DEVICE)
 }
 
-/// The command with an option added for each name with its help. They take numbers from 0 to 65535.
-fn with_each<'a>(
+/// The command with each of these options added.
+fn with_options<'a>(
     alloc: Global,
     command: Command<'a>,
-    options: &[(&'a str, &'a str)],
+    options: &[NumberOption<'a>],
 ) -> Result<Command<'a>, AllocError>
-    ensures { IfOk result (λ c. app_of c
-        ≡ fold (λ b option. with_rule b (number_rule option.0.now)) (app_of command.entry) options.now) }
+    ensures { IfOk result (λ c. app_of c ≡ with_options (app_of command.entry) options.now) }
 {
     let mut command = command;
-    'options: for &(name, help) in options {
-        command = command.arg(number(alloc, name, help))?;
+    'options: for &(name, help, least, most) in options {
+        command = command.arg(number(alloc, name, help, least, most))?;
     }
     Ok(command)
 }
 
-/// The command with the options of a geometry added.
-fn with_geometry<'a>(alloc: Global, command: Command<'a>) -> Result<Command<'a>, AllocError>
-    ensures { IfOk result (λ c. app_of c ≡ with_numbers (app_of command.entry)) }
+/// The command of a row.
+fn command_in_row<'a>(
+    alloc: Global,
+    name: &'a str,
+    about: &'a str,
+    has_device: bool,
+    options: &[NumberOption<'a>],
+) -> Result<Command<'a>, AllocError>
+    ensures { IfOk result (λ c. app_of c ≡ command_app name.entry.now has_device options.now) }
 {
-    with_each(alloc, command, &NUMBERS)
-}
-
-/// The command with the options of a service added.
-fn with_service<'a>(alloc: Global, command: Command<'a>) -> Result<Command<'a>, AllocError>
-    ensures { IfOk result (λ c. app_of c ≡ with_service (app_of command.entry)) }
-{
-    command
-        .arg(number_within(alloc, "workers", WORKERS, 0, 64))?
-        .arg(number_within(alloc, "slots", SLOTS, 1, 1024))?
-        .arg(number_within(alloc, "every", EVERY, 0, 1024))
-}
-
-/// A command with the file of a device.
-fn of_device<'a>(alloc: Global, name: &'a str, about: &'a str) -> Result<Command<'a>, AllocError>
-    ensures { IfOk result (λ c. app_of c ≡ with_rule (new_app name.entry.now) device_rule) }
-{
-    Command::new(alloc, name).about(about).arg(device(alloc))
-}
-
-/// The command `plain`.
-fn plain_command<'a>(alloc: Global) -> Result<Command<'a>, AllocError>
-    ensures { IfOk result (λ command. app_of command ≡ plain) }
-{
-    with_geometry(alloc, Command::new(alloc, "plain").about(PLAIN))
-}
-
-/// The command `format`.
-fn format_command<'a>(alloc: Global) -> Result<Command<'a>, AllocError>
-    ensures { IfOk result (λ command. app_of command ≡ format) }
-{
-    let on_device = of_device(alloc, "format", FORMAT)?;
-    with_geometry(alloc, on_device)
-}
-
-/// The command `serve`.
-fn serve_command<'a>(alloc: Global) -> Result<Command<'a>, AllocError>
-    ensures { IfOk result (λ command. app_of command ≡ serve) }
-{
-    let on_device = of_device(alloc, "serve", SERVE)?;
-    with_service(alloc, on_device)
+    let command = Command::new(alloc, name).about(about);
+    if has_device {
+        let on_device = command.arg(device(alloc))?;
+        return with_options(alloc, on_device, options);
+    }
+    with_options(alloc, command, options)
 }
 
 /// The program without its commands.
@@ -223,15 +236,23 @@ fn bare<'a>(alloc: Global) -> Command<'a>
         .arg_required_else_help(true)
 }
 
+/// The program with the commands of these rows.
+fn with_commands<'a>(alloc: Global, rows: &[CommandRow<'a>]) -> Result<Command<'a>, AllocError>
+    ensures { IfOk result (λ program. app_of program ≡ with_commands bare rows.now) }
+{
+    let mut program = bare(alloc);
+    'rows: for &(name, about, has_device, options) in rows {
+        let command = command_in_row(alloc, name, about, has_device, options)?;
+        program = program.subcommand(command)?;
+    }
+    Ok(program)
+}
+
 /// The commands of the program, each with its options.
 fn commands<'a>(alloc: Global) -> Result<Command<'a>, AllocError>
     ensures { IfOk result (λ command. app_of command ≡ waffd) }
 {
-    bare(alloc)
-        .subcommand(plain_command(alloc)?)?
-        .subcommand(format_command(alloc)?)?
-        .subcommand(of_device(alloc, "show", SHOW)?)?
-        .subcommand(serve_command(alloc)?)
+    with_commands(alloc, &COMMANDS)
 }
 
 /// The number that was given to an option, or the program's own.
