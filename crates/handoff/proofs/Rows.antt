@@ -1,8 +1,7 @@
--- A fact about each job that is lent, after one place changed.
-use Rattle.std.proofs.Common.{◌≡◌, ℕ, zero, suc, List, [], ◌∷◌, set, Option, Some, None, IfSome, MatchOption, sym, subst}
+-- A fact about each job that is lent, after one place changed; and a place where nothing is lent.
+use Rattle.std.proofs.Common.{◌≡◌, ℕ, zero, suc, List, [], ◌∷◌, set, Option, None, IfSome, MatchOption, refl, subst}
 use Rattle.parcel.specs.Run.{JobView}
 use Rattle.workers.specs.Rule.{lent_at}
-use Rattle.workers.specs.Seats.{DispatchSeatView}
 
 module _ (Fact : JobView → Type 0) where
   -- it holds of each job that is lent
@@ -16,11 +15,12 @@ module _ (Fact : JobView → Type 0) where
   each_set (x ∷ xs) (suc k) o fact each zero = each zero
   each_set (x ∷ xs) (suc k) o fact each (suc i) = each_set xs k o fact (λ j. each (suc j)) i
 
-  -- after an offer, whether the place took it or not
-  pub offered : (old new : DispatchSeatView) (k : ℕ) {job : JobView} (A B : Type 0)
-      → MatchOption (lent_at old.lent k) (A × (new.lent ≡ set old.lent k (Some job))) (λ _. B × (new ≡ old)) → Fact job → Each old.lent → Each new.lent
-  offered old new k {job} A B answer fact each =
-      elim (lent_at old.lent k) as (λ there. MatchOption there (A × (new.lent ≡ set old.lent k (Some job))) (λ _. B × (new ≡ old)) → Each new.lent) [
-        | None ↦ λ took. subst Each (sym took.1) (each_set old.lent k (Some job) fact each)
-        | Some other ↦ λ back. subst (λ (d : DispatchSeatView). Each d.lent) (sym back.1) each
-      ] answer
+-- a place that was emptied
+pub emptied : (lent : List (Option JobView)) (k : ℕ) → lent_at (set lent k None) k ≡ None
+emptied [] k = refl
+emptied (x ∷ xs) zero = refl
+emptied (x ∷ xs) (suc k) = emptied xs k
+
+-- what an offer answers at a place where nothing is lent
+pub taken : (there : Option JobView) (P : Type 0) (Q : JobView → Type 0) → there ≡ None → MatchOption there P Q → P
+taken there P Q none answer = subst (λ (o : Option JobView). MatchOption o P Q) none answer

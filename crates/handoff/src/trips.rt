@@ -1,6 +1,7 @@
 //! One job at each place, which is offered again as soon as its result is there.
-ghost use Rattle.std.specs.Prelude.{◌≡◌, ◌<◌, All, IfSome};
+ghost use Rattle.std.specs.Prelude.{◌≡◌, ◌<◌, All, IfSome, None, Some, replicate, slice_set};
 ghost use Rattle.handoff.specs.Lent.{AreOfGeometry};
+ghost use Rattle.workers.specs.Rule.{lent_at};
 
 use affinity::{Geometry, place_of};
 use message::{Block, Msg, Reply};
@@ -39,40 +40,42 @@ fn reading(tree: &mut Tree, k: u16) -> Option<Job>
     Some(Job::new(g, 0, read, STANDING, written.into_parcels()))
 }
 
-// Offers a job. Returns whether the place took it.
+// Offers a job at a place where nothing is lent.
 #[inline(always)]
-fn offer(bench: &Bench, dispatch_seat: &mut DispatchSeat, g: &Geometry, k: usize, job: Job) -> bool
+fn offer(bench: &Bench, dispatch_seat: &mut DispatchSeat, k: usize, job: Job)
     requires bench { (dispatch_seat.old.bench ≡ bench.now) × (k < bench.now.slots) }
-    requires lent { AreOfGeometry g.now dispatch_seat.old.lent }
-    requires job { job.geometry ≡ g.now }
+    requires empty { lent_at dispatch_seat.old.lent k ≡ None }
+    ensures bench { dispatch_seat.new.bench ≡ dispatch_seat.old.bench }
+    ensures lent { dispatch_seat.new.lent ≡ slice_set dispatch_seat.old.lent k (Some job) }
+{
+    match bench.offer(dispatch_seat, k, job) {
+        Ok(()) => {}
+        Err(_) => unreachable!(),
+    }
+}
+
+// Offers a job at each place, with what lies there in a new tree. Returns whether there is one for each.
+fn offer_first(
+    alloc: Global,
+    bench: &Bench,
+    dispatch_seat: &mut DispatchSeat,
+    g: &Geometry,
+    places: u16,
+) -> Result<bool, AllocError>
+    requires bench { (dispatch_seat.old.bench ≡ bench.now) × (places ≡ bench.now.slots) }
+    requires empty { dispatch_seat.old.lent ≡ replicate places None }
     ensures bench { dispatch_seat.new.bench ≡ dispatch_seat.old.bench }
     ensures lent { AreOfGeometry g.now dispatch_seat.new.lent }
 {
-    bench.offer(dispatch_seat, k, job).is_ok()
-}
-
-// Offers a job at each place. Returns whether there is one for each.
-fn offer_first(
-    bench: &Bench,
-    dispatch_seat: &mut DispatchSeat,
-    tree: &mut Tree,
-    places: u16,
-) -> bool
-    requires bench { (dispatch_seat.old.bench ≡ bench.now) × (places ≡ bench.now.slots) }
-    requires lent { AreOfGeometry tree.old.geometry dispatch_seat.old.lent }
-    ensures bench { (dispatch_seat.new.bench ≡ dispatch_seat.old.bench) × (tree.new.geometry ≡ tree.old.geometry) }
-    ensures lent { AreOfGeometry tree.old.geometry dispatch_seat.new.lent }
-{
-    let g = tree.geometry();
+    let mut tree = Tree::new(alloc, *g)?;
+    let mut all = true;
     for k in 0..places {
-        let Some(job) = reading(tree, k) else {
-            return false;
-        };
-        if !offer(bench, dispatch_seat, &g, usize::from(k), job) {
-            return false;
+        match reading(&mut tree, k) {
+            Some(job) => offer(bench, dispatch_seat, usize::from(k), job),
+            None => all = false,
         }
     }
-    true
+    Ok(all)
 }
 
 // Takes the result at a place, if it is there, and offers its message and its parcels again.
@@ -90,7 +93,8 @@ fn trip(bench: &Bench, dispatch_seat: &mut DispatchSeat, g: &Geometry, k: usize)
     let (ticket, message) = (done.ticket(), *done.msg());
     let parcels = done.into_parcels();
     let job = Job::new(*g, ticket.wrapping_add(1), message, STANDING, parcels);
-    offer(bench, dispatch_seat, g, k, job) && was_read
+    offer(bench, dispatch_seat, k, job);
+    was_read
 }
 
 // Tries each place once. Returns how many round trips ended.
@@ -146,7 +150,6 @@ pub fn make_trips<R: Threads + Wait + Sync>(
         return Ok(false);
     }
     let places = usize::from(workers);
-    let tree = Tree::new(alloc, g)?;
     let (bench, dispatch_seat, seats) = Bench::open(alloc, places, places)?;
     let gate = OpenGate;
     let (bench, gate) = (&bench, &gate);
@@ -155,24 +158,17 @@ pub fn make_trips<R: Threads + Wait + Sync>(
         rt,
         move |scope| -> Result<bool, AllocError>
             requires dispatch_seat { (dispatch_seat.bench ≡ bench.now) × (bench.now.slots ≡ places) × (places ≡ workers) }
-            requires lent { AreOfGeometry tree.geometry dispatch_seat.lent }
+            requires empty { dispatch_seat.lent ≡ replicate places None }
             requires seats { All (λ w. w ≡ bench.now) seats.items }
         {
-            let (mut dispatch_seat, mut tree) = (dispatch_seat, tree);
+            let mut dispatch_seat = dispatch_seat;
             bench.start(rt, scope, &mut dispatch_seat, seats, gate)?;
-            let all = offer_first(bench, &mut dispatch_seat, &mut tree, workers);
-            if all {
-                go_round(
-                    rt,
-                    bench,
-                    &mut dispatch_seat,
-                    &tree.geometry(),
-                    places,
-                    trips,
-                );
+            let all = offer_first(alloc, bench, &mut dispatch_seat, &g, workers);
+            if matches!(all, Ok(true)) {
+                go_round(rt, bench, &mut dispatch_seat, &g, places, trips);
             }
             bench.stop(&mut dispatch_seat);
-            Ok(all)
+            all
         },
     )
 }

@@ -1,8 +1,22 @@
--- Whether the place takes the job or not, each job that is lent has the geometry.
-use Rattle.std.proofs.Common.{◌≡◌}
-use Rattle.handoff.proofs.Rows.{offered}
+-- Where nothing is lent, the place takes the job.
+use Rattle.std.proofs.Common.{◌≡◌, Err, Ok, Some, sym, ◌∙◌}
+use Rattle.std.specs.Prelude.{slice_set}
+use Rattle.workers.specs.Rule.{lent_at}
+use Rattle.handoff.proofs.Rows.{taken}
 use Rattle.handoff.proofs.trips.offer.Goals as goal
 
+pub unreachable-requires : goal.unreachable-requires
+unreachable-requires c =
+    let lent = c.args.dispatch_seat.now.lent in
+    let took = taken (lent_at lent c.args.k)
+    ((c.offer.result ≡ Ok tt) × (c.offer.new.seat.lent ≡ slice_set lent c.args.k (Some c.args.job)))
+    (λ _. (c.offer.result ≡ Err c.args.job) × (c.offer.new.seat ≡ c.args.dispatch_seat.now)) c.requires.empty c.offer.ensures.answer in
+    cc (sym took.0 ∙ c.in-Err.is)
+
 pub returns-clause-lent : goal.returns-clause-lent
-returns-clause-lent c = offered (λ job. job.geometry ≡ c.args.g.now) c.args.dispatch_seat.now c.offer.new.seat c.args.k _ _
-    c.offer.ensures.answer c.requires.job c.requires.lent
+returns-clause-lent c =
+    let lent = c.args.dispatch_seat.now.lent in
+    let took = taken (lent_at lent c.args.k)
+    ((c.offer.result ≡ Ok tt) × (c.offer.new.seat.lent ≡ slice_set lent c.args.k (Some c.args.job)))
+    (λ _. (c.offer.result ≡ Err c.args.job) × (c.offer.new.seat ≡ c.args.dispatch_seat.now)) c.requires.empty c.offer.ensures.answer in
+    took.1
