@@ -97,7 +97,7 @@ number-decimal n h =
 digit_in_range : (c : ℕ) → is_ascii_digit c ≡ true → IsInRange 48 57 c
 digit_in_range c h = let p = and_parts (nat_le 48 c) (nat_le c 57) h in (leb-true 48 c p.0, leb-true c 57 p.1)
 
-not_a_space : (c : ℕ) → is_ascii_digit c ≡ true → (c == 32) ≡ false
+pub not_a_space : (c : ℕ) → is_ascii_digit c ≡ true → (c == 32) ≡ false
 not_a_space c h = let p = digit_in_range c h in ne_eqb c 32 (λ e. absurd (omega arith))
 
 pub digits_no_space : (w : List ℕ) → all_ascii_digits w ≡ true → HasNoSpace w
@@ -142,3 +142,21 @@ value_more w i v lt d e =
 -- a value past 65535 in front
 pub too_large : (w : List ℕ) (i v : ℕ) → v ≡ digits_value 10 (take (i + 1) w) → 65535 < v → number_in_word w ≡ None
 too_large w i v e h = no_number w (λ n. let less = digits_value-take-le 10 w (i + 1) (omega arith) in let fits = n.fits in absurd (omega arith))
+
+-- ---- a word of one byte
+
+pub one_digit : (c : ℕ) → is_ascii_digit c ≡ true → number_in_word (c ∷ []) ≡ Some (c - 48)
+one_digit c digit =
+    let range = digit_in_range c digit in
+    let more = value_more (c ∷ []) 0 0 (omega arith) digit refl in
+    let value : digits_value 10 (c ∷ []) ≡ c - 48 = omega (arith, more) in
+    number_from (c ∷ []) (record { digits = and_from (is_ascii_digit c) true digit refl; some = omega arith; plain = λ e. refl; fits = omega (arith, value, range) })
+    ∙ ap Some value
+
+pub no_digit : (c : ℕ) → is_ascii_digit c ≡ false → number_in_word (c ∷ []) ≡ None
+no_digit c other = no_number (c ∷ []) (λ n. true≢false (sym (digit_at (c ∷ []) 0 n.digits (omega arith)) ∙ other))
+
+pub one_byte : (w : List ℕ) → length w ≡ 1 → number_in_word (get_or w 0 0 ∷ []) ≡ number_in_word w
+one_byte [] one = absurd (omega (arith, one))
+one_byte (c ∷ []) one = refl
+one_byte (c ∷ b ∷ w) one = absurd (omega (arith, one))

@@ -1,6 +1,6 @@
 //! The message that a line spells.
 
-ghost use Rattle.std.specs.Prelude.{◌≡◌, ◌≢◌, ℕ, ◌<◌, ◌≤◌, ◌∷◌, [], true, ◌↔◌, length, slice_index, IsTrue, MatchOption, option_map};
+ghost use Rattle.std.specs.Prelude.{◌≡◌, ◌≢◌, ℕ, ◌<◌, ◌≤◌, ◌∷◌, [], true, ◌↔◌, length, slice_index, IsTrue, IfSome, MatchOption, option_map};
 ghost use Rattle.std.specs.Str.{all_ascii_digits};
 ghost use Rattle.std.specs.Str.Parse.{digits_value};
 ghost use Rattle.messages.specs.declared.Msg.{Msg};
@@ -207,11 +207,36 @@ fn label_message(line: &[u8]) -> Option<Msg>
     Some(Msg::SetLabel(aggregate, volume, bytes_in_word(behind)?))
 }
 
-/// The number before the first space of a line, and what comes after that space. It looks at no
-/// byte twice.
+/// The number of one digit before the first space of a line, as most numbers are, and what comes
+/// after that space; `None` where there is another number, or none.
+fn digit_before_space(line: &[u8]) -> Option<(u16, &[u8])>
+    ensures { IfSome result (λ p. first_number (words line.now) ≡ Some (p.0, words p.1.now)) }
+{
+    if line.len() < 2 || line[1] != b' ' {
+        return None;
+    }
+    let number = number_of_byte(line[0])?;
+    Some((number, &line[2..]))
+}
+
+/// The number that a word of this byte alone encodes.
+fn number_of_byte(byte: u8) -> Option<u16>
+    ensures { result ≡ number_in_word (byte ∷ []) }
+{
+    if byte.is_ascii_digit() {
+        Some(u16::from(byte - b'0'))
+    } else {
+        None
+    }
+}
+
+/// The number before the first space of a line, and what comes after that space.
 pub(crate) fn number_before_space(line: &[u8]) -> Option<(u16, &[u8])>
     ensures { first_number (words line.now) ≡ option_map (λ p. (p.0, words p.1.now)) result }
 {
+    if let Some(found) = digit_before_space(line) {
+        return Some(found);
+    }
     let mut value = 0u32;
     for end in 0..line.len() {
         let byte = line[end];
@@ -257,6 +282,9 @@ fn has_leading_zero(word: &[u8]) -> bool
 fn number(word: &[u8]) -> Option<u16>
     ensures { result ≡ number_in_word word.now }
 {
+    if word.len() == 1 {
+        return number_of_byte(word[0]);
+    }
     if word.is_empty() {
         return None;
     }

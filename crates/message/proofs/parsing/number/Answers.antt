@@ -7,7 +7,7 @@ use Rattle.std.specs.Prelude.{◌==◌}
 use Rattle.std.specs.Result.{OkIff, result_ok}
 use Rattle.std.proofs.lemmas.Bool.{true≢false, eqb-true, eqb-false, cases_lt}
 use Rattle.std.proofs.lemmas.List.{take_all}
-use Rattle.message.proofs.Numbers.{no_number, number_from, digit_at, digits_more, value_more, too_large}
+use Rattle.message.proofs.Numbers.{no_number, number_from, one_byte, digit_at, digits_more, value_more, too_large}
 use Rattle.message.proofs.parsing.number.Goals as goal
 
 not_empty : (w : List ℕ) → (length w == 0) ≡ false → 0 < length w
@@ -17,6 +17,9 @@ not_empty w h = let some = eqb-false (length w) 0 h in omega arith
 told : {E : Type 0} (v : ℕ) (r : Result ℕ E) → OkIff r (v < 65536) v → v < 65536 → result_ok r ≡ Some v
 told v (Ok x) h fits = ap Some h.1
 told v (Err e) h fits = absurd (h fits)
+
+pub returns-then-word-eq1 : goal.returns-then-word-eq1
+returns-then-word-eq1 c = c.number_of_byte.ensures ∙ one_byte c.args.word.now (omega arith)
 
 pub returns-then-is_empty : goal.returns-then-is_empty
 returns-then-is_empty c = sym (no_number c.args.word.now (λ n. let some = n.some
