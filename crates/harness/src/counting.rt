@@ -2,7 +2,7 @@
 use disk::{Disk, DiskFault};
 
 /// How often a device was called. A call that was out of range isn't among these.
-#[derive(Clone, Copy, Debug, PartialEq, Eq)]
+#[derive(Clone, Copy, PartialEq, Eq)]
 pub struct Counts {
     pub reads: u64,
     pub writes: u64,

@@ -10,6 +10,7 @@ use checkpoint::{OpenFault, device_len, format, step};
 use disk::{Disk, MemDisk};
 use journal::{Journal, open};
 use messages::{Msg, Reply};
+use oplog::LogFault;
 use parcel::Tree;
 use std::alloc::{AllocError, Global};
 
@@ -57,13 +58,21 @@ fn are_changes_in_range(g: &Geometry, messages: &[Msg]) -> bool
 }
 
 /// Why a server doesn't do what it was asked.
-#[derive(Clone, Copy, Debug, PartialEq, Eq)]
+#[derive(Clone, Copy, PartialEq, Eq)]
 pub enum Halt {
     /// It can't do that now.
     Unfit,
 
     /// The device failed.
     Failed,
+}
+
+/// What the journal answered, as a server answers it.
+fn halted<T>(answer: Result<T, LogFault>) -> Result<T, Halt> {
+    match answer {
+        Ok(value) => Ok(value),
+        Err(_) => Err(Halt::Failed),
+    }
 }
 
 /// A server: what it holds, and its journal. It runs messages one after the other, in the place of the core.
@@ -91,7 +100,7 @@ impl<D: Disk> Server<D> {
         if !is_fit || !carry_out(&mut self.tree, messages) || self.journal.failed() {
             return Err(Halt::Unfit);
         }
-        self.journal.log(messages).map_err(|_| Halt::Failed)
+        halted(self.journal.log(messages))
     }
 
     /// Makes a point in Serial.
@@ -99,7 +108,7 @@ impl<D: Disk> Server<D> {
         if self.journal.failed() || self.journal.left().is_some() {
             return Err(Halt::Unfit);
         }
-        self.journal.point(&self.tree).map_err(|_| Halt::Failed)
+        halted(self.journal.point(&self.tree))
     }
 
     /// Begins a cut.
@@ -107,7 +116,7 @@ impl<D: Disk> Server<D> {
         if self.journal.failed() || self.journal.left().is_some() {
             return Err(Halt::Unfit);
         }
-        self.journal.cut(&self.tree).map_err(|_| Halt::Failed)
+        halted(self.journal.cut(&self.tree))
     }
 
     /// Writes a piece of a cut, and gives how many are left.
@@ -115,7 +124,7 @@ impl<D: Disk> Server<D> {
         if self.journal.failed() || self.journal.left().is_none() {
             return Err(Halt::Unfit);
         }
-        self.journal.piece().map_err(|_| Halt::Failed)
+        halted(self.journal.piece())
     }
 
     /// Ends a cut of which no piece is left.
@@ -123,7 +132,7 @@ impl<D: Disk> Server<D> {
         if self.journal.failed() || self.journal.left() != Some(0) {
             return Err(Halt::Unfit);
         }
-        self.journal.flip().map_err(|_| Halt::Failed)
+        halted(self.journal.flip())
     }
 
     /// Writes what is left of a cut, and ends it.
@@ -143,7 +152,10 @@ impl<D: Disk> Server<D> {
             Act::Log(_) => self.log(messages),
             Act::Point => self.point(),
             Act::Cut => self.cut(),
-            Act::Piece => self.piece().map(|_| ()),
+            Act::Piece => {
+                self.piece()?;
+                Ok(())
+            }
             Act::End => self.end(),
         }
     }
@@ -208,7 +220,10 @@ fn set(bytes: &mut [u8], changes: &[(usize, u8)]) {
 /// A device that was formatted.
 fn formatted(alloc: Global, g: Geometry) -> Result<MemDisk, Wrong> {
     let disk = MemDisk::new(alloc, device_len(&g))?;
-    format(alloc, disk, g).map_err(|_| Wrong::OutOfMemory)
+    match format(alloc, disk, g) {
+        Ok(disk) => Ok(disk),
+        Err(_) => Err(Wrong::OutOfMemory),
+    }
 }
 
 /// A device that was formatted, with other bytes at some places.

@@ -47,7 +47,7 @@ impl Questions {
         a: u16,
         v: u16,
     ) -> Result<(), AllocError> {
-        for keyword in ["usage", "list", "label"] {
+        for keyword in &["usage", "list", "label"] {
             let line = format!(in alloc; "{keyword} {a} {v}")?;
             self.ask(line.as_str())?;
         }
@@ -117,17 +117,18 @@ pub fn told(alloc: Global, tree: &mut Tree, questions: &Questions) -> Result<Vec
     Ok(told)
 }
 
-/// Where the first so many lines end.
+/// Where the first so many lines end. 0 where there are fewer.
 fn end_of(output: &[u8], count: usize) -> usize {
-    let mut ends = output
-        .iter()
-        .enumerate()
-        .filter(|(_, byte)| **byte == b'\n');
-    let last = count.checked_sub(1).and_then(|before| ends.nth(before));
-    match last {
-        Some((at, _)) => at.saturating_add(1),
-        None => 0,
+    let mut left = count;
+    for (at, byte) in output.iter().enumerate() {
+        if left == 0 {
+            return at;
+        }
+        if *byte == b'\n' {
+            left -= 1;
+        }
     }
+    if left == 0 { output.len() } else { 0 }
 }
 
 /// What the serial server answers to these lines, from the empty state on, and then to these questions.

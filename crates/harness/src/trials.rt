@@ -13,7 +13,7 @@ use std::alloc::{AllocError, AllocFailed, Global};
 const MOST_CALLS: u64 = 10_000;
 
 /// How far a trial came.
-#[derive(Clone, Copy, Debug, PartialEq, Eq)]
+#[derive(Clone, Copy)]
 pub struct Progress {
     /// How many of its changes were answered: these are there after each crash.
     pub answered: usize,
@@ -34,7 +34,7 @@ pub struct Ended {
 }
 
 /// What is found on a device that is opened.
-#[derive(Debug, Drop, PartialEq, Eq)]
+#[derive(Drop, PartialEq, Eq)]
 pub enum OpenedDevice {
     /// It is opened, and the server answers this.
     Tells(Vec<u8>),
@@ -58,7 +58,7 @@ pub trait Trial {
 }
 
 /// A fault of a device and the crash after it.
-#[derive(Clone, Copy, Debug, PartialEq, Eq)]
+#[derive(Clone, Copy, Debug)]
 pub struct Crash {
     /// The number of the call that failed, from 1 on, with all later ones.
     pub call: u64,
@@ -68,7 +68,7 @@ pub struct Crash {
 }
 
 /// What is wrong with a trial.
-#[derive(Clone, Copy, Debug, PartialEq, Eq)]
+#[derive(Clone, Copy, Debug)]
 pub enum Wrong {
     /// There was no memory.
     OutOfMemory,
@@ -112,8 +112,9 @@ pub fn find(
 ) -> Result<(OpenedDevice, MemDisk), Wrong> {
     match open(alloc, device) {
         Ok((journal, mut tree)) => {
+            let device = journal.into_disk();
             let told = told(alloc, &mut tree, questions)?;
-            Ok((OpenedDevice::Tells(told), journal.into_disk()))
+            Ok((OpenedDevice::Tells(told), device))
         }
         Err(e) if e.fault == OpenFault::OutOfMemory => Err(Wrong::OutOfMemory),
         Err(e) => Ok((OpenedDevice::Refuses(e.fault), e.disk)),
