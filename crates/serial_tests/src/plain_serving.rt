@@ -168,7 +168,7 @@ fn after_each_write_that_fails_nothing_more_is_written(rt: HostRuntime) -> Resul
     Ok(())
 }
 
-/// Lines that take memory for a volume, its label, a file, a block, a number for its stripe and a seal.
+/// Lines that take memory for a volume, a block and a number for its stripe, and others that take none.
 const FIRST_OF_ALL: &[u8] = b"makevol 0 0
 setlabel 0 0 6162
 create 0 0 0
