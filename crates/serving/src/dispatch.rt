@@ -25,7 +25,7 @@ const BATCH: usize = 64;
 /// Each further message saves a log write, and no reply waits longer than this for a slow job.
 const MAX_POLLS: usize = 16384;
 
-/// After every so many polls the thread yields the processor once.
+/// How many polls there are from one time that the thread yields the processor to the next.
 const POLLS_PER_YIELD: usize = 32;
 
 /// What was collected in one iteration, and what kept messages from being dispatched. `budget` falls with each message, so collecting ends;
@@ -115,7 +115,7 @@ fn offer_granted(
     }
 }
 
-/// Spins once after poll number `looks`, and yields after every 32nd.
+/// Spins once after poll number `polls`, or yields where that is a multiple of `POLLS_PER_YIELD`.
 fn pause(polls: usize) {
     if polls % POLLS_PER_YIELD == 0 {
         yield_now();

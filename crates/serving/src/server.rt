@@ -171,7 +171,7 @@ fn serve_lent<
     (hand_back(core, ended), reader, sink)
 }
 
-/// Answers each line that a reader has left with one line, which it sends, while so many workers, each a thread of its own, run the
+/// Answers each line that a reader has left with one line, which it sends, while `workers` threads run the
 /// messages. The lines and the core are as the serial server would leave them, whatever the workers do when. A checkpoint is made after
 /// `every` records, if that isn't 0, where the log has no room, and at the end. All memory is taken before the first read, and the threads
 /// have ended when it returns. Lines are sent under the condition of `ReplySink::send` and in no other way.
@@ -315,7 +315,7 @@ fn serve_writer<
     (ended, w)
 }
 
-/// Answers each line that a reader has left with one line of the output, while so many workers, each a thread of its own, run the messages.
+/// Answers each line that a reader has left with one line of the output, while `workers` threads of their own run the messages.
 /// The lines and the core are as the serial server would leave them, whatever the workers do when. A checkpoint is made after `every`
 /// records, if that isn't 0, where the log has no room, and at the end. All memory is taken before the first read, and the threads have
 /// ended when it returns.
