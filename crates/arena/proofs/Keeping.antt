@@ -6,7 +6,7 @@ use Rattle.std.proofs.lemmas.List.{length-set, length-replicate}
 use Rattle.std.specs.List.{concat, AllByRecursion}
 use Rattle.arena.specs.Lists.{times, is_on, without, first_of, behind_in, numbers_from}
 use Rattle.arena.specs.Linked.{Linked, list_at}
-use Rattle.arena.specs.Row.{Row, capacity_of, value_at, holds_value, is_lent, listed, moved, after_put, after_lend, after_take, after_move, after_restore, restore_answer, empty_row}
+use Rattle.arena.specs.ArenaView.{ArenaView, capacity_of, value_at, holds_value, is_lent, listed, moved, after_put, after_lend, after_take, after_move, after_restore, restore_answer, empty_arena}
 use Rattle.arena.specs.Invariant.{row_of, ArenaRule, free_in, chains_in}
 use Rattle.arena.proofs.Times.{times-append, times-cons_is, without-absent, without_all-absent, length-once, length-numbers}
 use Rattle.arena.proofs.Behind.{behind_in-nowhere}
@@ -83,12 +83,12 @@ module _ {T : Type 0} where
       subst P same (ap (λ (lists : List (List ℕ)). row_of (slice_set values x (Some value)) (linked_as slots lists))
       (unlinked-free x rest chains (kept.parted.once x)))
 
-  pub put-made : {values values' : List (Option T)} {links links' : Linked} {count slot : ℕ} (value : T) {m : Row T} → ArenaRule values links count
+  pub put-made : {values values' : List (Option T)} {links links' : Linked} {count slot : ℕ} (value : T) {m : ArenaView T} → ArenaRule values links count
       → first_of (list_at links 0) ≡ Some slot → values' ≡ slice_set values slot (Some value)
       → links' ≡ linked_as links.slots (map (without slot) links.lists) → row_of values links ≡ m → row_of values' links' ≡ after_put m value
   put-made value kept found values_are links_are row_is =
       rw (values_are, links_are) (put-row value kept found)
-      ∙ ap (λ (row : Row T). after_put row value) row_is
+      ∙ ap (λ (row : ArenaView T). after_put row value) row_is
 
   -- a slot that holds its value, taken off its list
   unlinked-held : {values : List (Option T)} {slots : ℕ} {free : List ℕ} {chains : List (List ℕ)} {count : ℕ} (i : ℕ)
@@ -185,7 +185,7 @@ module _ {T : Type 0} where
   none-from None empty = refl
   none-from (Some v) empty = absurd (cc)
 
-  pub lent-from : (m : Row T) (i : ℕ) → i < capacity_of m → holds_value m i ≡ false → times i m.free ≡ 0 → is_lent m i ≡ true
+  pub lent-from : (m : ArenaView T) (i : ℕ) → i < capacity_of m → holds_value m i ≡ false → times i m.free ≡ 0 → is_lent m i ≡ true
   lent-from m i within empty unfree =
       rw (lt-ltb i (capacity_of m) within, none-from (value_at m i) empty, unfree) refl
 
@@ -209,10 +209,10 @@ module _ {T : Type 0} where
       lent-from (row_of values (linked_as slots (free ∷ chains))) i within empty (omega (arith, times-append i free (concat chains)))
 
   -- where `restore` refuses
-  pub not_lent-outside : (m : Row T) (i : ℕ) → capacity_of m ≤ i → is_lent m i ≡ false
+  pub not_lent-outside : (m : ArenaView T) (i : ℕ) → capacity_of m ≤ i → is_lent m i ≡ false
   not_lent-outside m i outside = rw (le-ltb i (capacity_of m) outside) refl
 
-  pub not_lent : (m : Row T) (i : ℕ) → holds_value m i ≡ true → is_lent m i ≡ false
+  pub not_lent : (m : ArenaView T) (i : ℕ) → holds_value m i ≡ true → is_lent m i ≡ false
   not_lent m i held = go (nat_lt i (capacity_of m)) (value_at m i) (not (is_on i m.free)) held
     where
       go : (b : Bool) (o : Option T) (f : Bool) → is_some o ≡ true → (b && (is_none o && f)) ≡ false
@@ -220,7 +220,7 @@ module _ {T : Type 0} where
       go true (Some v) f some = refl
       go false o f some = refl
 
-  not_lent-free : (m : Row T) (i : ℕ) → 0 < times i m.free → is_lent m i ≡ false
+  not_lent-free : (m : ArenaView T) (i : ℕ) → 0 < times i m.free → is_lent m i ≡ false
   not_lent-free m i free = rw (lt-ltb 0 (times i m.free) free) (go (nat_lt i (capacity_of m)) (is_none (value_at m i)))
     where
       go : (b n : Bool) → (b && (n && false)) ≡ false
@@ -262,7 +262,7 @@ module _ {T : Type 0} where
     slots = sym (length-replicate slots None);
     has_free = omega arith;
     counted = sym (length-numbers 0 slots);
-    parted = parted-from (empty_row slots chains)
+    parted = parted-from (empty_arena slots chains)
         (λ i. omega (arith, times-append i (numbers_from 0 slots) (concat (replicate chains [])), times-empties i chains, times-numbers i 0 slots))
         (λ i some. omega (arith, length-replicate {A = Option T} slots None, start-within slots chains i some))
         (λ i some. none-at slots i)
@@ -270,16 +270,16 @@ module _ {T : Type 0} where
   }
 
   -- what `restore` does, where it refuses and where it does not
-  pub refused-answer : (m : Row T) (i : ℕ) (value : T) → is_lent m i ≡ false → Err value ≡ restore_answer m i value
+  pub refused-answer : (m : ArenaView T) (i : ℕ) (value : T) → is_lent m i ≡ false → Err value ≡ restore_answer m i value
   refused-answer m i value refused = rw refused refl
 
-  pub refused-row : (m : Row T) (i : ℕ) (value : T) → is_lent m i ≡ false → m ≡ after_restore m i value
+  pub refused-row : (m : ArenaView T) (i : ℕ) (value : T) → is_lent m i ≡ false → m ≡ after_restore m i value
   refused-row m i value refused = rw refused refl
 
-  pub restored-answer : (m : Row T) (i : ℕ) (value : T) → is_lent m i ≡ true → Ok tt ≡ restore_answer m i value
+  pub restored-answer : (m : ArenaView T) (i : ℕ) (value : T) → is_lent m i ≡ true → Ok tt ≡ restore_answer m i value
   restored-answer m i value lent = rw lent refl
 
-  pub restored-row : {values values' : List (Option T)} (links : Linked) (i : ℕ) (value : T) {m : Row T} → is_lent m i ≡ true
+  pub restored-row : {values values' : List (Option T)} (links : Linked) (i : ℕ) (value : T) {m : ArenaView T} → is_lent m i ≡ true
       → values' ≡ slice_set values i (Some value) → row_of values links ≡ m → row_of values' links ≡ after_restore m i value
   restored-row links i value lent values_are row_is =
-      rw lent (rw values_are refl ∙ ap (λ (row : Row T). let made : Row T = record row { values = slice_set row.values i (Some value) } in made) row_is)
+      rw lent (rw values_are refl ∙ ap (λ (row : ArenaView T). let made : ArenaView T = record row { values = slice_set row.values i (Some value) } in made) row_is)

@@ -2,7 +2,7 @@
 -- what a caller needs of chains and parts
 pub mod Times
 pub mod Parts
-pub mod RowLemmas
+pub mod ArenaLemmas
 -- ---- this crate's own: that the links are those of lists, and that the arena keeps its row by them
 mod Ways
 mod Unlinking

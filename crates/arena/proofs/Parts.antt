@@ -5,7 +5,7 @@ use Rattle.std.proofs.lemmas.Bool.Decides.{leb_tells}
 use Rattle.std.proofs.lemmas.List.{length-set, get_or-set_same, get_or-set_other, length-map}
 use Rattle.std.specs.List.{concat}
 use Rattle.arena.specs.Lists.{times, is_on, without, numbers_from}
-use Rattle.arena.specs.Row.{Row, capacity_of, value_at, holds_value, listed, aside, IsParted, moved}
+use Rattle.arena.specs.ArenaView.{ArenaView, capacity_of, value_at, holds_value, listed, aside, IsParted, moved}
 use Rattle.arena.proofs.Times.{times-append, times-last, times-cons_is, times-cons_other, times-set, times-without_all_same, times-without_all_other}
 use Rattle.arena.proofs.Start.{times-numbers, times-numbers_in, times-high}
 
@@ -38,7 +38,7 @@ times-tail i x xs = elim (cases_eq x i) [
 
 module _ {T : Type 0} where
   -- what is on no list is aside
-  parts-from : (m : Row T) → ((i : ℕ) → times i (listed m) ≤ 1) → ((i : ℕ) → 0 < times i (listed m) → i < capacity_of m)
+  parts-from : (m : ArenaView T) → ((i : ℕ) → times i (listed m) ≤ 1) → ((i : ℕ) → 0 < times i (listed m) → i < capacity_of m)
       → (i : ℕ) → times i (listed m ++ aside m) ≡ (if nat_lt i (capacity_of m) then 1 else 0)
   parts-from m once within i =
       let both = times-append i (listed m) (aside m) in
@@ -56,7 +56,7 @@ module _ {T : Type 0} where
         ])
       ]
 
-  pub parted-from : (m : Row T) → ((i : ℕ) → times i (listed m) ≤ 1) → ((i : ℕ) → 0 < times i (listed m) → i < capacity_of m)
+  pub parted-from : (m : ArenaView T) → ((i : ℕ) → times i (listed m) ≤ 1) → ((i : ℕ) → 0 < times i (listed m) → i < capacity_of m)
       → ((i : ℕ) → 0 < times i m.free → value_at m i ≡ None) → ((i : ℕ) → 0 < times i (concat m.chains) → holds_value m i ≡ true) → IsParted m
   parted-from m once within free_empty chains_hold = record {
     parts = parts-from m once within;
@@ -80,7 +80,7 @@ module _ {T : Type 0} where
   held-within (v ∷ values) zero held = omega arith
   held-within (v ∷ values) (suc i) held = omega (arith, held-within values i held)
 
-  pub held-not_free : (m : Row T) → IsParted m → (i : ℕ) → holds_value m i ≡ true → times i m.free ≡ 0
+  pub held-not_free : (m : ArenaView T) → IsParted m → (i : ℕ) → holds_value m i ≡ true → times i m.free ≡ 0
   held-not_free m parted i held = elim (leb_tells 1 (times i m.free)) [
     | inl e ↦ absurd (let empty = parted.free_empty i e.1 in let lost : false ≡ true = sym (ap is_some empty) ∙ held in cc)
     | inr n ↦ omega arith
@@ -103,7 +103,7 @@ module _ {T : Type 0} where
       (λ same. absurd (let here = parted.once i in let twice : 0 < times i (concat chains) = rw (← same) some in omega (arith, all i))))
       ∙ parted.chains_hold j some)
 
-  pub parted-lend : (m : Row T) (i : ℕ) → IsParted m → holds_value m i ≡ true
+  pub parted-lend : (m : ArenaView T) (i : ℕ) → IsParted m → holds_value m i ≡ true
       → IsParted (record m { values = slice_set m.values i None; chains = map (without i) m.chains })
   parted-lend m i parted held =
       let long = length-set m.values i None in
@@ -128,7 +128,7 @@ module _ {T : Type 0} where
         | inr n ↦ ap is_some (value-other m.values i j None n) ∙ parted.chains_hold j (omega (arith, times-without_all_other j i m.chains n))
       ])
 
-  pub parted-take : (m : Row T) (i : ℕ) → IsParted m → holds_value m i ≡ true
+  pub parted-take : (m : ArenaView T) (i : ℕ) → IsParted m → holds_value m i ≡ true
       → IsParted (record { values = slice_set m.values i None; free = i ∷ m.free; chains = map (without i) m.chains })
   parted-take m i parted held =
       let long = length-set m.values i None in
@@ -153,7 +153,7 @@ module _ {T : Type 0} where
       ])
       lent.chains_hold
 
-  pub parted-move : (m : Row T) (i c : ℕ) → IsParted m → holds_value m i ≡ true → c < length m.chains
+  pub parted-move : (m : ArenaView T) (i c : ℕ) → IsParted m → holds_value m i ≡ true → c < length m.chains
       → IsParted (record m { chains = moved m.chains i c })
   parted-move m i c parted held within =
       let others = map (without i) m.chains in
@@ -182,7 +182,7 @@ module _ {T : Type 0} where
         | inr n ↦ parted.chains_hold j (omega (arith, count_other j n))
       ])
 
-  pub parted-restore : (m : Row T) (i : ℕ) (value : T) → IsParted m → i < capacity_of m → times i m.free ≡ 0
+  pub parted-restore : (m : ArenaView T) (i : ℕ) (value : T) → IsParted m → i < capacity_of m → times i m.free ≡ 0
       → IsParted (record m { values = slice_set m.values i (Some value) })
   parted-restore m i value parted within unfree =
       let long = length-set m.values i (Some value) in

@@ -6,7 +6,7 @@ use Rattle.std.proofs.lemmas.Map.Steps.{length-le_from_distinct_below}
 use Rattle.std.specs.List.{concat, AllByRecursion, IsDistinct, list_any}
 use Rattle.arena.specs.Lists.{times, without, numbers_from}
 
--- so many consecutive numbers
+-- n consecutive numbers
 pub length-numbers : (first count : ℕ) → length (numbers_from first count) ≡ count
 length-numbers first zero = refl
 length-numbers first (suc count) = omega (arith, length-numbers (suc first) count)
@@ -139,6 +139,6 @@ below-from_member n q (x ∷ xs) each found = elim (eqb_tells q x) [
   | inr n' ↦ below-from_member n q xs each.1 (rw n'.0 at found)
 ]
 
--- so many numbers below n, each once, are at most n
+-- numbers below n, each once, are at most n
 pub length-once : (n : ℕ) (xs : List ℕ) → ((i : ℕ) → times i xs ≤ 1) → AllByRecursion (λ x. x < n) xs → length xs ≤ n
 length-once n xs once each = length-le_from_distinct_below xs n (distinct-from_times xs once) (λ q. below-from_member n q xs each)

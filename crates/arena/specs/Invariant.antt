@@ -1,7 +1,7 @@
 -- Inner: How an `Arena` keeps its row.
 use Rattle.std.specs.Prelude.{◌≡◌, ℕ, ◌<◌, List, [], ◌∷◌, length, Option}
 use Rattle.arena.specs.Linked.{Linked}
-use Rattle.arena.specs.Row.{Row, IsParted}
+use Rattle.arena.specs.ArenaView.{ArenaView, IsParted}
 
 -- the first list has the free slots, and the others are the chains
 abbrev pub free_in : List (List ℕ) → List ℕ
@@ -13,7 +13,7 @@ chains_in [] = []
 chains_in (free ∷ chains) = chains
 
 module _ {T : Type 0} where
-  abbrev pub row_of : List (Option T) → Linked → Row T
+  abbrev pub row_of : List (Option T) → Linked → ArenaView T
   row_of values links = record { values = values; free = free_in links.lists; chains = chains_in links.lists }
 
   pub record ArenaRule (values : List (Option T)) (links : Linked) (free : ℕ) : Type 0 where

@@ -1,10 +1,10 @@
 -- Inner: What an `Arena` is once a `&mut` into it, which a call returned, ends (the library's `Lends`, not `Arena::lend`).
 use Rattle.std.specs.Prelude.{ℕ, Option}
 use Rattle.std.specs.Borrow.{Lends, LendsIf, Fml, RattleType, MutBor}
-use Rattle.arena.specs.Row.{Row, with_value}
+use Rattle.arena.specs.ArenaView.{ArenaView, with_value}
 use Rattle.arena.specs.contracts.Arena.{the_row}
 
-module _ (T : RattleType) (arena : MutBor (Row T.Denot)) (i : ℕ) where
+module _ (T : RattleType) (arena : MutBor (ArenaView T.Denot)) (i : ℕ) where
   -- once the borrow ends, the slot holds the last value that was written through it
   abbrev pub lends_value : MutBor T.Denot → Fml
   lends_value r = Lends (the_row T) T arena r (with_value arena.now i)

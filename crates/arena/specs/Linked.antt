@@ -21,7 +21,7 @@ walk next slots (suc steps) node = if nat_lt node slots then node ∷ walk next 
 abbrev pub ring : (ℕ → ℕ) → ℕ → ℕ → List ℕ
 ring next slots end = walk next slots slots (next end)
 
--- what a function gives at so many numbers, from this one on
+-- what a function gives at n numbers, from this one on
 abbrev pub table : (ℕ → List ℕ) → ℕ → ℕ → List (List ℕ)
 table at from zero = []
 table at from (suc count) = at from ∷ table at (suc from) count

@@ -14,7 +14,7 @@ is_on i xs = nat_lt 0 (times i xs)
 abbrev pub without : ℕ → List ℕ → List ℕ
 without i xs = filter (λ x. not (x == i)) xs
 
--- so many numbers, each one more than the one before it
+-- n numbers, each one more than the one before it
 abbrev pub numbers_from : ℕ → ℕ → List ℕ
 numbers_from first zero = []
 numbers_from first (suc count) = first ∷ numbers_from (suc first) count

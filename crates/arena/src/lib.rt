@@ -5,7 +5,7 @@ ghost use Rattle.std.specs.Prelude.{◌≡◌, ◌+◌, ◌<◌, length, slice_s
 ghost use Rattle.std.specs.Option.{option_copied_mut};
 ghost use Rattle.std.specs.Option.Follows.{option_follows_value};
 ghost use Rattle.std.specs.Borrow.{sem};
-ghost use Rattle.arena.specs.Row.{IsParted, capacity_of, value_at, holds_value, empty_row, put_answer, after_put, front_of, next_of, can_move, after_move, after_lend, restore_answer, after_restore, after_take, with_value};
+ghost use Rattle.arena.specs.ArenaView.{IsParted, capacity_of, value_at, holds_value, empty_arena, put_answer, after_put, front_of, next_of, can_move, after_move, after_lend, restore_answer, after_restore, after_take, with_value};
 
 mod links;
 
@@ -29,11 +29,11 @@ pub struct Arena<T> {
 }
 
 impl<T> Model for Arena<T> {
-    ghost use Rattle.arena.specs.Row.{Row, row_code};
+    ghost use Rattle.arena.specs.ArenaView.{ArenaView, arena_view_code};
 
-    ghost Value = { Row T };
+    ghost Value = { ArenaView T };
 
-    ghost coded = { row_code T.code };
+    ghost coded = { arena_view_code T.code };
 
     ghost use Rattle.arena.specs.Invariant.{row_of, ArenaRule};
 
@@ -74,7 +74,7 @@ impl<T> Arena<T> {
     /// there is no memory.
     pub fn with_capacity(alloc: Global, slots: usize, chains: usize) -> Result<Arena<T>, AllocError>
         requires { slots + chains < usize.MAX }
-        ensures row { IfOk result (λ arena. arena ≡ empty_row slots chains) }
+        ensures row { IfOk result (λ arena. arena ≡ empty_arena slots chains) }
         ensures parted { IfOk result IsParted }
     {
         let links = Links::new(alloc, slots, chains)?;

@@ -6,7 +6,7 @@ use Rattle.affinity.specs.Geometry.{small, standard}
 use Rattle.checkpoint.specs.declared.fault.OpenFault.{OpenFault}
 use Rattle.checkpoint.specs.declared.fault.OpenFault.TheVariants.{TooShort, BadVersion, BadPiece, BadChain, BadRecord}
 use Rattle.checkpoint.specs.Header.{header_of}
-use Rattle.checkpoint.specs.Recovery.{holds}
+use Rattle.checkpoint.specs.Recovery.{recovered_state}
 use Rattle.checkpoint.specs.Refusals.{HasNoGeometry, IsUnformatted, refused}
 use Rattle.messages.specs.declared.Reply.{Reply}
 use Rattle.messages.specs.declared.Reply.TheVariants.{Summary}
@@ -62,7 +62,7 @@ summary_of None = None
 summary_of (Some x) = Some (reply_to small x AskSummary)
 
 abbrev summary_with : List ℕ → Option Reply
-summary_with bytes = summary_of (holds small bytes)
+summary_with bytes = summary_of (recovered_state small bytes)
 
 recovers_for_nothing : summary_with formatted ≡ Some (Summary 0 0 0)
 unfolding image_size message_in_fields kind_numbered data_of

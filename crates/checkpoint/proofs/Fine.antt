@@ -6,7 +6,7 @@ use Rattle.std.proofs.lemmas.Slice.Eq.{bytes_eq-Decides}
 use Rattle.affinity.specs.declared.geometry.Geometry.{Geometry}
 use Rattle.checkpoint.specs.Header.{HasHeader, header_of, is_header}
 use Rattle.checkpoint.specs.Loading.{are_chained, image_fault, in_force_fault}
-use Rattle.checkpoint.specs.Recovery.{holds, means}
+use Rattle.checkpoint.specs.Recovery.{recovered_state, means}
 use Rattle.checkpoint.specs.Refusals.{refused}
 use Rattle.checkpoint.proofs.Behind.{image_fine}
 use Rattle.checkpoint.proofs.OneGeometry.{laid_where}
@@ -24,7 +24,7 @@ some_before : (g : Geometry) (o : Option State) (rs : List (List ℕ)) (x : Stat
 some_before g None rs x ran = cc
 some_before g (Some y) rs x ran = (y, refl)
 
-module _ (g : Geometry) (c : List ℕ) (x : State) (are : AreBytes c) (recovered_before : holds g c ≡ Some x) where
+module _ (g : Geometry) (c : List ℕ) (x : State) (are : AreBytes c) (recovered_before : recovered_state g c ≡ Some x) where
   abbrev l : Layout
   l = layout_of g
 

@@ -5,9 +5,9 @@ use Rattle.std.proofs.lemmas.Slice.Eq.{bytes_eq-Decides}
 use Rattle.std.proofs.lemmas.Bool.{cases_eq, le-leb}
 use Rattle.std.proofs.lemmas.List.{length-replicate, get_or-take, get_or-drop, get_or-replicate, drop-replicate, take-replicate}
 use Rattle.affinity.specs.declared.geometry.Geometry.{Geometry}
-use Rattle.checkpoint.specs.Formatting.{Has, IsHeaded, IsLaid, IsShut}
+use Rattle.checkpoint.specs.Formatting.{HasBytesAt, IsAllButFormatByte, IsAllButHeader, HasNoFormatByte}
 use Rattle.checkpoint.specs.Header.{header_of, is_header}
-use Rattle.checkpoint.specs.Recovery.{holds, means}
+use Rattle.checkpoint.specs.Recovery.{recovered_state, means}
 use Rattle.checkpoint.specs.Version.{named_version}
 use Rattle.checkpoint.proofs.Blank.{empty_spelled}
 use Rattle.disk.specs.Device.{SameOutside, overlaid}
@@ -25,22 +25,22 @@ use Rattle.meaning.proofs.Kept.{empty_is_state}
 -- ---- bytes that are somewhere
 
 -- a change beside them
-pub has_kept : (a : ℕ) {at n : ℕ} {bytes c torn : List ℕ} → (a + length bytes ≤ at) ⊎ (at + n ≤ a) → SameOutside at n c torn → Has c a bytes → Has torn a bytes
+pub has_kept : (a : ℕ) {at n : ℕ} {bytes c torn : List ℕ} → (a + length bytes ≤ at) ⊎ (at + n ≤ a) → SameOutside at n c torn → HasBytesAt c a bytes → HasBytesAt torn a bytes
 has_kept a {at} {n} {bytes} {c} {torn} (inl before) same has = same_before at n c torn same a (length bytes) before ∙ has
 has_kept a {at} {n} {bytes} {c} {torn} (inr behind) same has = same_behind at n c torn same a (length bytes) behind ∙ has
 
 -- what was written
-pub has_put : (c : List ℕ) (at : ℕ) (bytes : List ℕ) → at + length bytes ≤ length c → Has (overlaid c at bytes) at bytes
+pub has_put : (c : List ℕ) (at : ℕ) (bytes : List ℕ) → at + length bytes ≤ length c → HasBytesAt (overlaid c at bytes) at bytes
 has_put c at bytes inside = range-overlaid c at bytes inside
 
 -- zeros among them
-zero_there : (c : List ℕ) (at n i : ℕ) → Has c at (replicate n 0) → i < n → get_or c (at + i) 0 ≡ 0
+zero_there : (c : List ℕ) (at n i : ℕ) → HasBytesAt c at (replicate n 0) → i < n → get_or c (at + i) 0 ≡ 0
 zero_there c at n i has few =
     sym (get_or-drop at c i 0) ∙ sym (get_or-take n (drop at c) i 0 few)
     ∙ ap (λ (k : ℕ). get_or (take k (drop at c)) i 0) (sym (length-replicate {A = ℕ} n 0))
     ∙ ap (λ (l : List ℕ). get_or l i 0) has ∙ get_or-replicate n i 0 0 few
 
-zeros_there : (c : List ℕ) (at n i k : ℕ) → Has c at (replicate n 0) → i + k ≤ n → slice c (at + i) k ≡ replicate k 0
+zeros_there : (c : List ℕ) (at n i k : ℕ) → HasBytesAt c at (replicate n 0) → i + k ≤ n → slice c (at + i) k ≡ replicate k 0
 zeros_there c at n i k has few =
     sym (slice_slice c at n i k few)
     ∙ ap (λ (m : ℕ). slice (slice c at m) i k) (sym (length-replicate {A = ℕ} n 0))
@@ -59,11 +59,11 @@ unfolding image_size
 image_some g = omega arith
 
 -- the header, of its gate and what comes after
-pub header_there : (g : Geometry) (c : List ℕ) → get_or c 0 0 ≡ 1 → Has c 1 (drop 1 (header_of g)) → slice c 0 64 ≡ header_of g
+pub header_there : (g : Geometry) (c : List ℕ) → get_or c 0 0 ≡ 1 → HasBytesAt c 1 (drop 1 (header_of g)) → slice c 0 64 ≡ header_of g
 header_there g [] is_open has = absurd (omega (arith, is_open))
 header_there g (x ∷ c) is_open has = λ i. is_open i ∷ has i
 
-module _ (g : Geometry) (c : List ℕ) (laid : IsLaid g c) where
+module _ (g : Geometry) (c : List ℕ) (laid : IsAllButHeader g c) where
   abbrev l : Layout
   l = layout_of g
 
@@ -89,7 +89,7 @@ module _ (g : Geometry) (c : List ℕ) (laid : IsLaid g c) where
   in_force_none = ap (λ (b : ℕ). cond (eqb b 1) (front l 0 c ++ front l 1 c) (front l 0 c)) no_chain_0 ∙ no_front
 
 -- Behind its header, an empty device recovers to the empty state once its gate is open.
-pub holds_empty : (g : Geometry) (c : List ℕ) → device_size (layout_of g) ≤ length c → IsHeaded g c → get_or c 0 0 ≡ 1 → holds g c ≡ Some empty
+pub holds_empty : (g : Geometry) (c : List ℕ) → device_size (layout_of g) ≤ length c → IsAllButFormatByte g c → get_or c 0 0 ≡ 1 → recovered_state g c ≡ Some empty
 holds_empty g c long headed is_open =
     let l : Layout = layout_of g in
     let laid = headed.laid in
@@ -104,34 +104,35 @@ holds_empty g c long headed is_open =
     ∙ ap (λ (rs : List (List ℕ)). run (means g) (Some empty) rs) (in_force_none g c laid)
 
 -- Its image, which is named, has version 2.
-pub version_empty : (g : Geometry) (c : List ℕ) → IsLaid g c → named_version g c ≡ 2
+pub version_empty : (g : Geometry) (c : List ℕ) → IsAllButHeader g c → named_version g c ≡ 2
 version_empty g c laid =
     ap (λ (n : ℕ). version_in (part_bytes (layout_of g) (image n) c)) (names_0 g c laid) ∙ ap (λ (bytes : List ℕ). version_in bytes) (image_there g c laid)
 
 -- ---- changes of it
 
-pub laid_kept : (g : Geometry) (at n : ℕ) (c torn : List ℕ) → at + n ≤ 64 → SameOutside at n c torn → IsLaid g c → IsLaid g torn
+pub laid_kept : (g : Geometry) (at n : ℕ) (c torn : List ℕ) → at + n ≤ 64 → SameOutside at n c torn → IsAllButHeader g c → IsAllButHeader g torn
 laid_kept g at n c torn before same laid = record {
   root = has_kept 64 (inr before) same laid.root;
   one = has_kept (part_at (layout_of g) 3) (inr (omega (arith, before))) same laid.one;
   image = has_kept (part_at (layout_of g) 4) (inr (omega (arith, before))) same laid.image;
 }
 
-pub headed_kept : (g : Geometry) (c torn : List ℕ) → SameOutside 0 1 c torn → IsHeaded g c → IsHeaded g torn
+pub headed_kept : (g : Geometry) (c torn : List ℕ) → SameOutside 0 1 c torn → IsAllButFormatByte g c → IsAllButFormatByte g torn
 headed_kept g c torn same headed = record {
   laid = laid_kept g 0 1 c torn (omega arith) same headed.laid;
   header = has_kept 1 (inr (omega arith)) same headed.header;
 }
 
 -- The header's bytes behind its gate are written.
-pub headed : (g : Geometry) (c : List ℕ) (bytes : List ℕ) → bytes ≡ drop 1 (header_of g) → 64 ≤ length c → IsLaid g c → IsHeaded g (overlaid c 1 bytes)
+pub headed : (g : Geometry) (c : List ℕ) (bytes : List ℕ) → bytes ≡ drop 1 (header_of g) → 64 ≤ length c → IsAllButHeader g c → IsAllButFormatByte g (overlaid c 1 bytes)
 headed g c bytes are long laid = record {
   laid = laid_kept g 1 (length bytes) c (overlaid c 1 bytes) (omega (arith, ap (λ (l : List ℕ). length l) are)) (overlaid_outside c 1 bytes) laid;
-  header = subst (λ (l : List ℕ). Has (overlaid c 1 bytes) 1 l) are (has_put c 1 bytes (omega (arith, long, ap (λ (l : List ℕ). length l) are)));
+  header = subst (λ (l : List ℕ). HasBytesAt (overlaid c 1 bytes) 1 l) are (has_put c 1 bytes (omega (arith, long, ap (λ (l : List ℕ). length l) are)));
 }
 
 -- The gate is opened behind a whole header: whatever a crash leaves of it, the device is shut or recovers to the empty state.
-pub torn_open : (g : Geometry) (c torn : List ℕ) → device_size (layout_of g) ≤ length c → IsHeaded g c → SameOutside 0 1 c torn → IsShut (length c) torn ⊎ (holds g torn ≡ Some empty)
+pub torn_open : (g : Geometry) (c torn : List ℕ) → device_size (layout_of g) ≤ length c → IsAllButFormatByte g c → SameOutside 0 1 c torn
+    → HasNoFormatByte (length c) torn ⊎ (recovered_state g torn ≡ Some empty)
 torn_open g c torn long headed same =
     ⊎_elim
     (λ (is_open : get_or torn 0 0 ≡ 1). inr (holds_empty g torn (omega (arith, long, same.size)) (headed_kept g c torn same headed) is_open))
@@ -143,22 +144,23 @@ nothing_over [] = refl
 nothing_over (x ∷ c) = refl
 
 -- one byte written over the first of a row of zeros
-version_put : (n : ℕ) (c : List ℕ) (at : ℕ) → at + suc n ≤ length c → Has c at (replicate (suc n) 0) → Has (overlaid c at (2 ∷ [])) at (2 ∷ replicate n 0)
+version_put : (n : ℕ) (c : List ℕ) (at : ℕ) → at + suc n ≤ length c → HasBytesAt c at (replicate (suc n) 0) → HasBytesAt (overlaid c at (2 ∷ [])) at (2 ∷ replicate n 0)
 version_put n [] at inside has = absurd (omega (arith, inside))
 version_put n (x ∷ c) zero inside has =
     let behind : take (length (replicate {A = ℕ} n 0)) c ≡ replicate n 0 = ap (λ (l : List ℕ). drop 1 l) has in
     ap (λ (l : List ℕ). 2 ∷ take (length (replicate {A = ℕ} n 0)) l) (nothing_over c) ∙ ap (λ (l : List ℕ). 2 ∷ l) behind
 version_put n (x ∷ c) (suc at) inside has = version_put n c at (omega (arith, inside)) has
 
-version_there : (g : Geometry) (c : List ℕ) (at : ℕ) → at + image_size g ≤ length c → Has c at (replicate (image_size g) 0) → Has (overlaid c at (2 ∷ [])) at (2 ∷ replicate (image_size g - 1) 0)
+version_there : (g : Geometry) (c : List ℕ) (at : ℕ) → at + image_size g ≤ length c → HasBytesAt c at (replicate (image_size g) 0)
+    → HasBytesAt (overlaid c at (2 ∷ [])) at (2 ∷ replicate (image_size g - 1) 0)
 version_there g c at inside has =
     let some = image_some g in
     let count : image_size g ≡ suc (image_size g - 1) = omega (arith, some) in
-    version_put (image_size g - 1) c at (omega (arith, inside, some)) (subst (λ (n : ℕ). Has c at (replicate n 0)) count has)
+    version_put (image_size g - 1) c at (omega (arith, inside, some)) (subst (λ (n : ℕ). HasBytesAt c at (replicate n 0)) count has)
 
 -- the ranges of an empty device, written one after the other
 pub laid_out : (g : Geometry) (c : List ℕ) → device_size (layout_of g) ≤ length c
-    → IsLaid g (overlaid (overlaid (overlaid (overlaid c 64 (replicate (64 + (64 + g.half)) 0)) (part_at (layout_of g) 3)
+    → IsAllButHeader g (overlaid (overlaid (overlaid (overlaid c 64 (replicate (64 + (64 + g.half)) 0)) (part_at (layout_of g) 3)
     (replicate (64 + g.half) 0)) (part_at (layout_of g) 4) (replicate (image_size g) 0)) (part_at (layout_of g) 4) (2 ∷ []))
 laid_out g c long =
     let zeros_0 : List ℕ = replicate (64 + (64 + g.half)) 0 in
@@ -176,12 +178,12 @@ laid_out g c long =
     let size_1 : length c1 ≡ length c = length-overlaid c 64 zeros_0 in
     let size_2 : length c2 ≡ length c1 = length-overlaid c1 at_1 zeros_1 in
     let size_3 : length c3 ≡ length c2 = length-overlaid c2 at_2 zeros_2 in
-    let root_1 : Has c1 64 zeros_0 = has_put c 64 zeros_0 (omega (arith, long, long_0)) in
-    let root_2 : Has c2 64 zeros_0 = has_kept 64 (inl (omega (arith, long_0))) (overlaid_outside c1 at_1 zeros_1) root_1 in
-    let root_3 : Has c3 64 zeros_0 = has_kept 64 (inl (omega (arith, long_0))) (overlaid_outside c2 at_2 zeros_2) root_2 in
-    let one_2 : Has c2 at_1 zeros_1 = has_put c1 at_1 zeros_1 (omega (arith, long, long_1, size_1)) in
-    let one_3 : Has c3 at_1 zeros_1 = has_kept at_1 (inl (omega (arith, long_1))) (overlaid_outside c2 at_2 zeros_2) one_2 in
-    let image_3 : Has c3 at_2 zeros_2 = has_put c2 at_2 zeros_2 (omega (arith, long, long_2, size_1, size_2)) in
+    let root_1 : HasBytesAt c1 64 zeros_0 = has_put c 64 zeros_0 (omega (arith, long, long_0)) in
+    let root_2 : HasBytesAt c2 64 zeros_0 = has_kept 64 (inl (omega (arith, long_0))) (overlaid_outside c1 at_1 zeros_1) root_1 in
+    let root_3 : HasBytesAt c3 64 zeros_0 = has_kept 64 (inl (omega (arith, long_0))) (overlaid_outside c2 at_2 zeros_2) root_2 in
+    let one_2 : HasBytesAt c2 at_1 zeros_1 = has_put c1 at_1 zeros_1 (omega (arith, long, long_1, size_1)) in
+    let one_3 : HasBytesAt c3 at_1 zeros_1 = has_kept at_1 (inl (omega (arith, long_1))) (overlaid_outside c2 at_2 zeros_2) one_2 in
+    let image_3 : HasBytesAt c3 at_2 zeros_2 = has_put c2 at_2 zeros_2 (omega (arith, long, long_2, size_1, size_2)) in
     record {
       root = has_kept 64 (inl (omega (arith, long_0))) (overlaid_outside c3 at_2 (2 ∷ [])) root_3;
       one = has_kept at_1 (inl (omega (arith, long_1))) (overlaid_outside c3 at_2 (2 ∷ [])) one_3;

@@ -10,7 +10,7 @@ use Rattle.checkpoint.specs.declared.inspecting.Shown.{Shown}
 use Rattle.checkpoint.specs.declared.loading.Loaded.{Loaded}
 use Rattle.checkpoint.specs.Header.{HasHeader, header_of, is_header}
 use Rattle.checkpoint.specs.Loading.{IsFaultOfBytes, IsOfHalf, IsOfHeader, are_chained, image_fault, in_force_fault, records_fault}
-use Rattle.checkpoint.specs.Recovery.{apply, holds, means}
+use Rattle.checkpoint.specs.Recovery.{apply, recovered_state, means}
 use Rattle.checkpoint.specs.Refusals.{IsDevice, IsRefused, fault_if, fault_or_later, first_bad_piece, first_bad_record, refused}
 use Rattle.checkpoint.specs.Shown.{IsLoaded, IsShown, ShowsLoaded}
 use Rattle.checkpoint.proofs.Replays.{fault_from}
@@ -192,7 +192,7 @@ module _ (g : Geometry) (c : List ℕ) (head : HasHeader g c) (long : device_siz
       pub not_refused : in_force_fault g x n c ≡ None → refused g c ≡ None
       not_refused is = past_chain ∙ is
 
-      pub recovers_for : (y : State) → run (means g) (Some x) (in_force (layout_of g) n c) ≡ Some y → holds g c ≡ Some y
+      pub recovers_for : (y : State) → run (means g) (Some x) (in_force (layout_of g) n c) ≡ Some y → recovered_state g c ≡ Some y
       recovers_for y ran =
           let is_head : is_header g (part_bytes (layout_of g) header c) ≡ true = (bytes_eq-Decides (part_bytes (layout_of g) header c) (header_of g)).1 head in
           let whole : nat_le (device_size (layout_of g)) (length c) ≡ true = le-leb (device_size (layout_of g)) (length c) long in
@@ -211,20 +211,20 @@ shown c l s is told = record {
   records = told.records ∙ is.records ∙ sym (λ i. length (in_force (layout_of (told.geometry i)) (told.area i) c));
   version = told.version ∙ is.version ∙ sym (λ i. version_in (part_bytes (layout_of (told.geometry i)) (image (told.area i)) c));
   state = state_in l.tree;
-  held = ap (λ (g : Geometry). holds g c) told.geometry ∙ is.state;
+  held = ap (λ (g : Geometry). recovered_state g c) told.geometry ∙ is.state;
   summary = told.summary ∙ ap (λ (g : Geometry). reply_to g (state_in l.tree) Summary) (sym told.geometry);
 }
 
 -- of a tree whose geometry is that of the header
 pub loaded : {g : Geometry} {c : List ℕ} {l : Loaded} → l.tree.geometry ≡ g → HasHeader g c → refused g c ≡ None → l.area ≡ named_area (layout_of g) c
-    → l.version ≡ version_in (part_bytes (layout_of g) (image l.area) c) → l.records ≡ length (in_force (layout_of g) l.area c) → holds g c ≡ Some (state_in l.tree) → IsLoaded c l
+    → l.version ≡ version_in (part_bytes (layout_of g) (image l.area) c) → l.records ≡ length (in_force (layout_of g) l.area c) → recovered_state g c ≡ Some (state_in l.tree) → IsLoaded c l
 loaded {c} {l} same head sound area version records state = record {
   header = subst (λ (h : Geometry). HasHeader h c) (sym same) head;
   sound = ap (λ (h : Geometry). refused h c) same ∙ sound;
   area = area ∙ ap (λ (h : Geometry). named_area (layout_of h) c) (sym same);
   version = version ∙ ap (λ (h : Geometry). version_in (part_bytes (layout_of h) (image l.area) c)) (sym same);
   records = records ∙ ap (λ (h : Geometry). length (in_force (layout_of h) l.area c)) (sym same);
-  state = ap (λ (h : Geometry). holds h c) same ∙ state;
+  state = ap (λ (h : Geometry). recovered_state h c) same ∙ state;
 }
 
 -- ---- of which half a bad record is

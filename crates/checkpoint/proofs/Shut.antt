@@ -2,11 +2,11 @@
 use Rattle.std.proofs.Common.{◌≡◌, ◌≢◌, ◌⊎◌, ℕ, ◌+◌, ◌-◌, ◌<◌, ◌≤◌, List, [], ◌∷◌, length, take, drop, get_or, slice_range, inl, inr, ⊎_elim, refl, sym, ◌∙◌, ap, subst, arith}
 use Rattle.std.proofs.lemmas.Bool.{cases_eq}
 use Rattle.std.proofs.lemmas.List.{get_or-take}
-use Rattle.checkpoint.specs.Formatting.{IsShut, IsShutNow}
+use Rattle.checkpoint.specs.Formatting.{HasNoFormatByte, StaysUnformatted}
 use Rattle.checkpoint.specs.Refusals.{IsUnformatted}
 use Rattle.disk.specs.Device.{AreBytes, Medium, IsCrashImage, IsSynced, SameOutside, synced}
 use Rattle.disk.specs.Moments.{CrashImagesAre}
-use Rattle.disk.proofs.Leaves.{calm_left, itself}
+use Rattle.disk.proofs.Leaves.{synced_left, itself}
 use Rattle.disk.proofs.Moments.{started, then, weaker}
 use Rattle.disk.proofs.Outside.{same_item}
 use Rattle.disk.proofs.Overlays.{item-overlaid, length-overlaid}
@@ -21,7 +21,7 @@ same_first (x ∷ xs) [] same first = absurd (omega (arith, same.size))
 same_first (x ∷ xs) (y ∷ ys) same first = λ i. first i ∷ same.after i
 
 -- The first byte of an open gate is written: it is open still, or shut.
-pub torn_gate : (old c : List ℕ) → get_or old 0 0 ≡ 1 → SameOutside 0 1 old c → (c ≡ old) ⊎ IsShut (length old) c
+pub torn_gate : (old c : List ℕ) → get_or old 0 0 ≡ 1 → SameOutside 0 1 old c → (c ≡ old) ⊎ HasNoFormatByte (length old) c
 torn_gate old c was same =
     ⊎_elim
     (λ (is_open : get_or c 0 0 ≡ 1). inl (same_first old c same (is_open ∙ sym was)))
@@ -29,46 +29,46 @@ torn_gate old c was same =
     (cases_eq (get_or c 0 0) 1)
 
 -- what a crash may leave of a device of which nothing is unsynced, and whose first byte is not 1
-pub calm_shut : (n : ℕ) (m : Medium) → IsSynced m → length m.now ≡ n → get_or m.now 0 0 ≢ 1 → IsShutNow n m
-calm_shut n m calm long shut c left =
-    let is : c ≡ m.now = calm_left m c calm left in
+pub synced_shut : (n : ℕ) (m : Medium) → IsSynced m → length m.now ≡ n → get_or m.now 0 0 ≢ 1 → StaysUnformatted n m
+synced_shut n m synced long shut c left =
+    let is : c ≡ m.now = synced_left m c synced left in
     record { size = ap length is ∙ long; gate = λ is_open. shut (sym (ap (λ (l : List ℕ). get_or l 0 0) is) ∙ is_open) }
 
 -- the gate once 0 is stored there
-pub stored_shut : (n : ℕ) (w0 w1 : Medium) → 0 < length w0.now → length w0.now ≡ n → Stored 0 (0 ∷ []) w0 w1 → IsShutNow n w1
+pub stored_shut : (n : ℕ) (w0 w1 : Medium) → 0 < length w0.now → length w0.now ≡ n → Stored 0 (0 ∷ []) w0 w1 → StaysUnformatted n w1
 stored_shut n w0 w1 some long stored =
-    calm_shut n w1 stored.calm (ap length stored.now ∙ length-overlaid w0.now 0 (0 ∷ []) ∙ long)
+    synced_shut n w1 stored.synced (ap length stored.now ∙ length-overlaid w0.now 0 (0 ∷ []) ∙ long)
     (λ is_open. let zero : get_or w1.now 0 0 ≡ 0 = ap (λ (l : List ℕ). get_or l 0 0) stored.now ∙ item-overlaid w0.now 0 0 0 [] some in absurd (omega (arith, zero, is_open)))
 
 -- While an open gate is shut, behind a sync: the old device, or a shut one.
 pub shutting : {w0 w1 w2 : Medium} → AreBytes w0.now → IsSynced w1 → w1.now ≡ w0.now → get_or w1.now 0 0 ≡ 1
-    → CrashImagesAre w0 w1 (λ c. IsCrashImage w0 c ⊎ IsShut (length w0.now) c) → ChangesOnly w1 w2 (SameOutside 0 1)
-    → CrashImagesAre w0 w2 (λ c. IsCrashImage w0 c ⊎ IsShut (length w0.now) c)
-shutting {w0} {w1} {w2} are calm kept was begun moments =
+    → CrashImagesAre w0 w1 (λ c. IsCrashImage w0 c ⊎ HasNoFormatByte (length w0.now) c) → ChangesOnly w1 w2 (SameOutside 0 1)
+    → CrashImagesAre w0 w2 (λ c. IsCrashImage w0 c ⊎ HasNoFormatByte (length w0.now) c)
+shutting {w0} {w1} {w2} are synced kept was begun moments =
     then w0 w1 w2 _ begun
     (weaker w1 w2 _ _ moments
     (λ c after.
-    let is : after.old ≡ w0.now = calm_left w1 after.old calm after.left ∙ kept in
+    let is : after.old ≡ w0.now = synced_left w1 after.old synced after.left ∙ kept in
     let change = subst (λ (l : List ℕ). SameOutside 0 1 l c) is after.change in
     ⊎_elim
     (λ (same : c ≡ w0.now). inl (subst (λ (l : List ℕ). IsCrashImage w0 l) (sym same) (itself w0.now w0.unsynced are)))
-    (λ (shut : IsShut (length w0.now) c). inr shut)
+    (λ (shut : HasNoFormatByte (length w0.now) c). inr shut)
     (torn_gate w0.now c (sym (ap (λ (l : List ℕ). get_or l 0 0) kept) ∙ was) change)))
 
 -- What is written behind the gate of a shut device leaves it shut.
-pub still_shut : (n : ℕ) (w0 w1 : Medium) (at k : ℕ) → 1 ≤ at → IsShutNow n w0 → ChangesOnly w0 w1 (SameOutside at k) → CrashImagesAre w0 w1 (IsShut n)
+pub still_shut : (n : ℕ) (w0 w1 : Medium) (at k : ℕ) → 1 ≤ at → StaysUnformatted n w0 → ChangesOnly w0 w1 (SameOutside at k) → CrashImagesAre w0 w1 (HasNoFormatByte n)
 still_shut n w0 w1 at k behind shut moments =
     weaker w0 w1 _ _ moments
     (λ c after.
     let was = shut after.old after.left in
     record { size = after.change.size ∙ was.size; gate = λ is_open. was.gate (sym (same_item at k after.old c after.change 0 0 (omega (arith, behind))) ∙ is_open) })
 
-pub shut_unformatted : (n : ℕ) (c : List ℕ) → 128 ≤ n → IsShut n c → IsUnformatted c
+pub shut_unformatted : (n : ℕ) (c : List ℕ) → 128 ≤ n → HasNoFormatByte n c → IsUnformatted c
 shut_unformatted n c long shut =
     (omega (arith, long, shut.size), λ marks. shut.gate (sym (get_or-take 8 c 0 0 (omega arith)) ∙ ap (λ (l : List ℕ). get_or l 0 0) marks))
 
 -- before the first call
-pub begun : (m : Medium) → CrashImagesAre m m (λ c. IsCrashImage m c ⊎ IsShut (length m.now) c)
+pub begun : (m : Medium) → CrashImagesAre m m (λ c. IsCrashImage m c ⊎ HasNoFormatByte (length m.now) c)
 begun m = started m _ (λ c left. inl left)
 
 -- what one read of the first byte shows
@@ -78,8 +78,8 @@ first_read now out one is =
 
 -- the device after a sync and a read of its first byte, both done
 module _ (w0 m w1 : Medium) (out : List ℕ) (syncs : m ≡ synced w0) (reads : (w1 ≡ m) × (out ≡ slice_range m.now 0 (0 + length out))) (one : length out ≡ 1) where
-  pub now_calm : IsSynced w1
-  now_calm = subst (λ (m : Medium). IsSynced m) (sym (reads.0 ∙ syncs)) refl
+  pub now_synced : IsSynced w1
+  now_synced = subst (λ (m : Medium). IsSynced m) (sym (reads.0 ∙ syncs)) refl
 
   pub now_kept : w1.now ≡ w0.now
   now_kept = ap (λ (m : Medium). m.now) (reads.0 ∙ syncs)

@@ -2,7 +2,7 @@
 use Rattle.std.specs.Prelude.{◌≡◌, ◌≢◌, ◌⊎◌, ◌+◌, ◌-◌, ℕ, List, ◌∷◌, length, drop, get_or, replicate, Some}
 use Rattle.affinity.specs.declared.geometry.Geometry.{Geometry}
 use Rattle.checkpoint.specs.Header.{header_of}
-use Rattle.checkpoint.specs.Recovery.{holds}
+use Rattle.checkpoint.specs.Recovery.{recovered_state}
 use Rattle.checkpoint.specs.Refusals.{IsUnformatted}
 use Rattle.disk.specs.Device.{Medium, IsCrashImage}
 use Rattle.device_map.specs.Layout.{slice, layout_of, part_at, half, image, image_size}
@@ -10,29 +10,29 @@ use Rattle.meaning.specs.State.{empty}
 
 -- What a crash before might have left, what isn't formatted, or a sound device that recovers to the empty state.
 abbrev pub FormatCrashImages : Geometry → Medium → List ℕ → Type 0
-FormatCrashImages g before c = IsCrashImage before c ⊎ (IsUnformatted c ⊎ (holds g c ≡ Some empty))
+FormatCrashImages g before c = IsCrashImage before c ⊎ (IsUnformatted c ⊎ (recovered_state g c ≡ Some empty))
 
 -- n bytes, the first of them not 1
-pub record IsShut (n : ℕ) (c : List ℕ) : Type 0 where
+pub record HasNoFormatByte (n : ℕ) (c : List ℕ) : Type 0 where
   pub size : length c ≡ n
   pub gate : get_or c 0 0 ≢ 1
 
 -- so is whatever a crash leaves now
-abbrev pub IsShutNow : ℕ → Medium → Type 0
-IsShutNow n m = (c : List ℕ) → IsCrashImage m c → IsShut n c
+abbrev pub StaysUnformatted : ℕ → Medium → Type 0
+StaysUnformatted n m = (c : List ℕ) → IsCrashImage m c → HasNoFormatByte n c
 
 -- These bytes are there.
-abbrev pub Has : List ℕ → ℕ → List ℕ → Type 0
-Has c at bytes = slice c at (length bytes) ≡ bytes
+abbrev pub HasBytesAt : List ℕ → ℕ → List ℕ → Type 0
+HasBytesAt c at bytes = slice c at (length bytes) ≡ bytes
 
 -- All of an empty device but for its header: zeros from the root zone to the gates of half 0, in the chain area and
 -- gates of half 1, and in the image but for the version.
-pub record IsLaid (g : Geometry) (c : List ℕ) : Type 0 where
-  pub root : Has c 64 (replicate (64 + (64 + g.half)) 0)
-  pub one : Has c (part_at (layout_of g) (half 1)) (replicate (64 + g.half) 0)
-  pub image : Has c (part_at (layout_of g) (image 0)) (2 ∷ replicate (image_size g - 1) 0)
+pub record IsAllButHeader (g : Geometry) (c : List ℕ) : Type 0 where
+  pub root : HasBytesAt c 64 (replicate (64 + (64 + g.half)) 0)
+  pub one : HasBytesAt c (part_at (layout_of g) (half 1)) (replicate (64 + g.half) 0)
+  pub image : HasBytesAt c (part_at (layout_of g) (image 0)) (2 ∷ replicate (image_size g - 1) 0)
 
 -- and the header behind its gate byte
-pub record IsHeaded (g : Geometry) (c : List ℕ) : Type 0 where
-  pub laid : IsLaid g c
-  pub header : Has c 1 (drop 1 (header_of g))
+pub record IsAllButFormatByte (g : Geometry) (c : List ℕ) : Type 0 where
+  pub laid : IsAllButHeader g c
+  pub header : HasBytesAt c 1 (drop 1 (header_of g))

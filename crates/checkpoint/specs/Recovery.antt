@@ -29,5 +29,5 @@ abbrev pub means : Geometry → Decoding State
 means g = record { read = read g; apply = apply g; is_header = is_header g }
 
 -- the state that a device of this geometry recovers to; none where it isn't sound
-abbrev pub holds : Geometry → List ℕ → Option State
-holds g c = recovers (means g) (layout_of g) c
+abbrev pub recovered_state : Geometry → List ℕ → Option State
+recovered_state g c = recovers (means g) (layout_of g) c

@@ -3,7 +3,7 @@ use Rattle.std.specs.Prelude.{◌≡◌, ℕ, List, Some, None, length}
 use Rattle.checkpoint.specs.declared.inspecting.Shown.{Shown}
 use Rattle.checkpoint.specs.declared.loading.Loaded.{Loaded}
 use Rattle.checkpoint.specs.Header.{HasHeader}
-use Rattle.checkpoint.specs.Recovery.{holds}
+use Rattle.checkpoint.specs.Recovery.{recovered_state}
 use Rattle.checkpoint.specs.Refusals.{refused}
 use Rattle.image.specs.Image.{version_in}
 use Rattle.messages.specs.declared.Msg.TheVariants.{Summary}
@@ -20,7 +20,7 @@ pub record IsLoaded (c : List ℕ) (l : Loaded) : Type 0 where
   pub area : l.area ≡ named_area (layout_of l.tree.geometry) c
   pub version : l.version ≡ version_in (part_bytes (layout_of l.tree.geometry) (image l.area) c)
   pub records : l.records ≡ length (in_force (layout_of l.tree.geometry) l.area c)
-  pub state : holds l.tree.geometry c ≡ Some (state_in l.tree)
+  pub state : recovered_state l.tree.geometry c ≡ Some (state_in l.tree)
 
 -- This is reported of what was loaded.
 pub record ShowsLoaded (l : Loaded) (s : Shown) : Type 0 where
@@ -40,5 +40,5 @@ pub record IsShown (c : List ℕ) (s : Shown) : Type 0 where
   pub records : s.records ≡ length (in_force (layout_of s.geometry) s.area c)
   pub version : s.version ≡ version_in (part_bytes (layout_of s.geometry) (image s.area) c)
   pub state : State
-  pub held : holds s.geometry c ≡ Some state
+  pub held : recovered_state s.geometry c ≡ Some state
   pub summary : s.summary ≡ reply_to s.geometry state Summary

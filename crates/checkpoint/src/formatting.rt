@@ -4,8 +4,8 @@
 //! leaves the old device, or one whose gate is shut, or the whole new one.
 ghost use Rattle.std.specs.Prelude.{◌≡◌, ◌≢◌, ◌⊎◌, ◌↔◌, ◌+◌, ◌-◌, ◌<◌, ◌≤◌, Some, length, replicate, OnOk, IfOk, IfErr, MatchResult, IsErrOf, IsFalse, IsTrue};
 ghost use Rattle.affinity.specs.declared.geometry.Geometry.{Geometry};
-ghost use Rattle.checkpoint.specs.Formatting.{FormatCrashImages, IsLaid, IsShut, IsShutNow};
-ghost use Rattle.checkpoint.specs.Recovery.{holds};
+ghost use Rattle.checkpoint.specs.Formatting.{FormatCrashImages, IsAllButHeader, HasNoFormatByte, StaysUnformatted};
+ghost use Rattle.checkpoint.specs.Recovery.{recovered_state};
 ghost use Rattle.checkpoint.specs.Version.{named_version};
 ghost use Rattle.disk.specs.Device.{IsDeviceCall, IsSynced, IsCrashImage, SameOutside, overlaid};
 ghost use Rattle.disk.specs.Moments.{CrashImagesAre};
@@ -71,9 +71,9 @@ fn is_open(gate: u8) -> bool
 fn shut_gate<D: Disk>(disk: &mut D) -> Result<(), DiskFault>
     requires { 0 < length (D.medium disk.old).now }
     ensures any_moment { D.keeps → CrashImagesAre (D.medium disk.old) (D.medium disk.new)
-        (λ c. IsCrashImage (D.medium disk.old) c ⊎ IsShut (length (D.medium disk.old).now) c) }
+        (λ c. IsCrashImage (D.medium disk.old) c ⊎ HasNoFormatByte (length (D.medium disk.old).now) c) }
     ensures shut { OnOk result (D.keeps →
-        IsShutNow (length (D.medium disk.old).now) (D.medium disk.new)) }
+        StaysUnformatted (length (D.medium disk.old).now) (D.medium disk.new)) }
     ensures beyond { D.keeps → (l : Layout) → KeepsBeyond l (D.medium disk.old) (D.medium disk.new) }
     ensures inside { IsErrOf result DiskFault.OutOfRange → ⊥ }
     ensures call { IsDeviceCall result (D.medium disk.old) (D.medium disk.new) }
@@ -94,7 +94,7 @@ fn lay_out<D: Disk>(disk: &mut D, zeros: &[u8], g: &Geometry) -> Result<(), Disk
     requires long_enough { device_size (layout_of g.now) ≤ length (D.medium disk.old).now }
     ensures any_moment { D.keeps → ChangesOnly (D.medium disk.old) (D.medium disk.new)
         (SameOutside 64 (device_size (layout_of g.now) - 64)) }
-    ensures laid { OnOk result (D.keeps → IsLaid g.now (D.medium disk.new).now) }
+    ensures laid { OnOk result (D.keeps → IsAllButHeader g.now (D.medium disk.new).now) }
     ensures synced { OnOk result (D.keeps → IsSynced (D.medium disk.new)) }
     ensures inside { IsErrOf result DiskFault.OutOfRange → ⊥ }
     ensures call { IsDeviceCall result (D.medium disk.old) (D.medium disk.new) }
@@ -110,11 +110,11 @@ fn lay_out<D: Disk>(disk: &mut D, zeros: &[u8], g: &Geometry) -> Result<(), Disk
 /// Writes the header of a device that has all else, its gate last.
 fn open_gate<D: Disk>(disk: &mut D, g: &Geometry) -> Result<(), DiskFault>
     requires long_enough { device_size (layout_of g.now) ≤ length (D.medium disk.old).now }
-    requires shut { D.keeps → IsShutNow (length (D.medium disk.old).now) (D.medium disk.old) }
-    requires laid { D.keeps → IsLaid g.now (D.medium disk.old).now }
+    requires shut { D.keeps → StaysUnformatted (length (D.medium disk.old).now) (D.medium disk.old) }
+    requires laid { D.keeps → IsAllButHeader g.now (D.medium disk.old).now }
     ensures any_moment { D.keeps → CrashImagesAre (D.medium disk.old) (D.medium disk.new)
-        (λ c. IsShut (length (D.medium disk.old).now) c ⊎ (holds g.now c ≡ Some empty)) }
-    ensures recovers { OnOk result (D.keeps → holds g.now (D.medium disk.new).now ≡ Some empty) }
+        (λ c. HasNoFormatByte (length (D.medium disk.old).now) c ⊎ (recovered_state g.now c ≡ Some empty)) }
+    ensures recovers { OnOk result (D.keeps → recovered_state g.now (D.medium disk.new).now ≡ Some empty) }
     ensures version { OnOk result (D.keeps → named_version g.now (D.medium disk.new).now ≡ 2) }
     ensures beyond { D.keeps → KeepsBeyond (layout_of g.now) (D.medium disk.old) (D.medium disk.new) }
     ensures synced { OnOk result (D.keeps → IsSynced (D.medium disk.new)) }
@@ -134,7 +134,7 @@ fn format_on<D: Disk>(disk: &mut D, zeros: &[u8], g: &Geometry) -> Result<(), Di
     requires long_enough { device_size (layout_of g.now) ≤ length (D.medium disk.old).now }
     ensures any_moment { D.keeps → CrashImagesAre (D.medium disk.old) (D.medium disk.new)
         (FormatCrashImages g.now (D.medium disk.old)) }
-    ensures recovers { OnOk result (D.keeps → holds g.now (D.medium disk.new).now ≡ Some empty) }
+    ensures recovers { OnOk result (D.keeps → recovered_state g.now (D.medium disk.new).now ≡ Some empty) }
     ensures version { OnOk result (D.keeps → named_version g.now (D.medium disk.new).now ≡ 2) }
     ensures beyond { D.keeps → KeepsBeyond (layout_of g.now) (D.medium disk.old) (D.medium disk.new) }
     ensures synced { OnOk result (D.keeps → IsSynced (D.medium disk.new)) }
@@ -153,7 +153,7 @@ fn format_on<D: Disk>(disk: &mut D, zeros: &[u8], g: &Geometry) -> Result<(), Di
 /// `TooShort` exactly where the device is shorter than `device_len`, and `OutOfMemory` where there is
 /// no memory: then no call of the device was made. `Device` exactly where the device failed.
 pub fn format<D: Disk>(alloc: Global, d: D, g: Geometry) -> Result<D, FormatError<D>>
-    ensures recovers { IfOk result (λ r. D.keeps → holds g (D.medium r).now ≡ Some empty) }
+    ensures recovers { IfOk result (λ r. D.keeps → recovered_state g (D.medium r).now ≡ Some empty) }
     ensures version { IfOk result (λ r. D.keeps → named_version g (D.medium r).now ≡ 2) }
 
     // What a longer device has behind its parts stays, also in what a crash leaves.
@@ -170,7 +170,7 @@ pub fn format<D: Disk>(alloc: Global, d: D, g: Geometry) -> Result<D, FormatErro
     ensures untouched { IfErr result (λ e. (e.fault ≡ FormatFault.Device → ⊥) → e.disk ≡ d) }
     ensures device { IfErr result (λ e. e.fault ≡ FormatFault.Device
         ↔ (D.medium e.disk).faults ≡ (D.medium d).faults + 1) }
-    ensures fine { IfOk result (λ r. (D.medium r).faults ≡ (D.medium d).faults) }
+    ensures no_fault { IfOk result (λ r. (D.medium r).faults ≡ (D.medium d).faults) }
     ensures len { MatchResult result
         (λ r. length (D.medium r).now ≡ length (D.medium d).now)
         (λ e. length (D.medium e.disk).now ≡ length (D.medium d).now) }

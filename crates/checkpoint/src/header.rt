@@ -11,14 +11,14 @@ use device_map::HEADER_SIZE;
 pub(crate) const OPEN: u8 = 1;
 
 /// What a formatted device begins with.
-pub(crate) const MARKS_OF_FORMAT: [u8; 8] = [OPEN, b'W', b'A', b'F', b'F', b'S', b'R', b'V'];
+pub(crate) const MAGIC: [u8; 8] = [OPEN, b'W', b'A', b'F', b'F', b'S', b'R', b'V'];
 
 /// The header of a device of this geometry.
 pub(crate) fn header_of(g: &Geometry) -> [u8; HEADER_SIZE]
     ensures { result ≡ header_of g.now }
 {
     let mut header = [0u8; HEADER_SIZE];
-    header[..8].copy_from_slice(&MARKS_OF_FORMAT);
+    header[..8].copy_from_slice(&MAGIC);
     LittleEndian::write_u16_into(&g.numbers(), &mut header[8..24]);
     header
 }

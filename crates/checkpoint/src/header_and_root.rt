@@ -9,7 +9,7 @@ ghost use Rattle.device_map.specs.Layout.{device_size, layout_of};
 ghost use Rattle.oplog.specs.Recovery.{named_area};
 
 use crate::OpenFault;
-use crate::header::{MARKS_OF_FORMAT, geometry_in};
+use crate::header::{MAGIC, geometry_in};
 use crate::reading::read;
 use affinity::Geometry;
 use device_map::{HEADER_SIZE, ROOT_ZONE_AT, ROOT_ZONE_SIZE, device_len};
@@ -32,7 +32,7 @@ pub fn read_header<D: Disk>(disk: &mut D) -> Result<Geometry, OpenFault>
     }
     let mut header = [0u8; HEADER_SIZE];
     read(disk, 0, &mut header)?;
-    if header[..8] != MARKS_OF_FORMAT[..] {
+    if header[..8] != MAGIC[..] {
         return Err(OpenFault::NotFormatted);
     }
     let Some(g) = geometry_in(&header) else {

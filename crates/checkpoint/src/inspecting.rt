@@ -67,7 +67,7 @@ pub fn inspect<D: Disk>(alloc: Global, d: D) -> Result<(Shown, D), OpenError<D>>
         (λ e. moments (D.medium e.disk) ≡ moments (D.medium d)) }
     ensures device { IfErr result (λ e. e.fault ≡ OpenFault.Device
         ↔ (D.medium e.disk).faults ≡ (D.medium d).faults + 1) }
-    ensures fine { IfOk result (λ r. (D.medium r.1).faults ≡ (D.medium d).faults) }
+    ensures no_fault { IfOk result (λ r. (D.medium r.1).faults ≡ (D.medium d).faults) }
     ensures len { MatchResult result
         (λ r. length (D.medium r.1).now ≡ length (D.medium d).now)
         (λ e. length (D.medium e.disk).now ≡ length (D.medium d).now) }

@@ -2,12 +2,12 @@
 ghost use Rattle.std.specs.Prelude.{◌≡◌, ℕ, List, Some, None};
 ghost use Rattle.affinity.specs.declared.geometry.Geometry.{Geometry};
 ghost use Rattle.checkpoint.specs.Header.{HasHeader};
-ghost use Rattle.checkpoint.specs.Recovery.{holds};
+ghost use Rattle.checkpoint.specs.Recovery.{recovered_state};
 ghost use Rattle.checkpoint.specs.Refusals.{refused};
 ghost use Rattle.disk.specs.Device.{AreBytes};
 ghost use Rattle.meaning.specs.State.{State};
 
 /// A device that recovers to a state isn't refused.
 pub fn a_device_that_recovers_is_not_refused()
-    ensures { (g : Geometry) (c : List ℕ) (x : State) → AreBytes c → holds g c ≡ Some x → (HasHeader g c) × (refused g c ≡ None) }
+    ensures { (g : Geometry) (c : List ℕ) (x : State) → AreBytes c → recovered_state g c ≡ Some x → (HasHeader g c) × (refused g c ≡ None) }
 {}

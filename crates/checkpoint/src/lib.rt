@@ -11,7 +11,7 @@ mod fault;
 mod formatting;
 mod header;
 mod header_and_root;
-mod imaging;
+mod image_reading;
 mod inspecting;
 pub mod laws;
 pub mod loading;

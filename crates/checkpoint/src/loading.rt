@@ -19,7 +19,7 @@ ghost use Rattle.meaning.specs.State.{empty};
 use crate::OpenFault;
 use crate::header_and_root::named_area;
 pub use crate::header_and_root::read_header;
-use crate::imaging::read_pieces;
+use crate::image_reading::read_pieces;
 use crate::reading::{is_chained, version_of};
 pub use crate::replaying::replay;
 use affinity::Geometry;
@@ -185,7 +185,7 @@ fn replay_in_force<D: Disk>(
     chained: bool,
     tree: &mut Tree,
 ) -> Result<usize, OpenFault>
-    requires sound { log.old.failed ≡ false }
+    requires not_failed { log.old.failed ≡ false }
     requires area { area < 2 }
     requires chained { D.keeps → chained ≡ (chain (layout log.old) area (D.medium disk.old).now == 1) }
     requires parts { HasParts log.old (D.medium disk.old) }

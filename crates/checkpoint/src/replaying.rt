@@ -26,7 +26,7 @@ fn replay_record<D: Disk>(
     i: usize,
     tree: &mut Tree,
 ) -> Result<(), OpenFault>
-    requires sound { log.old.failed ≡ false }
+    requires not_failed { log.old.failed ≡ false }
     requires half { half < 2 }
     requires i { i < log.old.geometry.half }
     requires parts { HasParts log.old (D.medium disk.old) }
@@ -51,7 +51,7 @@ fn replay_record<D: Disk>(
     }
 }
 
-/// Runs so many records of this half on the tree, the first ones, in order.
+/// Runs the first `count` records of this half on the tree, in order.
 fn replay_front<D: Disk>(
     log: &mut Halves,
     disk: &mut D,
@@ -59,7 +59,7 @@ fn replay_front<D: Disk>(
     count: usize,
     tree: &mut Tree,
 ) -> Result<(), OpenFault>
-    requires sound { log.old.failed ≡ false }
+    requires not_failed { log.old.failed ≡ false }
     requires half { half < 2 }
     requires within { count ≤ log.old.geometry.half }
     requires count { D.keeps → HasFront log.old half count (D.medium disk.old) }
@@ -92,7 +92,7 @@ pub fn replay<D: Disk>(
     half: usize,
     tree: &mut Tree,
 ) -> Result<usize, OpenFault>
-    requires sound { log.old.failed ≡ false }
+    requires not_failed { log.old.failed ≡ false }
     requires half { half < 2 }
     requires parts { HasParts log.old (D.medium disk.old) }
     requires whole { IsWholeTree tree.old }

@@ -4,7 +4,7 @@ use Rattle.std.specs.Prelude.{Result, Ok, Err}
 use Rattle.std.proofs.lemmas.List.{take_all}
 use Rattle.affinity.specs.declared.geometry.Geometry.{Geometry}
 use Rattle.checkpoint.specs.Header.{HasHeader}
-use Rattle.checkpoint.specs.Recovery.{holds}
+use Rattle.checkpoint.specs.Recovery.{recovered_state}
 use Rattle.disk.proofs.Leaves.{itself}
 use Rattle.disk.specs.Device.{AreBytes, IsCrashImage, Medium}
 use Rattle.journal.specs.Opening.{OpeningCrashImages}
@@ -30,7 +30,7 @@ is_idle slots c just = record { none_waits = just.none_waits; none_held = rw (ju
 -- what is known of the core before and after
 module _ (keeps : Type 0) (s : Service) (old : Medium) (start now : CoreView) (end : Result (Unit {0}) ServeFault)
     (input left before written : Option (List ℕ)) where
-  pub is_incarnation : IsJustOpened s.slots start → (keeps → HasHeader start.geometry old.now) → (keeps → holds start.geometry old.now ≡ Some (committed_in start))
+  pub is_incarnation : IsJustOpened s.slots start → (keeps → HasHeader start.geometry old.now) → (keeps → recovered_state start.geometry old.now ≡ Some (committed_in start))
       → (taken : List (List ℕ)) (stages : List Stage) → HasRunLines keeps (machine_at_start s start) now input taken stages → keeps
       → IsIncarnation s start old now.medium stages
   is_incarnation fresh header recovered_before taken stages run keep = λ k within. record {
@@ -42,7 +42,7 @@ module _ (keeps : Type 0) (s : Service) (old : Medium) (start now : CoreView) (e
   }
 
   abbrev pub has_served_by : IsJustOpened s.slots start → (keeps → HasHeader start.geometry old.now)
-      → (keeps → holds start.geometry old.now ≡ Some (committed_in start)) → (keeps → OpeningCrashImages old start.medium)
+      → (keeps → recovered_state start.geometry old.now ≡ Some (committed_in start)) → (keeps → OpeningCrashImages old start.medium)
       → ServesSo keeps s.workers start (now, end) input left before written
       → (keeps → RecoversNow now) → HasServedBy keeps s old now.medium end input left before written
   has_served_by fresh header recovered_before opening served leaves = record {
@@ -79,7 +79,7 @@ recovers_for keeps now none leaves bytes = record {
   each = one;
 }
   where
-    one : keeps → (c : List ℕ) → IsCrashImage now.medium c → holds now.geometry c ≡ Some (committed_in now)
+    one : keeps → (c : List ℕ) → IsCrashImage now.medium c → recovered_state now.geometry c ≡ Some (committed_in now)
     one k c left =
         let some = leaves k c left in
         let nothing : take some.added now.doubt ≡ [] = rw none (take_all some.added [] (omega arith)) in

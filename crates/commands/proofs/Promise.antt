@@ -6,8 +6,8 @@ use Rattle.std.proofs.KnownBytes.{Appends-nil}
 use Rattle.affinity.specs.declared.geometry.Geometry.{Geometry}
 use Rattle.checkpoint.proofs.Fine.{fine, head}
 use Rattle.checkpoint.proofs.OneGeometry.{one_geometry}
-use Rattle.checkpoint.specs.Recovery.{holds}
-use Rattle.disk.proofs.Leaves.{calm_left}
+use Rattle.checkpoint.specs.Recovery.{recovered_state}
+use Rattle.disk.proofs.Leaves.{synced_left}
 use Rattle.disk.proofs.Moments.{counts_now}
 use Rattle.disk.specs.Device.{IsSynced, IsCrashImage, Medium}
 use Rattle.disk.specs.Memory.{Memory}
@@ -125,10 +125,10 @@ some_same : {x y : State} → ◌≡◌ {A = Option State} (Some x) (Some y) →
 some_same e = cc
 
 -- A device that recovers to this state was opened with this geometry, and from this state.
-opened_so : {g h : Geometry} {x y : State} {old : Medium} → holds g old.now ≡ Some x → RecoveredTo (Unit {0}) old h y → (h ≡ g) × (y ≡ x)
+opened_so : {g h : Geometry} {x y : State} {old : Medium} → recovered_state g old.now ≡ Some x → RecoveredTo (Unit {0}) old h y → (h ≡ g) × (y ≡ x)
 opened_so {g} {h} {x} {old} recovers recovered_before =
     let same : h ≡ g = one_geometry h g old.now (recovered_before.header tt) x recovers in
-    (same, some_same (sym (recovered_before.recovered_before tt) ∙ ap (λ (k : Geometry). holds k old.now) same ∙ recovers))
+    (same, some_same (sym (recovered_before.recovered_before tt) ∙ ap (λ (k : Geometry). recovered_state k old.now) same ∙ recovers))
 
 written_so : (input before written : Option (List ℕ)) (P Q : List ℕ → List ℕ → Type 0) → ((bytes out : List ℕ) → P bytes out → Q bytes out)
     → WritesOutput input before written P → WritesOutput input before written Q
@@ -136,7 +136,7 @@ written_so None before written P Q f h = tt
 written_so (Some bytes) before written P Q f h = (h.0, h.1, f bytes h.0 h.2)
 
 -- A service that ends without fault has answered all of its input.
-module _ (g : Geometry) {x : State} (old : Medium) (recovers : holds g old.now ≡ Some x) where
+module _ (g : Geometry) {x : State} (old : Medium) (recovers : recovered_state g old.now ≡ Some x) where
   serves_so : (s : Service) (new : Medium) (end : Result (Unit {0}) Fault) (input left before written : Option (List ℕ))
       → EndsOnDevice (Unit {0}) s old new end input left before written → OnOk end (WritesOutput input before written (λ bytes out. out ≡ serial_out g x bytes))
   serves_so s new (Err fault) input left before written h = tt
@@ -145,7 +145,7 @@ module _ (g : Geometry) {x : State} (old : Medium) (recovers : holds g old.now �
       written_so input before written _ _
       (λ bytes out served. served.output ∙ (λ i. serial_out (own.0 i) (own.1 i) bytes)) h.1.3
 
-module _ (g : Geometry) (old new : Medium) (made : holds g old.now ≡ Some empty) (c : List ℕ) (leaves : IsCrashImage new c) where
+module _ (g : Geometry) (old new : Medium) (made : recovered_state g old.now ≡ Some empty) (c : List ℕ) (leaves : IsCrashImage new c) where
   left_so : (input before written : Option (List ℕ)) → HoldsRecovered old input before written c
       → BytesRecover g empty input before written c
   left_so input before written h =
@@ -154,8 +154,8 @@ module _ (g : Geometry) (old new : Medium) (made : holds g old.now ≡ Some empt
       (subst (λ (y : State). BytesRecover h.geometry y input before written c) own.1 h.recovered)
 
   -- A crash while it is opened leaves what recovers to the same.
-  crashed_so : IsSynced old → OpeningCrashImages old new → holds g c ≡ Some empty
-  crashed_so calm h = ⊎_elim (λ (was : IsCrashImage old c). ap (holds g) (calm_left old c calm was) ∙ made) (λ (k : RecoversAs old.now c). k.same g empty made)
+  crashed_so : IsSynced old → OpeningCrashImages old new → recovered_state g c ≡ Some empty
+  crashed_so synced h = ⊎_elim (λ (was : IsCrashImage old c). ap (recovered_state g) (synced_left old c synced was) ∙ made) (λ (k : RecoversAs old.now c). k.same g empty made)
       (⊎_elim
       (λ (same : new ≡ h.synced).
       inl (h.first.each c (counts_now h.synced (moment old) c h.first.later (subst (λ (m : Medium). IsCrashImage m c) same leaves))))
@@ -167,8 +167,8 @@ module _ (g : Geometry) (old new : Medium) (made : holds g old.now ≡ Some empt
   -- where it could not be opened
   left_unopened : (input before written : Option (List ℕ)) → IsSynced old → OpeningCrashImages old new → written ≡ before
       → BytesRecover g empty input before written c
-  left_unopened input before written calm opening unwritten =
-      record { now = empty; holds_now = crashed_so calm opening; recovers = silent input }
+  left_unopened input before written synced opening unwritten =
+      record { now = empty; holds_now = crashed_so synced opening; recovers = silent input }
     where
       silent : (input : Option (List ℕ)) → WritesOutput input before written (RecoversTo g empty empty)
       silent None = tt
@@ -185,26 +185,26 @@ module _ (g : Geometry) (old new : Medium) (made : holds g old.now ≡ Some empt
 
     left_at : (end : Result (Unit {0}) Fault) → IsSynced old → CrashesSafely (Unit {0}) s old new end input left before written
         → EndsOnDevice (Unit {0}) s old new end input left before written → BytesRecover g empty input (known_unless_write_failed end before) written c
-    left_at (Err (ends.Open fault)) calm h e = left_unopened input before written calm (h tt) e.2
-    left_at (Ok done) calm h e = left_served (Ok done) h
-    left_at (Err ends.Read) calm h e = left_served (Err ends.Read) h
-    left_at (Err ends.Write) calm h e = left_served (Err ends.Write) h
-    left_at (Err ends.GeometryOutOfRange) calm h e = left_served (Err ends.GeometryOutOfRange) h
-    left_at (Err ends.OutOfMemory) calm h e = left_served (Err ends.OutOfMemory) h
-    left_at (Err ends.Device) calm h e = left_served (Err ends.Device) h
-    left_at (Err ends.NoWorkers) calm h e = left_served (Err ends.NoWorkers) h
-    left_at (Err ends.NoTicketLeft) calm h e = left_served (Err ends.NoTicketLeft) h
-    left_at (Err (ends.Format fault)) calm h e = left_served (Err (ends.Format fault)) h
+    left_at (Err (ends.Open fault)) synced h e = left_unopened input before written synced (h tt) e.2
+    left_at (Ok done) synced h e = left_served (Ok done) h
+    left_at (Err ends.Read) synced h e = left_served (Err ends.Read) h
+    left_at (Err ends.Write) synced h e = left_served (Err ends.Write) h
+    left_at (Err ends.GeometryOutOfRange) synced h e = left_served (Err ends.GeometryOutOfRange) h
+    left_at (Err ends.OutOfMemory) synced h e = left_served (Err ends.OutOfMemory) h
+    left_at (Err ends.Device) synced h e = left_served (Err ends.Device) h
+    left_at (Err ends.NoWorkers) synced h e = left_served (Err ends.NoWorkers) h
+    left_at (Err ends.NoTicketLeft) synced h e = left_served (Err ends.NoTicketLeft) h
+    left_at (Err (ends.Format fault)) synced h e = left_served (Err (ends.Format fault)) h
 
 -- A device that was just made was served until it was crashed, and then served again.
 pub goes_on : {g : Geometry} {s : Service} {began : Medium} {torn : Torn} {crashed : Memory} (last : Medium)
     {first second : Result (Unit {0}) Fault} {input left before written next_input : Option (List ℕ)} (next_left : Option (List ℕ))
-    {next_before next_written : Option (List ℕ)} → holds g began.now ≡ Some empty → IsSynced began
+    {next_before next_written : Option (List ℕ)} → recovered_state g began.now ≡ Some empty → IsSynced began
     → HasServedUntilCrash s began torn crashed first input left before written
     → EndsOnDevice (Unit {0}) s crashed.medium last second next_input next_left next_before next_written
     → GoesOn g first second input before written next_input next_before next_written
-goes_on {g} {s} {began} {crashed} last {first} {second} next_left made calm h ends =
-    let one = left_at g began h.ended.medium made crashed.medium.now h.leaves s _ _ _ _ first calm h.crash_safe h.ends in
+goes_on {g} {s} {began} {crashed} last {first} {second} next_left made synced h ends =
+    let one = left_at g began h.ended.medium made crashed.medium.now h.leaves s _ _ _ _ first synced h.crash_safe h.ends in
     record {
       now = one.now;
       recovers = one.recovers;

@@ -4,7 +4,7 @@ use Rattle.std.specs.Prelude.{◌≡◌, ◌≢◌, ◌⊎◌, ◌↔◌, ◌+�
 use Rattle.std.specs.Io.KnownBytes.{IsAtEnd}
 use Rattle.affinity.specs.declared.geometry.Geometry.{Geometry}
 use Rattle.checkpoint.specs.Header.{HasHeader}
-use Rattle.checkpoint.specs.Recovery.{holds}
+use Rattle.checkpoint.specs.Recovery.{recovered_state}
 use Rattle.checkpoint.specs.Refusals.{IsRefused}
 use Rattle.checkpoint.specs.declared.fault.OpenFault.TheVariants as open_faults
 use Rattle.disk.specs.Device.{IsCrashImage, Medium}
@@ -43,12 +43,12 @@ numbers_of_service s = s.workers ∷ s.slots ∷ s.every ∷ []
 -- The device recovered to this state, with this geometry in its header.
 pub record RecoveredTo (keeps : Type 0) (old : Medium) (g : Geometry) (start : State) : Type 0 where
   pub header : keeps → HasHeader g old.now
-  pub recovered_before : keeps → holds g old.now ≡ Some start
+  pub recovered_before : keeps → recovered_state g old.now ≡ Some start
 
 -- The device recovers to this state, and so does whatever a crash leaves now.
 pub record RecoversFor (keeps : Type 0) (new : Medium) (g : Geometry) (x : State) : Type 0 where
-  pub now : keeps → holds g new.now ≡ Some x
-  pub each : keeps → (c : List ℕ) → IsCrashImage new c → holds g c ≡ Some x
+  pub now : keeps → recovered_state g new.now ≡ Some x
+  pub each : keeps → (c : List ℕ) → IsCrashImage new c → recovered_state g c ≡ Some x
 
 -- The device was opened, where it recovered to the one state, and was left so that it recovers to the other.
 pub record ServedDevice (keeps : Type 0) (old new : Medium) : Type 0 where
@@ -138,7 +138,7 @@ pub record HasServedBy (keeps : Type 0) (s : Service) (old new : Medium) (end : 
   pub now : CoreView
   pub fresh : IsJustOpened s.slots start
   pub header : keeps → HasHeader start.geometry old.now
-  pub recovered_before : keeps → holds start.geometry old.now ≡ Some (committed_in start)
+  pub recovered_before : keeps → recovered_state start.geometry old.now ≡ Some (committed_in start)
   pub opening : keeps → OpeningCrashImages old start.medium
   pub served : ServesSo keeps s.workers start (now, end) input left before written
   pub leaves : keeps → RecoversNow now

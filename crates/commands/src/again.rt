@@ -1,6 +1,6 @@
 //! The promise of a service over a crash, in bytes alone: what went into two incarnations of a device, and what came out.
 ghost use Rattle.std.specs.Prelude.{◌≡◌, ◌≢◌, ◌<◌, IfOk, IfErr};
-ghost use Rattle.checkpoint.specs.Recovery.{holds};
+ghost use Rattle.checkpoint.specs.Recovery.{recovered_state};
 ghost use Rattle.commands.specs.Promise.{GoesOn};
 ghost use Rattle.commands.specs.declared.faults.Fault.TheVariants as faults;
 ghost use Rattle.disk.specs.Device.{IsSynced};
@@ -22,7 +22,7 @@ use std::thread::Threads;
 
 /// A device of the empty state, in memory.
 fn made(alloc: Global, geometry: Geometry) -> Result<MemDisk, Fault>
-    ensures recovers { IfOk result (λ d. holds geometry (medium_of d).now ≡ Some empty) }
+    ensures recovers { IfOk result (λ d. recovered_state geometry (medium_of d).now ≡ Some empty) }
     ensures synced { IfOk result (λ d. IsSynced (medium_of d)) }
     ensures streams { IfErr result (λ fault. (fault ≢ faults.Read) × (fault ≢ faults.Write)) }
 {

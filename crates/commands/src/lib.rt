@@ -1,6 +1,6 @@
 //! Does what the command-line arguments ask for: serves, makes a device or shows one. Prints faults, and gives their exit statuses.
 //!
-//! Only `program` knows the arguments: a command takes what it works on as values.
+//! Only `program` and `reports` know the arguments: a command takes what it works on as values.
 #![tactic(auto)]
 
 mod again;

@@ -5,7 +5,7 @@ use Rattle.disk.specs.declared.fault.DiskFault.TheVariants.{OutOfRange, Device}
 use Rattle.disk.specs.Device.{AreBytes, Medium, IsTornFrom, IsCrashImage, IsSynced, SameOutside, moments, overlaid, synced, Reads, Writes, Syncs}
 use Rattle.disk.specs.Moments.{CrashImagesAre}
 use Rattle.disk.proofs.Overlays.{overlaid_outside}
-use Rattle.disk.proofs.Leaves.{itself, calm_left, put_back, undone, same_but_range}
+use Rattle.disk.proofs.Leaves.{itself, synced_left, put_back, undone, same_but_range}
 use Rattle.disk.proofs.Moments.{next, same, leaves_now}
 
 module _ (old mid new : Medium) (P : List ℕ → Type 0) (so_far : CrashImagesAre old mid P) where
@@ -20,7 +20,7 @@ module _ (old mid new : Medium) (P : List ℕ → Type 0) (so_far : CrashImagesA
   after_sync (Ok _) syncs =
       next old mid new P so_far (ap (λ (m : Medium). m.past) syncs.ok)
       (λ c left.
-      let is : c ≡ mid.now = calm_left (synced mid) c refl (subst (λ (m : Medium). IsCrashImage m c) syncs.ok left) in
+      let is : c ≡ mid.now = synced_left (synced mid) c refl (subst (λ (m : Medium). IsCrashImage m c) syncs.ok left) in
       subst P (sym is) (leaves_now old mid P so_far mid.now (itself mid.now mid.unsynced (subst AreBytes is left.bytes))))
   after_sync (Err OutOfRange) syncs = absurd (syncs.outside refl)
   after_sync (Err Device) syncs = same old mid new P so_far (ap moments (syncs.device refl))
@@ -46,6 +46,7 @@ module _ (old mid new : Medium) (P : List ℕ → Type 0) (so_far : CrashImagesA
         (same_but_range at (length bytes) mid.now new.now mid.unsynced c inside fails.bytes are left'))
 
     -- The same of a device of which nothing is unsynced: what a read gives, with anything in the range, has P.
-    pub after_calm_write : IsSynced mid → (r : Result (Unit {0}) DiskFault) → Writes at bytes r mid new
+    pub after_synced_write : IsSynced mid → (r : Result (Unit {0}) DiskFault) → Writes at bytes r mid new
         → ((torn : List ℕ) → SameOutside at (length bytes) mid.now torn → P torn) → CrashImagesAre old new P
-    after_calm_write calm r writes here = after_write r writes (λ c torn left. subst (λ (d : List ℕ). SameOutside at (length bytes) d torn → P torn) (sym (calm_left mid c calm left)) (here torn))
+    after_synced_write synced r writes here = after_write r writes (λ c torn left. subst (λ (d : List ℕ). SameOutside at (length bytes) d torn → P torn)
+        (sym (synced_left mid c synced left)) (here torn))

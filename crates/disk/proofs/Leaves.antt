@@ -35,13 +35,13 @@ kept_same (b ∷ now) n [] long left = absurd left
 kept_same (b ∷ now) zero (x ∷ c) long left = absurd (omega (arith, long))
 kept_same (b ∷ now) (suc n) (x ∷ c) long left = let rest = kept_same now n c (omega (arith, long)) left.1 in let e = left.0 in cc
 
-pub calm_left : (m : Medium) (c : List ℕ) → IsSynced m → IsCrashImage m c → c ≡ m.now
-calm_left m c calm left = kept_same m.now (length m.now) c (omega arith) (subst (λ (l : List Bool). SameButUnsynced m.now l c) calm left.same)
+pub synced_left : (m : Medium) (c : List ℕ) → IsSynced m → IsCrashImage m c → c ≡ m.now
+synced_left m c synced left = kept_same m.now (length m.now) c (omega arith) (subst (λ (l : List Bool). SameButUnsynced m.now l c) synced left.same)
 
 -- then nothing is unsynced in any range
-pub calm_range : (at n : ℕ) (m : Medium) → IsSynced m → at + n ≤ length m.now → take n (drop at m.unsynced) ≡ replicate n false
-calm_range at n m calm inside =
-    ap (λ (l : List Bool). take n (drop at l)) calm ∙ ap (λ (l : List Bool). take n l) (drop-replicate at (length m.now) false) ∙ take-replicate n (length m.now - at) false (omega (arith, inside))
+pub synced_range : (at n : ℕ) (m : Medium) → IsSynced m → at + n ≤ length m.now → take n (drop at m.unsynced) ≡ replicate n false
+synced_range at n m synced inside =
+    ap (λ (l : List Bool). take n (drop at l)) synced ∙ ap (λ (l : List Bool). take n l) (drop-replicate at (length m.now) false) ∙ take-replicate n (length m.now - at) false (omega (arith, inside))
 
 no_marks : (n : ℕ) → ◌≡◌ {A = List Bool} (take n []) []
 no_marks n = take_all n [] (omega arith)
@@ -82,10 +82,10 @@ joined_same (suc n) (b ∷ now) (false ∷ unsynced) (x ∷ c) front back = (fro
 
 -- The same for a range of n bytes: where nothing in it is unsynced, a crash leaves there what a read gives.
 pub range_kept : (at n : ℕ) (m : Medium) (c : List ℕ) → take n (drop at m.unsynced) ≡ replicate n false → IsCrashImage m c → take n (drop at c) ≡ take n (drop at m.now)
-range_kept at n m c calm left =
+range_kept at n m c synced left =
     let within = front_same n (drop at m.now) (drop at m.unsynced) (drop at c) (back_same at m.now m.unsynced c left.same) in
     kept_same (take n (drop at m.now)) n (take n (drop at c)) (omega (arith, length-take n (drop at m.now)))
-    (subst (λ (l : List Bool). SameButUnsynced (take n (drop at m.now)) l (take n (drop at c))) calm within)
+    (subst (λ (l : List Bool). SameButUnsynced (take n (drop at m.now)) l (take n (drop at c))) synced within)
 
 along : {now now' : List ℕ} {unsynced unsynced' : List Bool} {c c' : List ℕ} → now ≡ now' → unsynced ≡ unsynced' → c ≡ c' → SameButUnsynced now unsynced c → SameButUnsynced now' unsynced' c'
 along {now} {now'} {unsynced} {unsynced'} {c} {c'} e f g left =

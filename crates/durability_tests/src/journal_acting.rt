@@ -49,7 +49,7 @@ pub(crate) struct Script {
     pub(crate) acts: &'static [Act],
 }
 
-/// A script, and the answers that may be found on its device: those of a server after so many of its changes.
+/// A script, and the answers that may be found on its device: those of a server after a prefix of its changes.
 #[derive(Drop)]
 pub(crate) struct Play<'a> {
     script: &'a Script,

@@ -81,7 +81,7 @@ fn each_act_takes_few_calls(rt: HostRuntime) -> Result<(), Fail> {
 }
 
 /// What opening a device with these changes takes: reads, then writes, syncs and bytes.
-fn opening_takes(
+fn opening_cost(
     rt: &impl Abort,
     alloc: Global,
     changes: &[(usize, u8)],
@@ -106,10 +106,10 @@ fn opening_takes(
 fn opening_takes_few_calls(rt: HostRuntime) -> Result<(), Fail> {
     // A sync, and a point of the whole image. Read are the header, the root byte, the image's head and its three pieces,
     // the chain byte and the gates.
-    opening_takes(&rt, rt.alloc(), &[], 8, [3, 4, 68 + 2208 + 1])?;
+    opening_cost(&rt, rt.alloc(), &[], 8, [3, 4, 68 + 2208 + 1])?;
     // A cut is ended before, by an image and the root byte. Read are the other half's chain byte and its gates too.
     let ended = 2 * (2208 + 1) + 68;
-    opening_takes(&rt, rt.alloc(), &[(128, 1)], 10, [5, 6, ended])?;
+    opening_cost(&rt, rt.alloc(), &[(128, 1)], 10, [5, 6, ended])?;
     Ok(())
 }
 

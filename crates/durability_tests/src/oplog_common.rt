@@ -34,12 +34,12 @@ fn are_changes_in_range(g: &Geometry, messages: &[Msg]) -> bool
 
 /// Clears the half that isn't named, and names it.
 fn change_halves<D: Disk>(disk: &mut D, log: &mut Halves) -> Result<(), LogFault>
-    requires sound { log.old.failed ≡ false }
+    requires not_failed { log.old.failed ≡ false }
     requires current_is_named { log.old.current ≡ log.old.named }
     requires long_enough { HasParts log.old (D.medium disk.old) }
     ensures ready { OnOk result (D.keeps → IsReadyFor log.new (D.medium disk.new)) }
     ensures geometry { log.new.geometry ≡ log.old.geometry }
-    ensures sound { OnOk result (log.new.failed ≡ false) }
+    ensures not_failed { OnOk result (log.new.failed ≡ false) }
     ensures len { length (D.medium disk.new).now ≡ length (D.medium disk.old).now }
 {
     log.clear_other(disk)?;
@@ -49,13 +49,13 @@ fn change_halves<D: Disk>(disk: &mut D, log: &mut Halves) -> Result<(), LogFault
 
 /// Clears the half that isn't named, and opens the chain to it.
 fn chain_halves<D: Disk>(disk: &mut D, log: &mut Halves) -> Result<(), LogFault>
-    requires sound { log.old.failed ≡ false }
+    requires not_failed { log.old.failed ≡ false }
     requires current_is_named { log.old.current ≡ log.old.named }
     requires half { log.old.named < 2 }
     requires long_enough { HasParts log.old (D.medium disk.old) }
     ensures ready { OnOk result (D.keeps → IsReadyFor log.new (D.medium disk.new)) }
     ensures geometry { log.new.geometry ≡ log.old.geometry }
-    ensures sound { OnOk result (log.new.failed ≡ false) }
+    ensures not_failed { OnOk result (log.new.failed ≡ false) }
     ensures len { length (D.medium disk.new).now ≡ length (D.medium disk.old).now }
 {
     log.clear_other(disk)?;
@@ -65,7 +65,7 @@ fn chain_halves<D: Disk>(disk: &mut D, log: &mut Halves) -> Result<(), LogFault>
 
 /// Appends these, if there is room and the log keeps them, and gives whether it did.
 fn appends<D: Disk>(disk: &mut D, log: &mut Halves, messages: &[Msg]) -> bool
-    requires sound { log.old.failed ≡ false }
+    requires not_failed { log.old.failed ≡ false }
     requires long_enough { HasParts log.old (D.medium disk.old) }
     requires ready { D.keeps → IsReadyFor log.old (D.medium disk.old) }
     ensures geometry { log.new.geometry ≡ log.old.geometry }

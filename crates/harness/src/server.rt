@@ -67,7 +67,7 @@ pub enum Halt {
     Failed,
 }
 
-/// What the journal answered, as a server answers it.
+/// Turns a result of the journal into one of a server.
 fn halted<T>(answer: Result<T, LogFault>) -> Result<T, Halt> {
     match answer {
         Ok(value) => Ok(value),
@@ -75,7 +75,7 @@ fn halted<T>(answer: Result<T, LogFault>) -> Result<T, Halt> {
     }
 }
 
-/// A server: what it holds, and its journal. It runs messages one after the other, in the place of the core.
+/// A server for tests, in place of the core: a state and a journal. It runs messages one after the other.
 #[derive(Drop)]
 pub struct Server<D: Disk> {
     journal: Journal<Counting<D>>,

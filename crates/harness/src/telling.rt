@@ -117,7 +117,7 @@ pub fn told(alloc: Global, tree: &mut Tree, questions: &Questions) -> Result<Vec
     Ok(told)
 }
 
-/// Where the first so many lines end. 0 where there are fewer.
+/// How many bytes the first `count` lines take; 0 if there are fewer lines.
 fn end_of(output: &[u8], count: usize) -> usize {
     let mut left = count;
     for (at, byte) in output.iter().enumerate() {

@@ -11,10 +11,10 @@ use Rattle.disk.specs.Device.{Medium, Moment, moments}
 use Rattle.disk.specs.Moments.{moment}
 use Rattle.image.specs.Pieces.{piece_count}
 use Rattle.journal.specs.declared.opening.Parts.{Parts}
-use Rattle.journal.specs.Costs.{count_runs, finish_takes, opening_takes, runs_after}
+use Rattle.journal.specs.Costs.{count_runs, finish_cost, opening_cost, runs_after}
 use Rattle.journal.specs.Extents.{AreAllDirty}
 use Rattle.journal.proofs.Places.{some_piece}
-use Rattle.oplog.specs.Costs.{Takes}
+use Rattle.oplog.specs.Costs.{Costs}
 use Rattle.oplog.specs.Front.{chain}
 use Rattle.device_map.specs.Layout.{layout_of}
 use Rattle.oplog.specs.Recovery.{named_area}
@@ -41,7 +41,7 @@ few_runs dirty = let few = few_after false dirty in omega (arith, few)
 
 -- ---- an image that is written in order
 
--- After so many moments the pieces from n on are still to be looked at, and the bytes between two places are of a run that
+-- After n moments the pieces from n on are still to be looked at, and the bytes between two places are of a run that
 -- is still to be written.
 pub record RunsLeft (dirty : List Bool) (n from at start now : ℕ) : Type 0 where
   pub begun : from < at → now + 1 + runs_after true (drop n dirty) ≡ start + count_runs dirty
@@ -125,11 +125,11 @@ one_run g dirty size all =
     whole_run dirty (omega (arith, size, some)) (λ n few. all n (omega (arith, size, few)))
 
 -- ---- a call
-pub takes_most : {T E : Type 0} (r : Result T E) (n : ℕ) (old new : Medium) → Takes r n old new → moment new ≤ moment old + n
+pub takes_most : {T E : Type 0} (r : Result T E) (n : ℕ) (old new : Medium) → Costs r n old new → moment new ≤ moment old + n
 takes_most (Ok x) n old new takes = omega (arith, takes)
 takes_most (Err e) n old new takes = takes
 
-pub takes_all : {T E : Type 0} (r : Result T E) (n : ℕ) (old new : Medium) → is_err r ≡ false → Takes r n old new → moment new ≡ moment old + n
+pub takes_all : {T E : Type 0} (r : Result T E) (n : ℕ) (old new : Medium) → is_err r ≡ false → Costs r n old new → moment new ≡ moment old + n
 takes_all (Ok x) n old new fine takes = takes
 takes_all (Err e) n old new fine takes = absurd (true≢false fine)
 
@@ -138,7 +138,7 @@ pub no_call : (old new : Medium) → moments new ≡ moments old → moment new 
 no_call old new same = let all = ap (λ (ms : List Moment). length ms) same in omega (arith, all)
 
 -- ---- an opening
-pub finish_few : (g : Geometry) (c : List ℕ) → finish_takes g c ≤ 4
+pub finish_few : (g : Geometry) (c : List ℕ) → finish_cost g c ≤ 4
 finish_few g c = few (chain (layout_of g) (named_area (layout_of g) c) c == 1)
   where
     few : (chained : Bool) → (if chained then 4 else 0) ≤ 4
@@ -146,14 +146,14 @@ finish_few g c = few (chain (layout_of g) (named_area (layout_of g) c) c == 1)
     few false = omega arith
 
 -- whether it finishes a cut is what the loading gives
-pub finish_is : (g : Geometry) (c : List ℕ) (area : ℕ) (told chained : Bool) (x : State) → told ≡ chained → NamedHolds g c area told x → finish_takes g c ≡ if chained then 4 else 0
+pub finish_is : (g : Geometry) (c : List ℕ) (area : ℕ) (told chained : Bool) (x : State) → told ≡ chained → NamedHolds g c area told x → finish_cost g c ≡ if chained then 4 else 0
 finish_is g c area told chained x is held =
     sym (ap (λ (b : Bool). if b then 4 else 0) (held.chain ∙ ap (λ (n : ℕ). chain (layout_of g) n c == 1) held.named)) ∙ ap (λ (b : Bool). if b then 4 else 0) is
 
 -- after the first sync
 pub opening_after : (r : Result Parts OpenFault) (w0 w1 w2 : Medium) → w1.now ≡ w0.now → moment w1 ≡ moment w0 + 1
-    → MatchResult r (λ p. moment w2 ≡ moment w1 + (finish_takes p.halves.geometry w1.now + 6)) (λ e. moment w2 ≤ moment w1 + 10)
-    → MatchResult r (λ p. moment w2 ≡ moment w0 + opening_takes p.halves.geometry w0.now) (λ e. moment w2 ≤ moment w0 + 11)
-opening_after (Ok p) w0 w1 w2 same one rest = let is : finish_takes p.halves.geometry w1.now
-    ≡ finish_takes p.halves.geometry w0.now = ap (finish_takes p.halves.geometry) same in omega (arith, is, one, rest)
+    → MatchResult r (λ p. moment w2 ≡ moment w1 + (finish_cost p.halves.geometry w1.now + 6)) (λ e. moment w2 ≤ moment w1 + 10)
+    → MatchResult r (λ p. moment w2 ≡ moment w0 + opening_cost p.halves.geometry w0.now) (λ e. moment w2 ≤ moment w0 + 11)
+opening_after (Ok p) w0 w1 w2 same one rest = let is : finish_cost p.halves.geometry w1.now
+    ≡ finish_cost p.halves.geometry w0.now = ap (finish_cost p.halves.geometry) same in omega (arith, is, one, rest)
 opening_after (Err e) w0 w1 w2 same one rest = omega (arith, one, rest)

@@ -2,12 +2,12 @@
 use Rattle.std.proofs.Common.{◌≡◌, ◌≢◌, ◌<◌, ◌≤◌, ℕ, true, false, eqb, List, [], ◌++◌, length, Option, is_some, Result, refl, sym, ◌∙◌, ap, subst, arith}
 use Rattle.std.proofs.lemmas.List.{append-nil}
 use Rattle.affinity.specs.declared.geometry.Geometry.{Geometry}
-use Rattle.checkpoint.specs.Recovery.{holds, means}
+use Rattle.checkpoint.specs.Recovery.{recovered_state, means}
 use Rattle.disk.specs.declared.fault.DiskFault.{DiskFault}
 use Rattle.disk.specs.Device.{AreBytes, IsCrashImage, Medium, Syncs, synced}
 use Rattle.disk.specs.Moments.{CrashImagesAre}
 use Rattle.disk.proofs.Calls.{after_sync}
-use Rattle.disk.proofs.Leaves.{calm_left, itself}
+use Rattle.disk.proofs.Leaves.{synced_left, itself}
 use Rattle.disk.proofs.Moments.{started, then, weaker}
 use Rattle.image.specs.Image.{read}
 use Rattle.journal.specs.Steps.{RecoversByArea, run_on}
@@ -38,12 +38,12 @@ module _ (g : Geometry) (n : ℕ) (x : Option State) (is_area : n < 2) (w0 w1 w2
     (chains : ChangesOnly w1 w2 (IsSameButChain (layout_of g) n)) where
   empty : (c : List ℕ) → IsCrashImage w1 c → (front (layout_of g) (other n) c ≡ []) × (chain (layout_of g) (other n) c ≢ 1)
   empty c left =
-      let is : c ≡ w1.now = calm_left w1 c cleared.calm left in (
+      let is : c ≡ w1.now = synced_left w1 c cleared.synced left in (
         ap (λ (l : List ℕ). front (layout_of g) (other n) l) is ∙ ready_none (layout_of g) (other n) w1 cleared.ready,
         λ one. let shut : chain (layout_of g) (other n) c ≡ 0 = ap (λ (l : List ℕ). chain (layout_of g) (other n) l) is ∙ cleared.chain in absurd (omega (arith, one, shut)),
       )
 
-  pub chain_moments : CrashImagesAre w0 w2 (λ c. holds g c ≡ x)
+  pub chain_moments : CrashImagesAre w0 w2 (λ c. recovered_state g c ≡ x)
   chain_moments =
       then w0 w1 w2 _ (clear_moments g n x is_area w0 w1 recovers clears)
       (weaker w1 w2 _ _ (chain_by_area (means g) (layout_of g) n x w1 w2 is_area (clear_recovers g n x is_area w0 w1 recovers clears) empty chains)
@@ -62,7 +62,7 @@ module _ (g : Geometry) (n : ℕ) (x : Option State) (is_area : n < 2) (w0 w1 w2
     long_2 = chained.same.same.size
 
     pub begun_ready : IsReady (layout_of g) (other n) 0 w2
-    begun_ready = ready_kept (omega arith) (λ is. omega (arith, is, is_area)) (omega (arith, fits, long_1, long_2)) cleared.ready chained.same.same chained.calm
+    begun_ready = ready_kept (omega arith) (λ is. omega (arith, is, is_area)) (omega (arith, fits, long_1, long_2)) cleared.ready chained.same.same chained.synced
 
     pub begun_none : front (layout_of g) (other n) w2.now ≡ []
     begun_none =
@@ -89,7 +89,7 @@ module _ (g : Geometry) (n used : ℕ) (x : Option State) (bytes : List ℕ) (w0
   begun : CrashImagesAre w0 w0 (RecoversBy (means g) (layout_of g) n (other n) x)
   begun = started w0 _ recovers
 
-  pub sync_moments : (w1 : Medium) (r : Result (Unit {0}) DiskFault) → Syncs r w0 w1 → CrashImagesAre w0 w1 (λ c. holds g c ≡ x)
+  pub sync_moments : (w1 : Medium) (r : Result (Unit {0}) DiskFault) → Syncs r w0 w1 → CrashImagesAre w0 w1 (λ c. recovered_state g c ≡ x)
   sync_moments w1 r syncs = weaker w0 w1 _ _ (after_sync w0 w0 w1 _ begun r syncs) (holds_by g n (other n) x)
 
   module _ (is_area : n < 2) (some : is_some x ≡ true) (is : image_in g (other n) w0 ≡ bytes) (behind : run_on g (read g bytes) (front (layout_of g) (other n) w0.now) ≡ x) (w2 : Medium) where
@@ -104,7 +104,7 @@ module _ (g : Geometry) (n used : ℕ) (x : Option State) (bytes : List ℕ) (w0
         )
 
     still_left : (c : List ℕ) → IsCrashImage (synced w0) c → c ≡ w0.now
-    still_left c left = calm_left (synced w0) c refl left
+    still_left c left = synced_left (synced w0) c refl left
 
     module _ (are : AreBytes w0.now) where
       now_own : RecoversBy (means g) (layout_of g) n (other n) x w0.now
@@ -116,7 +116,7 @@ module _ (g : Geometry) (n used : ℕ) (x : Option State) (bytes : List ℕ) (w0
           let recovered_before : RecoversBy (means g) (layout_of g) n (other n) x c = subst (λ (l : List ℕ). RecoversBy (means g) (layout_of g) n (other n) x l) (sym same) now_own in
           both_of (λ (k : ℕ). recovers_as (means g) (layout_of g) k c ≡ x) n is_area recovered_before.is (own_recovers c same recovered_before).0
 
-      pub name_moments : CrashImagesAre w0 (synced w0) (λ c. holds g c ≡ x) → ChangesOnly (synced w0) w2 (IsSameButRoot (layout_of g)) → CrashImagesAre w0 w2 (λ c. holds g c ≡ x)
+      pub name_moments : CrashImagesAre w0 (synced w0) (λ c. recovered_state g c ≡ x) → ChangesOnly (synced w0) w2 (IsSameButRoot (layout_of g)) → CrashImagesAre w0 w2 (λ c. recovered_state g c ≡ x)
       name_moments so_far flips =
           then w0 (synced w0) w2 _ so_far
           (weaker (synced w0) w2 _ _ (torn_root_recovers (means g) (layout_of g) x (synced w0) w2 either_way flips) (λ c recovered_before. holds_by g _ _ x c recovered_before))
@@ -132,7 +132,7 @@ module _ (g : Geometry) (n used : ℕ) (x : Option State) (bytes : List ℕ) (w0
             let long = flipped.same.same.size in
             ready_kept (omega arith) (λ is. omega (arith, is)) (omega (arith, fits, long))
             (ready_kept {w' = synced w0} (omega arith) (λ is. omega (arith, is)) fits ready (same_but_none (layout_of g) root w0.now) refl)
-            flipped.same.same flipped.calm
+            flipped.same.same flipped.synced
 
         half_named : (front (layout_of g) (other n) w2.now ≡ front (layout_of g) (other n) w0.now) × (chain (layout_of g) (other n) w2.now ≡ chain (layout_of g) (other n) w0.now)
         half_named = half_same (layout_of g) (other n) w0.now w2.now (flipped.same.same.others (half (other n)) (λ is. omega (arith, is)))

@@ -1,10 +1,10 @@
 -- What a crash leaves at each moment while a cut that was in progress is finished, and what is on the device at its end.
 use Rattle.std.proofs.Common.{◌≡◌, ◌<◌, ℕ, true, false, eqb, cond, not, ◌&&◌, nat_le, List, ◌++◌, Option, None, sym, ◌∙◌, ap, arith}
 use Rattle.checkpoint.specs.Header.{is_header}
-use Rattle.checkpoint.specs.Recovery.{holds, means}
+use Rattle.checkpoint.specs.Recovery.{recovered_state, means}
 use Rattle.disk.specs.Device.{AreBytes, Medium}
 use Rattle.disk.specs.Moments.{CrashImagesAre}
-use Rattle.disk.proofs.Leaves.{calm_left, itself}
+use Rattle.disk.proofs.Leaves.{synced_left, itself}
 use Rattle.disk.proofs.Moments.{leaves_now, then, weaker}
 use Rattle.image.specs.Image.{read}
 use Rattle.journal.specs.Steps.{IsFinished, IsUnfinished, RecoversByArea, run_on}
@@ -25,7 +25,7 @@ module _ (log : Log) (bytes : List ℕ) (w0 : Medium) (is_area : log.named < 2) 
   n = log.named
 
   abbrev x : Option State
-  x = holds log.geometry w0.now
+  x = recovered_state log.geometry w0.now
 
   by_both : (c : List ℕ) → c ≡ w0.now → RecoversBy (means log.geometry) (layout_of log.geometry) n (other n) x c
   by_both c same = record {
@@ -36,9 +36,9 @@ module _ (log : Log) (bytes : List ℕ) (w0 : Medium) (is_area : log.named < 2) 
 
   module _ (w1 : Medium) (writes : ChangesOnly w0 w1 (IsSameBut (layout_of log.geometry) (image (other n)))) where
     by_image : CrashImagesAre w0 w1 (RecoversBy (means log.geometry) (layout_of log.geometry) n (other n) x)
-    by_image = image_by_area (means log.geometry) (layout_of log.geometry) n (other n) x w0 w1 is_area (λ c left. by_both c (calm_left w0 c unfinished.calm left)) writes
+    by_image = image_by_area (means log.geometry) (layout_of log.geometry) n (other n) x w0 w1 is_area (λ c left. by_both c (synced_left w0 c unfinished.synced left)) writes
 
-    pub finish_image_moments : CrashImagesAre w0 w1 (λ c. holds log.geometry c ≡ x)
+    pub finish_image_moments : CrashImagesAre w0 w1 (λ c. recovered_state log.geometry c ≡ x)
     finish_image_moments = holds_moments log.geometry n (other n) x w0 w1 by_image
 
     module _ (are : AreBytes w1.now) (imaged : Imaged log.geometry (other n) bytes w0 w1) where
@@ -79,10 +79,10 @@ module _ (log : Log) (bytes : List ℕ) (w0 : Medium) (is_area : log.named < 2) 
       either_way : RecoversEitherWay (means log.geometry) (layout_of log.geometry) x w1
       either_way c left =
           both_of (λ (k : ℕ). recovers_as (means log.geometry) (layout_of log.geometry) k c ≡ x) n is_area (image_recovers c left).is
-          (ap (λ (l : List ℕ). recovers_as (means log.geometry) (layout_of log.geometry) (other n) l) (calm_left w1 c imaged.calm left) ∙ other_recovers)
+          (ap (λ (l : List ℕ). recovers_as (means log.geometry) (layout_of log.geometry) (other n) l) (synced_left w1 c imaged.synced left) ∙ other_recovers)
 
       module _ (w2 : Medium) where
-        pub finish_moments : ChangesOnly w1 w2 (IsSameButRoot (layout_of log.geometry)) → CrashImagesAre w0 w2 (λ c. holds log.geometry c ≡ x)
+        pub finish_moments : ChangesOnly w1 w2 (IsSameButRoot (layout_of log.geometry)) → CrashImagesAre w0 w2 (λ c. recovered_state log.geometry c ≡ x)
         finish_moments flips =
             then w0 w1 w2 _ finish_image_moments
             (weaker w1 w2 _ _ (torn_root_recovers (means log.geometry) (layout_of log.geometry) x w1 w2 either_way flips) (λ c recovered_before. holds_by log.geometry _ _ x c recovered_before))
@@ -93,5 +93,5 @@ module _ (log : Log) (bytes : List ℕ) (w0 : Medium) (is_area : log.named < 2) 
           front = (half_same (layout_of log.geometry) (other n) w1.now w2.now (flipped.same.same.others (half (other n)) (λ is. omega (arith, is)))).0 ∙ half_kept.0;
           named = flipped.named;
           reads = ap (λ (l : List ℕ). read log.geometry l) (flipped.same.same.others (image (other n)) (λ is. omega (arith, is)) ∙ imaged.is) ∙ unfinished.reads;
-          calm = flipped.calm;
+          synced = flipped.synced;
         }

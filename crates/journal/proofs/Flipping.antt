@@ -1,6 +1,6 @@
 -- What the end of a cut asks of a journal, and what the journal keeps after it.
 use Rattle.std.proofs.Common.{◌≡◌, ℕ, Bool, List, length, Option, Some, None, is_some, sym, ◌∙◌, ap, subst, arith}
-use Rattle.checkpoint.specs.Recovery.{holds}
+use Rattle.checkpoint.specs.Recovery.{recovered_state}
 use Rattle.checkpoint.specs.Version.{named_version}
 use Rattle.disk.specs.Device.{AreBytes, Medium}
 use Rattle.disk.proofs.Leaves.{itself}
@@ -10,7 +10,7 @@ use Rattle.journal.specs.Keeping.{IsFresh, IsCutState, IsSoundJournal}
 use Rattle.journal.specs.Steps.{IsFlipped, IsWritten, RecoversByArea, named_now}
 use Rattle.journal.specs.Extents.{image_in}
 use Rattle.journal.proofs.Cutting.{named_below}
-use Rattle.journal.proofs.Forced.{forced_calm, front_count}
+use Rattle.journal.proofs.Forced.{forced_synced, front_count}
 use Rattle.journal.proofs.Patches.{image_long}
 use Rattle.journal.proofs.Rows.{all_agree, no_dirty}
 use Rattle.journal.proofs.Recovering.{holds_now}
@@ -20,54 +20,54 @@ use Rattle.device_map.specs.Layout.{layout_of, image_size, other}
 use Rattle.oplog.specs.Log.{Log}
 use Rattle.meaning.specs.State.{State}
 
-module _ {log : Log} {frozen : List ℕ} {named others due : List Bool} {left : Option ℕ} {w0 : Medium} (none_left : left ≡ Some 0) where
-  pub flip_asks : HasParts log w0 → length frozen ≡ image_size log.geometry → length due ≡ piece_count log.geometry → AreBytes w0.now
-      → IsCutState log due left → IsSoundJournal log frozen named others due left w0 → IsWritten log frozen w0
+module _ {log : Log} {snapshot : List ℕ} {named others due : List Bool} {left : Option ℕ} {w0 : Medium} (none_left : left ≡ Some 0) where
+  pub flip_asks : HasParts log w0 → length snapshot ≡ image_size log.geometry → length due ≡ piece_count log.geometry → AreBytes w0.now
+      → IsCutState log due left → IsSoundJournal log snapshot named others due left w0 → IsWritten log snapshot w0
   flip_asks whole size size' are placed' sound =
       let placed = subst (λ (l : Option ℕ). IsCutState log due l) none_left placed' in
-      let sound' = subst (λ (l : Option ℕ). IsSoundJournal log frozen named others due l w0) none_left sound in
+      let sound' = subst (λ (l : Option ℕ). IsSoundJournal log snapshot named others due l w0) none_left sound in
       record {
         by = record {
           some = sound'.some;
-          recovers = subst (λ (h : ℕ). RecoversByArea log.geometry log.named h (holds log.geometry w0.now) w0) placed.0 sound'.recovers;
+          recovers = subst (λ (h : ℕ). RecoversByArea log.geometry log.named h (recovered_state log.geometry w0.now) w0) placed.0 sound'.recovers;
         };
         ready = subst (λ (h : ℕ). IsReady (layout_of log.geometry) h log.used w0) placed.0 sound'.ready;
-        is = all_agree log.geometry (image_in log.geometry (other log.named) w0) frozen (λ n few. sound'.by_cut.written n few (no_dirty due n placed.1 (omega (arith, few, size'))))
+        is = all_agree log.geometry (image_in log.geometry (other log.named) w0) snapshot (λ n few. sound'.by_cut.written n few (no_dirty due n placed.1 (omega (arith, few, size'))))
             (image_long log.geometry (other log.named) w0 (omega arith) whole) size;
         behind = sound'.by_cut.behind;
       }
 
-  pub flip_sound : {w1 : Medium} → AreBytes w0.now → AreBytes w1.now → IsCutState log due left → IsWritten log frozen w0
-      → IsSoundJournal log frozen named others due left w0 → IsFlipped log w0 w1 → IsSoundJournal (named_now log) frozen others named due None w1
+  pub flip_sound : {w1 : Medium} → AreBytes w0.now → AreBytes w1.now → IsCutState log due left → IsWritten log snapshot w0
+      → IsSoundJournal log snapshot named others due left w0 → IsFlipped log w0 w1 → IsSoundJournal (named_now log) snapshot others named due None w1
   flip_sound {w1} are are' placed' written sound flipped =
       let placed = subst (λ (l : Option ℕ). IsCutState log due l) none_left placed' in
-      let sound' = subst (λ (l : Option ℕ). IsSoundJournal log frozen named others due l w0) none_left sound in
-      let is_area = named_below log.geometry log.named log.current (holds log.geometry w0.now) w0 are sound.recovers in
-      let same = holds_now log.geometry (other log.named) (other log.named) (holds log.geometry w0.now) w1 are' flipped.at.recovers in
+      let sound' = subst (λ (l : Option ℕ). IsSoundJournal log snapshot named others due l w0) none_left sound in
+      let is_area = named_below log.geometry log.named log.current (recovered_state log.geometry w0.now) w0 are sound.recovers in
+      let same = holds_now log.geometry (other log.named) (other log.named) (recovered_state log.geometry w0.now) w1 are' flipped.at.recovers in
       let back : other (other log.named) ≡ log.named = omega (arith, is_area) in
       record {
         some = ap is_some same ∙ sound.some;
         recovers =
-            subst (λ (h : ℕ). RecoversByArea log.geometry (other log.named) h (holds log.geometry w1.now) w1) (sym placed.0)
+            subst (λ (h : ℕ). RecoversByArea log.geometry (other log.named) h (recovered_state log.geometry w1.now) w1) (sym placed.0)
             (subst (λ (o : Option State). RecoversByArea log.geometry (other log.named) (other log.named) o w1) (sym same) flipped.at.recovers);
         ready = subst (λ (h : ℕ). IsReady (layout_of log.geometry) h log.used w1) (sym placed.0) flipped.at.ready;
-        forced = forced_calm log.geometry w1 flipped.at.calm;
+        forced = forced_synced log.geometry w1 flipped.at.synced;
         count = λ none. ap length flipped.alone ∙ front_count (layout_of log.geometry) (other log.named) log.used w1 flipped.at.ready;
         state = λ x is. sound.state x (sym same ∙ is);
         named_fresh =
             subst (λ (o : Option State). IsFresh log.geometry o others (image_in log.geometry (other log.named) w1)) (sym same)
-            (subst (λ (l : List ℕ). IsFresh log.geometry (holds log.geometry w0.now) others l) (sym (flipped.images (other log.named) (omega arith) ∙ written.is)) sound'.others_fresh);
-        frozen_fresh = λ none. subst (λ (o : Option State). IsFresh log.geometry o others frozen) (sym same) sound'.others_fresh;
+            (subst (λ (l : List ℕ). IsFresh log.geometry (recovered_state log.geometry w0.now) others l) (sym (flipped.images (other log.named) (omega arith) ∙ written.is)) sound'.others_fresh);
+        snapshot_fresh = λ none. subst (λ (o : Option State). IsFresh log.geometry o others snapshot) (sym same) sound'.others_fresh;
         others_fresh =
             subst (λ (o : Option State). IsFresh log.geometry o named (image_in log.geometry (other (other log.named)) w1)) (sym same)
-            (subst (λ (n : ℕ). IsFresh log.geometry (holds log.geometry w0.now) named (image_in log.geometry n w1)) (sym back)
-            (subst (λ (l : List ℕ). IsFresh log.geometry (holds log.geometry w0.now) named l) (sym (flipped.images log.named is_area)) sound.named_fresh));
+            (subst (λ (n : ℕ). IsFresh log.geometry (recovered_state log.geometry w0.now) named (image_in log.geometry n w1)) (sym back)
+            (subst (λ (l : List ℕ). IsFresh log.geometry (recovered_state log.geometry w0.now) named l) (sym (flipped.images log.named is_area)) sound.named_fresh));
         by_cut = tt;
       }
 
-  pub flip_version : {w1 : Medium} → AreBytes w1.now → IsWritten log frozen w0 → IsSoundJournal log frozen named others due left w0 → IsFlipped log w0 w1
+  pub flip_version : {w1 : Medium} → AreBytes w1.now → IsWritten log snapshot w0 → IsSoundJournal log snapshot named others due left w0 → IsFlipped log w0 w1
       → named_version log.geometry w1.now ≡ 2
   flip_version {w1} are' written sound flipped =
-      let sound' = subst (λ (l : Option ℕ). IsSoundJournal log frozen named others due l w0) none_left sound in
+      let sound' = subst (λ (l : Option ℕ). IsSoundJournal log snapshot named others due l w0) none_left sound in
       ap (λ (n : ℕ). version_in (image_in log.geometry n w1)) (flipped.at.recovers w1.now (itself w1.now w1.unsynced are')).named
       ∙ ap version_in (flipped.images (other log.named) (omega arith) ∙ written.is) ∙ sound'.by_cut.version

@@ -4,7 +4,7 @@ use Rattle.std.proofs.lemmas.List.Sums.{prefix_len-le-length}
 use Rattle.affinity.specs.declared.geometry.Geometry.{Geometry}
 use Rattle.checkpoint.specs.Recovery.{means}
 use Rattle.disk.specs.Device.{IsSynced, IsCrashImage, Medium}
-use Rattle.disk.proofs.Leaves.{calm_left}
+use Rattle.disk.proofs.Leaves.{synced_left}
 use Rattle.journal.specs.Journal.{records_in}
 use Rattle.journal.proofs.Recovering.{open_by, shut_by, shut_force}
 use Rattle.oplog.specs.Changes.{HasMore, IsReady, IsSameBut}
@@ -48,8 +48,8 @@ forced_kept g p a c apart halves same =
     ∙ same_forced (means g) (layout_of g) n a c (same.others (half n) (halves n is_area)) (same.others (half (other n)) (halves (other n) (omega arith)))
 
 -- nothing is unsynced
-pub forced_calm : (g : Geometry) (m : Medium) → IsSynced m → (c : List ℕ) → IsCrashImage m c → records_in g c ≡ records_in g m.now
-forced_calm g m calm c left = ap (records_in g) (calm_left m c calm left)
+pub forced_synced : (g : Geometry) (m : Medium) → IsSynced m → (c : List ℕ) → IsCrashImage m c → records_in g c ≡ records_in g m.now
+forced_synced g m synced c left = ap (records_in g) (synced_left m c synced left)
 
 -- ---- how many
 

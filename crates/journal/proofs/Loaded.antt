@@ -7,13 +7,13 @@ use Rattle.affinity.specs.declared.geometry.Geometry.{Geometry}
 use Rattle.checkpoint.specs.declared.fault.OpenFault.{OpenFault}
 use Rattle.checkpoint.specs.Header.{HasHeader, header_of, is_header}
 use Rattle.checkpoint.specs.Loading.{IsFaultOfBytes, NamedHolds, records_fault}
-use Rattle.checkpoint.specs.Recovery.{holds, means}
+use Rattle.checkpoint.specs.Recovery.{recovered_state, means}
 use Rattle.checkpoint.specs.Refusals.{IsRefused, refused}
 use Rattle.checkpoint.specs.Version.{named_version}
 use Rattle.checkpoint.proofs.Replays.{same_bytes}
 use Rattle.checkpoint.proofs.Refusing.{alone_ran, alone_sound, both_ran, both_sound, not_refused, other_refused, records_refused, recovers_for}
 use Rattle.disk.specs.Device.{AreBytes, IsSynced, Medium, moments}
-use Rattle.disk.proofs.Leaves.{calm_left}
+use Rattle.disk.proofs.Leaves.{synced_left}
 use Rattle.image.specs.Image.{image_of, read}
 use Rattle.image.specs.Pieces.{piece_count}
 use Rattle.image.proofs.Reading.{read_again}
@@ -25,7 +25,7 @@ use Rattle.journal.specs.Opening.{IsOpened}
 use Rattle.journal.specs.Parts.{AreLoaded, AreUnloaded, IsMade, IsMadeOf, KeepsRoom}
 use Rattle.journal.specs.Steps.{IsAlone, IsPointed, IsUnfinished, pointed, run_on}
 use Rattle.journal.specs.Extents.{AreAllDirty}
-use Rattle.journal.proofs.Logging.{committed_of, sound_along}
+use Rattle.journal.proofs.Logging.{recoverable_of, sound_along}
 use Rattle.journal.proofs.Saving.{HoldsAlone, opened_sound, pointed_version}
 use Rattle.journal.proofs.Recovering.{holds_now, shut_current}
 use Rattle.oplog.specs.Front.{chain, front}
@@ -41,17 +41,17 @@ module _ (g : Geometry) (c : List ℕ) (n : ℕ) (x : State) (is : NamedHolds g 
   shut : (chain (layout_of g) n c == 1) ≡ false
   shut = sym is.chain
 
-  pub alone_holds : holds g c ≡ Some x
+  pub alone_holds : recovered_state g c ≡ Some x
   alone_holds = recovers_for g c is.header is.long_enough n is.named is.sound is.first is.decoded is.one x (alone_ran g is.first n c x is.ran shut)
 
   pub alone_fine : refused g c ≡ None
   alone_fine = not_refused g c is.header is.long_enough n is.named is.sound is.first is.decoded is.one (alone_sound g is.first n c x is.ran shut)
 
 pub alone_recovers : (log : Log) (m : Medium) (x : State) → NamedHolds log.geometry m.now log.named false x → IsSynced m → IsAlone log m
-alone_recovers log m x is calm = record {
+alone_recovers log m x is synced = record {
   some = ap is_some (alone_holds log.geometry m.now log.named x is);
   recovers = λ c left.
-      let same = calm_left m c calm left in
+      let same = synced_left m c synced left in
       record {
         named = ap (λ (l : List ℕ). named_area (layout_of log.geometry) l) same ∙ sym is.named;
         current = shut_current (layout_of log.geometry) log.named c (ap (λ (l : List ℕ). chain (layout_of log.geometry) log.named l == 1) same ∙ sym is.chain);
@@ -76,7 +76,7 @@ module _ (g : Geometry) (c : List ℕ) (n : ℕ) (x : State) (is : NamedHolds g 
       records_refused g c is.header is.long_enough n is.named is.sound is.first is.decoded is.one e (other_refused g is.first n c x is.ran follows e fault)
 
   module _ (y : State) (more : run (means g) (Some x) (front (layout_of g) (other n) c) ≡ Some y) where
-    pub behind_holds : holds g c ≡ Some y
+    pub behind_holds : recovered_state g c ≡ Some y
     behind_holds = recovers_for g c is.header is.long_enough n is.named is.sound is.first is.decoded is.one y (both_ran g is.first n c x is.ran follows y more)
 
     pub behind_fine : refused g c ≡ None
@@ -84,8 +84,8 @@ module _ (g : Geometry) (c : List ℕ) (n : ℕ) (x : State) (is : NamedHolds g 
 
 pub unfinished_cut : (log : Log) (m : Medium) (x : State) (bytes : List ℕ) → NamedHolds log.geometry m.now log.named true x → IsSynced m
     → IsState log.geometry x → bytes ≡ image_of 2 log.geometry x → IsUnfinished log bytes m
-unfinished_cut log m x bytes is calm is_state spelled = record {
-  calm = calm;
+unfinished_cut log m x bytes is synced is_state spelled = record {
+  synced = synced;
   laid = laid_out log.geometry m.now log.named x is;
   named = sym is.named;
   chained = follows log.geometry m.now log.named x is;
@@ -119,7 +119,7 @@ held_after {g} {n} {t} {u} {x} w0 w1 is chained only held =
 
 pub kept_then : (p q r : Parts) → KeepsRoom p q → KeepsRoom q r → KeepsRoom p r
 kept_then p q r first second = record {
-  frozen = second.frozen ∙ first.frozen;
+  snapshot = second.snapshot ∙ first.snapshot;
   named_dirty = second.named_dirty ∙ first.named_dirty;
   other_dirty = second.other_dirty ∙ first.other_dirty;
   due = second.due ∙ first.due;
@@ -127,7 +127,7 @@ kept_then p q r first second = record {
 
 -- Room for an image of this geometry, and flags for each of its pieces, of which those of the other image are set.
 pub record HasRoom (g : Geometry) (p : Parts) : Type 0 where
-  pub frozen : length p.frozen.items ≡ image_size g
+  pub snapshot : length p.snapshot.items ≡ image_size g
   pub named_dirty : length p.named_dirty.items ≡ piece_count g
   pub other_dirty : length p.other_dirty.items ≡ piece_count g
   pub all : AreAllDirty g p.other_dirty.items
@@ -135,15 +135,15 @@ pub record HasRoom (g : Geometry) (p : Parts) : Type 0 where
 -- loaded with this log, of parts that had the room that it asks for
 pub are_loaded : {p q : Parts} {log : Log} {m : Medium} → q.halves ≡ log → log.failed ≡ false → log.current ≡ log.named → IsWholeTree q.tree
     → q.tree.geometry ≡ log.geometry → KeepsRoom p q → HasRoom log.geometry p → device_size (layout_of log.geometry) ≤ length m.now → AreLoaded q m
-are_loaded {q} {log} {m} is_log fine current_is_named tree geometry kept room long_enough =
+are_loaded {q} {log} {m} is_log not_failed current_is_named tree geometry kept room long_enough =
     let same : q.halves.geometry ≡ log.geometry = ap (λ (l : Log). l.geometry) is_log in
     record {
       tree = tree;
       geometry = geometry ∙ sym same;
-      fine = ap (λ (l : Log). l.failed) is_log ∙ fine;
+      not_failed = ap (λ (l : Log). l.failed) is_log ∙ not_failed;
       current_is_named = ap (λ (l : Log). l.current) is_log ∙ current_is_named ∙ sym (ap (λ (l : Log). l.named) is_log);
       long_enough = subst (λ (h : Geometry). device_size (layout_of h) ≤ length m.now) (sym same) long_enough;
-      frozen = kept.frozen ∙ room.frozen ∙ sym (ap image_size same);
+      snapshot = kept.snapshot ∙ room.snapshot ∙ sym (ap image_size same);
       named_dirty = (λ i. length (kept.named_dirty i).items) ∙ room.named_dirty ∙ sym (ap piece_count same);
       other_dirty = (λ i. length (kept.other_dirty i).items) ∙ room.other_dirty ∙ sym (ap piece_count same);
       all =
@@ -159,13 +159,13 @@ made {p} {q} {r} {w3} taken same room loaded room' tree log long =
     let kept = kept_then p q r room room' in
     record {
       geometry = is ∙ sym loaded.geometry ∙ sym (λ i. (tree i).geometry);
-      fine = ap (λ (l : Log). l.failed) log ∙ loaded.fine;
+      not_failed = ap (λ (l : Log). l.failed) log ∙ loaded.not_failed;
       current_is_named = ap (λ (l : Log). l.current) log ∙ sym (ap (λ (l : Log). l.named) log);
       used = ap (λ (l : Log). l.used) log;
       long_enough =
           subst (λ (h : Geometry). device_size (layout_of h) ≤ length w3.now) (sym is)
           (subst (λ (n : ℕ). device_size (layout_of q.halves.geometry) ≤ n) (sym long) loaded.long_enough);
-      frozen = kept.frozen ∙ taken.frozen ∙ sym (ap image_size (is ∙ same));
+      snapshot = kept.snapshot ∙ taken.snapshot ∙ sym (ap image_size (is ∙ same));
       named_dirty = (λ i. length (kept.named_dirty i).items) ∙ taken.named_dirty ∙ sym (ap piece_count (is ∙ same));
       other_dirty = (λ i. length (kept.other_dirty i).items) ∙ taken.other_dirty ∙ sym (ap piece_count (is ∙ same));
       dirty = (λ i. record { named = (kept.named_dirty i).items; others = (kept.other_dirty i).items }) ∙ taken.dirty ∙ sym (ap opened_dirty (is ∙ same));
@@ -180,11 +180,11 @@ opened p old m j made is whole same =
     subst (λ (h : JournalView). IsOpened old h (state_in p.tree)) (sym same)
     (record {
       header = subst (λ (g : Geometry). HasHeader g old.now) (sym made.geometry) is.header;
-      fine = ap (λ (g : Geometry). refused g old.now) made.geometry ∙ is.fine;
-      was = ap (λ (g : Geometry). holds g old.now) made.geometry ∙ is.was;
+      accepted = ap (λ (g : Geometry). refused g old.now) made.geometry ∙ is.accepted;
+      was = ap (λ (g : Geometry). recovered_state g old.now) made.geometry ∙ is.was;
       is = is.is;
       version = is.version;
-      sound = committed_of is.sound;
+      recoverable = recoverable_of is.sound;
       emptied = is.emptied;
       dirty = made.dirty;
       state = subst (λ (g : Geometry). IsState g (state_in p.tree)) (sym made.geometry) whole.state;
@@ -193,21 +193,21 @@ opened p old m j made is whole same =
 -- A device with these bytes is one of this geometry, isn't refused, and recovers to this state.
 pub record RecoversTo (g : Geometry) (c : List ℕ) (x : State) : Type 0 where
   pub header : HasHeader g c
-  pub fine : refused g c ≡ None
-  pub was : holds g c ≡ Some x
+  pub accepted : refused g c ≡ None
+  pub was : recovered_state g c ≡ Some x
 
 pub made_of : {p : Parts} {log : Log} {c : List ℕ} {w2 w3 : Medium} → AreBytes w3.now → RecoversTo p.tree.geometry c (state_in p.tree)
-    → p.halves ≡ pointed log → p.tree.geometry ≡ log.geometry → p.frozen.items ≡ image_of 2 p.tree.geometry (state_in p.tree)
-    → AreAllDirty log.geometry p.other_dirty.items → HoldsAlone log (state_in p.tree) w2 → IsPointed log p.frozen.items w2 w3 → IsMadeOf c p w3
+    → p.halves ≡ pointed log → p.tree.geometry ≡ log.geometry → p.snapshot.items ≡ image_of 2 p.tree.geometry (state_in p.tree)
+    → AreAllDirty log.geometry p.other_dirty.items → HoldsAlone log (state_in p.tree) w2 → IsPointed log p.snapshot.items w2 w3 → IsMadeOf c p w3
 made_of {p} {log} {w2} {w3} are before is_log geometry spelled all alone made =
     let same : p.halves.geometry ≡ log.geometry = ap (λ (l : Log). l.geometry) is_log in
     let spelled' = spelled ∙ ap (λ (g : Geometry). image_of 2 g (state_in p.tree)) geometry in
     record {
       header = before.header;
-      fine = before.fine;
+      accepted = before.accepted;
       was = before.was;
-      is = ap (λ (g : Geometry). holds g w3.now) same ∙ holds_now log.geometry (other log.named) (other log.named) (holds log.geometry w2.now) w3 are made.at.recovers ∙ alone.is;
-      version = ap (λ (g : Geometry). named_version g w3.now) same ∙ pointed_version log p.frozen.items w2 w3 (state_in p.tree) are spelled' made;
+      is = ap (λ (g : Geometry). recovered_state g w3.now) same ∙ holds_now log.geometry (other log.named) (other log.named) (recovered_state log.geometry w2.now) w3 are made.at.recovers ∙ alone.is;
+      version = ap (λ (g : Geometry). named_version g w3.now) same ∙ pointed_version log p.snapshot.items w2 w3 (state_in p.tree) are spelled' made;
       emptied = subst (λ (g : Geometry). in_force (layout_of g) (named_area (layout_of g) w3.now) w3.now ≡ []) (sym same) made.emptied;
       sound = sound_along is_log refl refl refl refl (opened_sound alone spelled' all are made);
     }

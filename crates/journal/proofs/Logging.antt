@@ -4,7 +4,7 @@ use Rattle.std.proofs.lemmas.List.{length-map, take-map}
 use Rattle.std.proofs.lemmas.Slice.Eq.{bytes_eq-Decides}
 use Rattle.std.specs.Str.{bytes_eq}
 use Rattle.affinity.specs.declared.geometry.Geometry.{Geometry}
-use Rattle.checkpoint.specs.Recovery.{apply, apply_decoded, holds, means}
+use Rattle.checkpoint.specs.Recovery.{apply, apply_decoded, recovered_state, means}
 use Rattle.disk.specs.Device.{AreBytes, IsCrashImage, Medium}
 use Rattle.disk.specs.Moments.{CrashImagesAre}
 use Rattle.disk.proofs.Leaves.{itself}
@@ -14,7 +14,7 @@ use Rattle.image.specs.Touched.{may_change}
 use Rattle.image.proofs.Untouched.{piece_stays}
 use Rattle.meaning.proofs.Kept.{step_kept}
 use Rattle.std.specs.List.{AllByRecursion}
-use Rattle.journal.specs.Journal.{AreCarriedOut, HoldsSome, IsCommitted, records_in}
+use Rattle.journal.specs.Journal.{AreCarriedOut, HoldsSome, IsRecoverable, records_in}
 use Rattle.journal.specs.Keeping.{IsCutOr, IsFresh, IsCutState, IsSoundJournal, coming, journal_view_of}
 use Rattle.journal.specs.DirtyPieces.{AreBothTouched, DirtiesTouched}
 use Rattle.journal.specs.Steps.{RecoversByArea, run_on}
@@ -93,11 +93,11 @@ fresh_more {g} {x} ms old new bytes is_state out touched fresh y is n few clean 
     fresh x refl n few kept.0 ∙ sym (all_stay g x ms n is_state out kept.1) ∙ ap (λ (o : Option State). extent_of g (unwrap_or o x) n) is
 
 -- the journal's facts, in the words of contracts
-pub committed_of : {log : Log} {frozen : List ℕ} {named others due a b : List Bool} {left : Option ℕ} {failed : Bool} {m : Medium}
-    → IsSoundJournal log frozen named others due left m → IsCommitted (journal_view_of log a b left failed m)
-committed_of {log} {m} sound = record {
+pub recoverable_of : {log : Log} {snapshot : List ℕ} {named others due a b : List Bool} {left : Option ℕ} {failed : Bool} {m : Medium}
+    → IsSoundJournal log snapshot named others due left m → IsRecoverable (journal_view_of log a b left failed m)
+recoverable_of {log} {m} sound = record {
   some = sound.some;
-  each = λ c gone. holds_by log.geometry log.named log.current (holds log.geometry m.now) c (sound.recovers c gone);
+  each = λ c gone. holds_by log.geometry log.named log.current (recovered_state log.geometry m.now) c (sound.recovers c gone);
   forced = sound.forced;
   room = λ none.
       let count = sound.count none in
@@ -106,36 +106,37 @@ committed_of {log} {m} sound = record {
 }
 
 -- the same of a log, a snapshot and flags that are equal to these
-pub sound_along : {log log' : Log} {frozen frozen' : List ℕ} {named named' others others' due : List Bool} {left left' : Option ℕ} {m : Medium} → log' ≡ log → frozen' ≡ frozen
-    → named' ≡ named → others' ≡ others → left' ≡ left → IsSoundJournal log frozen named others due left m → IsSoundJournal log' frozen' named' others' due left' m
+pub sound_along : {log log' : Log} {snapshot snapshot' : List ℕ} {named named' others others' due : List Bool} {left left' : Option ℕ} {m : Medium} → log' ≡ log → snapshot' ≡ snapshot
+    → named' ≡ named → others' ≡ others → left' ≡ left → IsSoundJournal log snapshot named others due left m → IsSoundJournal log' snapshot' named' others' due left' m
 sound_along {due} {m} log bytes row row' left sound = subst (λ (t : Type 0). t) (sym (λ i. IsSoundJournal (log i) (bytes i) (row i) (row' i) due (left i) m)) sound
 
 -- how many records there are is no fact of a cut
-cut_used : (log : Log) (used : ℕ) (frozen : List ℕ) (due : List Bool) (left : Option ℕ) (m : Medium) → IsCutOr log frozen due left m → IsCutOr (record log { used = used }) frozen due left m
-cut_used log used frozen due None m cut = tt
-cut_used log used frozen due (Some k) m cut = record { behind = cut.behind; written = cut.written; version = cut.version }
+cut_used : (log : Log) (used : ℕ) (snapshot : List ℕ) (due : List Bool) (left : Option ℕ) (m : Medium) → IsCutOr log snapshot due left m → IsCutOr (record log { used = used }) snapshot due left m
+cut_used log used snapshot due None m cut = tt
+cut_used log used snapshot due (Some k) m cut = record { behind = cut.behind; written = cut.written; version = cut.version }
 
-coming_used : (log : Log) (used : ℕ) (frozen : List ℕ) (left : Option ℕ) (m : Medium) → coming (record log { used = used }) frozen left m ≡ coming log frozen left m
-coming_used log used frozen None m = refl
-coming_used log used frozen (Some k) m = refl
+coming_used : (log : Log) (used : ℕ) (snapshot : List ℕ) (left : Option ℕ) (m : Medium) → coming (record log { used = used }) snapshot left m ≡ coming log snapshot left m
+coming_used log used snapshot None m = refl
+coming_used log used snapshot (Some k) m = refl
 
 -- ---- logging
 
-module _ {log : Log} {frozen : List ℕ} {named others due : List Bool} {left : Option ℕ} (ms : List Msg) {w0 : Medium} (w1 : Medium) (are : AreBytes w0.now)
-    (sound : IsSoundJournal log frozen named others due left w0) where
+module _ {log : Log} {snapshot : List ℕ} {named others due : List Bool} {left : Option ℕ} (ms : List Msg) {w0 : Medium} (w1 : Medium) (are : AreBytes w0.now)
+    (sound : IsSoundJournal log snapshot named others due left w0) where
   is_area : log.named < 2
-  is_area = named_below log.geometry log.named log.current (holds log.geometry w0.now) w0 are sound.recovers
+  is_area = named_below log.geometry log.named log.current (recovered_state log.geometry w0.now) w0 are sound.recovers
 
   is_half : log.current < 2
-  is_half = half_below log.geometry log.named log.current (holds log.geometry w0.now) w0 are sound.recovers
+  is_half = half_below log.geometry log.named log.current (recovered_state log.geometry w0.now) w0 are sound.recovers
 
-  pub log_moments : Grows log ms w0 w1 → (x : State) → holds log.geometry w0.now ≡ Some x → AreCarriedOut log.geometry x ms → CrashImagesAre w0 w1 (HoldsSome log.geometry x ms)
+  pub log_moments : Grows log ms w0 w1 → (x : State) → recovered_state log.geometry w0.now ≡ Some x → AreCarriedOut log.geometry x ms → CrashImagesAre w0 w1 (HoldsSome log.geometry x ms)
   log_moments grows x is out =
-      weaker w0 w1 _ _ (append_recovers (means log.geometry) (layout_of log.geometry) log.named log.current (holds log.geometry w0.now) (records_of ms) w0 w1 is_area is_half sound.recovers grows)
+      weaker w0 w1 _ _ (append_recovers (means log.geometry) (layout_of log.geometry) log.named log.current (recovered_state log.geometry w0.now)
+          (records_of ms) w0 w1 is_area is_half sound.recovers grows)
       (λ c some. record {
         added = some.added;
         at_most = let most = some.at_most in omega (arith, most, length-map ms record_of);
-        is = holds_by log.geometry log.named log.current (run_on log.geometry (holds log.geometry w0.now) (take some.added (records_of ms))) c some.by
+        is = holds_by log.geometry log.named log.current (run_on log.geometry (recovered_state log.geometry w0.now) (take some.added (records_of ms))) c some.by
             ∙ (λ i. run_on log.geometry (is i) (take-map record_of some.added ms i))
             ∙ run_records log.geometry x (take some.added ms) (first_carried log.geometry some.added x ms out);
       })
@@ -156,41 +157,41 @@ module _ {log : Log} {frozen : List ℕ} {named others due : List Bool} {left : 
       let more = ap length (log_records has) ∙ length-append (records_in log.geometry w0.now) (records_of ms) in
       omega (arith, before, more, length-map ms record_of)
 
-  module _ (x : State) (is : holds log.geometry w0.now ≡ Some x) (out : AreCarriedOut log.geometry x ms) (has : HasAdded log ms w0 w1) (are' : AreBytes w1.now) where
-    leads : run_on log.geometry (holds log.geometry w0.now) (records_of ms) ≡ Some (fold log.geometry x ms)
+  module _ (x : State) (is : recovered_state log.geometry w0.now ≡ Some x) (out : AreCarriedOut log.geometry x ms) (has : HasAdded log ms w0 w1) (are' : AreBytes w1.now) where
+    leads : run_on log.geometry (recovered_state log.geometry w0.now) (records_of ms) ≡ Some (fold log.geometry x ms)
     leads = ap (λ (o : Option State). run_on log.geometry o (records_of ms)) is ∙ run_records log.geometry x ms out
 
     recovers : RecoversByArea log.geometry log.named log.current (Some (fold log.geometry x ms)) w1
     recovers =
         subst (λ (o : Option State). RecoversByArea log.geometry log.named log.current o w1) leads
-        (all_by_area (means log.geometry) (layout_of log.geometry) log.named log.current log.used (holds log.geometry w0.now) (records_of ms) w0 w1 is_area is_half sound.recovers has)
+        (all_by_area (means log.geometry) (layout_of log.geometry) log.named log.current log.used (recovered_state log.geometry w0.now) (records_of ms) w0 w1 is_area is_half sound.recovers has)
 
-    pub log_committed : holds log.geometry w1.now ≡ Some (fold log.geometry x ms)
+    pub log_committed : recovered_state log.geometry w1.now ≡ Some (fold log.geometry x ms)
     log_committed = holds_now log.geometry log.named log.current (Some (fold log.geometry x ms)) w1 are' recovers
 
     images : (i : ℕ) → i < 2 → image_in log.geometry i w1 ≡ image_in log.geometry i w0
     images i is_image = has.has.same.others (image i) (λ same. omega (arith, same, is_half))
 
     -- whichever image it is
-    still_coming : (left : Option ℕ) → coming log frozen left w1 ≡ coming log frozen left w0
+    still_coming : (left : Option ℕ) → coming log snapshot left w1 ≡ coming log snapshot left w0
     still_coming None = images (other log.named) (omega arith)
     still_coming (Some k) = refl
 
-    cut_more : (left : Option ℕ) → IsCutState log due left → IsCutOr log frozen due left w0 → IsCutOr log frozen due left w1
+    cut_more : (left : Option ℕ) → IsCutState log due left → IsCutOr log snapshot due left w0 → IsCutOr log snapshot due left w1
     cut_more None placed cut = tt
     cut_more (Some k) placed cut = record {
       behind =
-          ap (λ (rs : List (List ℕ)). run_on log.geometry (read log.geometry frozen) rs)
+          ap (λ (rs : List (List ℕ)). run_on log.geometry (read log.geometry snapshot) rs)
           (subst (λ (h : ℕ). front (layout_of log.geometry) h w1.now ≡ front (layout_of log.geometry) h w0.now ++ records_of ms) placed.0 has.has.front)
-          ∙ run-append (means log.geometry) (read log.geometry frozen) (front (layout_of log.geometry) (other log.named) w0.now) (records_of ms)
+          ∙ run-append (means log.geometry) (read log.geometry snapshot) (front (layout_of log.geometry) (other log.named) w0.now) (records_of ms)
           ∙ ap (λ (o : Option State). run_on log.geometry o (records_of ms)) cut.behind ∙ leads ∙ sym log_committed;
-      written = subst (λ (l : List ℕ). AgreeOnClean log.geometry due l frozen) (sym (images (other log.named) (omega arith))) cut.written;
+      written = subst (λ (l : List ℕ). AgreeOnClean log.geometry due l snapshot) (sym (images (other log.named) (omega arith))) cut.written;
       version = cut.version;
     }
 
     pub log_sound : {named' others' : List Bool} → IsCutState log due left
         → AreBothTouched log.geometry ms (record { named = named; others = others }) (record { named = named'; others = others' })
-        → IsSoundJournal (record log { used = log.used + length ms }) frozen named' others' due left w1
+        → IsSoundJournal (record log { used = log.used + length ms }) snapshot named' others' due left w1
     log_sound {named'} {others'} placed touched =
         let used : log.used + length (records_of ms) ≡ log.used + length ms = ap (λ (n : ℕ). log.used + n) (length-map ms record_of) in
         record {
@@ -205,17 +206,17 @@ module _ {log : Log} {frozen : List ℕ} {named others due : List Bool} {left : 
               (fresh_more ms named named' (image_in log.geometry log.named w1) (sound.state x is) out touched.named
               (subst (λ (l : List ℕ). IsFresh log.geometry (Some x) named l) (sym (images log.named is_area))
               (subst (λ (o : Option State). IsFresh log.geometry o named (image_in log.geometry log.named w0)) is sound.named_fresh)));
-          frozen_fresh = λ none.
-              subst (λ (o : Option State). IsFresh log.geometry o named' frozen) (sym log_committed)
-              (fresh_more ms named named' frozen (sound.state x is) out touched.named
-              (subst (λ (o : Option State). IsFresh log.geometry o named frozen) is (sound.frozen_fresh none)));
+          snapshot_fresh = λ none.
+              subst (λ (o : Option State). IsFresh log.geometry o named' snapshot) (sym log_committed)
+              (fresh_more ms named named' snapshot (sound.state x is) out touched.named
+              (subst (λ (o : Option State). IsFresh log.geometry o named snapshot) is (sound.snapshot_fresh none)));
           others_fresh =
-              subst (λ (l : List ℕ). IsFresh log.geometry (holds log.geometry w1.now) others' l) (sym (coming_used log (log.used + length ms) frozen left w1))
-              (subst (λ (o : Option State). IsFresh log.geometry o others' (coming log frozen left w1)) (sym log_committed)
-              (fresh_more ms others others' (coming log frozen left w1) (sound.state x is) out touched.others
+              subst (λ (l : List ℕ). IsFresh log.geometry (recovered_state log.geometry w1.now) others' l) (sym (coming_used log (log.used + length ms) snapshot left w1))
+              (subst (λ (o : Option State). IsFresh log.geometry o others' (coming log snapshot left w1)) (sym log_committed)
+              (fresh_more ms others others' (coming log snapshot left w1) (sound.state x is) out touched.others
               (subst (λ (l : List ℕ). IsFresh log.geometry (Some x) others l) (sym (still_coming left))
-              (subst (λ (o : Option State). IsFresh log.geometry o others (coming log frozen left w0)) is sound.others_fresh))));
-          by_cut = cut_used log (log.used + length ms) frozen due left w1 (cut_more left placed sound.by_cut);
+              (subst (λ (o : Option State). IsFresh log.geometry o others (coming log snapshot left w0)) is sound.others_fresh))));
+          by_cut = cut_used log (log.used + length ms) snapshot due left w1 (cut_more left placed sound.by_cut);
         }
 
 -- ---- the same in the words of the code
@@ -228,20 +229,20 @@ pub touched_along : {g g' : Geometry} → (ms : List Msg) → {old old' new new'
 touched_along {g} ms {old} {old'} {new'} same was is touched =
     subst (λ (x : Geometry). DirtiesTouched x ms old' new') same (subst (λ (l : List Bool). DirtiesTouched g ms l new') was (subst (λ (l : List Bool). DirtiesTouched g ms old l) (sym is) touched))
 
-pub log_kept : {log : Log} {frozen : List ℕ} {named others due named' others' : List Bool} {left : Option ℕ} → (ms : List Msg) → {w0 w1 : Medium} → AreBytes w0.now
-    → AreBytes w1.now → IsSoundJournal log frozen named others due left w0
-    → ((x : State) → holds log.geometry w0.now ≡ Some x → AreCarriedOut log.geometry x ms) → HasAdded log ms w0 w1 → IsCutState log due left
+pub log_kept : {log : Log} {snapshot : List ℕ} {named others due named' others' : List Bool} {left : Option ℕ} → (ms : List Msg) → {w0 w1 : Medium} → AreBytes w0.now
+    → AreBytes w1.now → IsSoundJournal log snapshot named others due left w0
+    → ((x : State) → recovered_state log.geometry w0.now ≡ Some x → AreCarriedOut log.geometry x ms) → HasAdded log ms w0 w1 → IsCutState log due left
     → AreBothTouched log.geometry ms (record { named = named; others = others }) (record { named = named'; others = others' })
-    → IsSoundJournal (record log { used = log.used + length ms }) frozen named' others' due left w1
+    → IsSoundJournal (record log { used = log.used + length ms }) snapshot named' others' due left w1
 log_kept {log} ms {w0} {w1} are are' sound out has placed touched =
-    let value = some_value (holds log.geometry w0.now) sound.some in
+    let value = some_value (recovered_state log.geometry w0.now) sound.some in
     log_sound ms w1 are sound value.0 value.1 (out value.0 value.1) has are' placed touched
 
-pub log_told : {log : Log} {frozen : List ℕ} {named others due : List Bool} {left : Option ℕ} → (ms : List Msg) → {w0 w1 : Medium} → AreBytes w0.now
-    → AreBytes w1.now → IsSoundJournal log frozen named others due left w0
-    → ((x : State) → holds log.geometry w0.now ≡ Some x → AreCarriedOut log.geometry x ms) → HasAdded log ms w0 w1 → holds log.geometry w1.now
-    ≡ option_map (λ x. fold log.geometry x ms) (holds log.geometry w0.now)
+pub log_told : {log : Log} {snapshot : List ℕ} {named others due : List Bool} {left : Option ℕ} → (ms : List Msg) → {w0 w1 : Medium} → AreBytes w0.now
+    → AreBytes w1.now → IsSoundJournal log snapshot named others due left w0
+    → ((x : State) → recovered_state log.geometry w0.now ≡ Some x → AreCarriedOut log.geometry x ms) → HasAdded log ms w0 w1 → recovered_state log.geometry w1.now
+    ≡ option_map (λ x. fold log.geometry x ms) (recovered_state log.geometry w0.now)
 log_told {log} ms {w0} {w1} are are' sound out has =
-    let value = some_value (holds log.geometry w0.now) sound.some in
+    let value = some_value (recovered_state log.geometry w0.now) sound.some in
     log_committed ms w1 are sound value.0 value.1 (out value.0 value.1) has are'
     ∙ sym (ap (λ (o : Option State). option_map (λ x. fold log.geometry x ms) o) value.1)

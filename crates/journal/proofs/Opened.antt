@@ -4,7 +4,7 @@ use Rattle.affinity.specs.declared.geometry.Geometry.{Geometry}
 use Rattle.checkpoint.specs.declared.fault.OpenFault.{OpenFault}
 use Rattle.checkpoint.specs.declared.fault.OpenFault.TheVariants.{Device, TooShort, NotFormatted, BadGeometry, OutOfMemory, BadVersion, BadPiece, BadChain, BadRecord}
 use Rattle.checkpoint.specs.Header.{HasHeader}
-use Rattle.checkpoint.specs.Recovery.{holds}
+use Rattle.checkpoint.specs.Recovery.{recovered_state}
 use Rattle.checkpoint.specs.Loading.{IsFaultOfBytes, IsOfHalf}
 use Rattle.checkpoint.specs.Refusals.{IsRefused, fault_or_later, refused}
 use Rattle.checkpoint.proofs.OneGeometry.{one_geometry, same_geometry}
@@ -12,7 +12,7 @@ use Rattle.checkpoint.proofs.Refusing.{records_half}
 use Rattle.checkpoint.proofs.Replays.{same_bytes}
 use Rattle.disk.specs.Device.{AreBytes, IsSynced, IsCrashImage, IsTornFrom, Medium, Moment, moments}
 use Rattle.disk.specs.Moments.{CrashImagesAre, left_since}
-use Rattle.disk.proofs.Leaves.{calm_left, itself}
+use Rattle.disk.proofs.Leaves.{synced_left, itself}
 use Rattle.disk.proofs.Moments.{leaves_now, same, started, then, weaker}
 use Rattle.image.specs.Image.{read}
 use Rattle.journal.specs.Opening.{area_state, IsRefusedBehind, IsRefusedUnwritten, IsUnwritten, OpeningCrashImages, RecoversAs}
@@ -28,8 +28,8 @@ use Rattle.meaning.specs.State.{State}
 
 -- a device of which nothing is unsynced, and which is only read
 pub still_read : (g : Geometry) (w0 w1 : Medium) → IsSynced w0 → moments w1 ≡ moments w0 → RecoversStill g w0 w1
-still_read g w0 w1 calm only =
-    same w0 w0 w1 _ (started w0 _ (λ c left. ap (holds g) (calm_left w0 c calm left))) only
+still_read g w0 w1 synced only =
+    same w0 w0 w1 _ (started w0 _ (λ c left. ap (recovered_state g) (synced_left w0 c synced left))) only
 
 -- one sequence of calls after another, on the bytes that recover to the same
 pub still_then : (g : Geometry) (w0 w1 w2 : Medium) → AreBytes w1.now → RecoversStill g w0 w1 → RecoversStill g w1 w2 → RecoversStill g w0 w2
@@ -37,16 +37,16 @@ still_then g w0 w1 w2 are first second =
     then w0 w1 w2 _ first
     (weaker w1 w2 _ _ second (λ c is. is ∙ leaves_now w0 w1 _ first w1.now (itself w1.now w1.unsynced are)))
 
-pub still_now : (g : Geometry) (w0 w1 : Medium) → AreBytes w1.now → RecoversStill g w0 w1 → holds g w1.now ≡ holds g w0.now
+pub still_now : (g : Geometry) (w0 w1 : Medium) → AreBytes w1.now → RecoversStill g w0 w1 → recovered_state g w1.now ≡ recovered_state g w0.now
 still_now g w0 w1 are moments = leaves_now w0 w1 _ moments w1.now (itself w1.now w1.unsynced are)
 
 -- what recovers to the same by the geometry of the header, and is refused alike
-recovers_as : (g : Geometry) (before c : List ℕ) → HasHeader g before → device_size (layout_of g) ≤ length before → holds g c ≡ holds g before
+recovers_as : (g : Geometry) (before c : List ℕ) → HasHeader g before → device_size (layout_of g) ≤ length before → recovered_state g c ≡ recovered_state g before
     → ((fault : OpenFault) → refused g before ≡ Some fault → HasHeader g c × (refused g c ≡ Some fault)) → RecoversAs before c
 recovers_as g before c head fits is alike = record {
   same = λ h x held.
       let one = one_geometry g h before head x held in
-      ap (λ (k : Geometry). holds k c) (sym one) ∙ is ∙ ap (λ (k : Geometry). holds k before) one ∙ held;
+      ap (λ (k : Geometry). recovered_state k c) (sym one) ∙ is ∙ ap (λ (k : Geometry). recovered_state k before) one ∙ held;
   alike = λ h fault head' was.
       let one = same_geometry g h (sym head ∙ head') in
       subst (λ (k : Geometry). HasHeader k c × (refused k c ≡ Some fault)) one (alike fault (ap (λ (k : Geometry). refused k before) one ∙ was));
@@ -63,31 +63,31 @@ both_leave w0 w1 P Q first second = record {
 
 -- a device that is only read
 pub as_before : (w0 w1 : Medium) → IsSynced w0 → moments w1 ≡ moments w0 → CrashImagesAre w0 w1 (RecoversAs w0.now)
-as_before w0 w1 calm only =
+as_before w0 w1 synced only =
     same w0 w0 w1 _
     (started w0 _
     (λ c left.
-    let is = calm_left w0 c calm left in
+    let is = synced_left w0 c synced left in
     record {
-      same = λ h x held. ap (holds h) is ∙ held;
+      same = λ h x held. ap (recovered_state h) is ∙ held;
       alike = λ h fault head was. (subst (λ (l : List ℕ). HasHeader h l) (sym is) head, ap (λ (l : List ℕ). refused h l) is ∙ was);
       kept = λ none. is;
     }))
     only
 
 pub alike_read : (g : Geometry) (w0 w1 : Medium) → HasHeader g w0.now → IsSynced w0 → moments w1 ≡ moments w0 → CrashImagesAre w0 w1 (IsRefusedAlike g w0.now)
-alike_read g w0 w1 head calm only =
+alike_read g w0 w1 head synced only =
     same w0 w0 w1 _
     (started w0 _
     (λ c left.
-    let is = calm_left w0 c calm left in
+    let is = synced_left w0 c synced left in
     record { header = subst (λ (l : List ℕ). HasHeader g l) (sym is) head; refused = ap (λ (l : List ℕ). refused g l) is }))
     only
 
 pub alike_after : (g : Geometry) (w0 w1 w2 : Medium) → HasHeader g w0.now → IsSynced w0 → moments w1 ≡ moments w0
     → CrashImagesAre w1 w2 (IsRefusedAlike g w1.now) → CrashImagesAre w0 w2 (IsRefusedAlike g w0.now)
-alike_after g w0 w1 w2 head calm only later =
-    then w0 w1 w2 _ (alike_read g w0 w1 head calm only)
+alike_after g w0 w1 w2 head synced only later =
+    then w0 w1 w2 _ (alike_read g w0 w1 head synced only)
     (weaker w1 w2 _ _ later (λ c is. record { header = is.header; refused = is.refused ∙ ap (λ (l : List ℕ). refused g l) (same_bytes w0 w1 only) }))
 
 -- one that is refused or not
@@ -106,8 +106,8 @@ as_still g w0 w1 head fits fine still = weaker w0 w1 _ _ still (λ c is. recover
 
 -- after the device was read
 pub still_after : (g : Geometry) (w0 w1 w2 : Medium) → IsSynced w0 → moments w1 ≡ moments w0 → RecoversStill g w1 w2 → RecoversStill g w0 w2
-still_after g w0 w1 w2 calm only still =
-    then w0 w1 w2 _ (still_read g w0 w1 calm only) (weaker w1 w2 _ _ still (λ c is. is ∙ ap (holds g) (same_bytes w0 w1 only)))
+still_after g w0 w1 w2 synced only still =
+    then w0 w1 w2 _ (still_read g w0 w1 synced only) (weaker w1 w2 _ _ still (λ c is. is ∙ ap (recovered_state g) (same_bytes w0 w1 only)))
 
 -- ---- refusals
 
@@ -133,7 +133,7 @@ pub behind_from : (g : Geometry) (h i : ℕ) (w0 w1 w2 : Medium) → w1.now ≡ 
 behind_from g h i w0 w1 w2 now b = record {
   named = b.named;
   image = b.image ∙ ap (λ (c : List ℕ). area_state g (named_area (layout_of g) c) c) now;
-  calm = b.calm;
+  synced = b.synced;
   header = b.header;
   refused = b.refused;
 }
@@ -166,7 +166,7 @@ bad_behind BadChain w0 w1 g is_area named head bad = absurd bad
 -- nothing is unsynced then
 pub bad_synced : (g : Geometry) (h : ℕ) (e : OpenFault) (w0 w1 : Medium) → e ≢ Device → IsBad g h w0 w1 e → IsSynced w1
 bad_synced g h Device w0 w1 other bad = absurd (other refl)
-bad_synced g h (BadRecord k i) w0 w1 other bad = bad.1.calm
+bad_synced g h (BadRecord k i) w0 w1 other bad = bad.1.synced
 bad_synced g h TooShort w0 w1 other bad = absurd bad
 bad_synced g h NotFormatted w0 w1 other bad = absurd bad
 bad_synced g h BadGeometry w0 w1 other bad = absurd bad
@@ -194,9 +194,9 @@ unwritten_from (BadRecord h i) w0 w1 w2 now from is =
     )
 
 pub unwritten_then : (w0 w1 w2 : Medium) → AreBytes w0.now → IsSynced w1 → w1.now ≡ w0.now → CrashImagesAre w0 w1 (IsCrashImage w0) → IsUnwritten w1 w2 → IsUnwritten w0 w2
-unwritten_then w0 w1 w2 are calm now first is = record {
+unwritten_then w0 w1 w2 are synced now first is = record {
   now = is.now ∙ now;
-  later = then w0 w1 w2 _ first (weaker w1 w2 _ _ is.later (λ c left. subst (λ (l : List ℕ). IsCrashImage w0 l) (sym (calm_left w1 c calm left ∙ now)) (itself w0.now w0.unsynced are)));
+  later = then w0 w1 w2 _ first (weaker w1 w2 _ _ is.later (λ c left. subst (λ (l : List ℕ). IsCrashImage w0 l) (sym (synced_left w1 c synced left ∙ now)) (itself w0.now w0.unsynced are)));
 }
 
 -- ---- the first sync
@@ -205,10 +205,10 @@ pub never_synced : (w0 w1 : Medium) → CrashImagesAre w0 w1 (IsCrashImage w0) �
 never_synced w0 w1 first = record { synced = w1; first = first; rest = inl refl }
 
 pub synced_then : (w0 w1 w2 : Medium) → IsSynced w1 → w1.now ≡ w0.now → CrashImagesAre w0 w1 (IsCrashImage w0) → CrashImagesAre w1 w2 (RecoversAs w1.now) → OpeningCrashImages w0 w2
-synced_then w0 w1 w2 calm now first later = record {
+synced_then w0 w1 w2 synced now first later = record {
   synced = w1;
   first = first;
-  rest = inr (record { calm = calm; now = now; later = subst (λ (c : List ℕ). CrashImagesAre w1 w2 (RecoversAs c)) now later });
+  rest = inr (record { synced = synced; now = now; later = subst (λ (c : List ℕ). CrashImagesAre w1 w2 (RecoversAs c)) now later });
 }
 
 -- ---- what a read leaves
@@ -219,7 +219,7 @@ unsynced_in (m ∷ ms) = m.unsynced
 
 pub still_synced : (w0 w1 : Medium) → moments w1 ≡ moments w0 → IsSynced w0 → IsSynced w1
 unfolding unsynced_in
-still_synced w0 w1 only calm = ap (λ (ms : List Moment). unsynced_in ms) only ∙ calm ∙ ap (λ (l : List ℕ). replicate (length l) false) (sym (same_bytes w0 w1 only))
+still_synced w0 w1 only synced = ap (λ (ms : List Moment). unsynced_in ms) only ∙ synced ∙ ap (λ (l : List ℕ). replicate (length l) false) (sym (same_bytes w0 w1 only))
 
 pub same_unsynced : (w0 w1 : Medium) → moments w1 ≡ moments w0 → w1.unsynced ≡ w0.unsynced
 unfolding unsynced_in
@@ -229,7 +229,7 @@ pub leaves_read : (w0 w1 : Medium) → moments w1 ≡ moments w0 → (c : List �
 leaves_read w0 w1 only c left = subst (λ (l : List Bool). IsTornFrom w0.now l c) (same_unsynced w0 w1 only) (subst (λ (l : List ℕ). IsTornFrom l w1.unsynced c) (same_bytes w0 w1 only) left)
 
 -- once a cut was finished and the records behind it were run
-pub alone_finished : {log : Log} {w0 w1 w2 : Medium} {y : State} → AreBytes w2.now → RecoversStill log.geometry w0 w2 → holds log.geometry w0.now
+pub alone_finished : {log : Log} {w0 w1 w2 : Medium} {y : State} → AreBytes w2.now → RecoversStill log.geometry w0 w2 → recovered_state log.geometry w0.now
     ≡ Some y → IsFinished log w0 w1 → moments w2 ≡ moments w1 → IsAlone (finished_now log) w2
 alone_finished {log} {w0} {w1} {w2} are still held finished only =
     let now = still_now log.geometry w0 w2 are still in
@@ -254,7 +254,7 @@ pub record IsFinishedCut (g : Geometry) (h : ℕ) (old new : Medium) : Type 0 wh
   pub alike : IsRefusedAlike g old.now new.now
   pub named : named_area (layout_of g) new.now ≡ h
   pub image : read g (image_in g h new) ≡ area_state g (named_area (layout_of g) old.now) old.now
-  pub calm : IsSynced new
+  pub synced : IsSynced new
 
 -- A record that can't be run is one of the half whose records are run, once the cut before it is finished: its area is named,
 -- and the device is refused for it as it was.
@@ -278,7 +278,7 @@ bad_half {g} {h} o {w0} {w2} (BadRecord k j) some is head why done =
       record {
         named = done.named ∙ sym own;
         image = ap (λ (n : ℕ). read g (image_in g n w2)) own ∙ done.image;
-        calm = done.calm;
+        synced = done.synced;
         header = done.alike.header;
         refused = done.alike.refused ∙ ap (λ (x : Geometry). refused x w0.now) (same_geometry g why.geometry (sym head ∙ why.header)) ∙ why.is;
       },

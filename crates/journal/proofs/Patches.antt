@@ -120,7 +120,7 @@ patch_synced {g} {area} {bytes} {w0} {w} is_area size whole so_far syncs =
     (record {
       same = so_far.same;
       is = all_done (image_size g) bytes (image_in g area w0) (image_in g area w) size (image_long g area w is_area (omega (arith, whole, so_far.same.size))) so_far.up_to;
-      calm = refl;
+      synced = refl;
     })
 
 pub along_patch : {g : Geometry} {area from from' : ℕ} {bytes : List ℕ} {w0 w w' : Medium} → from' ≡ from → w' ≡ w → IsPatched g area from bytes w0 w → IsPatched g area from' bytes w0 w'

@@ -3,7 +3,7 @@ use Rattle.std.proofs.Common.{◌≡◌, ◌≢◌, ◌<◌, ◌-◌, ℕ, Bool,
 use Rattle.std.proofs.lemmas.Bool.{cases_eq}
 use Rattle.std.proofs.lemmas.List.{get_or-set_other}
 use Rattle.affinity.specs.declared.geometry.Geometry.{Geometry}
-use Rattle.checkpoint.specs.Recovery.{holds, means}
+use Rattle.checkpoint.specs.Recovery.{recovered_state, means}
 use Rattle.disk.specs.Device.{AreBytes, IsCrashImage, Medium}
 use Rattle.disk.specs.Moments.{CrashImagesAre}
 use Rattle.disk.proofs.Leaves.{itself}
@@ -68,24 +68,25 @@ pub pieced_along : {g g' : Geometry} {a a' n : ℕ} {bytes bytes' : List ℕ} {w
 pieced_along {g'} {a} {a'} {n} {bytes} {w0} {w1} same same' are held =
     subst (λ (l : List ℕ). IsPieced g' (other a') n l w0 w1) are (subst (λ (b : ℕ). IsPieced g' (other b) n bytes w0 w1) same' (subst (λ (x : Geometry). IsPieced x (other a) n bytes w0 w1) same held))
 
-module _ {log : Log} {frozen : List ℕ} {named others due : List Bool} {left : Option ℕ} {w0 : Medium} (w1 : Medium) (are : AreBytes w0.now)
-    (sound : IsSoundJournal log frozen named others due left w0) where
+module _ {log : Log} {snapshot : List ℕ} {named others due : List Bool} {left : Option ℕ} {w0 : Medium} (w1 : Medium) (are : AreBytes w0.now)
+    (sound : IsSoundJournal log snapshot named others due left w0) where
   is_area : log.named < 2
-  is_area = named_below log.geometry log.named log.current (holds log.geometry w0.now) w0 are sound.recovers
+  is_area = named_below log.geometry log.named log.current (recovered_state log.geometry w0.now) w0 are sound.recovers
 
   by_piece : ChangesOnly w0 w1 (IsSameBut (layout_of log.geometry) (image (other log.named)))
-      → CrashImagesAre w0 w1 (RecoversBy (means log.geometry) (layout_of log.geometry) log.named log.current (holds log.geometry w0.now))
-  by_piece moments = image_by_area (means log.geometry) (layout_of log.geometry) log.named log.current (holds log.geometry w0.now) w0 w1 is_area sound.recovers moments
+      → CrashImagesAre w0 w1 (RecoversBy (means log.geometry) (layout_of log.geometry) log.named log.current (recovered_state log.geometry w0.now))
+  by_piece moments = image_by_area (means log.geometry) (layout_of log.geometry) log.named log.current (recovered_state log.geometry w0.now) w0 w1 is_area sound.recovers moments
 
-  pub piece_moments : ChangesOnly w0 w1 (IsSameBut (layout_of log.geometry) (image (other log.named))) → CrashImagesAre w0 w1 (λ c. holds log.geometry c ≡ holds log.geometry w0.now)
-  piece_moments moments = holds_moments log.geometry log.named log.current (holds log.geometry w0.now) w0 w1 (by_piece moments)
+  pub piece_moments : ChangesOnly w0 w1 (IsSameBut (layout_of log.geometry) (image (other log.named)))
+      → CrashImagesAre w0 w1 (λ c. recovered_state log.geometry c ≡ recovered_state log.geometry w0.now)
+  piece_moments moments = holds_moments log.geometry log.named log.current (recovered_state log.geometry w0.now) w0 w1 (by_piece moments)
 
   module _ (are' : AreBytes w1.now) where
-    recovers : ChangesOnly w0 w1 (IsSameBut (layout_of log.geometry) (image (other log.named))) → RecoversByArea log.geometry log.named log.current (holds log.geometry w0.now) w1
+    recovers : ChangesOnly w0 w1 (IsSameBut (layout_of log.geometry) (image (other log.named))) → RecoversByArea log.geometry log.named log.current (recovered_state log.geometry w0.now) w1
     recovers moments = leaves_now w0 w1 _ (by_piece moments)
 
-    pub piece_same : ChangesOnly w0 w1 (IsSameBut (layout_of log.geometry) (image (other log.named))) → holds log.geometry w1.now ≡ holds log.geometry w0.now
-    piece_same moments = holds_now log.geometry log.named log.current (holds log.geometry w0.now) w1 are' (recovers moments)
+    pub piece_same : ChangesOnly w0 w1 (IsSameBut (layout_of log.geometry) (image (other log.named))) → recovered_state log.geometry w1.now ≡ recovered_state log.geometry w0.now
+    piece_same moments = holds_now log.geometry log.named log.current (recovered_state log.geometry w0.now) w1 are' (recovers moments)
 
     each_forced : ChangesOnly w0 w1 (IsSameBut (layout_of log.geometry) (image (other log.named))) → (c : List ℕ) → IsCrashImage w1 c → records_in log.geometry c ≡ records_in log.geometry w0.now
     each_forced moments c left =
@@ -95,30 +96,31 @@ module _ {log : Log} {frozen : List ℕ} {named others due : List Bool} {left : 
     pub piece_records : ChangesOnly w0 w1 (IsSameBut (layout_of log.geometry) (image (other log.named))) → records_in log.geometry w1.now ≡ records_in log.geometry w0.now
     piece_records moments = each_forced moments w1.now (itself w1.now w1.unsynced are')
 
-    pub piece_sound : (n l count : ℕ) → left ≡ Some l → n < length due → IsPieced log.geometry (other log.named) n frozen w0 w1
-        → IsSoundJournal log frozen named others (set due n false) (Some count) w1
+    pub piece_sound : (n l count : ℕ) → left ≡ Some l → n < length due → IsPieced log.geometry (other log.named) n snapshot w0 w1
+        → IsSoundJournal log snapshot named others (set due n false) (Some count) w1
     piece_sound n l count is_left few pieced =
         let same = piece_same pieced.moments in
-        let sound' = subst (λ (o : Option ℕ). IsSoundJournal log frozen named others due o w0) is_left sound in
+        let sound' = subst (λ (o : Option ℕ). IsSoundJournal log snapshot named others due o w0) is_left sound in
         let other_half = half_same (layout_of log.geometry) (other log.named) w0.now w1.now (pieced.same.others (half (other log.named)) (λ is. omega (arith, is))) in
         record {
           some = ap is_some same ∙ sound.some;
           recovers = subst (λ (o : Option State). RecoversByArea log.geometry log.named log.current o w1) (sym same) (recovers pieced.moments);
-          ready = pieced.ready log.current log.used (half_below log.geometry log.named log.current (holds log.geometry w0.now) w0 are sound.recovers) sound.ready;
+          ready = pieced.ready log.current log.used (half_below log.geometry log.named log.current (recovered_state log.geometry w0.now) w0 are sound.recovers) sound.ready;
           forced = λ c left. each_forced pieced.moments c left ∙ sym (piece_records pieced.moments);
           count = λ none. absurd (true≢false (ap is_some none));
           state = λ x is. sound.state x (sym same ∙ is);
           named_fresh =
               subst (λ (o : Option State). IsFresh log.geometry o named (image_in log.geometry log.named w1)) (sym same)
-              (subst (λ (l : List ℕ). IsFresh log.geometry (holds log.geometry w0.now) named l) (sym (pieced.same.others (image log.named) (λ is. omega (arith, is, is_area)))) sound.named_fresh);
-          frozen_fresh = λ none. absurd (true≢false (ap is_some none));
-          others_fresh = subst (λ (o : Option State). IsFresh log.geometry o others frozen) (sym same) sound'.others_fresh;
+              (subst (λ (l : List ℕ). IsFresh log.geometry (recovered_state log.geometry w0.now) named l)
+                  (sym (pieced.same.others (image log.named) (λ is. omega (arith, is, is_area)))) sound.named_fresh);
+          snapshot_fresh = λ none. absurd (true≢false (ap is_some none));
+          others_fresh = subst (λ (o : Option State). IsFresh log.geometry o others snapshot) (sym same) sound'.others_fresh;
           by_cut = record {
-            behind = ap (λ (rs : List (List ℕ)). run_on log.geometry (read log.geometry frozen) rs) other_half.0 ∙ sound'.by_cut.behind ∙ sym same;
+            behind = ap (λ (rs : List (List ℕ)). run_on log.geometry (read log.geometry snapshot) rs) other_half.0 ∙ sound'.by_cut.behind ∙ sym same;
             written = λ i few' clean.
                 ⊎_elim
                 (λ (here : i ≡ n). ap (λ (j : ℕ). extent_in log.geometry (image_in log.geometry (other log.named) w1) j) here ∙ pieced.is.is
-                ∙ sym (ap (λ (j : ℕ). extent_in log.geometry frozen j) here))
+                ∙ sym (ap (λ (j : ℕ). extent_in log.geometry snapshot j) here))
                 (λ (elsewhere : i ≢ n). pieced.is.others i few' elsewhere ∙ sound'.by_cut.written i few' (sym (get_or-set_other due n i false true elsewhere) ∙ clean))
                 (cases_eq i n);
             version = sound'.by_cut.version;

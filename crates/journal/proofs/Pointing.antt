@@ -1,10 +1,10 @@
 -- What a crash leaves at each moment of a point, and what is on the device at its end.
 use Rattle.std.proofs.Common.{◌≡◌, ◌<◌, ◌≤◌, ℕ, Bool, true, false, eqb, List, [], length, Option, is_some, refl, sym, ◌∙◌, ap, subst, arith}
 use Rattle.affinity.specs.declared.geometry.Geometry.{Geometry}
-use Rattle.checkpoint.specs.Recovery.{holds, means}
+use Rattle.checkpoint.specs.Recovery.{recovered_state, means}
 use Rattle.disk.specs.Device.{AreBytes, Medium}
 use Rattle.disk.specs.Moments.{CrashImagesAre}
-use Rattle.disk.proofs.Leaves.{calm_left, itself}
+use Rattle.disk.proofs.Leaves.{synced_left, itself}
 use Rattle.disk.proofs.Moments.{leaves_now, then, weaker}
 use Rattle.image.specs.Image.{read}
 use Rattle.journal.specs.Steps.{RecoversByArea}
@@ -23,7 +23,7 @@ module _ (g : Geometry) (n : ℕ) (x : Option State) (is_area : n < 2) (w0 w1 : 
   by_clear : CrashImagesAre w0 w1 (RecoversBy (means g) (layout_of g) n n x)
   by_clear = clear_by_area (means g) (layout_of g) n x w0 w1 is_area recovers clears
 
-  pub clear_moments : CrashImagesAre w0 w1 (λ c. holds g c ≡ x)
+  pub clear_moments : CrashImagesAre w0 w1 (λ c. recovered_state g c ≡ x)
   clear_moments = holds_moments g n n x w0 w1 by_clear
 
   pub clear_recovers : RecoversByArea g n n x w1
@@ -33,7 +33,7 @@ module _ (g : Geometry) (n : ℕ) (x : Option State) (is_area : n < 2) (w0 w1 : 
     by_image : CrashImagesAre w0 w2 (RecoversBy (means g) (layout_of g) n n x)
     by_image = then w0 w1 w2 _ by_clear (image_by_area (means g) (layout_of g) n n x w1 w2 is_area clear_recovers writes)
 
-    pub image_moments : CrashImagesAre w0 w2 (λ c. holds g c ≡ x)
+    pub image_moments : CrashImagesAre w0 w2 (λ c. recovered_state g c ≡ x)
     image_moments = holds_moments g n n x w0 w2 by_image
 
     module _ (some : is_some x ≡ true) (bytes : List ℕ) (reads : read g bytes ≡ x) (cleared : Cleared (layout_of g) (other n) w0 w1) (imaged : Imaged g (other n) bytes w1 w2) where
@@ -61,9 +61,9 @@ module _ (g : Geometry) (n : ℕ) (x : Option State) (is_area : n < 2) (w0 w1 : 
       either_way : RecoversEitherWay (means g) (layout_of g) x w2
       either_way c left =
           let own = (image_recovers c left).is in
-          both_of (λ (k : ℕ). recovers_as (means g) (layout_of g) k c ≡ x) n is_area own (other_recovers c (calm_left w2 c imaged.calm left) own)
+          both_of (λ (k : ℕ). recovers_as (means g) (layout_of g) k c ≡ x) n is_area own (other_recovers c (synced_left w2 c imaged.synced left) own)
 
-      pub flip_moments : (w3 : Medium) → ChangesOnly w2 w3 (IsSameButRoot (layout_of g)) → CrashImagesAre w0 w3 (λ c. holds g c ≡ x)
+      pub flip_moments : (w3 : Medium) → ChangesOnly w2 w3 (IsSameButRoot (layout_of g)) → CrashImagesAre w0 w3 (λ c. recovered_state g c ≡ x)
       flip_moments w3 flips =
           then w0 w2 w3 _ image_moments
           (weaker w2 w3 _ _ (torn_root_recovers (means g) (layout_of g) x w2 w3 either_way flips) (λ c recovered_before. holds_by g _ _ x c recovered_before))
@@ -86,8 +86,8 @@ module _ (g : Geometry) (n : ℕ) (x : Option State) (is_area : n < 2) (w0 w1 : 
         pub now_ready : IsReady (layout_of g) (other n) 0 w3
         now_ready =
             ready_kept {w = w2} (omega arith) (λ is. omega (arith, is)) (omega (arith, fits, long_1, long_2, long_3))
-            (ready_kept (omega arith) (λ is. omega (arith, is)) (omega (arith, fits, long_1, long_2)) cleared.ready imaged.same imaged.calm)
-            flipped.same.same flipped.calm
+            (ready_kept (omega arith) (λ is. omega (arith, is)) (omega (arith, fits, long_1, long_2)) cleared.ready imaged.same imaged.synced)
+            flipped.same.same flipped.synced
 
         half_still : (front (layout_of g) (other n) w3.now ≡ front (layout_of g) (other n) w2.now) × (chain (layout_of g) (other n) w3.now ≡ chain (layout_of g) (other n) w2.now)
         half_still = half_same (layout_of g) (other n) w2.now w3.now (flipped.same.same.others (half (other n)) (λ is. omega (arith, is)))

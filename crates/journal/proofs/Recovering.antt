@@ -2,7 +2,7 @@
 use Rattle.std.proofs.Common.{◌≡◌, ◌<◌, ℕ, zero, suc, Bool, true, false, not, ◌&&◌, cond, eqb, nat_le, ◌+◌, List, [], ◌++◌, length, drop, get_or, Option, Some, None, is_some, refl, sym, ◌∙◌, ap, arith, true≢false}
 use Rattle.affinity.specs.declared.geometry.Geometry.{Geometry}
 use Rattle.checkpoint.specs.Header.{is_header}
-use Rattle.checkpoint.specs.Recovery.{holds, means}
+use Rattle.checkpoint.specs.Recovery.{recovered_state, means}
 use Rattle.disk.specs.Device.{AreBytes, Medium}
 use Rattle.disk.specs.Moments.{CrashImagesAre}
 use Rattle.disk.proofs.Leaves.{itself}
@@ -18,13 +18,13 @@ use Rattle.meaning.specs.State.{State}
 
 -- ---- by the area that it names
 
-pub holds_by : (g : Geometry) (n h : ℕ) (x : Option State) (c : List ℕ) → RecoversBy (means g) (layout_of g) n h x c → holds g c ≡ x
+pub holds_by : (g : Geometry) (n h : ℕ) (x : Option State) (c : List ℕ) → RecoversBy (means g) (layout_of g) n h x c → recovered_state g c ≡ x
 holds_by g n h x c recovered_before = ap (λ (k : ℕ). recovers_as (means g) (layout_of g) k c) recovered_before.named ∙ recovered_before.is
 
-pub holds_moments : (g : Geometry) (n h : ℕ) (x : Option State) (w0 w1 : Medium) → CrashImagesAre w0 w1 (RecoversBy (means g) (layout_of g) n h x) → CrashImagesAre w0 w1 (λ c. holds g c ≡ x)
+pub holds_moments : (g : Geometry) (n h : ℕ) (x : Option State) (w0 w1 : Medium) → CrashImagesAre w0 w1 (RecoversBy (means g) (layout_of g) n h x) → CrashImagesAre w0 w1 (λ c. recovered_state g c ≡ x)
 holds_moments g n h x w0 w1 moments = weaker w0 w1 _ _ moments (holds_by g n h x)
 
-pub holds_now : (g : Geometry) (n h : ℕ) (x : Option State) (m : Medium) → AreBytes m.now → RecoversByArea g n h x m → holds g m.now ≡ x
+pub holds_now : (g : Geometry) (n h : ℕ) (x : Option State) (m : Medium) → AreBytes m.now → RecoversByArea g n h x m → recovered_state g m.now ≡ x
 holds_now g n h x m are recovers = holds_by g n h x m.now (recovers m.now (itself m.now m.unsynced are))
 
 -- ---- by the other one

@@ -8,7 +8,7 @@ use Rattle.checkpoint.specs.Refusals.{refused}
 use Rattle.checkpoint.proofs.Behind.{image_fine, refused_alone, refused_behind}
 use Rattle.disk.specs.Device.{AreBytes, IsSynced, Medium}
 use Rattle.disk.specs.Moments.{CrashImagesAre}
-use Rattle.disk.proofs.Leaves.{calm_left}
+use Rattle.disk.proofs.Leaves.{synced_left}
 use Rattle.disk.proofs.Moments.{then, weaker}
 use Rattle.image.specs.Image.{read}
 use Rattle.journal.specs.Parts.{IsRefusedAlike}
@@ -72,7 +72,7 @@ this_or_other (suc (suc n)) k is_area below = absurd (omega (arith, is_area))
 this_or_other zero (suc (suc k)) is_area below = absurd (omega (arith, below))
 this_or_other (suc zero) (suc (suc k)) is_area below = absurd (omega (arith, below))
 
-module _ (g : Geometry) (n : ℕ) (is_area : n < 2) (x : State) (w0 w1 : Medium) (calm : IsSynced w0) (is : NamedHolds g w0.now n true x) where
+module _ (g : Geometry) (n : ℕ) (is_area : n < 2) (x : State) (w0 w1 : Medium) (synced : IsSynced w0) (is : NamedHolds g w0.now n true x) where
   beside : (a c : List ℕ) → IsSameBut (layout_of g) (image (other n)) a c → AreSame g n a c
   beside a c change = record {
     size = change.size;
@@ -96,7 +96,7 @@ module _ (g : Geometry) (n : ℕ) (is_area : n < 2) (x : State) (w0 w1 : Medium)
   pub image_alike : ChangesOnly w0 w1 (IsSameBut (layout_of g) (image (other n))) → CrashImagesAre w0 w1 (IsRefusedAlike g w0.now)
   image_alike writes =
       weaker w0 w1 _ _ writes
-      (λ c after. torn_image c (subst (λ (l : List ℕ). IsSameBut (layout_of g) (image (other n)) l c) (calm_left w0 after.old calm after.left) after.change))
+      (λ c after. torn_image c (subst (λ (l : List ℕ). IsSameBut (layout_of g) (image (other n)) l c) (synced_left w0 after.old synced after.left) after.change))
 
   module _ (are : AreBytes w1.now) (bytes : List ℕ) (reads : read g bytes ≡ Some x) (imaged : Imaged g (other n) bytes w0 w1) where
     now_names : named_area (layout_of g) w1.now ≡ n
@@ -142,4 +142,4 @@ module _ (g : Geometry) (n : ℕ) (is_area : n < 2) (x : State) (w0 w1 : Medium)
     finish_alike w2 writes flips =
         (then) w0 w1 w2 _ (image_alike writes)
         (weaker w1 w2 _ _ flips
-        (λ c after. torn_root c (subst (λ (l : List ℕ). IsSameButRoot (layout_of g) l c) (calm_left w1 after.old imaged.calm after.left) after.change)))
+        (λ c after. torn_root c (subst (λ (l : List ℕ). IsSameButRoot (layout_of g) l c) (synced_left w1 after.old imaged.synced after.left) after.change)))

@@ -18,8 +18,8 @@ abbrev pub count_runs : List Bool → ℕ
 count_runs dirty = runs_after false dirty
 
 -- A point writes these and syncs once; a write and a sync clear the other half before, and two more name the image.
-abbrev pub point_takes : List Bool → ℕ
-point_takes dirty = count_runs dirty + 5
+abbrev pub point_cost : List Bool → ℕ
+point_cost dirty = count_runs dirty + 5
 
 -- the most that it takes: where every other piece is dirty, from the first one on
 abbrev pub longest_point : Geometry → ℕ
@@ -27,9 +27,9 @@ longest_point g = (piece_count g + 1) / 2 + 5
 
 -- A cut in progress, of which the named half is chained, is finished by a write and a sync of the whole image, and by two
 -- calls that name it.
-abbrev pub finish_takes : Geometry → List ℕ → ℕ
-finish_takes g c = if chain (layout_of g) (named_area (layout_of g) c) c == 1 then 4 else 0
+abbrev pub finish_cost : Geometry → List ℕ → ℕ
+finish_cost g c = if chain (layout_of g) (named_area (layout_of g) c) c == 1 then 4 else 0
 
 -- An opening syncs before that, and makes a point of the whole image after it.
-abbrev pub opening_takes : Geometry → List ℕ → ℕ
-opening_takes g c = finish_takes g c + 7
+abbrev pub opening_cost : Geometry → List ℕ → ℕ
+opening_cost g c = finish_cost g c + 7

@@ -46,7 +46,7 @@ image_in g area m = part_bytes (layout_of g) (image area) m.now
 pub record Imaged (g : Geometry) (area : ℕ) (bytes : List ℕ) (old new : Medium) : Type 0 where
   pub same : IsSameBut (layout_of g) (image area) old.now new.now
   pub is : image_in g area new ≡ bytes
-  pub calm : IsSynced new
+  pub synced : IsSynced new
 
 -- Extent n is now that of these bytes, and each other one is as it was.
 pub record IsPatchedAt (g : Geometry) (n : ℕ) (bytes old new : List ℕ) : Type 0 where

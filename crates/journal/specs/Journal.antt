@@ -1,7 +1,7 @@
 -- Statement for operators: A journal as contracts see it, and what its calls leave.
 use Rattle.std.specs.Prelude.{◌≡◌, ◌≤◌, ℕ, ◌+◌, Bool, true, List, [], ◌∷◌, length, take, Option, Some, None, is_some, Result, Ok, Err}
 use Rattle.affinity.specs.declared.geometry.Geometry.{Geometry}
-use Rattle.checkpoint.specs.Recovery.{holds}
+use Rattle.checkpoint.specs.Recovery.{recovered_state}
 use Rattle.disk.specs.Device.{Medium, IsCrashImage}
 use Rattle.journal.specs.DirtyPieces.{DirtyPieces}
 use Rattle.messages.specs.declared.Msg.{Msg}
@@ -26,7 +26,7 @@ pub record JournalView : Type 0 where
 
 -- what the device recovers to
 abbrev pub committed : JournalView → Option State
-committed j = holds j.geometry j.medium.now
+committed j = recovered_state j.geometry j.medium.now
 
 -- the records in force on a device with these bytes
 abbrev pub records_in : Geometry → List ℕ → List (List ℕ)
@@ -37,9 +37,9 @@ records j = records_in j.geometry j.medium.now
 
 -- It recovers to a state, and so does whatever a crash leaves now, with the same records in force. While no cut is in
 -- progress, a half has room for these and for as many more as can still be logged.
-pub record IsCommitted (j : JournalView) : Type 0 where
+pub record IsRecoverable (j : JournalView) : Type 0 where
   pub some : is_some (committed j) ≡ true
-  pub each : (c : List ℕ) → IsCrashImage j.medium c → holds j.geometry c ≡ committed j
+  pub each : (c : List ℕ) → IsCrashImage j.medium c → recovered_state j.geometry c ≡ committed j
   pub forced : (c : List ℕ) → IsCrashImage j.medium c → records_in j.geometry c ≡ records j
   pub room : j.left ≡ None → length (records j) + j.room ≡ j.geometry.half
 
@@ -49,11 +49,11 @@ AreCarriedOut g x [] = Unit {0}
 AreCarriedOut g x (m ∷ ms) = IsMessage m × IsChangeInRange g m × (is_loggable m (reply_to g x m) ≡ true)
     × AreCarriedOut g (next_state g x m) ms
 
--- These bytes recover to x with the first so many of these messages run on it.
+-- These bytes recover to x with a prefix of these messages run on it.
 pub record HoldsSome (g : Geometry) (x : State) (ms : List Msg) (c : List ℕ) : Type 0 where
   pub added : ℕ
   pub at_most : added ≤ length ms
-  pub is : holds g c ≡ Some (fold g x (take added ms))
+  pub is : recovered_state g c ≡ Some (fold g x (take added ms))
 
 -- after a call with this answer: at `Ok` as given, and else failed
 abbrev pub after_call : {T E : Type 0} → Result T E → JournalView → JournalView → JournalView

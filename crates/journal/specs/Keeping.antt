@@ -1,7 +1,7 @@
 -- Inner: What a journal keeps true of its device between calls.
 use Rattle.std.specs.Prelude.{◌≡◌, ◌<◌, ◌-◌, ℕ, Bool, true, false, List, length, get_or, Option, Some, None, is_some}
 use Rattle.affinity.specs.declared.geometry.Geometry.{Geometry}
-use Rattle.checkpoint.specs.Recovery.{holds}
+use Rattle.checkpoint.specs.Recovery.{recovered_state}
 use Rattle.disk.specs.Device.{IsCrashImage, Medium}
 use Rattle.image.specs.Image.{read, version_in}
 use Rattle.journal.specs.Journal.{JournalView, records_in}
@@ -28,15 +28,15 @@ AreCleanBefore n dirty = (i : ℕ) → i < n → get_or dirty i false ≡ false
 
 -- A cut is in progress: its image, with the records of the other half run on it, leads to what the device recovers to, and
 -- each of its extents that isn't due is on the device. Its image is one of version 2.
-pub record IsCut (log : Log) (frozen : List ℕ) (due : List Bool) (m : Medium) : Type 0 where
-  pub behind : run_on log.geometry (read log.geometry frozen) (front (layout_of log.geometry) (other log.named) m.now)
-      ≡ holds log.geometry m.now
-  pub written : AgreeOnClean log.geometry due (image_in log.geometry (other log.named) m) frozen
-  pub version : version_in frozen ≡ 2
+pub record IsCut (log : Log) (snapshot : List ℕ) (due : List Bool) (m : Medium) : Type 0 where
+  pub behind : run_on log.geometry (read log.geometry snapshot) (front (layout_of log.geometry) (other log.named) m.now)
+      ≡ recovered_state log.geometry m.now
+  pub written : AgreeOnClean log.geometry due (image_in log.geometry (other log.named) m) snapshot
+  pub version : version_in snapshot ≡ 2
 
 abbrev pub IsCutOr : Log → List ℕ → List Bool → Option ℕ → Medium → Type 0
-IsCutOr log frozen due None m = Unit {0}
-IsCutOr log frozen due (Some left) m = IsCut log frozen due m
+IsCutOr log snapshot due None m = Unit {0}
+IsCutOr log snapshot due (Some left) m = IsCut log snapshot due m
 
 -- which half is current, and how many extents are due
 abbrev pub IsCutState : Log → List Bool → Option ℕ → Type 0
@@ -45,25 +45,25 @@ IsCutState log due (Some left) = (log.current ≡ other log.named) × (count_dir
 
 -- the image that the area that isn't named has, or will have once the cut is written
 abbrev pub coming : Log → List ℕ → Option ℕ → Medium → List ℕ
-coming log frozen None m = image_in log.geometry (other log.named) m
-coming log frozen (Some left) m = frozen
+coming log snapshot None m = image_in log.geometry (other log.named) m
+coming log snapshot (Some left) m = snapshot
 
 -- ---- the journal
 
 -- What holds of a journal whose device has not failed and keeps its bytes. The lists are the dirty flags of the named area and
 -- of the other one, and the flags of what is due.
-pub record IsSoundJournal (log : Log) (frozen : List ℕ) (named others due : List Bool) (left : Option ℕ) (m : Medium) : Type 0 where
-  pub some : is_some (holds log.geometry m.now) ≡ true
-  pub recovers : RecoversByArea log.geometry log.named log.current (holds log.geometry m.now) m
+pub record IsSoundJournal (log : Log) (snapshot : List ℕ) (named others due : List Bool) (left : Option ℕ) (m : Medium) : Type 0 where
+  pub some : is_some (recovered_state log.geometry m.now) ≡ true
+  pub recovers : RecoversByArea log.geometry log.named log.current (recovered_state log.geometry m.now) m
   pub ready : IsReadyFor log m
   pub forced : (c : List ℕ) → IsCrashImage m c → records_in log.geometry c ≡ records_in log.geometry m.now
   pub count : left ≡ None → length (records_in log.geometry m.now) ≡ log.used
-  pub state : (x : State) → holds log.geometry m.now ≡ Some x → IsState log.geometry x
-  pub named_fresh : IsFresh log.geometry (holds log.geometry m.now) named (image_in log.geometry log.named m)
+  pub state : (x : State) → recovered_state log.geometry m.now ≡ Some x → IsState log.geometry x
+  pub named_fresh : IsFresh log.geometry (recovered_state log.geometry m.now) named (image_in log.geometry log.named m)
   -- while no cut is in progress, the last snapshot is the named image, so that the same flags hold of it
-  pub frozen_fresh : left ≡ None → IsFresh log.geometry (holds log.geometry m.now) named frozen
-  pub others_fresh : IsFresh log.geometry (holds log.geometry m.now) others (coming log frozen left m)
-  pub by_cut : IsCutOr log frozen due left m
+  pub snapshot_fresh : left ≡ None → IsFresh log.geometry (recovered_state log.geometry m.now) named snapshot
+  pub others_fresh : IsFresh log.geometry (recovered_state log.geometry m.now) others (coming log snapshot left m)
+  pub by_cut : IsCutOr log snapshot due left m
 
 abbrev pub journal_view_of : Log → List Bool → List Bool → Option ℕ → Bool → Medium → JournalView
 journal_view_of log named others left failed m = record {

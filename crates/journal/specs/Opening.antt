@@ -4,12 +4,12 @@ use Rattle.affinity.specs.declared.geometry.Geometry.{Geometry}
 use Rattle.checkpoint.specs.declared.fault.OpenFault.{OpenFault}
 use Rattle.checkpoint.specs.declared.fault.OpenFault.TheVariants.{Device, BadRecord}
 use Rattle.checkpoint.specs.Header.{HasHeader}
-use Rattle.checkpoint.specs.Recovery.{holds, means}
+use Rattle.checkpoint.specs.Recovery.{recovered_state, means}
 use Rattle.checkpoint.specs.Refusals.{IsDevice, refused}
 use Rattle.checkpoint.specs.Version.{named_version}
 use Rattle.disk.specs.Device.{Medium, IsCrashImage, IsSynced}
 use Rattle.disk.specs.Moments.{CrashImagesAre}
-use Rattle.journal.specs.Journal.{JournalView, IsCommitted, records, committed}
+use Rattle.journal.specs.Journal.{JournalView, IsRecoverable, records, committed}
 use Rattle.journal.specs.DirtyPieces.{opened_dirty}
 use Rattle.image.specs.Image.{read}
 use Rattle.oplog.specs.Front.{front}
@@ -21,11 +21,11 @@ use Rattle.meaning.specs.State.{State, IsState}
 -- and in whatever a crash leaves now. The named image is that of this state, in version 2; of the other one nothing is known.
 pub record IsOpened (old : Medium) (j : JournalView) (x : State) : Type 0 where
   pub header : HasHeader j.geometry old.now
-  pub fine : refused j.geometry old.now ≡ None
-  pub was : holds j.geometry old.now ≡ Some x
+  pub accepted : refused j.geometry old.now ≡ None
+  pub was : recovered_state j.geometry old.now ≡ Some x
   pub is : committed j ≡ Some x
   pub version : named_version j.geometry j.medium.now ≡ 2
-  pub sound : IsCommitted j
+  pub recoverable : IsRecoverable j
   pub emptied : records j ≡ []
   pub dirty : j.dirty ≡ opened_dirty j.geometry
   pub state : IsState j.geometry x
@@ -35,7 +35,7 @@ pub record IsOpened (old : Medium) (j : JournalView) (x : State) : Type 0 where
 -- These bytes recover to what those before recovered to, or are refused for the same fault as they were. Bytes that were no
 -- device with a header and all its parts are as they were.
 pub record RecoversAs (before c : List ℕ) : Type 0 where
-  pub same : (g : Geometry) (x : State) → holds g before ≡ Some x → holds g c ≡ Some x
+  pub same : (g : Geometry) (x : State) → recovered_state g before ≡ Some x → recovered_state g c ≡ Some x
   pub alike : (g : Geometry) (fault : OpenFault) → HasHeader g before → refused g before ≡ Some fault
       → HasHeader g c × (refused g c ≡ Some fault)
   pub kept : (IsDevice before → ⊥) → c ≡ before
@@ -43,7 +43,7 @@ pub record RecoversAs (before c : List ℕ) : Type 0 where
 -- The first sync is over: nothing was unsynced then, and from then on a crash leaves what recovers to the same, or is refused
 -- for the same fault.
 pub record IsPastSync (old synced new : Medium) : Type 0 where
-  pub calm : IsSynced synced
+  pub synced : IsSynced synced
   pub now : synced.now ≡ old.now
   pub later : CrashImagesAre synced new (RecoversAs old.now)
 
@@ -71,7 +71,7 @@ area_state g n c = run (means g) (read g (part_bytes (layout_of g) (image n) c))
 pub record IsRefusedBehind (g : Geometry) (h i : ℕ) (old new : Medium) : Type 0 where
   pub named : named_area (layout_of g) new.now ≡ h
   pub image : read g (part_bytes (layout_of g) (image h) new.now) ≡ area_state g (named_area (layout_of g) old.now) old.now
-  pub calm : IsSynced new
+  pub synced : IsSynced new
   pub header : HasHeader g new.now
   pub refused : refused g new.now ≡ Some (BadRecord h i)
 

@@ -4,7 +4,7 @@ use Rattle.affinity.specs.declared.geometry.Geometry.{Geometry}
 use Rattle.checkpoint.specs.declared.fault.OpenFault.{OpenFault}
 use Rattle.checkpoint.specs.declared.fault.OpenFault.TheVariants.{Device, BadRecord}
 use Rattle.checkpoint.specs.Header.{HasHeader}
-use Rattle.checkpoint.specs.Recovery.{holds}
+use Rattle.checkpoint.specs.Recovery.{recovered_state}
 use Rattle.checkpoint.specs.Refusals.{refused}
 use Rattle.checkpoint.specs.Version.{named_version}
 use Rattle.disk.specs.Device.{Medium}
@@ -42,7 +42,7 @@ pub record AreUnloaded (p : Parts) : Type 0 where
   pub tree : IsWholeTree p.tree
   pub empty : state_in p.tree ≡ empty
   pub log : p.halves ≡ new_log p.tree.geometry
-  pub frozen : length p.frozen.items ≡ image_size p.tree.geometry
+  pub snapshot : length p.snapshot.items ≡ image_size p.tree.geometry
   pub named_dirty : length p.named_dirty.items ≡ piece_count p.tree.geometry
   pub other_dirty : length p.other_dirty.items ≡ piece_count p.tree.geometry
   pub due : length p.due.items ≡ piece_count p.tree.geometry
@@ -54,17 +54,17 @@ pub record AreUnloaded (p : Parts) : Type 0 where
 pub record AreLoaded (p : Parts) (m : Medium) : Type 0 where
   pub tree : IsWholeTree p.tree
   pub geometry : p.tree.geometry ≡ p.halves.geometry
-  pub fine : p.halves.failed ≡ false
+  pub not_failed : p.halves.failed ≡ false
   pub current_is_named : p.halves.current ≡ p.halves.named
   pub long_enough : HasParts p.halves m
-  pub frozen : length p.frozen.items ≡ image_size p.halves.geometry
+  pub snapshot : length p.snapshot.items ≡ image_size p.halves.geometry
   pub named_dirty : length p.named_dirty.items ≡ piece_count p.halves.geometry
   pub other_dirty : length p.other_dirty.items ≡ piece_count p.halves.geometry
   pub all : AreAllDirty p.halves.geometry p.other_dirty.items
 
 -- No flag has changed, nor the size of the snapshot.
 pub record KeepsRoom (old new : Parts) : Type 0 where
-  pub frozen : length new.frozen.items ≡ length old.frozen.items
+  pub snapshot : length new.snapshot.items ≡ length old.snapshot.items
   pub named_dirty : new.named_dirty ≡ old.named_dirty
   pub other_dirty : new.other_dirty ≡ old.other_dirty
   pub due : new.due ≡ old.due
@@ -72,11 +72,11 @@ pub record KeepsRoom (old new : Parts) : Type 0 where
 -- What a journal is made of: a log with no record and all its room, and the flags of each piece.
 pub record IsMade (p : Parts) (m : Medium) : Type 0 where
   pub geometry : p.halves.geometry ≡ p.tree.geometry
-  pub fine : p.halves.failed ≡ false
+  pub not_failed : p.halves.failed ≡ false
   pub current_is_named : p.halves.current ≡ p.halves.named
   pub used : p.halves.used ≡ 0
   pub long_enough : HasParts p.halves m
-  pub frozen : length p.frozen.items ≡ image_size p.halves.geometry
+  pub snapshot : length p.snapshot.items ≡ image_size p.halves.geometry
   pub named_dirty : length p.named_dirty.items ≡ piece_count p.halves.geometry
   pub other_dirty : length p.other_dirty.items ≡ piece_count p.halves.geometry
   pub dirty : marks_of p ≡ opened_dirty p.halves.geometry
@@ -85,9 +85,9 @@ pub record IsMade (p : Parts) (m : Medium) : Type 0 where
 -- It was opened from a device with these bytes, and the tree holds the state to which they recover.
 pub record IsMadeOf (c : List ℕ) (p : Parts) (m : Medium) : Type 0 where
   pub header : HasHeader p.tree.geometry c
-  pub fine : refused p.tree.geometry c ≡ None
-  pub was : holds p.tree.geometry c ≡ Some (state_in p.tree)
-  pub is : holds p.halves.geometry m.now ≡ Some (state_in p.tree)
+  pub accepted : refused p.tree.geometry c ≡ None
+  pub was : recovered_state p.tree.geometry c ≡ Some (state_in p.tree)
+  pub is : recovered_state p.halves.geometry m.now ≡ Some (state_in p.tree)
   pub version : named_version p.halves.geometry m.now ≡ 2
   pub emptied : in_force (layout_of p.halves.geometry) (named_area (layout_of p.halves.geometry) m.now) m.now ≡ []
-  pub sound : IsSoundJournal p.halves p.frozen.items p.named_dirty.items p.other_dirty.items p.due.items None m
+  pub sound : IsSoundJournal p.halves p.snapshot.items p.named_dirty.items p.other_dirty.items p.due.items None m

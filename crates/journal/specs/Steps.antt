@@ -1,7 +1,7 @@
 -- Inner: The steps of a point on a device: what each asks of it, and what is on it afterwards.
 use Rattle.std.specs.Prelude.{◌≡◌, ◌<◌, ◌==◌, if◌then◌else◌, ℕ, true, false, List, [], ◌++◌, Option, is_some}
 use Rattle.affinity.specs.declared.geometry.Geometry.{Geometry}
-use Rattle.checkpoint.specs.Recovery.{holds, means}
+use Rattle.checkpoint.specs.Recovery.{recovered_state, means}
 use Rattle.disk.specs.Device.{Medium, IsSynced}
 use Rattle.disk.specs.Moments.{CrashImagesAre}
 use Rattle.image.specs.Image.{read}
@@ -17,7 +17,7 @@ use Rattle.meaning.specs.State.{State}
 
 -- A crash at any moment from `old` to `new` leaves a device that recovers to the same as `old`.
 abbrev pub RecoversStill : Geometry → Medium → Medium → Type 0
-RecoversStill g old new = CrashImagesAre old new (λ c. holds g c ≡ holds g old.now)
+RecoversStill g old new = CrashImagesAre old new (λ c. recovered_state g c ≡ recovered_state g old.now)
 
 -- Whatever a crash leaves now names area n, has half h as its current one, and recovers to x.
 abbrev pub RecoversByArea : Geometry → ℕ → ℕ → Option State → Medium → Type 0
@@ -29,8 +29,8 @@ run_on g x records = run (means g) x records
 
 -- It recovers to some state by the named area, with this half as the current one, whatever room that has.
 pub record RecoversWith (log : Log) (half : ℕ) (m : Medium) : Type 0 where
-  pub some : is_some (holds log.geometry m.now) ≡ true
-  pub recovers : RecoversByArea log.geometry log.named half (holds log.geometry m.now) m
+  pub some : is_some (recovered_state log.geometry m.now) ≡ true
+  pub recovers : RecoversByArea log.geometry log.named half (recovered_state log.geometry m.now) m
 
 -- It recovers to a state by the named area and its half alone.
 abbrev pub IsAlone : Log → Medium → Type 0
@@ -41,11 +41,11 @@ IsAlone log m = RecoversWith log log.named m
 pub record LastsAt (g : Geometry) (area half used : ℕ) (x : Option State) (m : Medium) : Type 0 where
   pub recovers : RecoversByArea g area half x m
   pub ready : IsReady (layout_of g) half used m
-  pub calm : IsSynced m
+  pub synced : IsSynced m
 
 -- The other area is named, with this image, no record and all its room. The image that was named is as it was.
 pub record IsPointed (log : Log) (bytes : List ℕ) (old new : Medium) : Type 0 where
-  pub at : LastsAt log.geometry (other log.named) (other log.named) 0 (holds log.geometry old.now) new
+  pub at : LastsAt log.geometry (other log.named) (other log.named) 0 (recovered_state log.geometry old.now) new
   pub emptied : records_in log.geometry new.now ≡ []
   pub is : image_in log.geometry (other log.named) new ≡ bytes
   pub kept : image_in log.geometry log.named new ≡ image_in log.geometry log.named old
@@ -53,7 +53,7 @@ pub record IsPointed (log : Log) (bytes : List ℕ) (old new : Medium) : Type 0 
 -- The other half is in force after the named one, with no record and all its room. The records in force and both images
 -- are as they were.
 pub record IsBegun (log : Log) (old new : Medium) : Type 0 where
-  pub at : LastsAt log.geometry log.named (other log.named) 0 (holds log.geometry old.now) new
+  pub at : LastsAt log.geometry log.named (other log.named) 0 (recovered_state log.geometry old.now) new
   pub none : front (layout_of log.geometry) (other log.named) new.now ≡ []
   pub forced : records_in log.geometry new.now ≡ records_in log.geometry old.now
   pub images : (i : ℕ) → i < 2 → image_in log.geometry i new ≡ image_in log.geometry i old
@@ -65,18 +65,18 @@ pub record IsWritten (log : Log) (bytes : List ℕ) (m : Medium) : Type 0 where
   pub ready : IsReady (layout_of log.geometry) (other log.named) log.used m
   pub is : image_in log.geometry (other log.named) m ≡ bytes
   pub behind : run_on log.geometry (read log.geometry bytes) (front (layout_of log.geometry) (other log.named) m.now)
-      ≡ holds log.geometry m.now
+      ≡ recovered_state log.geometry m.now
 
 -- The other area is named, with the records that it had: they alone are in force. Both images are as they were.
 pub record IsFlipped (log : Log) (old new : Medium) : Type 0 where
-  pub at : LastsAt log.geometry (other log.named) (other log.named) log.used (holds log.geometry old.now) new
+  pub at : LastsAt log.geometry (other log.named) (other log.named) log.used (recovered_state log.geometry old.now) new
   pub before : records_in log.geometry old.now ≡ front (layout_of log.geometry) log.named old.now ++ records_in log.geometry new.now
   pub alone : records_in log.geometry new.now ≡ front (layout_of log.geometry) (other log.named) new.now
   pub images : (i : ℕ) → i < 2 → image_in log.geometry i new ≡ image_in log.geometry i old
 
 -- Both halves are in force, nothing is unsynced, and these bytes are the image of what the named area holds by itself.
 pub record IsUnfinished (log : Log) (bytes : List ℕ) (m : Medium) : Type 0 where
-  pub calm : IsSynced m
+  pub synced : IsSynced m
   pub laid : is_laid_out (means log.geometry) (layout_of log.geometry) m.now ≡ true
   pub named : named_area (layout_of log.geometry) m.now ≡ log.named
   pub chained : (chain (layout_of log.geometry) log.named m.now == 1) ≡ true
@@ -86,12 +86,12 @@ pub record IsUnfinished (log : Log) (bytes : List ℕ) (m : Medium) : Type 0 whe
 -- The other area is named and recovers to the same by itself, and nothing is unsynced. Its half has the records that it had,
 -- and its image is that of what the area named before held by itself.
 pub record IsFinished (log : Log) (old new : Medium) : Type 0 where
-  pub recovers : RecoversByArea log.geometry (other log.named) (other log.named) (holds log.geometry old.now) new
+  pub recovers : RecoversByArea log.geometry (other log.named) (other log.named) (recovered_state log.geometry old.now) new
   pub reads : read log.geometry (image_in log.geometry (other log.named) new)
       ≡ run_on log.geometry (read log.geometry (image_in log.geometry log.named old)) (front (layout_of log.geometry) log.named old.now)
   pub front : front (layout_of log.geometry) (other log.named) new.now ≡ front (layout_of log.geometry) (other log.named) old.now
   pub named : named_area (layout_of log.geometry) new.now ≡ other log.named
-  pub calm : IsSynced new
+  pub synced : IsSynced new
 
 -- ---- the log after each
 

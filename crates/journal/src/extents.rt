@@ -5,7 +5,7 @@ ghost use Rattle.image.specs.Pieces.{piece_count, piece_size};
 ghost use Rattle.journal.specs.Costs.{count_runs};
 ghost use Rattle.journal.specs.Extents.{AgreeOnClean, Imaged, IsPatchedAt, image_in, extent_size};
 ghost use Rattle.oplog.specs.Changes.{ChangesOnly, IsReady, IsSameBut};
-ghost use Rattle.oplog.specs.Costs.{Takes};
+ghost use Rattle.oplog.specs.Costs.{Costs};
 ghost use Rattle.device_map.specs.Layout.{slice, layout_of, device_size, image, image_size};
 
 use affinity::Geometry;
@@ -48,7 +48,7 @@ fn write_run<D: Disk>(
     ensures same { D.keeps → IsSameBut (layout_of g.now) (image area) (D.medium disk.old).now (D.medium disk.new).now }
     ensures ready { D.keeps → (h k : ℕ) → h < 2 → IsReady (layout_of g.now) h k (D.medium disk.old)
         → IsReady (layout_of g.now) h k (D.medium disk.new) }
-    ensures takes { from < end → D.keeps → Takes result 1 (D.medium disk.old) (D.medium disk.new) }
+    ensures costs { from < end → D.keeps → Costs result 1 (D.medium disk.old) (D.medium disk.new) }
     ensures none { end ≤ from → disk.new ≡ disk.old }
     ensures inside { IsErrOf result DiskFault.OutOfRange → ⊥ }
     ensures call { IsDeviceCall result (D.medium disk.old) (D.medium disk.new) }
@@ -62,7 +62,7 @@ fn write_run<D: Disk>(
 /// Syncs what was written of an image, before it is named: at `Ok` a crash leaves it.
 pub(crate) fn sync_image<D: Disk>(disk: &mut D) -> Result<(), DiskFault>
     ensures syncs { D.keeps → Syncs result (D.medium disk.old) (D.medium disk.new) }
-    ensures takes { D.keeps → Takes result 1 (D.medium disk.old) (D.medium disk.new) }
+    ensures costs { D.keeps → Costs result 1 (D.medium disk.old) (D.medium disk.new) }
     ensures inside { IsErrOf result DiskFault.OutOfRange → ⊥ }
     ensures call { IsDeviceCall result (D.medium disk.old) (D.medium disk.new) }
 {
@@ -88,7 +88,7 @@ pub(crate) fn write_image<D: Disk>(
         (IsSameBut (layout_of g.now) (image area)) }
     ensures written { OnOk result (D.keeps →
         Imaged g.now area bytes.now (D.medium disk.old) (D.medium disk.new)) }
-    ensures takes { D.keeps → Takes result (count_runs dirty.now + 1) (D.medium disk.old) (D.medium disk.new) }
+    ensures costs { D.keeps → Costs result (count_runs dirty.now + 1) (D.medium disk.old) (D.medium disk.new) }
     ensures inside { IsErrOf result DiskFault.OutOfRange → ⊥ }
     ensures call { IsDeviceCall result (D.medium disk.old) (D.medium disk.new) }
 {
@@ -127,7 +127,7 @@ pub(crate) fn write_extent<D: Disk>(
     ensures same { D.keeps → IsSameBut (layout_of g.now) (image area) (D.medium disk.old).now (D.medium disk.new).now }
     ensures ready { D.keeps → (h k : ℕ) → h < 2 → IsReady (layout_of g.now) h k (D.medium disk.old)
         → IsReady (layout_of g.now) h k (D.medium disk.new) }
-    ensures takes { D.keeps → Takes result 1 (D.medium disk.old) (D.medium disk.new) }
+    ensures costs { D.keeps → Costs result 1 (D.medium disk.old) (D.medium disk.new) }
     ensures inside { IsErrOf result DiskFault.OutOfRange → ⊥ }
     ensures call { IsDeviceCall result (D.medium disk.old) (D.medium disk.new) }
 {

@@ -1,15 +1,15 @@
 //! The journal of a server: what was carried out, on a device that a crash may tear at any moment.
 ghost use Rattle.std.specs.Prelude.{◌≡◌, ◌≢◌, ◌-◌, ◌*◌, ◌≤◌, ◌++◌, ℕ, List, true, false, Some, None, [], length, is_some, option_map, OnOk, OnErr, IfOk};
-ghost use Rattle.checkpoint.specs.Recovery.{holds};
+ghost use Rattle.checkpoint.specs.Recovery.{recovered_state};
 ghost use Rattle.checkpoint.specs.Version.{named_version};
 ghost use Rattle.disk.specs.Moments.{CrashImagesAre};
 ghost use Rattle.image.specs.Pieces.{piece_count};
-ghost use Rattle.journal.specs.Costs.{longest_point, point_takes};
+ghost use Rattle.journal.specs.Costs.{longest_point, point_cost};
 ghost use Rattle.journal.specs.Images.{KeepsImages, PatchesOne};
-ghost use Rattle.journal.specs.Journal.{JournalView, AreCarriedOut, HoldsSome, IsCommitted, after_call, records, committed};
+ghost use Rattle.journal.specs.Journal.{JournalView, AreCarriedOut, HoldsSome, IsRecoverable, after_call, records, committed};
 ghost use Rattle.journal.specs.DirtyPieces.{AreBothTouched, count_dirty, cut_dirty, flipped_dirty, pointed_dirty};
 ghost use Rattle.oplog.specs.Beyond.{KeepsBeyond};
-ghost use Rattle.oplog.specs.Costs.{Takes, batches};
+ghost use Rattle.oplog.specs.Costs.{Costs, batches};
 ghost use Rattle.device_map.specs.Layout.{layout_of};
 ghost use Rattle.oplog.specs.Log.{CountsLogFault, IsNotBad};
 ghost use Rattle.oplog.specs.Changing.{AreChangesInRange, records_of};
@@ -19,7 +19,7 @@ ghost use Rattle.meaning.specs.State.{State};
 
 use crate::dirty::{clear_dirty, count_dirty, dirty_touched, first_dirty, swap_dirty};
 use crate::extents::write_extent;
-use crate::snapshot::freeze;
+use crate::snapshot::update_snapshot;
 use crate::steps::{cut_on, flip_on, point_on};
 use disk::Disk;
 use messages::Msg;
@@ -39,7 +39,7 @@ pub struct Journal<D: Disk> {
     halves: Halves,
 
     /// The image of the state that the last point or cut was made of.
-    frozen: Vec<u8>,
+    snapshot: Vec<u8>,
 
     /// The dirty flags of the named image: which pieces may differ from those of what is committed.
     named_dirty: Vec<bool>,
@@ -72,13 +72,13 @@ impl<D: Disk> Model for Journal<D> {
 
     ghost invariant = { λ j. HasParts j.halves (D.medium j.disk)
         × (j.halves.used ≤ j.halves.geometry.half)
-        × (length j.frozen.items ≡ image_size j.halves.geometry)
+        × (length j.snapshot.items ≡ image_size j.halves.geometry)
         × (length j.named_dirty.items ≡ piece_count j.halves.geometry)
         × (length j.other_dirty.items ≡ piece_count j.halves.geometry)
         × (length j.due.items ≡ piece_count j.halves.geometry)
         × (j.failed ≡ false → (j.halves.failed ≡ false) × IsCutState j.halves j.due.items j.left)
         × (j.failed ≡ false → D.keeps →
-        IsSoundJournal j.halves j.frozen.items j.named_dirty.items j.other_dirty.items j.due.items j.left (D.medium j.disk))
+        IsSoundJournal j.halves j.snapshot.items j.named_dirty.items j.other_dirty.items j.due.items j.left (D.medium j.disk))
         × (j.looked ≤ length j.due.items) × AreCleanBefore j.looked j.due.items };
 }
 
@@ -87,30 +87,30 @@ impl<D: Disk> Journal<D> {
     ghost use Rattle.oplog.specs.Calls.{HasParts};
     ghost use Rattle.device_map.specs.Layout.{image_size};
 
-    /// A journal with no cut in progress. `frozen` has an image's size, and each vector of flags one flag a piece.
+    /// A journal with no cut in progress. `snapshot` has an image's size, and each vector of flags one flag a piece.
     pub(crate) fn new(
         disk: D,
         halves: Halves,
-        frozen: Vec<u8>,
+        snapshot: Vec<u8>,
         named_dirty: Vec<bool>,
         other_dirty: Vec<bool>,
         due: Vec<bool>,
     ) -> Journal<D>
-        requires fine { halves.failed ≡ false }
+        requires not_failed { halves.failed ≡ false }
         requires current_is_named { halves.current ≡ halves.named }
         requires used { halves.used ≤ halves.geometry.half }
         requires long_enough { HasParts halves (D.medium disk) }
-        requires frozen { length frozen.items ≡ image_size halves.geometry }
+        requires snapshot { length snapshot.items ≡ image_size halves.geometry }
         requires named_dirty { length named_dirty.items ≡ piece_count halves.geometry }
         requires other_dirty { length other_dirty.items ≡ piece_count halves.geometry }
         requires due { length due.items ≡ piece_count halves.geometry }
-        requires sound { D.keeps → IsSoundJournal halves frozen.items named_dirty.items other_dirty.items due.items None (D.medium disk) }
+        requires sound { D.keeps → IsSoundJournal halves snapshot.items named_dirty.items other_dirty.items due.items None (D.medium disk) }
         ensures { result ≡ journal_view_of halves named_dirty.items other_dirty.items None false (D.medium disk) }
     {
         Journal {
             disk,
             halves,
-            frozen,
+            snapshot,
             named_dirty,
             other_dirty,
             due,
@@ -122,7 +122,7 @@ impl<D: Disk> Journal<D> {
 
     /// Logs these messages, in order, which were carried out one after the other from what is committed.
     pub fn log(&mut self, messages: &[Msg]) -> Result<(), LogFault>
-        requires sound { self.old.failed ≡ false }
+        requires not_failed { self.old.failed ≡ false }
         requires room { length messages.now ≤ self.old.room }
         requires changes { AreChangesInRange self.old.geometry messages.now }
         requires carried_out { D.keeps → (x : State) → committed self.old ≡ Some x → AreCarriedOut self.old.geometry x messages.now }
@@ -135,10 +135,10 @@ impl<D: Disk> Journal<D> {
         ensures committed { OnOk result (D.keeps →
             committed self.new ≡ option_map (λ x. fold self.old.geometry x messages.now) (committed self.old)) }
         ensures records { OnOk result (D.keeps → records self.new ≡ records self.old ++ records_of messages.now) }
-        ensures sound { OnOk result (D.keeps → IsCommitted self.new) }
+        ensures recoverable { OnOk result (D.keeps → IsRecoverable self.new) }
         ensures dirties { OnOk result (AreBothTouched self.old.geometry messages.now self.old.dirty self.new.dirty) }
         ensures none { length messages.now ≡ 0 → self.new ≡ self.old }
-        ensures takes { D.keeps → Takes result (4 * batches (length messages.now)) self.old.medium self.new.medium }
+        ensures costs { D.keeps → Costs result (4 * batches (length messages.now)) self.old.medium self.new.medium }
         ensures after { self.new ≡ after_call result
             (record self.old { room = self.old.room - length messages.now; dirty = self.new.dirty; medium = self.new.medium })
             self.old }
@@ -157,7 +157,7 @@ impl<D: Disk> Journal<D> {
 
     /// Writes an image of the committed state, which the tree has (no part of it is checked out), and begins a new log.
     pub fn point(&mut self, tree: &Tree) -> Result<(), LogFault>
-        requires sound { self.old.failed ≡ false }
+        requires not_failed { self.old.failed ≡ false }
         requires no_cut { self.old.left ≡ None }
         requires geometry { tree.now.geometry ≡ self.old.geometry }
         requires whole { IsWholeTree tree.now }
@@ -165,27 +165,27 @@ impl<D: Disk> Journal<D> {
 
         // A crash at any moment of the call leaves a device that recovers to what was committed.
         ensures any_moment { D.keeps → CrashImagesAre self.old.medium self.new.medium
-            (λ c. holds self.old.geometry c ≡ committed self.old) }
+            (λ c. recovered_state self.old.geometry c ≡ committed self.old) }
         ensures beyond { D.keeps → KeepsBeyond (layout_of self.old.geometry) self.old.medium self.new.medium }
         ensures committed { OnOk result (D.keeps → committed self.new ≡ committed self.old) }
-        ensures sound { OnOk result (D.keeps → IsCommitted self.new) }
+        ensures recoverable { OnOk result (D.keeps → IsRecoverable self.new) }
         ensures emptied { OnOk result (D.keeps → records self.new ≡ []) }
         ensures version { OnOk result (D.keeps → named_version self.new.geometry self.new.medium.now ≡ 2) }
 
         // Dirty pieces that lie side by side take one write.
-        ensures takes { D.keeps → Takes result (point_takes self.old.dirty.others) self.old.medium self.new.medium }
-        ensures few { point_takes self.old.dirty.others ≤ longest_point self.old.geometry }
+        ensures costs { D.keeps → Costs result (point_cost self.old.dirty.others) self.old.medium self.new.medium }
+        ensures few { point_cost self.old.dirty.others ≤ longest_point self.old.geometry }
         ensures after { self.new ≡ after_call result
             (record self.old { room = self.old.geometry.half; dirty = pointed_dirty self.old.dirty; medium = self.new.medium })
             self.old }
         ensures not_bad { IsNotBad result }
         ensures counts { CountsLogFault result self.old.medium.faults self.new.medium.faults }
     {
-        freeze(tree, &self.named_dirty, &mut self.frozen);
+        update_snapshot(tree, &self.named_dirty, &mut self.snapshot);
         if let Err(fault) = point_on(
             &mut self.halves,
             &mut self.disk,
-            &self.frozen,
+            &self.snapshot,
             &self.other_dirty,
         ) {
             self.failed = true;
@@ -198,16 +198,16 @@ impl<D: Disk> Journal<D> {
     /// Begins a checkpoint of a snapshot of the committed state, which the tree has (no part of it is checked out): records go to the other
     /// half from now on, after those in force. As many pieces are left to write as are dirty in the other image.
     pub fn cut(&mut self, tree: &Tree) -> Result<(), LogFault>
-        requires sound { self.old.failed ≡ false }
+        requires not_failed { self.old.failed ≡ false }
         requires no_cut { self.old.left ≡ None }
         requires geometry { tree.now.geometry ≡ self.old.geometry }
         requires whole { IsWholeTree tree.now }
         requires state { D.keeps → committed self.old ≡ Some (state_in tree.now) }
         ensures any_moment { D.keeps → CrashImagesAre self.old.medium self.new.medium
-            (λ c. holds self.old.geometry c ≡ committed self.old) }
+            (λ c. recovered_state self.old.geometry c ≡ committed self.old) }
         ensures beyond { D.keeps → KeepsBeyond (layout_of self.old.geometry) self.old.medium self.new.medium }
         ensures committed { OnOk result (D.keeps → committed self.new ≡ committed self.old) }
-        ensures sound { OnOk result (D.keeps → IsCommitted self.new) }
+        ensures recoverable { OnOk result (D.keeps → IsRecoverable self.new) }
         ensures records { OnOk result (D.keeps → records self.new ≡ records self.old) }
         ensures begun { OnOk result (self.new ≡ record self.old {
           room = self.old.geometry.half;
@@ -217,12 +217,12 @@ impl<D: Disk> Journal<D> {
         }) }
         ensures few { OnOk result (count_dirty self.old.dirty.others ≤ piece_count self.old.geometry) }
         ensures images { OnOk result (D.keeps → KeepsImages self.old.geometry self.old.medium.now self.new.medium.now) }
-        ensures takes { D.keeps → Takes result 4 self.old.medium self.new.medium }
+        ensures costs { D.keeps → Costs result 4 self.old.medium self.new.medium }
         ensures broken { OnErr result (self.new ≡ record self.old { failed = true; medium = self.new.medium }) }
         ensures not_bad { IsNotBad result }
         ensures counts { CountsLogFault result self.old.medium.faults self.new.medium.faults }
     {
-        freeze(tree, &self.named_dirty, &mut self.frozen); // later messages don't change it
+        update_snapshot(tree, &self.named_dirty, &mut self.snapshot); // later messages don't change it
         if let Err(fault) = cut_on(&mut self.halves, &mut self.disk) {
             self.failed = true;
             return Err(fault);
@@ -236,20 +236,20 @@ impl<D: Disk> Journal<D> {
 
     /// Writes the next piece of the state of the cut, and gives how many are left. With none left it touches nothing.
     pub fn piece(&mut self) -> Result<usize, LogFault>
-        requires sound { self.old.failed ≡ false }
+        requires not_failed { self.old.failed ≡ false }
         requires running { is_some self.old.left ≡ true }
         ensures any_moment { D.keeps → CrashImagesAre self.old.medium self.new.medium
-            (λ c. holds self.old.geometry c ≡ committed self.old) }
+            (λ c. recovered_state self.old.geometry c ≡ committed self.old) }
         ensures beyond { D.keeps → KeepsBeyond (layout_of self.old.geometry) self.old.medium self.new.medium }
         ensures committed { OnOk result (D.keeps → committed self.new ≡ committed self.old) }
-        ensures sound { OnOk result (D.keeps → IsCommitted self.new) }
+        ensures recoverable { OnOk result (D.keeps → IsRecoverable self.new) }
         ensures records { OnOk result (D.keeps → records self.new ≡ records self.old) }
         ensures left { IfOk result (λ n. option_map (λ l. l - 1) self.old.left ≡ Some n) }
 
         // It writes one piece, in one write, unless none is left.
         ensures one { OnOk result (self.old.left ≢ Some 0 → D.keeps →
             PatchesOne self.old.geometry self.old.medium.now self.new.medium.now) }
-        ensures takes { self.old.left ≢ Some 0 → D.keeps → Takes result 1 self.old.medium self.new.medium }
+        ensures costs { self.old.left ≢ Some 0 → D.keeps → Costs result 1 self.old.medium self.new.medium }
         ensures none { self.old.left ≡ Some 0 → self.new ≡ self.old }
         ensures after { self.new ≡ after_call result
             (record self.old { left = option_map (λ l. l - 1) self.old.left; medium = self.new.medium }) self.old }
@@ -261,7 +261,7 @@ impl<D: Disk> Journal<D> {
         };
         let g = self.halves.geometry();
         let area = 1 - self.halves.named();
-        if write_extent(&mut self.disk, &g, area, &self.frozen, n).is_err() {
+        if write_extent(&mut self.disk, &g, area, &self.snapshot, n).is_err() {
             self.failed = true;
             return Err(LogFault::Device);
         }
@@ -275,26 +275,26 @@ impl<D: Disk> Journal<D> {
     /// Ends the point of a cut of which every piece is written: the image becomes the named one. The records that were in
     /// force before the cut aren't any more; those logged since then are.
     pub fn flip(&mut self) -> Result<(), LogFault>
-        requires sound { self.old.failed ≡ false }
+        requires not_failed { self.old.failed ≡ false }
         requires written { self.old.left ≡ Some 0 }
         ensures any_moment { D.keeps → CrashImagesAre self.old.medium self.new.medium
-            (λ c. holds self.old.geometry c ≡ committed self.old) }
+            (λ c. recovered_state self.old.geometry c ≡ committed self.old) }
         ensures beyond { D.keeps → KeepsBeyond (layout_of self.old.geometry) self.old.medium self.new.medium }
         ensures committed { OnOk result (D.keeps → committed self.new ≡ committed self.old) }
-        ensures sound { OnOk result (D.keeps → IsCommitted self.new) }
+        ensures recoverable { OnOk result (D.keeps → IsRecoverable self.new) }
         ensures records { OnOk result (D.keeps →
             (first : List (List ℕ)) × (records self.old ≡ first ++ records self.new)) }
         ensures version { OnOk result (D.keeps → named_version self.new.geometry self.new.medium.now ≡ 2) }
 
         // It writes no piece: all were written before.
         ensures images { OnOk result (D.keeps → KeepsImages self.old.geometry self.old.medium.now self.new.medium.now) }
-        ensures takes { D.keeps → Takes result 3 self.old.medium self.new.medium }
+        ensures costs { D.keeps → Costs result 3 self.old.medium self.new.medium }
         ensures after { self.new ≡ after_call result
             (record self.old { left = None; dirty = flipped_dirty self.old.dirty; medium = self.new.medium }) self.old }
         ensures not_bad { IsNotBad result }
         ensures counts { CountsLogFault result self.old.medium.faults self.new.medium.faults }
     {
-        if let Err(fault) = flip_on(&mut self.halves, &mut self.disk, &self.frozen) {
+        if let Err(fault) = flip_on(&mut self.halves, &mut self.disk, &self.snapshot) {
             self.failed = true;
             return Err(fault);
         }

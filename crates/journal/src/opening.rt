@@ -4,23 +4,23 @@ ghost use Rattle.affinity.specs.declared.geometry.Geometry.{Geometry};
 ghost use Rattle.checkpoint.specs.declared.fault.OpenFault.TheVariants.{Device, OutOfMemory};
 ghost use Rattle.checkpoint.specs.Header.{HasHeader};
 ghost use Rattle.checkpoint.specs.Loading.{IsOpeningCall, NamedHolds};
-ghost use Rattle.checkpoint.specs.Recovery.{holds};
+ghost use Rattle.checkpoint.specs.Recovery.{recovered_state};
 ghost use Rattle.checkpoint.specs.Refusals.{IsDevice, IsRefused, refused};
 ghost use Rattle.disk.specs.Device.{IsSynced, IsCrashImage};
 ghost use Rattle.disk.specs.Moments.{CrashImagesAre, moment};
 ghost use Rattle.image.specs.Image.{image_of};
-ghost use Rattle.journal.specs.Costs.{finish_takes, opening_takes};
+ghost use Rattle.journal.specs.Costs.{finish_cost, opening_cost};
 ghost use Rattle.journal.specs.Opening.{IsOpened, IsRefusedUnwritten, OpeningCrashImages, RecoversAs};
 ghost use Rattle.journal.specs.Parts.{AreLoaded, AreUnloaded, IsBad, IsMade, IsMadeOf, IsRefusedAlike, KeepsRoom};
 ghost use Rattle.journal.specs.Steps.{IsAlone, IsFinished, IsPointed, RecoversStill, finished_now, pointed};
 ghost use Rattle.oplog.specs.Beyond.{KeepsBeyond};
-ghost use Rattle.oplog.specs.Costs.{Takes};
+ghost use Rattle.oplog.specs.Costs.{Costs};
 ghost use Rattle.device_map.specs.Layout.{Layout, device_size, layout_of, other};
 ghost use Rattle.oplog.specs.Log.{IsLogCall, IsNotBad};
 ghost use Rattle.parcel.specs.Tree.{IsWholeTree, state_in};
 
 use crate::Journal;
-use crate::snapshot::freeze;
+use crate::snapshot::update_snapshot;
 use crate::steps::{finish_on, point_on};
 use affinity::Geometry;
 use checkpoint::loading::{load_named, read_header, replay, take_room};
@@ -39,7 +39,7 @@ struct Parts {
     halves: Halves,
 
     /// Room for the image of a state.
-    frozen: Vec<u8>,
+    snapshot: Vec<u8>,
 
     /// Which pieces of the named image are out of date: none.
     named_dirty: Vec<bool>,
@@ -59,7 +59,7 @@ fn take_memory(alloc: Global, g: &Geometry) -> Result<(Parts, Vec<u8>), OpenFaul
     ensures fault { IfErr result (λ e. e ≡ OutOfMemory) }
 {
     let (tree, halves, buffer) = take_room(alloc, g)?;
-    let frozen = vec![in alloc; 0u8; image_size(g)]?;
+    let snapshot = vec![in alloc; 0u8; image_size(g)]?;
     let pieces = piece_count(g);
     let named_dirty = vec![in alloc; false; pieces]?;
     let other_dirty = vec![in alloc; true; pieces]?;
@@ -67,7 +67,7 @@ fn take_memory(alloc: Global, g: &Geometry) -> Result<(Parts, Vec<u8>), OpenFaul
     let parts = Parts {
         tree,
         halves,
-        frozen,
+        snapshot,
         named_dirty,
         other_dirty,
         due,
@@ -81,8 +81,8 @@ fn first_sync<D: Disk>(disk: &mut D) -> Result<(), OpenFault>
         CrashImagesAre (D.medium disk.old) (D.medium disk.new) (IsCrashImage (D.medium disk.old)) }
     ensures now { D.keeps → (D.medium disk.new).now ≡ (D.medium disk.old).now }
     ensures beyond { D.keeps → (l : Layout) → KeepsBeyond l (D.medium disk.old) (D.medium disk.new) }
-    ensures calm { OnOk result (D.keeps → IsSynced (D.medium disk.new)) }
-    ensures takes { D.keeps → Takes result 1 (D.medium disk.old) (D.medium disk.new) }
+    ensures synced { OnOk result (D.keeps → IsSynced (D.medium disk.new)) }
+    ensures costs { D.keeps → Costs result 1 (D.medium disk.old) (D.medium disk.new) }
     ensures device { IfErr result (λ e. e ≡ Device) }
     ensures call { IsOpeningCall result (D.medium disk.old) (D.medium disk.new) }
 {
@@ -96,8 +96,8 @@ fn first_sync<D: Disk>(disk: &mut D) -> Result<(), OpenFault>
 /// It is the state that the named area holds by itself, with none of the records after it.
 fn finish_cut<D: Disk>(parts: &mut Parts, disk: &mut D) -> Result<(), LogFault>
     requires loaded { AreLoaded parts.old (D.medium disk.old) }
-    requires calm { D.keeps → IsSynced (D.medium disk.old) }
-    requires holds { D.keeps →
+    requires synced { D.keeps → IsSynced (D.medium disk.old) }
+    requires recovers { D.keeps →
         NamedHolds parts.old.halves.geometry (D.medium disk.old).now parts.old.halves.named true (state_in parts.old.tree) }
     ensures any_moment { D.keeps →
         RecoversStill parts.old.halves.geometry (D.medium disk.old) (D.medium disk.new) }
@@ -106,33 +106,33 @@ fn finish_cut<D: Disk>(parts: &mut Parts, disk: &mut D) -> Result<(), LogFault>
         CrashImagesAre (D.medium disk.old) (D.medium disk.new) (IsRefusedAlike parts.old.halves.geometry (D.medium disk.old).now) }
     ensures finished { OnOk result (D.keeps →
         IsFinished parts.old.halves (D.medium disk.old) (D.medium disk.new)) }
-    ensures takes { D.keeps → Takes result 4 (D.medium disk.old) (D.medium disk.new) }
+    ensures costs { D.keeps → Costs result 4 (D.medium disk.old) (D.medium disk.new) }
     ensures log { OnOk result (parts.new.halves ≡ finished_now parts.old.halves) }
     ensures tree { parts.new.tree ≡ parts.old.tree }
     ensures room { KeepsRoom parts.old parts.new }
     ensures not_bad { IsNotBad result }
     ensures call { IsLogCall result (D.medium disk.old) (D.medium disk.new) }
 {
-    freeze(&parts.tree, &parts.other_dirty, &mut parts.frozen); // no record behind it
-    finish_on(&mut parts.halves, disk, &parts.frozen, &parts.other_dirty)
+    update_snapshot(&parts.tree, &parts.other_dirty, &mut parts.snapshot); // no record behind it
+    finish_on(&mut parts.halves, disk, &parts.snapshot, &parts.other_dirty)
 }
 
 /// Finishes a cut that was in progress, and then runs the records after it on the tree, which holds the state of the
 /// cut. The other area is then named, and holds the state of the device by itself.
 fn replay_behind<D: Disk>(parts: &mut Parts, disk: &mut D) -> Result<(), OpenFault>
     requires loaded { AreLoaded parts.old (D.medium disk.old) }
-    requires calm { D.keeps → IsSynced (D.medium disk.old) }
-    requires holds { D.keeps →
+    requires synced { D.keeps → IsSynced (D.medium disk.old) }
+    requires recovers { D.keeps →
         NamedHolds parts.old.halves.geometry (D.medium disk.old).now parts.old.halves.named true (state_in parts.old.tree) }
     ensures any_moment { D.keeps →
         RecoversStill parts.old.halves.geometry (D.medium disk.old) (D.medium disk.new) }
     ensures beyond { D.keeps → KeepsBeyond (layout_of parts.old.halves.geometry) (D.medium disk.old) (D.medium disk.new) }
     ensures alike { D.keeps →
         CrashImagesAre (D.medium disk.old) (D.medium disk.new) (IsRefusedAlike parts.old.halves.geometry (D.medium disk.old).now) }
-    ensures takes { D.keeps → Takes result 4 (D.medium disk.old) (D.medium disk.new) }
+    ensures costs { D.keeps → Costs result 4 (D.medium disk.old) (D.medium disk.new) }
     ensures alone { OnOk result (D.keeps → IsAlone parts.new.halves (D.medium disk.new)) }
     ensures was { OnOk result (D.keeps →
-        holds parts.old.halves.geometry (D.medium disk.old).now ≡ Some (state_in parts.new.tree)) }
+        recovered_state parts.old.halves.geometry (D.medium disk.old).now ≡ Some (state_in parts.new.tree)) }
     ensures sound { OnOk result (D.keeps →
         refused parts.old.halves.geometry (D.medium disk.old).now ≡ None) }
     ensures refused { IfErr result (λ e. D.keeps → IsRefused (D.medium disk.old).now e) }
@@ -160,17 +160,17 @@ fn load_in_order<D: Disk>(
     requires header { D.keeps → HasHeader parts.old.tree.geometry (D.medium disk.old).now }
     requires long_enough { device_size (layout_of parts.old.tree.geometry) ≤ length (D.medium disk.old).now }
     requires buffer { parts.old.tree.geometry.quota * 520 ≤ length buffer.old }
-    requires calm { D.keeps → IsSynced (D.medium disk.old) }
+    requires synced { D.keeps → IsSynced (D.medium disk.old) }
     ensures any_moment { D.keeps →
         RecoversStill parts.old.tree.geometry (D.medium disk.old) (D.medium disk.new) }
     ensures beyond { D.keeps → KeepsBeyond (layout_of parts.old.tree.geometry) (D.medium disk.old) (D.medium disk.new) }
     ensures alike { D.keeps →
         CrashImagesAre (D.medium disk.old) (D.medium disk.new) (IsRefusedAlike parts.old.tree.geometry (D.medium disk.old).now) }
-    ensures takes { D.keeps → Takes result
-        (finish_takes parts.old.tree.geometry (D.medium disk.old).now) (D.medium disk.old) (D.medium disk.new) }
+    ensures costs { D.keeps → Costs result
+        (finish_cost parts.old.tree.geometry (D.medium disk.old).now) (D.medium disk.old) (D.medium disk.new) }
     ensures alone { OnOk result (D.keeps → IsAlone parts.new.halves (D.medium disk.new)) }
     ensures was { OnOk result (D.keeps →
-        holds parts.old.tree.geometry (D.medium disk.old).now ≡ Some (state_in parts.new.tree)) }
+        recovered_state parts.old.tree.geometry (D.medium disk.old).now ≡ Some (state_in parts.new.tree)) }
     ensures sound { OnOk result (D.keeps →
         refused parts.old.tree.geometry (D.medium disk.old).now ≡ None) }
     ensures refused { IfErr result (λ e. D.keeps → IsRefused (D.medium disk.old).now e) }
@@ -194,35 +194,35 @@ fn load_in_order<D: Disk>(
 fn last_point<D: Disk>(parts: &mut Parts, disk: &mut D) -> Result<(), OpenFault>
     requires loaded { AreLoaded parts.old (D.medium disk.old) }
     requires alone { D.keeps → IsAlone parts.old.halves (D.medium disk.old) }
-    requires holds { D.keeps →
-        holds parts.old.halves.geometry (D.medium disk.old).now ≡ Some (state_in parts.old.tree) }
+    requires recovers { D.keeps →
+        recovered_state parts.old.halves.geometry (D.medium disk.old).now ≡ Some (state_in parts.old.tree) }
     ensures any_moment { D.keeps →
         RecoversStill parts.old.halves.geometry (D.medium disk.old) (D.medium disk.new) }
     ensures beyond { D.keeps → KeepsBeyond (layout_of parts.old.halves.geometry) (D.medium disk.old) (D.medium disk.new) }
-    ensures takes { D.keeps → Takes result 6 (D.medium disk.old) (D.medium disk.new) }
+    ensures costs { D.keeps → Costs result 6 (D.medium disk.old) (D.medium disk.new) }
     ensures pointed { OnOk result (D.keeps →
-        IsPointed parts.old.halves parts.new.frozen.items (D.medium disk.old) (D.medium disk.new)) }
-    ensures frozen { parts.new.frozen.items ≡ image_of 2 parts.old.tree.geometry (state_in parts.old.tree) }
+        IsPointed parts.old.halves parts.new.snapshot.items (D.medium disk.old) (D.medium disk.new)) }
+    ensures snapshot { parts.new.snapshot.items ≡ image_of 2 parts.old.tree.geometry (state_in parts.old.tree) }
     ensures log { OnOk result (parts.new.halves ≡ pointed parts.old.halves) }
     ensures tree { parts.new.tree ≡ parts.old.tree }
     ensures room { KeepsRoom parts.old parts.new }
     ensures device { IfErr result (λ e. e ≡ Device) }
     ensures call { IsOpeningCall result (D.medium disk.old) (D.medium disk.new) }
 {
-    freeze(&parts.tree, &parts.other_dirty, &mut parts.frozen);
-    point_on(&mut parts.halves, disk, &parts.frozen, &parts.other_dirty)?;
+    update_snapshot(&parts.tree, &parts.other_dirty, &mut parts.snapshot);
+    point_on(&mut parts.halves, disk, &parts.snapshot, &parts.other_dirty)?;
     Ok(())
 }
 
 /// Opens a device of which nothing is unsynced.
 fn open_committed<D: Disk>(alloc: Global, disk: &mut D) -> Result<Parts, OpenFault>
-    requires calm { D.keeps → IsSynced (D.medium disk.old) }
+    requires synced { D.keeps → IsSynced (D.medium disk.old) }
     ensures any_moment { D.keeps →
         CrashImagesAre (D.medium disk.old) (D.medium disk.new) (RecoversAs (D.medium disk.old).now) }
     ensures beyond { D.keeps → (g : Geometry) → HasHeader g (D.medium disk.old).now
         → KeepsBeyond (layout_of g) (D.medium disk.old) (D.medium disk.new) }
-    ensures takes { D.keeps → MatchResult result
-        (λ p. moment (D.medium disk.new) ≡ moment (D.medium disk.old) + (finish_takes p.halves.geometry (D.medium disk.old).now + 6))
+    ensures costs { D.keeps → MatchResult result
+        (λ p. moment (D.medium disk.new) ≡ moment (D.medium disk.old) + (finish_cost p.halves.geometry (D.medium disk.old).now + 6))
         (λ e. moment (D.medium disk.new) ≤ moment (D.medium disk.old) + 10) }
     ensures made_of { IfOk result (λ p. D.keeps →
         IsMadeOf (D.medium disk.old).now p (D.medium disk.new)) }
@@ -247,8 +247,8 @@ fn open_on<D: Disk>(alloc: Global, disk: &mut D) -> Result<Parts, OpenFault>
     ensures any_moment { D.keeps → OpeningCrashImages (D.medium disk.old) (D.medium disk.new) }
     ensures beyond { D.keeps → (g : Geometry) → HasHeader g (D.medium disk.old).now
         → KeepsBeyond (layout_of g) (D.medium disk.old) (D.medium disk.new) }
-    ensures takes { D.keeps → MatchResult result
-        (λ p. moment (D.medium disk.new) ≡ moment (D.medium disk.old) + opening_takes p.halves.geometry (D.medium disk.old).now)
+    ensures costs { D.keeps → MatchResult result
+        (λ p. moment (D.medium disk.new) ≡ moment (D.medium disk.old) + opening_cost p.halves.geometry (D.medium disk.old).now)
         (λ e. moment (D.medium disk.new) ≤ moment (D.medium disk.old) + 11) }
     ensures made_of { IfOk result (λ p. D.keeps →
         IsMadeOf (D.medium disk.old).now p (D.medium disk.new)) }
@@ -291,8 +291,8 @@ pub fn open<D: Disk>(alloc: Global, d: D) -> Result<(Journal<D>, Tree), OpenErro
         (λ e. KeepsBeyond (layout_of g) (D.medium d) (D.medium e.disk)) }
 
     // How many writes and syncs it takes.
-    ensures takes { D.keeps → MatchResult result
-        (λ r. moment r.0.medium ≡ moment (D.medium d) + opening_takes r.0.geometry (D.medium d).now)
+    ensures costs { D.keeps → MatchResult result
+        (λ r. moment r.0.medium ≡ moment (D.medium d) + opening_cost r.0.geometry (D.medium d).now)
         (λ e. moment (D.medium e.disk) ≤ moment (D.medium d) + 11) }
     ensures refused { IfErr result (λ e. D.keeps → IsRefused (D.medium d).now e.fault) }
     ensures unwritten { IfErr result (λ e. D.keeps →
@@ -304,7 +304,7 @@ pub fn open<D: Disk>(alloc: Global, d: D) -> Result<(Journal<D>, Tree), OpenErro
         D.keeps → IsDevice (D.medium d).now) }
     ensures device { IfErr result (λ e. e.fault ≡ OpenFault.Device
         ↔ (D.medium e.disk).faults ≡ (D.medium d).faults + 1) }
-    ensures fine { IfOk result (λ r. r.0.medium.faults ≡ (D.medium d).faults) }
+    ensures no_fault { IfOk result (λ r. r.0.medium.faults ≡ (D.medium d).faults) }
     ensures len { MatchResult result
         (λ r. length r.0.medium.now ≡ length (D.medium d).now)
         (λ e. length (D.medium e.disk).now ≡ length (D.medium d).now) }
@@ -315,12 +315,12 @@ pub fn open<D: Disk>(alloc: Global, d: D) -> Result<(Journal<D>, Tree), OpenErro
             let Parts {
                 tree,
                 halves,
-                frozen,
+                snapshot,
                 named_dirty,
                 other_dirty,
                 due,
             } = parts;
-            let journal = Journal::new(disk, halves, frozen, named_dirty, other_dirty, due);
+            let journal = Journal::new(disk, halves, snapshot, named_dirty, other_dirty, due);
             Ok((journal, tree))
         }
         Err(fault) => Err(OpenError { disk, fault }),

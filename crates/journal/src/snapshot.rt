@@ -22,7 +22,7 @@ fn write_head(bytes: &mut [u8])
 
 /// Makes bytes the image of the state of a tree of which no part is checked out. All extents but the dirty ones are there already: only the
 /// dirty ones are encoded.
-pub(crate) fn freeze(tree: &Tree, dirty: &[bool], bytes: &mut [u8])
+pub(crate) fn update_snapshot(tree: &Tree, dirty: &[bool], bytes: &mut [u8])
     requires whole { IsWholeTree tree.now }
     requires dirty { length dirty.now ≡ piece_count tree.now.geometry }
     requires size { length bytes.old ≡ image_size tree.now.geometry }

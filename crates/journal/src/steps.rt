@@ -1,17 +1,17 @@
 //! The steps of a point on a device. A crash at any moment of one leaves a device that recovers to the same as before.
 ghost use Rattle.std.specs.Prelude.{◌≡◌, true, false, Some, length, OnOk, OnErr};
 ghost use Rattle.checkpoint.specs.Loading.{NamedHolds};
-ghost use Rattle.checkpoint.specs.Recovery.{holds};
+ghost use Rattle.checkpoint.specs.Recovery.{recovered_state};
 ghost use Rattle.disk.specs.Moments.{CrashImagesAre};
 ghost use Rattle.image.specs.Image.{read};
 ghost use Rattle.image.specs.Pieces.{piece_count};
-ghost use Rattle.journal.specs.Costs.{point_takes};
+ghost use Rattle.journal.specs.Costs.{point_cost};
 ghost use Rattle.journal.specs.Parts.{IsRefusedAlike};
 ghost use Rattle.journal.specs.Steps.{IsAlone, IsBegun, IsFinished, IsFlipped, IsPointed, IsUnfinished, IsWritten, RecoversStill, cut_now, finished_now, named_now, pointed};
 ghost use Rattle.journal.specs.Extents.{AgreeOnClean, AreAllDirty, image_in};
 ghost use Rattle.oplog.specs.Beyond.{KeepsBeyond};
 ghost use Rattle.oplog.specs.Calls.{HasParts};
-ghost use Rattle.oplog.specs.Costs.{Takes};
+ghost use Rattle.oplog.specs.Costs.{Costs};
 ghost use Rattle.device_map.specs.Layout.{image_size, layout_of, other};
 ghost use Rattle.oplog.specs.Log.{IsLogCall, IsNotBad};
 ghost use Rattle.meaning.specs.State.{State};
@@ -28,14 +28,14 @@ pub(crate) fn point_on<D: Disk>(
     bytes: &[u8],
     dirty: &[bool],
 ) -> Result<(), LogFault>
-    requires sound { halves.old.failed ≡ false }
+    requires not_failed { halves.old.failed ≡ false }
     requires size { length bytes.now ≡ image_size halves.old.geometry }
     requires dirty { length dirty.now ≡ piece_count halves.old.geometry }
     requires long_enough { HasParts halves.old (D.medium disk.old) }
     requires current_is_named { halves.old.current ≡ halves.old.named }
     requires alone { D.keeps → IsAlone halves.old (D.medium disk.old) }
     requires image { D.keeps →
-        read halves.old.geometry bytes.now ≡ holds halves.old.geometry (D.medium disk.old).now }
+        read halves.old.geometry bytes.now ≡ recovered_state halves.old.geometry (D.medium disk.old).now }
     requires clean { D.keeps → AgreeOnClean halves.old.geometry dirty.now
         (image_in halves.old.geometry (other halves.old.named) (D.medium disk.old)) bytes.now }
     ensures any_moment { D.keeps →
@@ -43,7 +43,7 @@ pub(crate) fn point_on<D: Disk>(
     ensures beyond { D.keeps → KeepsBeyond (layout_of halves.old.geometry) (D.medium disk.old) (D.medium disk.new) }
     ensures pointed { OnOk result (D.keeps →
         IsPointed halves.old bytes.now (D.medium disk.old) (D.medium disk.new)) }
-    ensures takes { D.keeps → Takes result (point_takes dirty.now) (D.medium disk.old) (D.medium disk.new) }
+    ensures costs { D.keeps → Costs result (point_cost dirty.now) (D.medium disk.old) (D.medium disk.new) }
     ensures log { OnOk result (halves.new ≡ pointed halves.old) }
     ensures geometry { halves.new.geometry ≡ halves.old.geometry }
     ensures used { OnErr result (halves.new.used ≡ halves.old.used) }
@@ -62,7 +62,7 @@ pub(crate) fn point_on<D: Disk>(
 
 /// Begins a cut: the other half is cleared, and put in force after the named one.
 pub(crate) fn cut_on<D: Disk>(halves: &mut Halves, disk: &mut D) -> Result<(), LogFault>
-    requires sound { halves.old.failed ≡ false }
+    requires not_failed { halves.old.failed ≡ false }
     requires long_enough { HasParts halves.old (D.medium disk.old) }
     requires current_is_named { halves.old.current ≡ halves.old.named }
     requires alone { D.keeps → IsAlone halves.old (D.medium disk.old) }
@@ -71,7 +71,7 @@ pub(crate) fn cut_on<D: Disk>(halves: &mut Halves, disk: &mut D) -> Result<(), L
     ensures beyond { D.keeps → KeepsBeyond (layout_of halves.old.geometry) (D.medium disk.old) (D.medium disk.new) }
     ensures begun { OnOk result (D.keeps →
         IsBegun halves.old (D.medium disk.old) (D.medium disk.new)) }
-    ensures takes { D.keeps → Takes result 4 (D.medium disk.old) (D.medium disk.new) }
+    ensures costs { D.keeps → Costs result 4 (D.medium disk.old) (D.medium disk.new) }
     ensures log { OnOk result (halves.new ≡ cut_now halves.old) }
     ensures geometry { halves.new.geometry ≡ halves.old.geometry }
     ensures used { OnErr result (halves.new.used ≡ halves.old.used) }
@@ -89,7 +89,7 @@ pub(crate) fn flip_on<D: Disk>(
     disk: &mut D,
     bytes: &[u8],
 ) -> Result<(), LogFault>
-    requires sound { halves.old.failed ≡ false }
+    requires not_failed { halves.old.failed ≡ false }
     requires long_enough { HasParts halves.old (D.medium disk.old) }
     requires apart { halves.old.current ≡ other halves.old.named }
     requires written { D.keeps → IsWritten halves.old bytes.now (D.medium disk.old) }
@@ -98,7 +98,7 @@ pub(crate) fn flip_on<D: Disk>(
     ensures beyond { D.keeps → KeepsBeyond (layout_of halves.old.geometry) (D.medium disk.old) (D.medium disk.new) }
     ensures flipped { OnOk result (D.keeps →
         IsFlipped halves.old (D.medium disk.old) (D.medium disk.new)) }
-    ensures takes { D.keeps → Takes result 3 (D.medium disk.old) (D.medium disk.new) }
+    ensures costs { D.keeps → Costs result 3 (D.medium disk.old) (D.medium disk.new) }
     ensures log { OnOk result (halves.new ≡ named_now halves.old) }
     ensures geometry { halves.new.geometry ≡ halves.old.geometry }
     ensures used { OnErr result (halves.new.used ≡ halves.old.used) }
@@ -121,7 +121,7 @@ pub(crate) fn finish_on<D: Disk>(
     bytes: &[u8],
     dirty: &[bool],
 ) -> Result<(), LogFault>
-    requires sound { halves.old.failed ≡ false }
+    requires not_failed { halves.old.failed ≡ false }
     requires size { length bytes.now ≡ image_size halves.old.geometry }
     requires dirty { length dirty.now ≡ piece_count halves.old.geometry }
     requires all { AreAllDirty halves.old.geometry dirty.now }
@@ -136,7 +136,7 @@ pub(crate) fn finish_on<D: Disk>(
         → CrashImagesAre (D.medium disk.old) (D.medium disk.new) (IsRefusedAlike halves.old.geometry (D.medium disk.old).now) }
     ensures finished { OnOk result (D.keeps →
         IsFinished halves.old (D.medium disk.old) (D.medium disk.new)) }
-    ensures takes { D.keeps → Takes result 4 (D.medium disk.old) (D.medium disk.new) }
+    ensures costs { D.keeps → Costs result 4 (D.medium disk.old) (D.medium disk.new) }
     ensures log { OnOk result (halves.new ≡ finished_now halves.old) }
     ensures not_bad { IsNotBad result }
     ensures call { IsLogCall result (D.medium disk.old) (D.medium disk.new) }

@@ -50,7 +50,7 @@ left_begins g old events k x left =
           ∙ append_assoc (journal old (take k events)) j.0 rest),
     )
 
--- It is the committed state with the first so many of the messages to be appended then.
+-- It is the committed state with a prefix of the messages to be appended then.
 pub left_is_committed : (g : Geometry) (old : MachineState) (events : List Event) (k : ℕ) (ms : List Msg) → IsLegal g old events
     → IsSoundCoreState g old.core → (log : IsLogAfter old events k ms)
     → fold g old.core.committed ms

@@ -1,4 +1,4 @@
--- In `doubt` are the changes among the first so many of those that ran.
+-- In `doubt` are the changes among a prefix of those that ran.
 use Rattle.std.proofs.Common.{◌≡◌, ℕ, zero, suc, ◌≤◌, Bool, true, false, List, [], ◌∷◌, refl, ap, sym, ◌∙◌, length, map, take, arith}
 use Rattle.std.specs.Prelude.{cond, filter, if◌then◌else◌}
 use Rattle.std.proofs.lemmas.List.{length-append, length-take-le, take-append-le, take-take}
@@ -19,7 +19,7 @@ use Rattle.legal_runs.proofs.Sound.{event_doubts}
 
 -- ---- the changes among the first of those that ran
 
--- These are the changes among the first so many of those that ran.
+-- These are the changes among a prefix of those that ran.
 pub record AreOfFirst (ran : List Replied) (ms : List Msg) : Type 0 where
   pub some : ℕ
   pub at_most : some ≤ length ran
@@ -62,7 +62,7 @@ first_changes (a ∷ ran) (suc k) =
 pub no_doubts : (w : CoreState) → w.doubt ≡ [] → DoubtsWhatRan w
 no_doubts w e = record { some = 0; at_most = omega arith; is = e }
 
--- the first so many of those in `doubt`
+-- a prefix of those in `doubt`
 pub first_doubts : (w : CoreState) → DoubtsWhatRan w → (k : ℕ) → AreOfFirst w.ran (take k w.doubt)
 first_doubts w h k =
     let first = first_changes (take h.some w.ran) k in
@@ -122,7 +122,7 @@ next_ran : (w : CoreState) (events : List Event) (k : ℕ) → AreOfFirst w.ran 
 next_ran w [] k = none_first w.ran k
 next_ran w (event ∷ events) k = to_append_ran w event.step k
 
--- the first so many of those that a crash may leave
+-- a prefix of those that a crash may leave
 pub crash_doubts_ran : (w : CoreState) → DoubtsWhatRan w → (events : List Event) (k : ℕ) → AreOfFirst w.ran (take k (in_doubt w events))
 crash_doubts_ran w h events k =
     elim w.failed as (λ b. AreOfFirst w.ran (take k (if b then w.doubt else next_batch w events))) [

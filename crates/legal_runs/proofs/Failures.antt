@@ -134,7 +134,7 @@ failure_fails g old event h device_failed = by event.device_failed h device_fail
     by true f device_failed = ap (λ o. o.1.failed) (sym f.core) ∙ fault_fails old.core event.step
     by false d device_failed = absurd (true≢false (sym device_failed))
 
--- ---- and for good
+-- ---- and permanently
 
 module _ (g : Geometry) (n : ℕ) (state_after : CoreState) (row : List Hand) where
   abbrev stopped : CoreState

@@ -182,7 +182,7 @@ module _ (g : Geometry) (old : MachineState) (events : List Event) (legal : IsLe
   -- ---- and what may be left of it
 
   module _ (none : old.core.doubt ≡ []) where
-    -- the first so many of those in `doubt` in the end
+    -- a prefix of those in `doubt` in the end
     pub doubts_in_order : (k : ℕ)
         → (j : ℕ) × IsSerialLog g old.core.committed (arrived events) (log j) × (loggable (take j now.ran) ≡ take k now.doubt)
     doubts_in_order k =
@@ -199,7 +199,7 @@ module _ (g : Geometry) (old : MachineState) (events : List Event) (legal : IsLe
               ∙ sym (loggable-append (logged_messages old events) (take first.some now.ran)),
         )
 
--- Whatever a crash leaves in the log when so many events have ended, it is the changes of a serial log.
+-- Whatever a crash leaves in the log after n events, it is the changes of a serial log.
 pub left_in_order : (g : Geometry) {old : MachineState} {events : List Event} {k : ℕ} {ms : List Msg} → IsLegal g old events → IsIdle old.core
     → old.core.doubt ≡ [] → IsLogAfter old events k ms
     → (j : ℕ) × IsSerialLog g old.core.committed (arrived (take k events))

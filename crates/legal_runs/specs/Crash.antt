@@ -25,7 +25,7 @@ abbrev pub in_doubt : CoreState → List Event → List Msg
 in_doubt w events = if w.failed then w.doubt else next_batch w events
 
 -- These messages are in the log, if the crash comes after k events of a run and before the next has ended:
--- all that were appended, and the first so many of those to be appended then (`in_doubt`).
+-- all that were appended, and a prefix of those to be appended then (`in_doubt`).
 pub record IsLogAfter (old : MachineState) (events : List Event) (k : ℕ) (ms : List Msg) : Type 0 where
   pub some : ℕ
   pub at_most : some ≤ length (in_doubt (last old (take k events)).core (drop k events))

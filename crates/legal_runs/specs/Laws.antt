@@ -82,7 +82,7 @@ full hands = count_by (λ hand. not (is_empty hand)) hands
 abbrev pub DoubtsOnlyFailed : CoreState → Type 0
 DoubtsOnlyFailed w = w.failed ≡ false → w.doubt ≡ []
 
--- In `doubt` are the changes among the first so many of those that ran.
+-- In `doubt` are the changes among a prefix of those that ran.
 pub record DoubtsWhatRan (w : CoreState) : Type 0 where
   pub some : ℕ
   pub at_most : some ≤ length w.ran
@@ -107,7 +107,7 @@ pub record IsStopped (old new : CoreState) : Type 0 where
   pub next : new.next ≡ old.next
   pub left : new.left ≡ old.left
 
--- What is dispatched and what ran has room in the log, and each message has one of so many slots.
+-- What is dispatched and what ran has room in the log, and there is a slot for each message.
 abbrev pub HasRoom : ℕ → CoreState → Type 0
 HasRoom slots w = (unlogged_changes w ≤ w.room) × (length w.waiting + length (held w) ≤ slots)
 

@@ -1,4 +1,4 @@
-//! The steps of a machine, what comes of each, and why one is refused.
+//! The steps of a machine, their outcomes, and why one is refused.
 
 use messages::{Msg, Reply};
 

@@ -13,7 +13,7 @@ use messages::Msg;
 use runs::Holding;
 use scheduler::{Core, Granted};
 
-/// Makes one step, and returns what came of it.
+/// Makes one step, and returns its outcome.
 pub(crate) fn make_step<D: Disk>(core: &mut Core<D>, hands: &mut [Holding], step: &Step) -> Outcome
     requires { HoldsJobs core.old.geometry (core_state_of core.old) hands.old }
     ensures step { IsMachineStep D.keeps (record { core = core.old; hands = hands.old })

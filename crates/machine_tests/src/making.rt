@@ -1,4 +1,4 @@
-//! Machines over devices in memory, and lists of steps with what comes of them.
+//! Machines over devices in memory, and lists of steps with their outcomes.
 use checkpoint::OpenFault;
 use disk::MemDisk;
 use harness::Wrong;
@@ -16,7 +16,7 @@ pub(crate) const SMALL: [u16; 8] = [1, 1, 2, 1, 2, 4, 2, 4];
 /// One volume of one file of four blocks, each in a stripe of its own, and eight records in a half.
 pub(crate) const FLAT: [u16; 8] = [1, 1, 4, 1, 1, 4, 1, 8];
 
-/// What a machine is to do, and what comes of it.
+/// A step of a machine, and its outcome.
 #[derive(Clone, Copy, Drop)]
 pub(crate) enum Row {
     /// The message of this line arrives.

@@ -115,7 +115,7 @@ fn is_shown(
     Ok(device)
 }
 
-// ---- what comes of steps
+// ---- outcomes of steps
 
 /// A volume with a file.
 const A_FILE: Incarnation = Incarnation {
@@ -399,7 +399,7 @@ const OPENED: Incarnation = Incarnation {
 /// How many rows come before that log.
 const BEFORE_THE_LOG: usize = 4;
 
-/// The device fails in that log by this injected fault, and a crash of this kind comes, or none: what is opened again has so many
+/// The device fails in that log by this injected fault, and a crash of this kind comes, or none: what is opened again has this many
 /// volumes.
 fn leaves_volumes(
     rt: &impl Abort,
@@ -600,7 +600,7 @@ const CHANGED_PIECES: Incarnation = Incarnation {
     ],
 };
 
-/// So many of these rows end with the end of a cut. Then this area is named, and has so many volumes, files and blocks.
+/// This many of these rows end with the end of a cut. Then this area is named, and has this many volumes, files and blocks.
 const NAMED: [(usize, usize, [u32; 3]); 5] = [
     (5, 0, [0, 0, 0]),
     (9, 1, [1, 0, 0]),

@@ -15,7 +15,7 @@ use Rattle.messages.specs.declared.Block.{Block}
 use Rattle.messages.specs.Lines.{bytes_in_word, block_in_word, label_in_word, padded, padded_with}
 use Rattle.message.proofs.Words.{HasNoSpace}
 
--- a word with what makes it encode so many bytes
+-- a word with what makes it encode n bytes
 pub record IsDigits (size : ℕ) (w bytes : List ℕ) : Type 0 where
   pub low : 2 ≤ length w
   pub high : length w ≤ 2 * size

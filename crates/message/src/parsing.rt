@@ -32,9 +32,8 @@ pub fn parse_line(line: &[u8]) -> Option<Msg>
     }
 }
 
-/// The first word of a line and what comes after the space behind it, where the space is among the
-/// first nine bytes. Where it is not, no first word is a keyword but the whole line, so that a line
-/// isn't searched to its end.
+/// Splits a line at its first space: what is before it, and what is after it. `None` if there is no space among the first nine
+/// bytes. No keyword is longer than eight, so the rest of the line need not be searched.
 pub(crate) fn split_keyword(line: &[u8]) -> Option<(&[u8], &[u8])>
     ensures { MatchOption result
         ((k : ℕ) → k ≤ LONGEST_KEYWORD → k < length line.now → slice_index line.now k ≢ 32)

@@ -249,7 +249,7 @@ impl<R: Read> LineReader<R> {
         requires { 1101 ≤ vec_len buffer }
         ensures unread { unread R.remaining result ≡ R.remaining reader }
         ensures line { line_of result ≡ [] }
-        ensures sound { IsFalse (has_failed result) }
+        ensures not_failed { IsFalse (has_failed result) }
         ensures open { IsFalse (has_ended result) }
         ensures source { source result ≡ reader }
     {
@@ -298,7 +298,7 @@ impl<R: Read> LineReader<R> {
         ensures short { result ≡ Ok Found.Line → length (line_of self.new) ≤ LONGEST_LINE }
         ensures no_line { result ≢ Ok Found.Line → line_of self.new ≡ [] }
 
-        // After a fault nothing is held, and the fault is for good.
+        // After a fault nothing is held, and the fault is permanent.
         ensures failed { has_failed self.new ≡ is_err result }
         ensures lost { OnErr result (unread R.remaining self.new ≡ R.remaining (source self.new)) }
         ensures for_good { IsTrue (has_failed self.old)
@@ -342,7 +342,7 @@ impl<R: Read> LineReader<R> {
     /// Reads once.
     fn refill(&mut self) -> Result<(), ReadFault>
         requires line { line_of self.old ≡ [] }
-        requires sound { IsFalse (has_failed self.old) }
+        requires not_failed { IsFalse (has_failed self.old) }
         requires open { IsFalse (has_ended self.old) }
         requires within_line { IsWithinLine (held_bytes self.old.held) }
         requires room { length (held_bytes self.old.held) ≤ 1100 }
@@ -372,7 +372,7 @@ impl<R: Read> LineReader<R> {
     /// Reads until it is known what is found.
     fn gather(&mut self) -> Result<(), ReadFault>
         requires line { line_of self.old ≡ [] }
-        requires sound { IsFalse (has_failed self.old) }
+        requires not_failed { IsFalse (has_failed self.old) }
         ensures line { line_of self.new ≡ [] }
         ensures bytes { OnOk result
             (Keeps (unread R.remaining self.old) (unread R.remaining self.new)) }
@@ -393,7 +393,7 @@ impl<R: Read> LineReader<R> {
     /// Reads and drops what came, until a newline is held or the end was reported.
     fn skip(&mut self) -> Result<(), ReadFault>
         requires line { line_of self.old ≡ [] }
-        requires sound { IsFalse (has_failed self.old) }
+        requires not_failed { IsFalse (has_failed self.old) }
         requires open { IsFalse (has_ended self.old) }
         requires within_line { IsWithinLine (held_bytes self.old.held) }
         ensures line { line_of self.new ≡ [] }
@@ -418,7 +418,7 @@ impl<R: Read> LineReader<R> {
     /// Passes over the first line, whatever its length.
     fn skip_line(&mut self) -> Result<(), ReadFault>
         requires line { line_of self.old ≡ [] }
-        requires sound { IsFalse (has_failed self.old) }
+        requires not_failed { IsFalse (has_failed self.old) }
         ensures line { line_of self.new ≡ [] }
         ensures passed { OnOk result (IfSome (unread R.remaining self.old)
             (λ bs. unread R.remaining self.new ≡ Some (behind_first_line bs))) }
@@ -441,7 +441,7 @@ impl<R: Read> LineReader<R> {
     /// Gives what is found, of what is held.
     fn give(&mut self) -> Result<Found, ReadFault>
         requires line { line_of self.old ≡ [] }
-        requires sound { IsFalse (has_failed self.old) }
+        requires not_failed { IsFalse (has_failed self.old) }
         requires enough { HoldsEnough self.old }
         ensures found { Finds result (unread R.remaining self.old)
             (line_of self.new) (unread R.remaining self.new) }

@@ -135,7 +135,7 @@ message_of line = if nat_lt 1100 (length line) then None else of_words (words li
 
 -- ---- by the message: how its line is put together
 
--- The hexadecimal digits encode so many bytes: one at least, and zeros after those that have digits.
+-- The hexadecimal digits encode `size` bytes: one at least, and zeros after those that have digits.
 abbrev pub SpellsBytes : ℕ → List ℕ → List ℕ → Type 0
 SpellsBytes size digits whole = (bytes : List ℕ) × (decode_of digits ≡ Ok bytes) × (1 ≤ length bytes) × (length bytes ≤ size)
     × (whole ≡ padded size bytes)

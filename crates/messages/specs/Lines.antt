@@ -37,7 +37,7 @@ abbrev pub padded_with : ℕ → Result (List ℕ) FromHexError → Option (List
 padded_with size (Ok bytes) = Some (padded size bytes)
 padded_with size (Err e) = None
 
--- the bytes that a word encodes: hexadecimal digits, two for each byte, at least one byte and at most so many, and zeros after them
+-- the bytes that a word encodes: hexadecimal digits, two for each byte, at least one byte and at most `size`, and zeros after them
 unfoldable pub bytes_in_word : ℕ → List ℕ → Option (List ℕ)
 bytes_in_word size word = if nat_le 2 (length word) && nat_le (length word) (2 * size) then padded_with size (decode_of word) else None
 

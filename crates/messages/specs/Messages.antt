@@ -62,7 +62,7 @@ is_in_range g m = numbers_are_in_range g (kind m) (four_numbers m)
 abbrev pub place : Geometry → Msg → Path
 place g m = place_of g (kind m) (four_numbers m)
 
--- so many bytes
+-- `size` bytes
 abbrev pub AreSizedBytes : ℕ → List ℕ → Type 0
 AreSizedBytes size bytes = (length bytes ≡ size) × AllByRecursion (λ b. b < 256) bytes
 

@@ -2,7 +2,7 @@
 use Rattle.std.proofs.Common.{◌≡◌, ◌≢◌, ◌<◌, ℕ, Bool, true, false, cond, eqb, List, [], get_or, Option, refl, ◌∙◌, sym, ap, subst, arith}
 use Rattle.std.proofs.lemmas.Bool.{ne_eqb}
 use Rattle.disk.specs.Device.{Medium, IsSynced}
-use Rattle.disk.proofs.Leaves.{calm_left}
+use Rattle.disk.proofs.Leaves.{synced_left}
 use Rattle.disk.proofs.Moments.{weaker}
 use Rattle.device_map.specs.Layout.{Layout, part_bytes, root, half, image, other}
 use Rattle.oplog.specs.Front.{chain, front}
@@ -87,13 +87,13 @@ module _ {S : Type 0} (means : Decoding S) where
 
   -- at a device with nothing unsynced, of which a crash leaves what a read gives
   committed : (g : Layout) (n h : ℕ) (x : Option S) (m : Medium) → IsSynced m → RecoversBy means g n h x m.now → RecoversByNow means g n h x m
-  committed g n h x m calm recovers c left = subst (λ (l : List ℕ). RecoversBy means g n h x l) (sym (calm_left m c calm left)) recovers
+  committed g n h x m synced recovers c left = subst (λ (l : List ℕ). RecoversBy means g n h x l) (sym (synced_left m c synced left)) recovers
 
   pub chained_by_area : ChainedByArea means
   chained_by_area g n x w0 w1 is_area before empty chained =
       let recovered_before = chain_by is_area empty.0 empty.1 chained.same before.named before.is in
       let follows : current_of g n w1.now ≡ other n = ap (λ (b : ℕ). cond (eqb b 1) (other n) n) chained.chain in
-      committed g n (other n) x w1 chained.calm (subst (λ (h : ℕ). RecoversBy means g n h x w1.now) follows recovered_before)
+      committed g n (other n) x w1 chained.synced (subst (λ (h : ℕ). RecoversBy means g n h x w1.now) follows recovered_before)
 
   either : (x : Option S) (P : ℕ → Option S) (t : Bool) → P 0 ≡ x → P 1 ≡ x → P (cond t 1 0) ≡ x
   either x P true first second = second
@@ -113,7 +113,7 @@ module _ {S : Type 0} (means : Decoding S) where
 
   pub flip_by_area : FlipByArea means
   flip_by_area g n h x w0 w1 flip current is =
-      committed g n h x w1 flip.calm
+      committed g n h x w1 flip.synced
       (record {
         named = flip.named;
         current = current_kept g n root w0.now w1.now (λ is. omega (arith, is)) flip.same.same ∙ current;

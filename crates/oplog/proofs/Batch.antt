@@ -3,7 +3,7 @@ use Rattle.std.proofs.Common.{◌≡◌, ℕ, ◌+◌, ◌-◌, ◌*◌, ◌<◌
 use Rattle.std.proofs.lemmas.List.{length-replicate}
 use Rattle.std.specs.List.{concat}
 use Rattle.disk.specs.Device.{AreBytes, Medium, SameOutside, overlaid}
-use Rattle.disk.proofs.Leaves.{itself, calm_left, calm_range, range_kept}
+use Rattle.disk.proofs.Leaves.{itself, synced_left, synced_range, range_kept}
 use Rattle.disk.proofs.Overlays.{overlaid_outside, range-overlaid, length-overlaid}
 use Rattle.device_map.specs.Layout.{Layout, slice, part_bytes, part_at, part_size, half, half_size, device_size}
 use Rattle.oplog.specs.Front.{gates_in, count_open}
@@ -39,7 +39,7 @@ module _ (g : Layout) (h k : ℕ) (more : List (List ℕ)) (is_half : h < 2) (si
   pub first : (c : List ℕ) → After w0 (SameOutside {X = ℕ} (part_at g (half h) + body_at g.slots k) (length (concat more))) c → Grew g h more w0 c
   first c after =
       let same = subst (λ (m : ℕ). SameOutside (part_at g (half h) + body_at g.slots k) m after.old c) bytes after.change in
-      let kept : part_bytes g (half h) after.old ≡ part_bytes g (half h) w0.now = range_kept (part_at g (half h)) (part_size g (half h)) w0 after.old ready.calm after.left in
+      let kept : part_bytes g (half h) after.old ≡ part_bytes g (half h) w0.now = range_kept (part_at g (half h)) (part_size g (half h)) w0 after.old ready.synced after.left in
       record {
         added = 0;
         at_most = omega arith;
@@ -112,7 +112,7 @@ module _ (g : Layout) (h k : ℕ) (more : List (List ℕ)) (is_half : h < 2) (si
 
     pub second : (c : List ℕ) → After w1 (SameOutside {X = ℕ} (part_at g (half h) + (64 + k)) (length more)) c → Grew g h more w0 c
     second c after =
-        grew c (subst (λ (l : List ℕ). SameOutside (part_at g (half h) + (64 + k)) (length more) l c) (calm_left w1 after.old bodies.calm after.left) after.change)
+        grew c (subst (λ (l : List ℕ). SameOutside (part_at g (half h) + (64 + k)) (length more) l c) (synced_left w1 after.old bodies.synced after.left) after.change)
 
     module _ (w2 : Medium) (gates : Stored (part_at g (half h) + (64 + k)) (replicate (length more) 1) w1 w2) where
       long : length w1.now ≡ length w0.now
@@ -142,12 +142,12 @@ module _ (g : Layout) (h k : ℕ) (more : List (List ℕ)) (is_half : h < 2) (si
         ready = record {
           used = used_all w2.now put_gates are_ones;
           shut = shut_all w2.now put_gates are_ones;
-          calm = calm_range (part_at g (half h)) (part_size g (half h)) w2 gates.calm (omega (arith, size, same_length, fits, half_inside g h is_half));
+          synced = synced_range (part_at g (half h)) (part_size g (half h)) w2 gates.synced (omega (arith, size, same_length, fits, half_inside g h is_half));
         };
         left = λ c left. record {
           old = w0.now;
           left = itself w0.now w0.unsynced are_bytes;
-          change = subst (HasMore g h more w0.now) (sym (calm_left w2 c gates.calm left)) (has_all w2.now put_gates are_ones);
+          change = subst (HasMore g h more w0.now) (sym (synced_left w2 c gates.synced left)) (has_all w2.now put_gates are_ones);
         };
-        calm = λ _. gates.calm;
+        synced = λ _. gates.synced;
       }

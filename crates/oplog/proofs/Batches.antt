@@ -48,7 +48,7 @@ begun g h k all m ready = record {
     has = no_more g h m.now;
     ready = let same : k ≡ k + length {A = List ℕ} [] = omega arith in subst (λ (j : ℕ). IsReady g h j m) same ready;
     left = λ c left. record { old = c; left = left; change = no_more g h c };
-    calm = λ calm. calm;
+    synced = λ synced. synced;
   };
 }
 
@@ -82,7 +82,7 @@ module _ (g : Layout) (h k : ℕ) (more batch later : List (List ℕ)) (w0 w w' 
       left = λ c left.
           let later = has.left c left in
           let before = so_far.has.left later.old later.left in record { old = before.old; left = before.left; change = more_then before.change later.change };
-      calm = λ calm. has.calm (so_far.has.calm calm);
+      synced = λ synced. has.synced (so_far.has.synced synced);
     };
   }
 

@@ -2,7 +2,7 @@
 -- records in a half.
 use Rattle.std.proofs.Common.{◌≡◌, ℕ, zero, suc, ◌+◌, true, List, [], ◌∷◌, ◌++◌, length, take, get_or, replicate, Option, Some, None, refl, ap, subst, arith, length-append}
 use Rattle.disk.specs.Device.{Medium, begun}
-use Rattle.disk.proofs.Leaves.{calm_left}
+use Rattle.disk.proofs.Leaves.{synced_left}
 use Rattle.device_map.specs.Layout.{Layout}
 use Rattle.oplog.specs.Front.{count_open, front}
 use Rattle.oplog.specs.Changes.{Grew}
@@ -76,7 +76,7 @@ before = begun (device 0 0 0 (1 ∷ 1 ∷ 0 ∷ 0 ∷ []) (0 ∷ 0 ∷ 0 ∷ 0 �
 -- the front, if this is a growth
 front_after : (more : List (List ℕ)) (c : List ℕ) → (grew : Grew g 0 more before c) → front g 0 c ≡ front g 0 before.now ++ take grew.added more
 front_after more c grew =
-    subst (λ (l : List ℕ). front g 0 c ≡ front g 0 l ++ take grew.added more) (calm_left before grew.has.old refl grew.has.left) grew.has.change.front
+    subst (λ (l : List ℕ). front g 0 c ≡ front g 0 l ++ take grew.added more) (synced_left before grew.has.old refl grew.has.left) grew.has.change.front
 
 -- earlier gates that are shut for a moment
 abbrev shut_again : List ℕ

@@ -50,7 +50,7 @@ module _ (slots k : ℕ) (more : List (List ℕ)) (sized : AreRows more) (room :
       let before : gates_in slots mid ≡ gates_in slots old = same_before (body_at slots k) (length more * 520) old mid bodies 64 slots (omega arith) in
       subst (λ (l : List ℕ). SameOutside k (length more) l (gates_in slots new)) before (within 64 slots k (length more) mid new room gates)
 
-  -- so many of the records are in force
+  -- a prefix of the records is in force
   fronts : (j : ℕ) → j ≤ length more → count_open (gates_in slots new) ≡ k + j → front_in slots new ≡ front_in slots old ++ take j more
   fronts j few opened =
       let records : drop (64 + slots) new ≡ drop (64 + slots) mid = same_drop (64 + k) (length more) mid new gates (64 + slots) (omega (arith, room)) in

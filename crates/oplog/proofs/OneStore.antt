@@ -3,7 +3,7 @@ use Rattle.std.proofs.Common.{◌≡◌, ℕ, zero, suc, ◌+◌, ◌-◌, ◌<�
 use Rattle.std.proofs.lemmas.List.{length-replicate, take-take, drop-take, drop-replicate, get_or-take, get_or-drop, get_or-replicate}
 use Rattle.disk.specs.Device.{Medium, SameOutside}
 use Rattle.disk.specs.Moments.{CrashImagesAre}
-use Rattle.disk.proofs.Leaves.{calm_range}
+use Rattle.disk.proofs.Leaves.{synced_range}
 use Rattle.disk.proofs.Moments.{weaker}
 use Rattle.disk.proofs.Outside.{same_drop}
 use Rattle.disk.proofs.Overlays.{overlaid_outside, range-overlaid, length-overlaid, item-overlaid}
@@ -62,9 +62,9 @@ module _ (g : Layout) (h at : ℕ) (bytes : List ℕ) (is_half : h < 2) (place :
       ready = record {
         used = ap count_open shut ∙ open_none g.slots;
         shut = let all : g.slots ≡ g.slots - 0 = omega arith in shut ∙ ap (λ (n : ℕ). replicate n 0) all;
-        calm = calm_range (part_at g (half h)) (part_size g (half h)) w1 stored.calm (omega (arith, long, fits, half_sized g h is_half, half_inside g h is_half));
+        synced = synced_range (part_at g (half h)) (part_size g (half h)) w1 stored.synced (omega (arith, long, fits, half_sized g h is_half, half_inside g h is_half));
       };
-      calm = stored.calm;
+      synced = stored.synced;
     }
 
 -- ---- the chain byte of half h
@@ -88,7 +88,7 @@ module _ (g : Layout) (h at : ℕ) (is_half : h < 2) (place : at ≡ part_at g (
         get_or-take (part_size g (half h)) (drop (part_at g (half h)) w1.now) 0 0 (omega (arith, half_sized g h is_half)) ∙ get_or-drop (part_at g (half h)) w1.now 0 0
         ∙ ap (λ (a : ℕ). get_or w1.now a 0) (omega (arith, place)) ∙ ap (λ (l : List ℕ). get_or l at 0) stored.now
         ∙ item-overlaid w0.now at 1 0 [] (omega (arith, place, fits, half_inside g h is_half));
-    calm = stored.calm;
+    synced = stored.synced;
   }
 
 -- ---- the first byte of the root zone
@@ -113,5 +113,5 @@ module _ (g : Layout) (n : ℕ) where
     named = named_by n (get_or (part_bytes g root w1.now) 0 0) is_area
         (get_or-take 64 (drop 64 w1.now) 0 0 (omega arith) ∙ get_or-drop 64 w1.now 0 0
         ∙ ap (λ (l : List ℕ). get_or l 64 0) stored.now ∙ item-overlaid w0.now 64 n 0 [] (omega (arith, fits)));
-    calm = stored.calm;
+    synced = stored.synced;
   }

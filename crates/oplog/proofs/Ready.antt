@@ -2,7 +2,7 @@
 use Rattle.std.proofs.Common.{◌≡◌, ◌≢◌, ◌<◌, ◌≤◌, ℕ, Bool, true, false, cond, List, length, drop, sym, ◌∙◌, ap, subst, arith}
 use Rattle.std.proofs.lemmas.Bool.{eq-eqb}
 use Rattle.disk.specs.Device.{Medium, IsSynced}
-use Rattle.disk.proofs.Leaves.{calm_range}
+use Rattle.disk.proofs.Leaves.{synced_range}
 use Rattle.device_map.specs.Layout.{Layout, layout_of, part_at, part_size, half, other, device_size}
 use Rattle.oplog.specs.Front.{count_open, gates_in}
 use Rattle.oplog.specs.Changes.{IsSameBut, IsReady, Cleared, Chained, Flipped}
@@ -12,12 +12,12 @@ use Rattle.oplog.proofs.Slices.{LiesIn, half_sized, half_inside, other_part}
 
 pub ready_kept : {g : Layout} {h k p : ℕ} {w w' : Medium} → h < 2 → half h ≢ p → device_size g ≤ length w'.now → IsReady g h k w
     → IsSameBut g p w.now w'.now → IsSynced w' → IsReady g h k w'
-ready_kept {g} {h} {k} {w'} is_half apart fits ready same calm =
+ready_kept {g} {h} {k} {w'} is_half apart fits ready same synced =
     let kept = same.others (half h) apart in
     record {
       used = ap (λ (l : List ℕ). count_open (gates_in g.slots l)) kept ∙ ready.used;
       shut = ap (λ (l : List ℕ). drop k (gates_in g.slots l)) kept ∙ ready.shut;
-      calm = calm_range (part_at g (half h)) (part_size g (half h)) w' calm (omega (arith, fits, half_sized g h is_half, half_inside g h is_half));
+      synced = synced_range (part_at g (half h)) (part_size g (half h)) w' synced (omega (arith, fits, half_sized g h is_half, half_inside g h is_half));
     }
 
 -- It stays so while a range of another part is written, synced or not.
@@ -27,7 +27,7 @@ ready_beside {g} {h} {k} apart lies wrote ready =
     record {
       used = ap (λ (l : List ℕ). count_open (gates_in g.slots l)) kept ∙ ready.used;
       shut = ap (λ (l : List ℕ). drop k (gates_in g.slots l)) kept ∙ ready.shut;
-      calm = other_part (half h) lies apart wrote.unsynced ∙ ready.calm;
+      synced = other_part (half h) lies apart wrote.unsynced ∙ ready.synced;
     }
 
 -- The current half was the named one, the other was cleared, and then the chain to it was opened.
@@ -38,7 +38,7 @@ ready_chained log {opened} {w1} {w2} is_half first second fits clear chain =
     let is : opened ≡ chained (record log { cleared = true }) = second ∙ ap chained first in
     let chain' : Chained (layout_of log.geometry) log.named w1 w2 = subst (λ (x : Log). Chained (layout_of x.geometry) x.named w1 w2) first chain in
     subst (λ (x : Log). IsReady (layout_of x.geometry) x.current x.used w2) (sym is)
-    (ready_kept (omega arith) (λ same. omega (arith, same, is_half)) fits clear.ready chain'.same.same chain'.calm)
+    (ready_kept (omega arith) (λ same. omega (arith, same, is_half)) fits clear.ready chain'.same.same chain'.synced)
 
 -- The current half was the named one, the other was cleared, and then it was named.
 pub ready_named : (log : Log) {cleared named : Log} {w0 w1 w2 : Medium} → log.current ≡ log.named → cleared ≡ record log { cleared = true } → named
@@ -51,4 +51,4 @@ ready_named log {named} {w1} {w2} current_is_named first second fits clear flip 
     let is : named ≡ record log { named = other log.named; current = other log.named; used = 0; cleared = false } = second ∙ ap flipped first ∙ follows in
     let flip' : Flipped (layout_of log.geometry) (other log.named) w1 w2 = subst (λ (x : Log). Flipped (layout_of x.geometry) (other x.named) w1 w2) first flip in
     subst (λ (x : Log). IsReady (layout_of x.geometry) x.current x.used w2) (sym is)
-    (ready_kept (omega arith) (λ same. omega (arith, same)) fits clear.ready flip'.same.same flip'.calm)
+    (ready_kept (omega arith) (λ same. omega (arith, same)) fits clear.ready flip'.same.same flip'.synced)

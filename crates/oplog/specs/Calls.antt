@@ -23,7 +23,7 @@ IsReadyFor log m = IsReady (layout log) log.current log.used m
 
 -- ---- what a crash leaves at any moment of a call, and what is there at `Ok`
 
--- The current half grows by the first so many of these messages.
+-- The current half grows by a prefix of these messages.
 abbrev pub Grows : Log → List Msg → Medium → Medium → Type 0
 Grows log messages old new = CrashImagesAre old new (Grew (layout log) log.current (records_of messages) old)
 

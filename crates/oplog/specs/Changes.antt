@@ -48,7 +48,7 @@ pub record After (before : Medium) (Change : List ℕ → List ℕ → Type 0) (
 abbrev pub ChangesOnly : Medium → Medium → (List ℕ → List ℕ → Type 0) → Type 0
 ChangesOnly old new Change = CrashImagesAre old new (After old Change)
 
--- This is what a crash before might have left, with the first so many of these records added to half h.
+-- This is what a crash before might have left, with a prefix of these records added to half h.
 pub record Grew (g : Layout) (h : ℕ) (more : List (List ℕ)) (before : Medium) (c : List ℕ) : Type 0 where
   pub added : ℕ
   pub at_most : added ≤ length more
@@ -64,7 +64,7 @@ IsSyncedIn g p m = slice m.unsynced (part_at g p) (part_size g p) ≡ replicate 
 pub record IsReady (g : Layout) (h k : ℕ) (m : Medium) : Type 0 where
   pub used : count_open (gates g h m.now) ≡ k
   pub shut : IsShutBehind g h k m.now
-  pub calm : IsSyncedIn g (half h) m
+  pub synced : IsSyncedIn g (half h) m
 
 -- All of these records were added to half h, behind k others, and none of them is unsynced.
 pub record HasAll (g : Layout) (h k : ℕ) (more : List (List ℕ)) (old new : Medium) : Type 0 where
@@ -72,7 +72,7 @@ pub record HasAll (g : Layout) (h k : ℕ) (more : List (List ℕ)) (old new : M
   pub ready : IsReady g h (k + length more) new
   pub left : (c : List ℕ) → IsCrashImage new c → After old (HasMore g h more) c
   -- nor is anything else, if nothing was
-  pub calm : IsSynced old → IsSynced new
+  pub synced : IsSynced old → IsSynced new
 
 -- The chain byte of half h, the bytes beside it and its gates are 0, and nothing is unsynced.
 pub record Cleared (g : Layout) (h : ℕ) (old new : Medium) : Type 0 where
@@ -80,16 +80,16 @@ pub record Cleared (g : Layout) (h : ℕ) (old new : Medium) : Type 0 where
   pub zeros : take (chain_area + g.slots) (part_bytes g (half h) new.now) ≡ replicate (chain_area + g.slots) 0
   pub chain : chain g h new.now ≡ 0
   pub ready : IsReady g h 0 new
-  pub calm : IsSynced new
+  pub synced : IsSynced new
 
 -- The chain byte of half h is 1, and nothing is unsynced.
 pub record Chained (g : Layout) (h : ℕ) (old new : Medium) : Type 0 where
   pub same : IsSameButChain g h old.now new.now
   pub chain : chain g h new.now ≡ 1
-  pub calm : IsSynced new
+  pub synced : IsSynced new
 
 -- The root zone names area n, and nothing is unsynced.
 pub record Flipped (g : Layout) (n : ℕ) (old new : Medium) : Type 0 where
   pub same : IsSameButRoot g old.now new.now
   pub named : named_area g new.now ≡ n
-  pub calm : IsSynced new
+  pub synced : IsSynced new

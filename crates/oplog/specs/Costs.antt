@@ -1,15 +1,15 @@
--- Statement for engineers: How many writes and syncs the calls of a log take: as many as the device has moments more. A sync that fails is
--- none.
+-- Statement for engineers: How many writes and syncs the calls of a log make. Each adds one moment to the device's past; a sync that fails
+-- adds none.
 use Rattle.std.specs.Prelude.{◌≡◌, ◌≤◌, ℕ, ◌+◌, ◌-◌, ◌/◌, Result, Ok, Err}
 use Rattle.disk.specs.Device.{Medium}
 use Rattle.disk.specs.Moments.{moment}
 use Rattle.device_map.specs.Layout.{largest_batch}
 
--- into how many batches so many records go
+-- how many batches n records make
 abbrev pub batches : ℕ → ℕ
 batches n = (n + (largest_batch - 1)) / largest_batch
 
--- A call with this answer took so many writes and syncs, or, where it failed, no more.
-abbrev pub Takes : {T E : Type 0} → Result T E → ℕ → Medium → Medium → Type 0
-Takes (Ok _) n old new = moment new ≡ moment old + n
-Takes (Err _) n old new = moment new ≤ moment old + n
+-- A call with this result made n writes and syncs or, if it failed, at most n.
+abbrev pub Costs : {T E : Type 0} → Result T E → ℕ → Medium → Medium → Type 0
+Costs (Ok _) n old new = moment new ≡ moment old + n
+Costs (Err _) n old new = moment new ≤ moment old + n

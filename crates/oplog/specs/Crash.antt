@@ -21,7 +21,7 @@ module _ {S : Type 0} (means : Decoding S) where
   abbrev pub RecoversByNow : Layout → ℕ → ℕ → Option S → Medium → Type 0
   RecoversByNow g n h x m = (c : List ℕ) → IsCrashImage m c → RecoversBy g n h x c
 
-  -- These bytes recover to the first so many of these records, run on x.
+  -- These bytes recover to a prefix of these records, run on x.
   pub record RecoversBySome (g : Layout) (n h : ℕ) (x : Option S) (more : List (List ℕ)) (c : List ℕ) : Type 0 where
     pub added : ℕ
     pub at_most : added ≤ length more
@@ -35,7 +35,7 @@ module _ {S : Type 0} (means : Decoding S) where
   abbrev pub RecoversEitherWay : Layout → Option S → Medium → Type 0
   RecoversEitherWay g x m = (c : List ℕ) → IsCrashImage m c → (recovers_as means g 0 c ≡ x) × (recovers_as means g 1 c ≡ x)
 
-  -- Records are appended to the current half. A crash at any moment leaves the first so many of them.
+  -- Records are appended to the current half. A crash at any moment leaves a prefix of them.
   abbrev pub AppendRecovers : Type 0
   AppendRecovers = (g : Layout) (n h : ℕ) (x : Option S) (more : List (List ℕ)) (old new : Medium) → n < 2 → h < 2
       → RecoversByNow g n h x old

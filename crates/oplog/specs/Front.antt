@@ -12,7 +12,7 @@ abbrev pub rows : ℕ → ℕ → List ℕ → List (List ℕ)
 rows width zero bytes = []
 rows width (suc n) bytes = take width bytes ∷ rows width n (drop width bytes)
 
--- ---- of the bytes of a half that holds so many records
+-- ---- of the bytes of a half that holds n records
 
 abbrev pub chain_in : List ℕ → ℕ
 chain_in h = get_or h 0 0

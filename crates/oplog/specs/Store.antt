@@ -10,4 +10,4 @@ pub record Touched (at n : ℕ) (old new : Medium) : Type 0 where
 -- The bytes are there, all others are as they were, and nothing is unsynced.
 pub record Stored (at : ℕ) (bytes : List ℕ) (old new : Medium) : Type 0 where
   pub now : new.now ≡ overlaid old.now at bytes
-  pub calm : IsSynced new
+  pub synced : IsSynced new

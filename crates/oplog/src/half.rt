@@ -2,7 +2,7 @@
 ghost use Rattle.std.specs.Prelude.{◌≡◌, ◌+◌, ◌*◌, ◌<◌, ◌≤◌, length, IfOk, OnOk, IsErrOf, min, replicate, vec_len};
 ghost use Rattle.disk.specs.Device.{IsDeviceCall, SameOutside, moments};
 ghost use Rattle.oplog.specs.Changes.{ChangesOnly};
-ghost use Rattle.oplog.specs.Costs.{Takes, batches};
+ghost use Rattle.oplog.specs.Costs.{Costs, batches};
 ghost use Rattle.oplog.specs.Front.{front, count_open};
 ghost use Rattle.device_map.specs.Layout.{layout_of, part_at, half};
 ghost use Rattle.oplog.specs.Changing.{AreChangesInRange};
@@ -88,7 +88,7 @@ impl Half {
         ensures cleared { OnOk result (D.keeps →
             Stored (part_at (layout_of self.geometry) (half self.number))
             (replicate (64 + self.geometry.half) 0) (D.medium disk.old) (D.medium disk.new)) }
-        ensures takes { D.keeps → Takes result 2 (D.medium disk.old) (D.medium disk.new) }
+        ensures costs { D.keeps → Costs result 2 (D.medium disk.old) (D.medium disk.new) }
         ensures inside { IsErrOf result DiskFault.OutOfRange → ⊥ }
         ensures call { IsDeviceCall result (D.medium disk.old) (D.medium disk.new) }
     {
@@ -105,7 +105,7 @@ impl Half {
         ensures opened { OnOk result (D.keeps →
             Stored (part_at (layout_of self.geometry) (half self.number) + (64 + first))
             (replicate count 1) (D.medium disk.old) (D.medium disk.new)) }
-        ensures takes { D.keeps → Takes result 2 (D.medium disk.old) (D.medium disk.new) }
+        ensures costs { D.keeps → Costs result 2 (D.medium disk.old) (D.medium disk.new) }
         ensures inside { IsErrOf result DiskFault.OutOfRange → ⊥ }
         ensures call { IsDeviceCall result (D.medium disk.old) (D.medium disk.new) }
     {
@@ -130,7 +130,7 @@ impl Half {
             HalfGrows self messages.now (D.medium disk.old) (D.medium disk.new) }
         ensures added { OnOk result (D.keeps →
             HalfHasAdded self used messages.now (D.medium disk.old) (D.medium disk.new)) }
-        ensures takes { D.keeps → Takes result 4 (D.medium disk.old) (D.medium disk.new) }
+        ensures costs { D.keeps → Costs result 4 (D.medium disk.old) (D.medium disk.new) }
         ensures buffer { vec_len buffer.new ≡ vec_len buffer.old }
         ensures inside { IsErrOf result DiskFault.OutOfRange → ⊥ }
         ensures call { IsDeviceCall result (D.medium disk.old) (D.medium disk.new) }
@@ -159,8 +159,8 @@ impl Half {
         ensures added { OnOk result (D.keeps →
             HalfHasAdded self used messages.now (D.medium disk.old) (D.medium disk.new)) }
         ensures none { length messages.now ≡ 0 → disk.new ≡ disk.old }
-        ensures takes { D.keeps →
-            Takes result (4 * batches (length messages.now)) (D.medium disk.old) (D.medium disk.new) }
+        ensures costs { D.keeps →
+            Costs result (4 * batches (length messages.now)) (D.medium disk.old) (D.medium disk.new) }
         ensures buffer { vec_len buffer.new ≡ vec_len buffer.old }
         ensures inside { IsErrOf result DiskFault.OutOfRange → ⊥ }
         ensures call { IsDeviceCall result (D.medium disk.old) (D.medium disk.new) }

@@ -54,7 +54,7 @@ impl Model for Halves {
 
 impl Halves {
     ghost use Rattle.oplog.specs.Log.{new_log, renamed, flipped, chained, log_after, IsLogCall, IsNotBad, IsAbout};
-    ghost use Rattle.oplog.specs.Costs.{Takes, batches};
+    ghost use Rattle.oplog.specs.Costs.{Costs, batches};
     ghost use Rattle.oplog.specs.Calls.{HasParts, IsReadyFor, Grows, HasAdded, Clears, HasCleared, Chains, HasChained, Flips, HasFlipped, HasFront, IsOfRecordAt};
 
     /// A log of which nothing is known: half 0 is named and current, and there is no room.
@@ -78,7 +78,7 @@ impl Halves {
 
     /// Makes this half named and current, with no room. The device isn't touched.
     pub fn name(&mut self, half: usize)
-        requires sound { self.old.failed ≡ false }
+        requires not_failed { self.old.failed ≡ false }
         requires half { half < 2 }
         ensures { self.new ≡ renamed half self.old }
     {
@@ -128,7 +128,7 @@ impl Halves {
     /// Appends these messages to the current half, in order: their records, a sync, their gates, a sync, for as many
     /// of them at a time as the buffer holds. With no message the device isn't touched.
     pub fn append<D: Disk>(&mut self, disk: &mut D, messages: &[Msg]) -> Result<(), LogFault>
-        requires sound { self.old.failed ≡ false }
+        requires not_failed { self.old.failed ≡ false }
         requires changes { AreChangesInRange self.old.geometry messages.now }
         requires room { self.old.used + length messages.now ≤ self.old.geometry.half }
         requires long_enough { HasParts self.old (D.medium disk.old) }
@@ -142,8 +142,8 @@ impl Halves {
         ensures none { length messages.now ≡ 0 → disk.new ≡ disk.old }
 
         // Four device calls for each batch: its records, a sync, its gates, a sync.
-        ensures takes { D.keeps →
-            Takes result (4 * batches (length messages.now)) (D.medium disk.old) (D.medium disk.new) }
+        ensures costs { D.keeps →
+            Costs result (4 * batches (length messages.now)) (D.medium disk.old) (D.medium disk.new) }
         ensures log { self.new ≡ log_after result self.old
             (record self.old { used = self.old.used + length messages.now }) }
         ensures not_bad { IsNotBad result }
@@ -167,13 +167,13 @@ impl Halves {
     /// Clears the half that isn't named: its chain byte, the bytes beside it and its gates become 0. Its records stay.
     /// The named half is the current one.
     pub fn clear_other<D: Disk>(&mut self, disk: &mut D) -> Result<(), LogFault>
-        requires sound { self.old.failed ≡ false }
+        requires not_failed { self.old.failed ≡ false }
         requires current_is_named { self.old.current ≡ self.old.named }
         requires long_enough { HasParts self.old (D.medium disk.old) }
         ensures any_moment { D.keeps → Clears self.old (D.medium disk.old) (D.medium disk.new) }
         ensures cleared { OnOk result (D.keeps →
             HasCleared self.old (D.medium disk.old) (D.medium disk.new)) }
-        ensures takes { D.keeps → Takes result 2 (D.medium disk.old) (D.medium disk.new) }
+        ensures costs { D.keeps → Costs result 2 (D.medium disk.old) (D.medium disk.new) }
         ensures log { self.new ≡ log_after result self.old (record self.old { cleared = true }) }
         ensures not_bad { IsNotBad result }
         ensures call { IsLogCall result (D.medium disk.old) (D.medium disk.new) }
@@ -193,14 +193,14 @@ impl Halves {
     /// Puts the records of the other half in force after those of the named one, by the chain byte of the named half.
     /// The other half becomes current, with room for all records. It was cleared since it was last named or current.
     pub fn open_chain<D: Disk>(&mut self, disk: &mut D) -> Result<(), LogFault>
-        requires sound { self.old.failed ≡ false }
+        requires not_failed { self.old.failed ≡ false }
         requires current_is_named { self.old.current ≡ self.old.named }
         requires cleared { self.old.cleared ≡ true }
         requires long_enough { HasParts self.old (D.medium disk.old) }
         ensures any_moment { D.keeps → Chains self.old (D.medium disk.old) (D.medium disk.new) }
         ensures chained { OnOk result (D.keeps →
             HasChained self.old (D.medium disk.old) (D.medium disk.new)) }
-        ensures takes { D.keeps → Takes result 2 (D.medium disk.old) (D.medium disk.new) }
+        ensures costs { D.keeps → Costs result 2 (D.medium disk.old) (D.medium disk.new) }
         ensures log { self.new ≡ log_after result self.old (chained self.old) }
         ensures not_bad { IsNotBad result }
         ensures call { IsLogCall result (D.medium disk.old) (D.medium disk.new) }
@@ -223,12 +223,12 @@ impl Halves {
     /// half becomes current, with room for all records if it was cleared since it was last named or current. Else the
     /// current half and its room stay.
     pub fn flip_root<D: Disk>(&mut self, disk: &mut D) -> Result<(), LogFault>
-        requires sound { self.old.failed ≡ false }
+        requires not_failed { self.old.failed ≡ false }
         requires long_enough { HasParts self.old (D.medium disk.old) }
         ensures any_moment { D.keeps → Flips self.old (D.medium disk.old) (D.medium disk.new) }
         ensures flipped { OnOk result (D.keeps →
             HasFlipped self.old (D.medium disk.old) (D.medium disk.new)) }
-        ensures takes { D.keeps → Takes result 2 (D.medium disk.old) (D.medium disk.new) }
+        ensures costs { D.keeps → Costs result 2 (D.medium disk.old) (D.medium disk.new) }
         ensures log { self.new ≡ log_after result self.old (flipped self.old) }
         ensures not_bad { IsNotBad result }
         ensures call { IsLogCall result (D.medium disk.old) (D.medium disk.new) }
@@ -253,7 +253,7 @@ impl Halves {
 
     /// How many records the front of this half has.
     pub fn front<D: Disk>(&mut self, disk: &mut D, half: usize) -> Result<usize, LogFault>
-        requires sound { self.old.failed ≡ false }
+        requires not_failed { self.old.failed ≡ false }
         requires half { half < 2 }
         requires long_enough { HasParts self.old (D.medium disk.old) }
         ensures front { IfOk result (λ n. D.keeps → HasFront self.old half n (D.medium disk.old)) }
@@ -280,7 +280,7 @@ impl Halves {
     /// Record `i` of this half, whatever its gate is. `BadRecord` comes exactly where its bytes are no changing
     /// message in range.
     pub fn record<D: Disk>(&mut self, disk: &mut D, half: usize, i: usize) -> Result<Msg, LogFault>
-        requires sound { self.old.failed ≡ false }
+        requires not_failed { self.old.failed ≡ false }
         requires half { half < 2 }
         requires i { i < self.old.geometry.half }
         requires long_enough { HasParts self.old (D.medium disk.old) }

@@ -2,7 +2,7 @@
 ghost use Rattle.std.specs.Prelude.{◌≡◌, ◌+◌, ◌≤◌, length, OnOk, IsErrOf};
 ghost use Rattle.disk.specs.Device.{SameOutside, IsDeviceCall, overlaid};
 ghost use Rattle.oplog.specs.Changes.{ChangesOnly};
-ghost use Rattle.oplog.specs.Costs.{Takes};
+ghost use Rattle.oplog.specs.Costs.{Costs};
 ghost use Rattle.oplog.specs.Store.{Stored, Touched};
 
 use disk::{Disk, DiskFault};
@@ -15,7 +15,7 @@ pub fn write<D: Disk>(disk: &mut D, at: u64, bytes: &[u8]) -> Result<(), DiskFau
         ChangesOnly (D.medium disk.old) (D.medium disk.new) (SameOutside at (length bytes.now)) }
     ensures touched { D.keeps →
         Touched at (length bytes.now) (D.medium disk.old) (D.medium disk.new) }
-    ensures takes { D.keeps → Takes result 1 (D.medium disk.old) (D.medium disk.new) }
+    ensures costs { D.keeps → Costs result 1 (D.medium disk.old) (D.medium disk.new) }
     ensures written { OnOk result (D.keeps →
         (D.medium disk.new).now ≡ overlaid (D.medium disk.old).now at bytes.now) }
     ensures inside { IsErrOf result DiskFault.OutOfRange → ⊥ }
@@ -32,7 +32,7 @@ pub fn store<D: Disk>(disk: &mut D, at: u64, bytes: &[u8]) -> Result<(), DiskFau
         ChangesOnly (D.medium disk.old) (D.medium disk.new) (SameOutside at (length bytes.now)) }
     ensures stored { OnOk result (D.keeps →
         Stored at bytes.now (D.medium disk.old) (D.medium disk.new)) }
-    ensures takes { D.keeps → Takes result 2 (D.medium disk.old) (D.medium disk.new) }
+    ensures costs { D.keeps → Costs result 2 (D.medium disk.old) (D.medium disk.new) }
     ensures inside { IsErrOf result DiskFault.OutOfRange → ⊥ }
     ensures call { IsDeviceCall result (D.medium disk.old) (D.medium disk.new) }
 {

@@ -13,7 +13,7 @@ use Rattle.parcel.specs.declared.running.totals.Totals.{Totals}
 pub sum_step : (n : ℕ) (h : ℕ → ℕ) → sum_below (n + 1) h ≡ sum_below n h + h n
 sum_step n h = ap (λ k. sum_below k h) (add-one n)
 
--- no more than so many volumes can hold
+-- no more than n volumes can hold
 pub record IsFew (n : ℕ) (t : Totals) : Type 0 where
   pub volumes : t.volumes ≤ n
   pub files : t.files ≤ n * 64

@@ -1,4 +1,4 @@
-//! A message with what it runs on, and what comes of it.
+//! A job: a message with the parcels that it runs on; and its result.
 ghost use Rattle.std.specs.Prelude.{◌≡◌};
 ghost use Rattle.parcel.specs.Fits.{Suits};
 

@@ -65,7 +65,7 @@ module _ (ticket : ℕ) (reply : Reply) where
 
   -- ---- lines that are looked at
 
-  -- the first so many were looked at
+  -- the first n were looked at
   abbrev pub looked : ℕ → List Line → List Line
   looked zero lines = lines
   looked (suc k) [] = []

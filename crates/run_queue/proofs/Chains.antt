@@ -8,9 +8,9 @@ use Rattle.std.proofs.lemmas.List.{length-set, length-replicate, get_or-set_same
 use Rattle.std.proofs.lemmas.List.Elements.{filter-append}
 use Rattle.arena.specs.Lists.{first_of, without, numbers_from}
 use Rattle.arena.specs.Lists.{times as times_on}
-use Rattle.arena.specs.Row.{Row, IsParted, capacity_of, value_at, chain_at, front_of, moved, listed, can_move, empty_row, put_answer, slot_from, after_put, after_move, after_take}
+use Rattle.arena.specs.ArenaView.{ArenaView, IsParted, capacity_of, value_at, chain_at, front_of, moved, listed, can_move, empty_arena, put_answer, slot_from, after_put, after_move, after_take}
 use Rattle.arena.proofs.Times.{times-append as on-append, times-cons_is as on-cons_is, times-cons_other as on-cons_other, times-at as on-at, without-absent as on-absent}
-use Rattle.arena.proofs.RowLemmas.{chain-without, chain-moved_same, chain-moved_other, length-moved, chained-holds, chained-apart, front-chained, chain-front}
+use Rattle.arena.proofs.ArenaLemmas.{chain-without, chain-moved_same, chain-moved_other, length-moved, chained-holds, chained-apart, front-chained, chain-front}
 use Rattle.run_queue.specs.RunQueue.{has_slot, has_number, without_slot, CameBefore}
 use Rattle.run_queue.specs.Slots.{times_seated}
 use Rattle.run_queue.specs.Order.{Ascend}
@@ -38,16 +38,16 @@ all_numbers from (suc count) i low high = elim (eqb_tells from i) [
       omega (arith, rest, on-cons_other i from (numbers_from (suc from) count) n.1))
 ]
 
-pub start-waiting : (seats numbers : ℕ) → waiting_in (empty_row seats numbers) ≡ []
+pub start-waiting : (seats numbers : ℕ) → waiting_in (empty_arena seats numbers) ≡ []
 start-waiting seats numbers = ap by_ticket (none_present seats)
 
-pub start-queued : (seats numbers : ℕ) → IsParted {T = QueuedMessage} (empty_row seats numbers) → IsQueued (empty_row seats numbers)
+pub start-queued : (seats numbers : ℕ) → IsParted {T = QueuedMessage} (empty_arena seats numbers) → IsQueued (empty_arena seats numbers)
 start-queued seats numbers parted = record {
   parted = parted;
   full = λ i below none. all_numbers 0 seats i (omega arith) (omega (arith, below, length-replicate {A = Option QueuedMessage} seats None));
   ascends = subst (λ (ts : List QueuedMessage). Ascend ts) (sym (start-waiting seats numbers)) tt;
   queued = λ n.
-      ap (λ (is : List ℕ). queued_in (empty_row seats numbers) is) (no_chain numbers n)
+      ap (λ (is : List ℕ). queued_in (empty_arena seats numbers) is) (no_chain numbers n)
       ∙ ap (λ (ts : List QueuedMessage). filter (has_number n) ts) (sym (start-waiting seats numbers));
 }
 
@@ -73,7 +73,7 @@ none_first : (is : List ℕ) → first_of is ≡ None → is ≡ []
 none_first [] h = refl
 none_first (i ∷ is) h = absurd (cc)
 
-pub front-none : (row : Row QueuedMessage) (n : ℕ) → IsQueued row → front_of row n ≡ None → find (has_number n) (waiting_in row) ≡ None
+pub front-none : (row : ArenaView QueuedMessage) (n : ℕ) → IsQueued row → front_of row n ≡ None → find (has_number n) (waiting_in row) ≡ None
 unfolding head
 front-none row n q none =
     find-head (has_number n) (waiting_in row)
@@ -81,18 +81,18 @@ front-none row n q none =
     ∙ ap (λ (is : List ℕ). head (queued_in row is)) (none_first (chain_at row n) none)
 
 -- a slot of a queue has one
-pub chained-some : (row : Row QueuedMessage) (n i : ℕ) → IsQueued row → front_of row n ≡ Some i → (t : QueuedMessage) × (value_at row i ≡ Some t)
+pub chained-some : (row : ArenaView QueuedMessage) (n i : ℕ) → IsQueued row → front_of row n ≡ Some i → (t : QueuedMessage) × (value_at row i ≡ Some t)
 chained-some row n i q first = some_of (value_at row i) (chained-holds row i n q.parted (front-chained row i n first))
 
 -- the queue is its first one, and the others
-queue-parts : (row : Row QueuedMessage) (n i : ℕ) (t : QueuedMessage) → IsQueued row → front_of row n ≡ Some i → value_at row i ≡ Some t
+queue-parts : (row : ArenaView QueuedMessage) (n i : ℕ) (t : QueuedMessage) → IsQueued row → front_of row n ≡ Some i → value_at row i ≡ Some t
     → filter (has_number n) (waiting_in row) ≡ t ∷ queued_in row (without i (chain_at row n))
 queue-parts row n i t q first is =
     sym (q.queued n)
     ∙ ap (λ (is : List ℕ). queued_in row is) (chain-front row i n q.parted first)
     ∙ ap (λ (o : Option QueuedMessage). present (o ∷ map (value_at row) (without i (chain_at row n)))) is
 
-pub front-some : (row : Row QueuedMessage) (n i : ℕ) → IsQueued row → front_of row n ≡ Some i → find (has_number n) (waiting_in row) ≡ value_at row i
+pub front-some : (row : ArenaView QueuedMessage) (n i : ℕ) → IsQueued row → front_of row n ≡ Some i → find (has_number n) (waiting_in row) ≡ value_at row i
 unfolding head
 front-some row n i q first =
     let t = chained-some row n i q first in
@@ -121,7 +121,7 @@ waiting-same e f g = rw (e, f, g) refl
 
 -- ---- one more
 
-pub free-from_put : (row : Row QueuedMessage) (t : QueuedMessage) (i : ℕ) → put_answer row t ≡ Ok i → (rest : List ℕ) × (row.free ≡ i ∷ rest)
+pub free-from_put : (row : ArenaView QueuedMessage) (t : QueuedMessage) (i : ℕ) → put_answer row t ≡ Ok i → (rest : List ℕ) × (row.free ≡ i ∷ rest)
 free-from_put row t i answer = by row.free refl
   where
     by : (free : List ℕ) → row.free ≡ free → (rest : List ℕ) × (row.free ≡ i ∷ rest)
@@ -132,12 +132,12 @@ free-from_put row t i answer = by row.free refl
         let same : j ≡ i = cc in
         (rest, is ∙ ap (λ k. k ∷ rest) same)
 
-abbrev pub pushed : Row QueuedMessage → QueuedMessage → ℕ → List ℕ → ℕ → Row QueuedMessage
+abbrev pub pushed : ArenaView QueuedMessage → QueuedMessage → ℕ → List ℕ → ℕ → ArenaView QueuedMessage
 pushed row t i rest n = record { values = slice_set row.values i (Some t); free = rest; chains = moved row.chains i n }
 
-module _ (row : Row QueuedMessage) (t : QueuedMessage) (i : ℕ) (rest : List ℕ) (n : ℕ) (q : IsQueued row) (first : row.free ≡ i ∷ rest)
+module _ (row : ArenaView QueuedMessage) (t : QueuedMessage) (i : ℕ) (rest : List ℕ) (n : ℕ) (q : IsQueued row) (first : row.free ≡ i ∷ rest)
     (there : n < length row.chains) (number : t.affinity.number ≡ n) (later : CameBefore t.ticket (waiting_in row)) where
-  abbrev after : Row QueuedMessage
+  abbrev after : ArenaView QueuedMessage
   after = pushed row t i rest n
 
   is_free : 1 ≤ times_on i row.free
@@ -163,7 +163,7 @@ module _ (row : Row QueuedMessage) (t : QueuedMessage) (i : ℕ) (rest : List �
       let put : after_put row t ≡ record row { values = slice_set row.values i (Some t); free = rest } = rw first refl in
       let can : can_move (record row { values = slice_set row.values i (Some t); free = rest }) i n ≡ true =
       and_from _ _ (ap is_some has_it) (lt-ltb n (length row.chains) there) in
-      ap (λ (m : Row QueuedMessage). after_move m i n) put ∙ rw can refl
+      ap (λ (m : ArenaView QueuedMessage). after_move m i n) put ∙ rw can refl
 
   pub push-waiting : waiting_in after ≡ waiting_in row ++ t ∷ []
   push-waiting = order-come row.values i t is_slot is_empty later
@@ -219,7 +219,7 @@ module _ (row : Row QueuedMessage) (t : QueuedMessage) (i : ℕ) (rest : List �
   }
 
 -- where no slot is free, each has one
-pub push-seat : (row : Row QueuedMessage) (t : QueuedMessage) → IsQueued row → length (waiting_in row) < length row.values → (i : ℕ) × (rest : List ℕ) × (row.free ≡ i ∷ rest)
+pub push-seat : (row : ArenaView QueuedMessage) (t : QueuedMessage) → IsQueued row → length (waiting_in row) < length row.values → (i : ℕ) × (rest : List ℕ) × (row.free ≡ i ∷ rest)
 push-seat row t q less = by row.free refl
   where
     by : (free : List ℕ) → row.free ≡ free → (i : ℕ) × (rest : List ℕ) × (row.free ≡ i ∷ rest)
@@ -229,7 +229,7 @@ push-seat row t q less = by row.free refl
 
 -- ---- one less
 
-abbrev pub popped : Row QueuedMessage → ℕ → Row QueuedMessage
+abbrev pub popped : ArenaView QueuedMessage → ℕ → ArenaView QueuedMessage
 popped row i = record { values = slice_set row.values i None; free = i ∷ row.free; chains = map (without i) row.chains }
 
 filters-turned : (p r : QueuedMessage → Bool) (ts : List QueuedMessage) → filter p (filter r ts) ≡ filter r (filter p ts)
@@ -268,9 +268,9 @@ times-two s n m (t ∷ ts) other =
       ])
     ]
 
-module _ (row : Row QueuedMessage) (n i : ℕ) (t : QueuedMessage) (q : IsQueued row) (first : front_of row n ≡ Some i) (is : value_at row i ≡ Some t)
+module _ (row : ArenaView QueuedMessage) (n i : ℕ) (t : QueuedMessage) (q : IsQueued row) (first : front_of row n ≡ Some i) (is : value_at row i ≡ Some t)
     (once : (s : ℕ) → times_seated s (waiting_in row) ≤ 1) where
-  abbrev later : Row QueuedMessage
+  abbrev later : ArenaView QueuedMessage
   later = popped row i
 
   pub pop-row : after_take row i ≡ later

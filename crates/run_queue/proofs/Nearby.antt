@@ -83,7 +83,7 @@ same_path g p q h k same = sym (path_at-number g p h) ∙ ap (path_at g) same �
 is_at : (g : Geometry) (p q : Path) (k : ℕ) → q ≡ take k p → (number g (take k p) == number g q) ≡ true
 is_at g p q k same = eq-eqb _ _ (ap (λ (r : Path). number g r) (sym same))
 
--- a beginning of so many numbers is found among those, or is the path itself
+-- a beginning of n numbers is found among those, or is the path itself
 found_at : (g : Geometry) (p q : Path) (k : ℕ) → IsPath g p → q ≡ take k p
     → (q ≡ p) ⊎ (list_any (λ n. n == number g q) (numbers_above g p) ≡ true)
 found_at g p q zero h is = inr (rw (is_at g p q 0 is) refl)

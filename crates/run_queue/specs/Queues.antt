@@ -2,7 +2,7 @@
 use Rattle.std.specs.Prelude.{◌≡◌, ℕ, suc, ◌<◌, List, [], ◌∷◌, ◌++◌, filter, map, if◌then◌else◌, nat_lt, Option, Some, None}
 use Rattle.std.specs.List.{find}
 use Rattle.arena.specs.Lists.{times as times_on}
-use Rattle.arena.specs.Row.{Row, IsParted, capacity_of, value_at, chain_at}
+use Rattle.arena.specs.ArenaView.{ArenaView, IsParted, capacity_of, value_at, chain_at}
 use Rattle.run_queue.specs.RunQueue.{has_number, without_slot}
 use Rattle.run_queue.specs.Order.{Ascend}
 use Rattle.run_queue.specs.declared.queued_message.QueuedMessage.{QueuedMessage}
@@ -28,15 +28,15 @@ abbrev pub by_ticket : List QueuedMessage → List QueuedMessage
 by_ticket [] = []
 by_ticket (t ∷ messages) = insert t (by_ticket messages)
 
-abbrev pub waiting_in : Row QueuedMessage → List QueuedMessage
+abbrev pub waiting_in : ArenaView QueuedMessage → List QueuedMessage
 waiting_in row = by_ticket (present row.values)
 
 -- those in these slots
-abbrev pub queued_in : Row QueuedMessage → List ℕ → List QueuedMessage
+abbrev pub queued_in : ArenaView QueuedMessage → List ℕ → List QueuedMessage
 queued_in row slots = present (map (value_at row) slots)
 
 -- The chain of each number has those that wait at it, in order.
-pub record IsQueued (row : Row QueuedMessage) : Type 0 where
+pub record IsQueued (row : ArenaView QueuedMessage) : Type 0 where
   pub parted : IsParted row
   pub full : (i : ℕ) → i < capacity_of row → value_at row i ≡ None → 0 < times_on i row.free
   pub ascends : Ascend (waiting_in row)

@@ -1,4 +1,4 @@
--- A job in flight, and what comes of it, stay what they are while other events come.
+-- A job in flight and its result stay the same while other events come.
 use Rattle.std.proofs.Common.{◌≡◌, ap, sym, subst, ◌∙◌}
 use Rattle.std.specs.List.{Contains}
 use Rattle.affinity.specs.Path.{are_related}

@@ -5,9 +5,9 @@ use Rattle.affinity.specs.declared.geometry.Geometry.{Geometry}
 use Rattle.checkpoint.proofs.Fine.{fine, head}
 use Rattle.checkpoint.proofs.OneGeometry.{one_geometry}
 use Rattle.checkpoint.specs.Header.{HasHeader}
-use Rattle.checkpoint.specs.Recovery.{holds}
+use Rattle.checkpoint.specs.Recovery.{recovered_state}
 use Rattle.checkpoint.specs.Refusals.{refused}
-use Rattle.disk.proofs.Leaves.{calm_left, itself}
+use Rattle.disk.proofs.Leaves.{synced_left, itself}
 use Rattle.disk.proofs.Moments.{bytes_since, counts_now, only_now}
 use Rattle.disk.specs.Device.{AreBytes, IsSynced, IsCrashImage, Medium}
 use Rattle.disk.specs.Moments.{left_since, moment}
@@ -31,7 +31,7 @@ module _ (g : Geometry) where
   -- The bytes recover to a state that these incarnations may leave.
   record Recovers (incarnations : List Incarnation) (c : List ℕ) : Type 0 where
     pub state : State
-    pub is : holds g c ≡ Some state
+    pub is : recovered_state g c ≡ Some state
     pub left : IsLeftByIncarnations g incarnations state
 
   some_same : {x y : State} → ◌≡◌ {A = Option State} (Some x) (Some y) → x ≡ y
@@ -48,7 +48,7 @@ module _ (g : Geometry) where
 
     at_once : (c : List ℕ) → IsCrashImage l.began c → Recovers incarnations c
     at_once c left = ⊎_elim
-        (λ (crashed : left_since m t l.began.now × IsSynced l.began). subst (Recovers incarnations) (sym (calm_left l.began c crashed.1 left)) at_first)
+        (λ (crashed : left_since m t l.began.now × IsSynced l.began). subst (Recovers incarnations) (sym (synced_left l.began c crashed.1 left)) at_first)
         (λ (handed : (l.began ≡ m) × (t ≤ moment m) × AreBytes m.now). so_far c
         (counts_now m t c handed.1 (subst (λ (n : Medium). IsCrashImage n c) handed.0 left))) passed
 
@@ -70,7 +70,7 @@ module _ (g : Geometry) where
         let one = run_geometry start events k run in
         let ran = subst (λ (h : Geometry). RecoversForRun h start events k c) one (run.crash c since) in
         let legal = subst (λ (h : Geometry). IsLegal h start events) one run.legal in
-        let recovered_before = subst (λ (h : Geometry). holds h l.began.now ≡ Some start.core.committed) one run.recovered_before in
+        let recovered_before = subst (λ (h : Geometry). recovered_state h l.began.now ≡ Some start.core.committed) one run.recovered_before in
         let x = start.core.committed in
         let same : at_first.state ≡ x = some_same (sym at_first.is ∙ recovered_before) in
         let incarnation = incarnation_of_run g start events k ran.state run.idle legal ran.left in
@@ -104,22 +104,22 @@ module _ (g : Geometry) where
     all_geometry (before ++ l.incarnation ∷ []) l.ended l.since (one_more before m t so_far l h.0 l.incarnation h.1) ls h.2,
   )
 
-  begun : (formatted : Medium) → holds g formatted.now ≡ Some empty → IsSynced formatted
+  begun : (formatted : Medium) → recovered_state g formatted.now ≡ Some empty → IsSynced formatted
       → (c : List ℕ) → left_since formatted (moment formatted) c → Recovers [] c
-  begun formatted recovered_before calm c since = record {
+  begun formatted recovered_before synced c since = record {
     state = empty;
-    is = ap (holds g) (calm_left formatted c calm (only_now formatted c since)) ∙ recovered_before;
+    is = ap (recovered_state g) (synced_left formatted c synced (only_now formatted c since)) ∙ recovered_before;
     left = no_incarnation g;
   }
 
-  pub incarnations_agree : (formatted : Medium) (ls : List DeviceIncarnation) → holds g formatted.now ≡ Some empty → IsSynced formatted
+  pub incarnations_agree : (formatted : Medium) (ls : List DeviceIncarnation) → recovered_state g formatted.now ≡ Some empty → IsSynced formatted
       → HasIncarnations formatted (moment formatted) ls → HaveGeometry g ls
-  incarnations_agree formatted ls recovered_before calm h = all_geometry [] formatted (moment formatted) (begun formatted recovered_before calm) ls h
+  incarnations_agree formatted ls recovered_before synced h = all_geometry [] formatted (moment formatted) (begun formatted recovered_before synced) ls h
 
-  pub incarnations_recover : (formatted : Medium) (ls : List DeviceIncarnation) (c : List ℕ) → holds g formatted.now ≡ Some empty → IsSynced formatted
+  pub incarnations_recover : (formatted : Medium) (ls : List DeviceIncarnation) (c : List ℕ) → recovered_state g formatted.now ≡ Some empty → IsSynced formatted
       → HasIncarnations formatted (moment formatted) ls → LeftByLast formatted (moment formatted) ls c → RecoversForIncarnations g (incarnations_of ls) c
-  incarnations_recover formatted ls c recovered_before calm h left =
-      let k = all_incarnations [] formatted (moment formatted) (begun formatted recovered_before calm) ls h c left in
+  incarnations_recover formatted ls c recovered_before synced h left =
+      let k = all_incarnations [] formatted (moment formatted) (begun formatted recovered_before synced) ls h c left in
       record {
         logs = k.left.logs;
         are_logs = k.left.are_logs;
@@ -132,9 +132,9 @@ module _ (g : Geometry) where
   left_bytes m t (l ∷ ls) c left = left_bytes l.ended l.since ls c left
 
   -- What recovers to a state isn't refused.
-  pub incarnations_open : (formatted : Medium) (ls : List DeviceIncarnation) (c : List ℕ) → holds g formatted.now ≡ Some empty → IsSynced formatted
+  pub incarnations_open : (formatted : Medium) (ls : List DeviceIncarnation) (c : List ℕ) → recovered_state g formatted.now ≡ Some empty → IsSynced formatted
       → HasIncarnations formatted (moment formatted) ls → LeftByLast formatted (moment formatted) ls c → HasHeader g c × (refused g c ≡ None)
-  incarnations_open formatted ls c recovered_before calm h left =
-      let k = all_incarnations [] formatted (moment formatted) (begun formatted recovered_before calm) ls h c left in
+  incarnations_open formatted ls c recovered_before synced h left =
+      let k = all_incarnations [] formatted (moment formatted) (begun formatted recovered_before synced) ls h c left in
       let are = left_bytes formatted (moment formatted) ls c left in
       (head g c k.state are k.is, fine g c k.state are k.is)

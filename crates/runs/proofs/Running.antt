@@ -33,7 +33,7 @@ use Rattle.scheduler.specs.CoreView.{CoreView, RecoversNow, core_state_of}
 
 -- ---- what a crash of a run leaves
 
--- These bytes recover to what was committed after so many events, with the first so many of what was to be appended then (`in_doubt`).
+-- These bytes recover to what was committed after j events, with a prefix of what was to be appended then (`in_doubt`).
 abbrev pub RecoversAt : Geometry → MachineState → List Event → List ℕ → ℕ → Type 0
 RecoversAt g w events c j = HoldsSome g (last w (take j events)).core.committed (in_doubt (last w (take j events)).core (drop j events)) c
 

@@ -5,7 +5,7 @@ use Rattle.runs.specs.declared.hands.Holding.TheVariants.{Empty, Job, Result}
 use Rattle.parcel.specs.Run.{IsJobRun}
 use Rattle.parcel.specs.declared.job.Done.{Done}
 
--- The job was run, and the hand has what came of it. A hand without a job has what it had.
+-- The job was run, and the hand has its result. A hand without a job has what it had.
 abbrev pub IsRunIn : Holding → Holding → Bool → Type 0
 IsRunIn (Job job) new ran = (ran ≡ true) × ((done : Done) × (new ≡ Result done) × IsJobRun job done)
 IsRunIn old new ran = (ran ≡ false) × (new ≡ old)

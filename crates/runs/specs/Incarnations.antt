@@ -4,7 +4,7 @@ use Rattle.std.specs.Prelude.{◌≡◌, ◌⊎◌, ◌≤◌, ℕ, List, [], �
 use Rattle.std.specs.List.{AllByRecursion}
 use Rattle.affinity.specs.declared.geometry.Geometry.{Geometry}
 use Rattle.checkpoint.specs.Header.{HasHeader}
-use Rattle.checkpoint.specs.Recovery.{holds}
+use Rattle.checkpoint.specs.Recovery.{recovered_state}
 use Rattle.disk.specs.Device.{Medium, AreBytes, IsSynced}
 use Rattle.disk.specs.Moments.{moment, left_since}
 use Rattle.journal.specs.Opening.{OpeningCrashImages}
@@ -36,7 +36,7 @@ IsPassedOn m t next =
 -- many events or more had ended.
 pub record IsRunIncarnation (l : DeviceIncarnation) (start : MachineState) (events : List Event) (k : ℕ) : Type 0 where
   pub header : HasHeader l.geometry l.began.now
-  pub recovered_before : holds l.geometry l.began.now ≡ Some start.core.committed
+  pub recovered_before : recovered_state l.geometry l.began.now ≡ Some start.core.committed
   pub idle : IsIdle start.core
   pub legal : IsLegal l.geometry start events
   pub crash : (c : List ℕ) → left_since l.ended l.since c → RecoversForRun l.geometry start events k c
@@ -75,4 +75,4 @@ pub record RecoversForIncarnations (g : Geometry) (incarnations : List Incarnati
   pub logs : List (List Msg)
   pub are_logs : AreLogsOf g empty incarnations logs
   pub answered : HoldAnswered incarnations logs
-  pub is : holds g c ≡ Some (fold g empty (in_order logs))
+  pub is : recovered_state g c ≡ Some (fold g empty (in_order logs))

@@ -32,7 +32,7 @@ machine_of m = record { core = core_state_of m.core; hands = map hand_of m.hands
 
 -- ---- what every machine keeps
 
--- It has the job of a dispatched message, or what came of it.
+-- It has the job of a dispatched message, or its result.
 abbrev pub IsHandOf : Geometry → CoreState → Holding → Type 0
 IsHandOf g w has.Empty = Unit {0}
 IsHandOf g w (has.Job job) = IsJobOf g w job

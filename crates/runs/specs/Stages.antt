@@ -1,7 +1,7 @@
 -- Statement for operators: A run on a device, stage by stage: each event with the device as it left it, and what a crash leaves meanwhile.
 use Rattle.std.specs.Prelude.{◌≡◌, ℕ, false, List, [], ◌∷◌, map, Some}
 use Rattle.affinity.specs.declared.geometry.Geometry.{Geometry}
-use Rattle.checkpoint.specs.Recovery.{holds}
+use Rattle.checkpoint.specs.Recovery.{recovered_state}
 use Rattle.disk.specs.Device.{Medium}
 use Rattle.disk.specs.Moments.{CrashImagesAre}
 use Rattle.journal.specs.Journal.{HoldsSome}
@@ -22,7 +22,7 @@ abbrev pub device_after : Medium → List Stage → Medium
 device_after m [] = m
 device_after m (stage ∷ stages) = device_after stage.medium stages
 
--- A crash at any moment of an event leaves the state that was committed before it, with the first so many of the messages that the
+-- A crash at any moment of an event leaves the state that was committed before it, with a prefix of the messages that the
 -- event is to append, or, in a failed core state, of those that were to be appended when the device failed.
 abbrev pub AreSafe : Geometry → MachineState → Medium → List Stage → Type 0
 AreSafe g w m [] = Unit {0}
@@ -41,5 +41,5 @@ TouchesAgree w m (stage ∷ stages) =
 -- These bytes recover to a state that a crash of a run may leave, if it comes when k events or more have ended.
 pub record RecoversForRun (g : Geometry) (start : MachineState) (events : List Event) (k : ℕ) (c : List ℕ) : Type 0 where
   pub state : State
-  pub is : holds g c ≡ Some state
+  pub is : recovered_state g c ≡ Some state
   pub left : IsLeftSince g start events k state

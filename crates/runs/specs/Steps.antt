@@ -10,8 +10,8 @@ use Rattle.runs.specs.Machine.{MachineView, machine_of}
 use Rattle.scheduler.specs.Calls.{CountsFailure, IsCalled}
 use Rattle.scheduler.specs.CoreView.{CoreView, RecoversThroughout, core_state_of}
 
--- The step had this outcome: it was an event, at each moment of which a crash leaves what was committed, with the first so many
--- of the messages that were to be appended when the device failed, or that it is to append.
+-- The step had this outcome: it was an event, at each moment of which a crash leaves what was committed, with a
+-- prefix of the messages that were to be appended when the device failed, or that it is to append.
 pub record IsMachineStep (keeps : Type 0) (old new : MachineView) (step : Step) (outcome : Outcome) : Type 0 where
   pub device_failed : Bool
   pub allowed : IsAllowed old.core.geometry (machine_of old)

@@ -1,4 +1,4 @@
-//! The hands of a machine, each of them empty, with a job or with what came of it.
+//! The hands of a machine, each of them empty, with a job or with its result.
 
 use parcel::{Done, Job};
 

@@ -10,7 +10,7 @@ ghost use Rattle.runs.specs.Stages.{RecoversForRun};
 ghost use Rattle.scheduler.specs.CoreView.{CoreView, core_state_of};
 ghost use Rattle.affinity.specs.declared.geometry.Geometry.{Geometry};
 ghost use Rattle.checkpoint.specs.Header.{HasHeader};
-ghost use Rattle.checkpoint.specs.Recovery.{holds};
+ghost use Rattle.checkpoint.specs.Recovery.{recovered_state};
 ghost use Rattle.checkpoint.specs.Refusals.{refused};
 ghost use Rattle.disk.specs.Device.{IsSynced, Medium};
 ghost use Rattle.disk.specs.Moments.{moment};
@@ -26,15 +26,15 @@ ghost use Rattle.meaning.specs.State.{empty};
 /// (`Core::open`).
 pub fn incarnations_leave_what_was_answered()
     ensures geometry { (g : Geometry) (formatted : Medium) (incarnations : List DeviceIncarnation)
-        → holds g formatted.now ≡ Some empty
+        → recovered_state g formatted.now ≡ Some empty
         → IsSynced formatted → HasIncarnations formatted (moment formatted) incarnations → HaveGeometry g incarnations }
     ensures recovers { (g : Geometry) (formatted : Medium) (incarnations : List DeviceIncarnation) (c : List ℕ)
-        → holds g formatted.now ≡ Some empty
+        → recovered_state g formatted.now ≡ Some empty
         → IsSynced formatted → HasIncarnations formatted (moment formatted) incarnations
         → LeftByLast formatted (moment formatted) incarnations c
         → RecoversForIncarnations g (incarnations_of incarnations) c }
     ensures opens { (g : Geometry) (formatted : Medium) (incarnations : List DeviceIncarnation) (c : List ℕ)
-        → holds g formatted.now ≡ Some empty
+        → recovered_state g formatted.now ≡ Some empty
         → IsSynced formatted → HasIncarnations formatted (moment formatted) incarnations
         → LeftByLast formatted (moment formatted) incarnations c
         → HasHeader g c × (refused g c ≡ None) }

@@ -2,10 +2,10 @@
 use Rattle.std.proofs.Common.{◌≡◌, ℕ, zero, suc, ◌<◌, List, [], ◌∷◌, map, length, get_or, Some, refl, ap, sym, subst, ◌∙◌, arith}
 use Rattle.std.specs.Prelude.{unwrap_or}
 use Rattle.std.specs.List.{concat}
-use Rattle.arena.proofs.RowLemmas.{chain-front, chained-listed, front-chained}
+use Rattle.arena.proofs.ArenaLemmas.{chain-front, chained-listed, front-chained}
 use Rattle.arena.proofs.Times.{times-append}
 use Rattle.arena.specs.Lists.{without}
-use Rattle.arena.specs.Row.{IsParted, Row, after_take, capacity_of, chain_at, front_of, value_at}
+use Rattle.arena.specs.ArenaView.{IsParted, ArenaView, after_take, capacity_of, chain_at, front_of, value_at}
 use Rattle.journal.specs.Journal.{JournalView}
 use Rattle.legal_runs.specs.Events.{answer}
 use Rattle.legal_runs.specs.declared.outcomes.Outcome.TheVariants as outcomes
@@ -21,13 +21,13 @@ use Rattle.scheduler.specs.declared.slot.Slot.{Slot}
 use Rattle.run_queue.specs.RunQueue.{RunQueueView, without_number}
 
 -- the first slot of a chain is one that there is
-pub front_low : {T : Type 0} (row : Row T) (c i : ℕ) → IsParted row → front_of row c ≡ Some i → i < capacity_of row
+pub front_low : {T : Type 0} (row : ArenaView T) (c i : ℕ) → IsParted row → front_of row c ≡ Some i → i < capacity_of row
 front_low row c i parted first =
     let some = chained-listed row i c (front-chained row i c first) in
     let all = times-append i row.free (concat row.chains) in
     parted.within i (omega (arith, some, all))
 
-module _ (keeps : Type 0) (row : Row Slot) (replies : List Reply) (tree : TreeView) (journal : JournalView) (queue : RunQueueView) (batch : List Msg) (next unlogged : ℕ)
+module _ (keeps : Type 0) (row : ArenaView Slot) (replies : List Reply) (tree : TreeView) (journal : JournalView) (queue : RunQueueView) (batch : List Msg) (next unlogged : ℕ)
     (opened : TreeView) (since : List Msg) (is : HasChains row)
     (k : IsCore keeps (parts row replies tree journal queue batch next unlogged opened since)) (slot : ℕ) (first : front_of row 3 ≡ Some slot)
     (taken : Slot) (value : value_at row slot ≡ Some taken) where

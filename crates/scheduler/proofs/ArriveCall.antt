@@ -6,7 +6,7 @@ use Rattle.std.proofs.lemmas.Bool.Decides.{eqb_tells, leb_tells}
 use Rattle.std.proofs.lemmas.List.Folds.{list_any-append}
 use Rattle.arena.proofs.Times.{times-cons_is, times-cons_other}
 use Rattle.arena.specs.Lists.{times}
-use Rattle.arena.specs.Row.{IsParted, Row, after_move, after_put, capacity_of, chain_at, put_answer, put_into, slot_from}
+use Rattle.arena.specs.ArenaView.{IsParted, ArenaView, after_move, after_put, capacity_of, chain_at, put_answer, put_into, slot_from}
 use Rattle.journal.specs.Journal.{JournalView}
 use Rattle.legal_runs.proofs.Lists.{all_back}
 use Rattle.legal_runs.specs.Events.{arrive}
@@ -35,7 +35,7 @@ first_free : (free : List ℕ) (value : Slot) (i : ℕ) → slot_from free value
 first_free [] value i e = absurd (cc)
 first_free (j ∷ rest) value i e = (rest, ap (λ (n : ℕ). n ∷ rest) (let same : j ≡ i = cc in same))
 
-not_among : (row : Row Slot) (replies : List Reply) (i : ℕ) (xs : List ℕ) → times i xs ≡ 0 → list_any (λ y. y.0 == i) (map (place_at row replies) xs) ≡ false
+not_among : (row : ArenaView Slot) (replies : List Reply) (i : ℕ) (xs : List ℕ) → times i xs ≡ 0 → list_any (λ y. y.0 == i) (map (place_at row replies) xs) ≡ false
 not_among row replies i [] none = refl
 not_among row replies i (x ∷ xs) none = elim (eqb_tells x i) [
   | inl e ↦ absurd (let some = times-cons_is i x xs e.1 in omega (arith, some, none))
@@ -50,7 +50,7 @@ came_before : (ticket : ℕ) (ys : List SlotView) → AllByRecursion (λ e. e.0 
 came_before ticket [] all = tt
 came_before ticket (y ∷ ys) all = (all.0, came_before ticket ys all.1)
 
-module _ (keeps : Type 0) (row : Row Slot) (replies : List Reply) (tree : TreeView) (journal : JournalView) (queue : RunQueueView) (batch : List Msg) (next unlogged : ℕ)
+module _ (keeps : Type 0) (row : ArenaView Slot) (replies : List Reply) (tree : TreeView) (journal : JournalView) (queue : RunQueueView) (batch : List Msg) (next unlogged : ℕ)
     (opened : TreeView) (since : List Msg) (is : HasChains row)
     (k : IsCore keeps (parts row replies tree journal queue batch next unlogged opened since)) (value : Slot) where
   abbrev p : Parts

@@ -5,8 +5,8 @@ use Rattle.std.proofs.lemmas.List.{get_or-set_other, get_or-set_same, length-map
 use Rattle.std.specs.List.{concat}
 use Rattle.std.specs.Prelude.{nat_lt, slice_index_or, slice_set, is_some, unwrap_or}
 use Rattle.arena.specs.Lists.{times, without}
-use Rattle.arena.specs.Row.{Row, IsParted, after_move, after_put, after_take, can_move, capacity_of, chain_at, holds_value, moved, put_into, value_at}
-use Rattle.arena.proofs.RowLemmas.{chain-moved_other, chain-moved_same, chain-without, chained-apart, chained-holds, chained-once, length-moved}
+use Rattle.arena.specs.ArenaView.{ArenaView, IsParted, after_move, after_put, after_take, can_move, capacity_of, chain_at, holds_value, moved, put_into, value_at}
+use Rattle.arena.proofs.ArenaLemmas.{chain-moved_other, chain-moved_same, chain-without, chained-apart, chained-holds, chained-once, length-moved}
 use Rattle.arena.proofs.Times.{times-append, times-at, times-cons_same, without-absent}
 use Rattle.messages.specs.declared.Reply.{Reply}
 use Rattle.messages.specs.declared.Reply.TheVariants.{Done}
@@ -16,7 +16,7 @@ use Rattle.scheduler.proofs.Splits.{MapSplit, map_same, map_split, times-split, 
 
 -- ---- a slot that moves from one chain to another
 
-module _ {T : Type 0} (m : Row T) (parted : IsParted m) (i from to : ℕ) (there : to < length m.chains) (other : to ≢ from) (front back : List ℕ)
+module _ {T : Type 0} (m : ArenaView T) (parted : IsParted m) (i from to : ℕ) (there : to < length m.chains) (other : to ≢ from) (front back : List ℕ)
     (whole : chain_at m from ≡ front ++ i ∷ back) where
   recovers : 0 < times i (chain_at m from)
   recovers = subst (λ xs. 0 < times i xs) (sym whole) (times-split i front back)
@@ -29,26 +29,26 @@ module _ {T : Type 0} (m : Row T) (parted : IsParted m) (i from to : ℕ) (there
 
   pub chain_left : chain_at (after_move m i to) from ≡ front ++ back
   chain_left =
-      ap (λ (r : Row T). chain_at r from) row_moved ∙ chain-moved_other m.chains i to from (λ same. other (sym same))
+      ap (λ (r : ArenaView T). chain_at r from) row_moved ∙ chain-moved_other m.chains i to from (λ same. other (sym same))
       ∙ ap (without i) whole ∙ without-split i front back (subst (λ xs. times i xs ≤ 1) whole (chained-once m i from parted))
 
   pub chain_joined : chain_at (after_move m i to) to ≡ chain_at m to ++ i ∷ []
   chain_joined =
-      ap (λ (r : Row T). chain_at r to) row_moved ∙ chain-moved_same m.chains i to there
+      ap (λ (r : ArenaView T). chain_at r to) row_moved ∙ chain-moved_same m.chains i to there
       ∙ ap (λ xs. xs ++ i ∷ []) (without-absent i (chain_at m to) (chained-apart m i from to parted (λ same. other (sym same)) recovers))
 
   pub chain_stays : (d : ℕ) → d ≢ from → d ≢ to → chain_at (after_move m i to) d ≡ chain_at m d
   chain_stays d not_from not_to =
-      ap (λ (r : Row T). chain_at r d) row_moved ∙ chain-moved_other m.chains i to d not_to
+      ap (λ (r : ArenaView T). chain_at r d) row_moved ∙ chain-moved_other m.chains i to d not_to
       ∙ without-absent i (chain_at m d) (chained-apart m i from d parted (λ same. not_from (sym same)) recovers)
 
   pub four_moved : length (after_move m i to).chains ≡ length m.chains
-  four_moved = ap (λ (r : Row T). length r.chains) row_moved ∙ length-moved m.chains i to
+  four_moved = ap (λ (r : ArenaView T). length r.chains) row_moved ∙ length-moved m.chains i to
 
 -- ---- a new slot, on a chain
 
-module _ {T : Type 0} (m : Row T) (parted : IsParted m) (i to : ℕ) (rest : List ℕ) (value : T) (there : to < length m.chains) (free : m.free ≡ i ∷ rest) where
-  abbrev put : Row T
+module _ {T : Type 0} (m : ArenaView T) (parted : IsParted m) (i to : ℕ) (rest : List ℕ) (value : T) (there : to < length m.chains) (free : m.free ≡ i ∷ rest) where
+  abbrev put : ArenaView T
   put = record m { values = slice_set m.values i (Some value); free = rest }
 
   pub row_put : after_put m value ≡ put
@@ -77,27 +77,27 @@ module _ {T : Type 0} (m : Row T) (parted : IsParted m) (i to : ℕ) (rest : Lis
 
   pub new_joined : chain_at (after_move put i to) to ≡ chain_at m to ++ i ∷ []
   new_joined =
-      ap (λ (r : Row T). chain_at r to) row_joined ∙ chain-moved_same m.chains i to there ∙ ap (λ xs. xs ++ i ∷ []) (without-absent i (chain_at m to) (off_chain to))
+      ap (λ (r : ArenaView T). chain_at r to) row_joined ∙ chain-moved_same m.chains i to there ∙ ap (λ xs. xs ++ i ∷ []) (without-absent i (chain_at m to) (off_chain to))
 
   pub new_stays : (d : ℕ) → d ≢ to → chain_at (after_move put i to) d ≡ chain_at m d
   new_stays d not_to =
-      ap (λ (r : Row T). chain_at r d) row_joined ∙ chain-moved_other m.chains i to d not_to ∙ without-absent i (chain_at m d) (off_chain d)
+      ap (λ (r : ArenaView T). chain_at r d) row_joined ∙ chain-moved_other m.chains i to d not_to ∙ without-absent i (chain_at m d) (off_chain d)
 
   pub four_joined : length (after_move put i to).chains ≡ length m.chains
-  four_joined = ap (λ (r : Row T). length r.chains) row_joined ∙ length-moved m.chains i to
+  four_joined = ap (λ (r : ArenaView T). length r.chains) row_joined ∙ length-moved m.chains i to
 
   pub size_joined : capacity_of (after_move put i to) ≡ capacity_of m
-  size_joined = ap (λ (r : Row T). capacity_of r) row_joined ∙ length-set m.values i (Some value)
+  size_joined = ap (λ (r : ArenaView T). capacity_of r) row_joined ∙ length-set m.values i (Some value)
 
   pub value_joined : value_at (after_move put i to) i ≡ Some value
-  value_joined = ap (λ (r : Row T). value_at r i) row_joined ∙ get_or-set_same m.values i (Some value) None in_row
+  value_joined = ap (λ (r : ArenaView T). value_at r i) row_joined ∙ get_or-set_same m.values i (Some value) None in_row
 
   pub other_value : (j : ℕ) → j ≢ i → value_at (after_move put i to) j ≡ value_at m j
-  other_value j other = ap (λ (r : Row T). value_at r j) row_joined ∙ get_or-set_other m.values i j (Some value) None other
+  other_value j other = ap (λ (r : ArenaView T). value_at r j) row_joined ∙ get_or-set_other m.values i j (Some value) None other
 
 -- ---- a slot that is taken
 
-module _ {T : Type 0} (m : Row T) (parted : IsParted m) (i from : ℕ) (back : List ℕ) (whole : chain_at m from ≡ i ∷ back) where
+module _ {T : Type 0} (m : ArenaView T) (parted : IsParted m) (i from : ℕ) (back : List ℕ) (whole : chain_at m from ≡ i ∷ back) where
   stood : 0 < times i (chain_at m from)
   stood = subst (λ xs. 0 < times i xs) (sym whole) (times-split i [] back)
 
@@ -106,25 +106,25 @@ module _ {T : Type 0} (m : Row T) (parted : IsParted m) (i from : ℕ) (back : L
 
   pub chain_taken : chain_at (after_take m i) from ≡ back
   chain_taken =
-      ap (λ (r : Row T). chain_at r from) row_taken ∙ chain-without m.chains i from ∙ ap (without i) whole
+      ap (λ (r : ArenaView T). chain_at r from) row_taken ∙ chain-without m.chains i from ∙ ap (without i) whole
       ∙ without-split i [] back (subst (λ xs. times i xs ≤ 1) whole (chained-once m i from parted))
 
   pub taken_stays : (d : ℕ) → d ≢ from → chain_at (after_take m i) d ≡ chain_at m d
   taken_stays d not_from =
-      ap (λ (r : Row T). chain_at r d) row_taken ∙ chain-without m.chains i d
+      ap (λ (r : ArenaView T). chain_at r d) row_taken ∙ chain-without m.chains i d
       ∙ without-absent i (chain_at m d) (chained-apart m i from d parted (λ same. not_from (sym same)) stood)
 
   pub four_taken : length (after_take m i).chains ≡ length m.chains
-  four_taken = ap (λ (r : Row T). length r.chains) row_taken ∙ length-map m.chains (without i)
+  four_taken = ap (λ (r : ArenaView T). length r.chains) row_taken ∙ length-map m.chains (without i)
 
   pub size_taken : capacity_of (after_take m i) ≡ capacity_of m
-  size_taken = ap (λ (r : Row T). capacity_of r) row_taken ∙ length-set m.values i None
+  size_taken = ap (λ (r : ArenaView T). capacity_of r) row_taken ∙ length-set m.values i None
 
   pub free_taken : length (after_take m i).free ≡ suc (length m.free)
-  free_taken = ap (λ (r : Row T). length r.free) row_taken
+  free_taken = ap (λ (r : ArenaView T). length r.free) row_taken
 
   pub value_taken : (j : ℕ) → j ≢ i → value_at (after_take m i) j ≡ value_at m j
-  value_taken j other = ap (λ (r : Row T). value_at r j) row_taken ∙ get_or-set_other m.values i j None None other
+  value_taken j other = ap (λ (r : ArenaView T). value_at r j) row_taken ∙ get_or-set_other m.values i j None None other
 
   pub gone_elsewhere : (d : ℕ) → d ≢ from → times i (chain_at m d) ≡ 0
   gone_elsewhere d not_from = chained-apart m i from d parted (λ same. not_from (sym same)) stood
@@ -135,12 +135,12 @@ module _ {T : Type 0} (m : Row T) (parted : IsParted m) (i from : ℕ) (back : L
 -- ---- the slots on a chain
 
 -- those of a chain that is the same, where no value has changed
-pub same_slots : (row new : Row Slot) (replies : List Reply) (c : ℕ) → new.values ≡ row.values → chain_at new c ≡ chain_at row c
+pub same_slots : (row new : ArenaView Slot) (replies : List Reply) (c : ℕ) → new.values ≡ row.values → chain_at new c ≡ chain_at row c
     → slots_on new replies c ≡ slots_on row replies c
 same_slots row new replies c values chain = λ k. map (λ i. (i, unwrap_or (slice_index_or (values k) i None) no_slot, get_or replies i Done)) (chain k)
 
 -- A slot left one chain, where it was between two parts, and joined another, with the reply that lies there now.
-pub record MovedSlot (row new : Row Slot) (replies told : List Reply) (from to : ℕ) (before : List SlotView) (x : SlotView) (behind : List SlotView) : Type 0 where
+pub record MovedSlot (row new : ArenaView Slot) (replies told : List Reply) (from to : ℕ) (before : List SlotView) (x : SlotView) (behind : List SlotView) : Type 0 where
   pub left : slots_on new told from ≡ before ++ behind
   pub joined : slots_on new told to ≡ slots_on row replies to ++ (x.0, x.1, get_or told x.0 Done) ∷ []
   pub stays : (d : ℕ) → d ≢ from → d ≢ to → slots_on new told d ≡ slots_on row replies d
@@ -148,7 +148,7 @@ pub record MovedSlot (row new : Row Slot) (replies told : List Reply) (from to :
   pub values : new.values ≡ row.values
   pub four : length new.chains ≡ length row.chains
 
-module _ (row : Row Slot) (replies told : List Reply) (is : HasChains row) (from to : ℕ) (low : to < 4) (other : to ≢ from)
+module _ (row : ArenaView Slot) (replies told : List Reply) (is : HasChains row) (from to : ℕ) (low : to < 4) (other : to ≢ from)
     (before : List SlotView) (x : SlotView) (behind : List SlotView) (recovers_at : slots_on row replies from ≡ before ++ x ∷ behind)
     (agree : (j : ℕ) → j ≢ x.0 → get_or told j Done ≡ get_or replies j Done) where
   split : MapSplit (place_at row replies) (chain_at row from) before x behind
@@ -160,11 +160,11 @@ module _ (row : Row Slot) (replies told : List Reply) (is : HasChains row) (from
   there : to < length row.chains
   there = let four = is.four in omega (arith, four, low)
 
-  abbrev new : Row Slot
+  abbrev new : ArenaView Slot
   new = after_move row split.at to
 
   same_values : new.values ≡ row.values
-  same_values = ap (λ (r : Row Slot). r.values) (row_moved row is.parted split.at from to there other split.front split.back split.whole)
+  same_values = ap (λ (r : ArenaView Slot). r.values) (row_moved row is.parted split.at from to there other split.front split.back split.whole)
 
   -- the slots of a chain are as they were, with the replies that lie there now
   in_new : (xs : List ℕ) → map (place_at new told) xs ≡ map (place_at row told) xs
@@ -203,7 +203,7 @@ module _ (row : Row Slot) (replies told : List Reply) (is : HasChains row) (from
         stays = λ d not_from not_to. ap (map (place_at new told))
             (chain_stays row is.parted split.at from to there other split.front split.back split.whole d not_from not_to)
             ∙ elsewhere (chain_at row d) (none_elsewhere d not_from);
-        free = ap (λ (r : Row Slot). r.free) (row_moved row is.parted split.at from to there other split.front split.back split.whole);
+        free = ap (λ (r : ArenaView Slot). r.free) (row_moved row is.parted split.at from to there other split.front split.back split.whole);
         values = same_values;
         four = four_moved row is.parted split.at from to there other split.front split.back split.whole;
       }
@@ -217,7 +217,7 @@ module _ (row : Row Slot) (replies told : List Reply) (is : HasChains row) (from
   slot_moved i same = subst (λ n. MovedSlot row (after_move row n to) replies told from to before x behind) (number ∙ sym same) moved_at
 
 -- A new slot joined a chain, with the reply that lies there.
-pub record JoinedSlot (row new : Row Slot) (replies : List Reply) (i to : ℕ) (value : Slot) : Type 0 where
+pub record JoinedSlot (row new : ArenaView Slot) (replies : List Reply) (i to : ℕ) (value : Slot) : Type 0 where
   pub joined : slots_on new replies to ≡ slots_on row replies to ++ (i, value, get_or replies i Done) ∷ []
   pub stays : (d : ℕ) → d ≢ to → slots_on new replies d ≡ slots_on row replies d
   pub free : length row.free ≡ suc (length new.free)
@@ -226,11 +226,11 @@ pub record JoinedSlot (row new : Row Slot) (replies : List Reply) (i to : ℕ) (
   pub low : i < capacity_of row
   pub none_had : (d : ℕ) → times i (chain_at row d) ≡ 0
 
-module _ (row : Row Slot) (replies : List Reply) (is : HasChains row) (i to : ℕ) (low : to < 4) (rest : List ℕ) (value : Slot) (free : row.free ≡ i ∷ rest) where
+module _ (row : ArenaView Slot) (replies : List Reply) (is : HasChains row) (i to : ℕ) (low : to < 4) (rest : List ℕ) (value : Slot) (free : row.free ≡ i ∷ rest) where
   room_there : to < length row.chains
   room_there = let four = is.four in omega (arith, four, low)
 
-  abbrev joined_row : Row Slot
+  abbrev joined_row : ArenaView Slot
   joined_row = after_move (put row is.parted i to rest value room_there free) i to
 
   new_elsewhere : (xs : List ℕ) → times i xs ≡ 0 → map (place_at joined_row replies) xs ≡ map (place_at row replies) xs
@@ -245,7 +245,7 @@ module _ (row : Row Slot) (replies : List Reply) (is : HasChains row) (i to : �
         ++ (i, unwrap_or (value_joined row is.parted i to rest value room_there free z) no_slot, get_or replies i Done) ∷ []);
     stays = λ d not_to. ap (map (place_at joined_row replies)) (new_stays row is.parted i to rest value room_there free d not_to)
         ∙ new_elsewhere (chain_at row d) (off_chain row is.parted i to rest value room_there free d);
-    free = ap length free ∙ ap (λ n. suc n) (sym (ap (λ (r : Row Slot). length r.free) (row_joined row is.parted i to rest value room_there free)));
+    free = ap length free ∙ ap (λ n. suc n) (sym (ap (λ (r : ArenaView Slot). length r.free) (row_joined row is.parted i to rest value room_there free)));
     size = size_joined row is.parted i to rest value room_there free;
     four = four_joined row is.parted i to rest value room_there free;
     low = in_row row is.parted i to rest value room_there free;
@@ -253,18 +253,18 @@ module _ (row : Row Slot) (replies : List Reply) (is : HasChains row) (i to : �
   }
 
   pub slot_joined : JoinedSlot row (after_move (after_put row value) i to) replies i to value
-  slot_joined = subst (λ (r : Row Slot). JoinedSlot row (after_move r i to) replies i to value)
+  slot_joined = subst (λ (r : ArenaView Slot). JoinedSlot row (after_move r i to) replies i to value)
       (sym (row_put row is.parted i to rest value room_there free)) joined_slot
 
 -- The first slot of a chain was taken out.
-pub record TakenSlot (row new : Row Slot) (replies : List Reply) (from : ℕ) (behind : List SlotView) : Type 0 where
+pub record TakenSlot (row new : ArenaView Slot) (replies : List Reply) (from : ℕ) (behind : List SlotView) : Type 0 where
   pub left : slots_on new replies from ≡ behind
   pub stays : (d : ℕ) → d ≢ from → slots_on new replies d ≡ slots_on row replies d
   pub free : length new.free ≡ suc (length row.free)
   pub size : capacity_of new ≡ capacity_of row
   pub four : length new.chains ≡ length row.chains
 
-module _ (row : Row Slot) (replies : List Reply) (is : HasChains row) (from : ℕ) (x : SlotView) (behind : List SlotView) (recovers_at : slots_on row replies from ≡ x ∷ behind) where
+module _ (row : ArenaView Slot) (replies : List Reply) (is : HasChains row) (from : ℕ) (x : SlotView) (behind : List SlotView) (recovers_at : slots_on row replies from ≡ x ∷ behind) where
   first_split : MapSplit (place_at row replies) (chain_at row from) [] x behind
   first_split = map_split (place_at row replies) (chain_at row from) [] x behind recovers_at
 
@@ -278,7 +278,7 @@ module _ (row : Row Slot) (replies : List Reply) (is : HasChains row) (from : �
   first_whole : chain_at row from ≡ first_split.at ∷ first_split.back
   first_whole = first_split.whole ∙ ap (λ (xs : List ℕ). xs ++ first_split.at ∷ first_split.back) none_front
 
-  abbrev taken_row : Row Slot
+  abbrev taken_row : ArenaView Slot
   taken_row = after_take row first_split.at
 
   taken_elsewhere : (xs : List ℕ) → times first_split.at xs ≡ 0 → map (place_at taken_row replies) xs ≡ map (place_at row replies) xs

@@ -9,8 +9,8 @@ use Rattle.std.proofs.lemmas.List.Elements.{filter-append}
 use Rattle.std.proofs.lemmas.List.Sums.{sum_by-append, sum_by-cons}
 use Rattle.std.proofs.lemmas.Option.{none-some, same_Some}
 use Rattle.arena.specs.Lists.{behind, behind_in, first_of, times}
-use Rattle.arena.specs.Row.{Row, IsParted, capacity_of, chain_at, next_of, value_at}
-use Rattle.arena.proofs.RowLemmas.{chained-holds, length-parts}
+use Rattle.arena.specs.ArenaView.{ArenaView, IsParted, capacity_of, chain_at, next_of, value_at}
+use Rattle.arena.proofs.ArenaLemmas.{chained-holds, length-parts}
 use Rattle.arena.proofs.Times.{times-append, times-at, times-cons_is, times-cons_other}
 use Rattle.legal_runs.specs.Eligible.{changes}
 use Rattle.legal_runs.specs.Events.{loggable}
@@ -58,7 +58,7 @@ behind_in_at i (suc c) (ys ∷ lists) front back whole once =
     ap (λ b. if b then behind i ys else behind_in i lists) (le-ltb 0 (times i ys) (omega (arith, at, some, same, all, once)))
     ∙ behind_in_at i c lists front back whole (omega (arith, all, once))
 
-next_on : (row : Row Slot) (c i : ℕ) (front back : List ℕ) → IsParted row → chain_at row c ≡ front ++ i ∷ back → next_of row i ≡ first_of back
+next_on : (row : ArenaView Slot) (c i : ℕ) (front back : List ℕ) → IsParted row → chain_at row c ≡ front ++ i ∷ back → next_of row i ≡ first_of back
 next_on row c i front back parted whole =
     let all = times-append i row.free (concat row.chains) in
     let once = parted.once i in
@@ -71,7 +71,7 @@ length_at (ys ∷ lists) zero = let all = length-append ys (concat lists) in ome
 length_at (ys ∷ lists) (suc c) = let all = length-append ys (concat lists) in let deeper = length_at lists c in omega (arith, all, deeper)
 
 -- a chain is no longer than the row
-pub chain_short : (row : Row Slot) (c : ℕ) → IsParted row → length (chain_at row c) ≤ capacity_of row
+pub chain_short : (row : ArenaView Slot) (c : ℕ) → IsParted row → length (chain_at row c) ≤ capacity_of row
 chain_short row c parted = let all = length-parts row parted in let at = length_at row.chains c in omega (arith, all, at)
 
 -- ---- a chain, cut at one of its slots
@@ -93,7 +93,7 @@ take_one n i xs e = let count : n + 1 ≡ suc n = omega arith in ap (λ (m : ℕ
 
 -- ---- what is gathered
 
-gathered_append : (row : Row Slot) (replies : List Reply) (xs ys : List ℕ) → gathered row replies (xs ++ ys) ≡ gathered row replies xs ++ gathered row replies ys
+gathered_append : (row : ArenaView Slot) (replies : List Reply) (xs ys : List ℕ) → gathered row replies (xs ++ ys) ≡ gathered row replies xs ++ gathered row replies ys
 gathered_append row replies xs ys =
     ap (λ (l : List SlotView). loggable (map replied_of l)) (map-append (place_at row replies) xs ys)
     ∙ ap loggable (map-append replied_of (map (place_at row replies) xs) (map (place_at row replies) ys))
@@ -108,7 +108,7 @@ any_ticket t u m r = elim (is_loggable m r) as (λ b. map (λ (a : Replied). a.1
   | false ↦ refl
 ]
 
-module _ (row : Row Slot) (replies : List Reply) (is : HasChains row) (n i : ℕ) (first : first_of (drop n (chain_at row 2)) ≡ Some i) where
+module _ (row : ArenaView Slot) (replies : List Reply) (is : HasChains row) (n i : ℕ) (first : first_of (drop n (chain_at row 2)) ≡ Some i) where
   abbrev xs : List ℕ
   xs = chain_at row 2
 
@@ -147,7 +147,7 @@ module _ (row : Row Slot) (replies : List Reply) (is : HasChains row) (n i : ℕ
         ∙ sym (gathered_append row replies (take n xs) (i ∷ []))
         ∙ ap (gathered row replies) (sym (take_one n i xs first))
 
-pub ran_goes_on : (row : Row Slot) (n count : ℕ) → n < count → count ≤ length (chain_at row 2) → first_of (drop n (chain_at row 2)) ≡ None → ⊥
+pub ran_goes_on : (row : ArenaView Slot) (n count : ℕ) → n < count → count ≤ length (chain_at row 2) → first_of (drop n (chain_at row 2)) ≡ None → ⊥
 ran_goes_on row n count low few none = some_first (drop n (chain_at row 2)) (left_over n (chain_at row 2) (omega (arith, low, few))) none
 
 pub at_most_one : (b : Bool) → cond b 1 0 ≤ 1

@@ -8,10 +8,10 @@ use Rattle.std.proofs.lemmas.Bool.Decides.{eqb_tells}
 use Rattle.affinity.specs.Interval.{Interval, IsAffinity, IsAffinityOf}
 use Rattle.affinity.specs.Path.{Path}
 use Rattle.affinity.specs.declared.geometry.Geometry.{Geometry}
-use Rattle.arena.proofs.RowLemmas.{chained-holds, chained-once}
+use Rattle.arena.proofs.ArenaLemmas.{chained-holds, chained-once}
 use Rattle.arena.proofs.Times.{times-append, times-cons_is, times-cons_other, times-cons_same}
 use Rattle.arena.specs.Lists.{times}
-use Rattle.arena.specs.Row.{IsParted, Row, after_move, capacity_of, chain_at, value_at}
+use Rattle.arena.specs.ArenaView.{IsParted, ArenaView, after_move, capacity_of, chain_at, value_at}
 use Rattle.journal.specs.Journal.{JournalView}
 use Rattle.legal_runs.proofs.Lists.{all_back, all_join}
 use Rattle.legal_runs.specs.Eligible.{is_eligible}
@@ -40,7 +40,7 @@ use Rattle.run_queue.specs.RunQueue.{HasJoined, RunQueueView, next_queued, witho
 use Rattle.run_queue.specs.declared.queued_message.QueuedMessage.{QueuedMessage}
 
 -- places made of numbers among which this one isn't
-numbers_off : (row : Row Slot) (replies : List Reply) (i : ℕ) (xs : List ℕ) → times i xs ≡ 0 → AllByRecursion (λ y. (y.0 == i) ≡ false) (map (place_at row replies) xs)
+numbers_off : (row : ArenaView Slot) (replies : List Reply) (i : ℕ) (xs : List ℕ) → times i xs ≡ 0 → AllByRecursion (λ y. (y.0 == i) ≡ false) (map (place_at row replies) xs)
 numbers_off row replies i [] none = tt
 numbers_off row replies i (x ∷ xs) none = elim (eqb_tells x i) [
   | inl e ↦ absurd (let some = times-cons_is i x xs e.1 in omega (arith, some, none))
@@ -52,7 +52,7 @@ pub some_value : (o : Option Slot) → is_some o ≡ true → o ≡ None → ⊥
 some_value None holds none = true≢false (sym holds)
 some_value (Some s) holds none = true≢false (sym holds ∙ ap is_some none)
 
-module _ (keeps : Type 0) (row : Row Slot) (replies : List Reply) (tree : TreeView) (journal : JournalView) (queue : RunQueueView) (batch : List Msg) (next unlogged : ℕ)
+module _ (keeps : Type 0) (row : ArenaView Slot) (replies : List Reply) (tree : TreeView) (journal : JournalView) (queue : RunQueueView) (batch : List Msg) (next unlogged : ℕ)
     (opened : TreeView) (since : List Msg) (is : HasChains row)
     (k : IsCore keeps (parts row replies tree journal queue batch next unlogged opened since)) (room : Bool) (is_room : room ≡ nat_lt unlogged journal.room)
     (queued : QueuedMessage) (goes : next_queued room queue.held queue.waiting ≡ Some queued) where

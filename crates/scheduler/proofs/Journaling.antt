@@ -3,7 +3,7 @@ use Rattle.std.proofs.Common.{◌≡◌, ℕ, ◌≤◌, Bool, true, false, List
 use Rattle.std.specs.Prelude.{if◌then◌else◌}
 use Rattle.std.proofs.lemmas.Bool.{cond-false, cond-true}
 use Rattle.affinity.specs.declared.geometry.Geometry.{Geometry}
-use Rattle.checkpoint.specs.Recovery.{holds}
+use Rattle.checkpoint.specs.Recovery.{recovered_state}
 use Rattle.disk.proofs.Moments.{leaves_now, started, weaker}
 use Rattle.disk.specs.Device.{Medium}
 use Rattle.disk.specs.Moments.{CrashImagesAre}
@@ -22,7 +22,7 @@ use Rattle.scheduler.specs.CoreView.{CoreView, RecoversNow, RecoversThroughout}
 use Rattle.scheduler.specs.Parts.{IsCore, Parts, core_view_of, core_state_in}
 
 -- bytes that recover to a state recover to it with none of these messages
-pub with_none : (g : Geometry) (x : State) (ms : List Msg) (c : List ℕ) → holds g c ≡ Some x → HoldsSome g x ms c
+pub with_none : (g : Geometry) (x : State) (ms : List Msg) (c : List ℕ) → recovered_state g c ≡ Some x → HoldsSome g x ms c
 with_none g x ms c is = record { added = 0; at_most = omega arith; is = is }
 
 pub from_none : (g : Geometry) (x : State) (ms : List Msg) (c : List ℕ) → HoldsSome g x [] c → HoldsSome g x ms c
@@ -60,9 +60,9 @@ module _ (keeps : Type 0) (p : Parts) (k : IsCore keeps p) (works : p.journal.fa
   pub committed_now : keeps → committed p.journal ≡ Some (core_state_in p).committed
   committed_now keep = k.is_committed keep works
 
-  module _ (medium : Medium) (any : keeps → CrashImagesAre p.journal.medium medium (λ c. holds g c ≡ committed p.journal)) where
+  module _ (medium : Medium) (any : keeps → CrashImagesAre p.journal.medium medium (λ c. recovered_state g c ≡ committed p.journal)) where
     pub step_moments : keeps → CrashImagesAre p.journal.medium medium (HoldsSome g (core_state_in p).committed [])
-    step_moments keep = weaker p.journal.medium medium (λ c. holds g c ≡ committed p.journal) _ (any keep)
+    step_moments keep = weaker p.journal.medium medium (λ c. recovered_state g c ≡ committed p.journal) _ (any keep)
         (λ c is. with_none g (core_state_in p).committed [] c (is ∙ committed_now keep))
 
     pub step_throughout : (new : CoreView) → new.medium ≡ medium → keeps → RecoversThroughout [] (core_view_of p) new

@@ -6,11 +6,11 @@ use Rattle.std.proofs.lemmas.Bool.{ltb-false, true≢false}
 use Rattle.std.proofs.lemmas.List.{drop-map, drop_min, length-drop, length-map, length-take, map-append, take-append-drop, take-map, take_min}
 use Rattle.std.proofs.lemmas.List.Sums.{sum_by-cons}
 use Rattle.std.proofs.lemmas.Option.{same_Some}
-use Rattle.arena.specs.Row.{Row, capacity_of, chain_at, value_at}
-use Rattle.checkpoint.specs.Recovery.{holds}
+use Rattle.arena.specs.ArenaView.{ArenaView, capacity_of, chain_at, value_at}
+use Rattle.checkpoint.specs.Recovery.{recovered_state}
 use Rattle.disk.specs.Device.{IsCrashImage, Medium}
 use Rattle.disk.specs.Moments.{CrashImagesAre, moment}
-use Rattle.journal.specs.Journal.{after_call, AreCarriedOut, JournalView, HoldsSome, IsCommitted, committed}
+use Rattle.journal.specs.Journal.{after_call, AreCarriedOut, JournalView, HoldsSome, IsRecoverable, committed}
 use Rattle.legal_runs.proofs.SerialReplies.{fold-joined}
 use Rattle.legal_runs.specs.Eligible.{changes}
 use Rattle.legal_runs.specs.Events.{batch as batch_of, log, loggable, touches_device}
@@ -19,7 +19,7 @@ use Rattle.legal_runs.specs.declared.outcomes.Step.TheVariants as steps
 use Rattle.messages.specs.declared.Msg.{Msg}
 use Rattle.messages.specs.declared.Reply.{Reply}
 use Rattle.messages.specs.declared.Reply.TheVariants.{Done}
-use Rattle.oplog.specs.Costs.{Takes}
+use Rattle.oplog.specs.Costs.{Costs}
 use Rattle.oplog.specs.Changing.{AreChangesInRange}
 use Rattle.oplog.specs.declared.fault.LogFault.{LogFault}
 use Rattle.parcel.specs.Tree.{TreeView, state_in}
@@ -46,11 +46,11 @@ made_from (Ok u) done old new e after = after
 made_from (Err why) done old new e after = absurd (true≢false e)
 
 -- the writes and syncs that it took
-pub broken_takes : (r : Result (Unit {0}) LogFault) (n : ℕ) (w0 w1 : Medium) → is_err r ≡ true → Takes r n w0 w1 → moment w1 ≤ moment w0 + n
+pub broken_takes : (r : Result (Unit {0}) LogFault) (n : ℕ) (w0 w1 : Medium) → is_err r ≡ true → Costs r n w0 w1 → moment w1 ≤ moment w0 + n
 broken_takes (Ok u) n w0 w1 e took = absurd (true≢false (sym e))
 broken_takes (Err why) n w0 w1 e took = took
 
-pub made_takes : (r : Result (Unit {0}) LogFault) (n : ℕ) (w0 w1 : Medium) → is_err r ≡ false → Takes r n w0 w1 → moment w1 ≡ moment w0 + n
+pub made_takes : (r : Result (Unit {0}) LogFault) (n : ℕ) (w0 w1 : Medium) → is_err r ≡ false → Costs r n w0 w1 → moment w1 ≡ moment w0 + n
 made_takes (Ok u) n w0 w1 e took = took
 made_takes (Err why) n w0 w1 e took = absurd (true≢false e)
 
@@ -62,14 +62,14 @@ none_to_log true many works quiet = absurd (true≢false works)
 none_to_log false many works quiet = let few = ltb-false 0 many quiet in omega (arith, few)
 
 -- as many are of a changing kind in these slots as at these places
-counted : (row : Row Slot) (replies : List Reply) (ys : List ℕ) → changing_in row ys ≡ changing (map (place_at row replies) ys)
+counted : (row : ArenaView Slot) (replies : List Reply) (ys : List ℕ) → changing_in row ys ≡ changing (map (place_at row replies) ys)
 counted row replies [] = refl
 counted row replies (y ∷ ys) =
     sum_by-cons (λ (j : ℕ). cond (changes (unwrap_or (value_at row j) no_slot).message) 1 0) y ys
     ∙ ap (λ (m : ℕ). cond (changes (unwrap_or (value_at row y) no_slot).message) 1 0 + m) (counted row replies ys)
     ∙ sym (changing-cons (place_at row replies y) (map (place_at row replies) ys))
 
-module _ (keeps : Type 0) (row : Row Slot) (replies : List Reply) (tree : TreeView) (journal : JournalView) (queue : RunQueueView) (batch : List Msg) (next unlogged : ℕ)
+module _ (keeps : Type 0) (row : ArenaView Slot) (replies : List Reply) (tree : TreeView) (journal : JournalView) (queue : RunQueueView) (batch : List Msg) (next unlogged : ℕ)
     (opened : TreeView) (since : List Msg) (is : HasChains row)
     (k : IsCore keeps (parts row replies tree journal queue batch next unlogged opened since)) (works : journal.failed ≡ false)
     (n count ran : ℕ) (ran_is : ran ≡ length (slots_on row replies 2)) (count_is : count ≡ min n ran) where
@@ -187,8 +187,8 @@ module _ (keeps : Type 0) (row : Row Slot) (replies : List Reply) (tree : TreeVi
         -- ---- they are logged
 
         module _ (made : new ≡ record journal { room = journal.room - length passed; dirty = new.dirty; medium = new.medium })
-            (settles : keeps → committed new ≡ option_map (λ x. fold journal.geometry x passed) (committed journal)) (recovers : keeps → IsCommitted new)
-            (moved : Row Slot) (has : HasLogged count row moved) (logged_changes : ℕ) (logged_changes_is : logged_changes ≡ changing_in row (take count slots))
+            (settles : keeps → committed new ≡ option_map (λ x. fold journal.geometry x passed) (committed journal)) (recovers : keeps → IsRecoverable new)
+            (moved : ArenaView Slot) (has : HasLogged count row moved) (logged_changes : ℕ) (logged_changes_is : logged_changes ≡ changing_in row (take count slots))
             (first : TreeView) (first_is : first ≡ opened) (after_since : List Msg) (since_is : after_since ≡ since ++ messages)
             (emptied : List Msg) (empty : emptied ≡ []) where
           abbrev after : Parts
@@ -242,8 +242,8 @@ module _ (keeps : Type 0) (row : Row Slot) (replies : List Reply) (tree : TreeVi
               ∙ ap (λ (ms : List Msg). Some (fold journal.geometry (core_state_in p).committed ms)) passed_at
               ∙ ap Some (sym (fold-joined journal.geometry (state_in opened) since (batch_at p n)))
 
-          recovers_at : keeps → (c : List ℕ) → IsCrashImage new.medium c → holds journal.geometry c ≡ committed (record journal { room = room; dirty = new.dirty; medium = new.medium })
-          recovers_at keep c leaves = ap (λ (j : JournalView). holds j.geometry c) (sym made) ∙ (recovers keep).each c leaves ∙ ap committed made
+          recovers_at : keeps → (c : List ℕ) → IsCrashImage new.medium c → recovered_state journal.geometry c ≡ committed (record journal { room = room; dirty = new.dirty; medium = new.medium })
+          recovers_at keep c leaves = ap (λ (j : JournalView). recovered_state j.geometry c) (sym made) ∙ (recovers keep).each c leaves ∙ ap committed made
 
           pub log_call_core : IsCore keeps after
           log_call_core = subst (IsCore keeps) (sym after_is) (log_core keeps p k works n (unlogged - logged_changes) new.dirty new.medium

@@ -7,7 +7,7 @@ use Rattle.std.proofs.lemmas.List.Elements.{All-from_recursion}
 use Rattle.std.proofs.lemmas.List.{drop-map, length-append, map-append, take-append-drop, take-map}
 use Rattle.affinity.specs.Kind.{is_changing}
 use Rattle.affinity.specs.declared.geometry.Geometry.{Geometry}
-use Rattle.checkpoint.specs.Recovery.{holds}
+use Rattle.checkpoint.specs.Recovery.{recovered_state}
 use Rattle.disk.proofs.Moments.{leaves_now}
 use Rattle.disk.specs.Device.{IsCrashImage, Medium}
 use Rattle.disk.specs.Moments.{CrashImagesAre}
@@ -135,7 +135,7 @@ module _ (keeps : Type 0) (p : Parts) (k : IsCore keeps p) (works : p.journal.fa
 
   module _ (unlogged_is : unlogged + changing (take n p.phases.ran) ≡ p.unlogged)
       (is_committed : keeps → committed (record p.journal { room = room; dirty = dirty; medium = medium }) ≡ Some (core_state_in after).committed)
-      (recovers : keeps → (c : List ℕ) → IsCrashImage medium c → holds p.journal.geometry c ≡ committed (record p.journal { room = room; dirty = dirty; medium = medium })) where
+      (recovers : keeps → (c : List ℕ) → IsCrashImage medium c → recovered_state p.journal.geometry c ≡ committed (record p.journal { room = room; dirty = dirty; medium = medium })) where
     pub log_core : IsCore keeps after
     log_core =
         let whole = sym (take-append-drop n p.phases.ran) in

@@ -3,8 +3,8 @@ use Rattle.std.proofs.Common.{◌≡◌, ℕ, List, [], Some, length, refl, sym,
 use Rattle.std.proofs.lemmas.List.{length-replicate}
 use Rattle.affinity.specs.declared.geometry.Geometry.{Geometry}
 use Rattle.arena.proofs.Times.{length-numbers}
-use Rattle.arena.specs.Row.{IsParted, Row, capacity_of, empty_row}
-use Rattle.journal.specs.Journal.{JournalView, IsCommitted, committed}
+use Rattle.arena.specs.ArenaView.{IsParted, ArenaView, capacity_of, empty_arena}
+use Rattle.journal.specs.Journal.{JournalView, IsRecoverable, committed}
 use Rattle.legal_runs.proofs.Idle.{idle_sound}
 use Rattle.messages.specs.declared.Msg.{Msg}
 use Rattle.messages.specs.declared.Reply.{Reply}
@@ -20,13 +20,13 @@ use Rattle.run_queue.specs.RunQueue.{RunQueueView, queue_at_start}
 
 module _ (keeps : Type 0) (slots : ℕ) (replies : List Reply) (tree : TreeView) (journal : JournalView) where
   abbrev pub opened : Parts
-  opened = parts (empty_row slots 4) replies tree journal (queue_at_start journal.geometry slots) [] 0 0 tree []
+  opened = parts (empty_arena slots 4) replies tree journal (queue_at_start journal.geometry slots) [] 0 0 tree []
 
-  pub size : capacity_of {T = Slot} (empty_row slots 4) ≡ slots
+  pub size : capacity_of {T = Slot} (empty_arena slots 4) ≡ slots
   size = length-replicate slots _
 
   module _ (same : tree.geometry ≡ journal.geometry) (whole : IsWholeTree tree)
-      (holds : keeps → (committed journal ≡ Some (state_in tree)) × IsCommitted journal) where
+      (holds : keeps → (committed journal ≡ Some (state_in tree)) × IsRecoverable journal) where
     tree_holds : TreeHolds journal.geometry (is_below journal.geometry []) (in_tree tree) (state_in tree)
     tree_holds =
         holds_alike journal.geometry nowhere (is_below journal.geometry []) (in_tree tree) (state_in tree) (λ q. refl)
@@ -53,7 +53,7 @@ module _ (keeps : Type 0) (slots : ℕ) (replies : List Reply) (tree : TreeView)
     }
 
     -- the same of parts that are these
-    module _ (row : Row Slot) (row_is : row ≡ empty_row slots 4) where
+    module _ (row : ArenaView Slot) (row_is : row ≡ empty_arena slots 4) where
       pub opened_parts : (queue : RunQueueView) (batch : List Msg) (first : TreeView) (since : List Msg)
           → queue ≡ queue_at_start journal.geometry slots → batch ≡ [] → first ≡ tree → since ≡ []
           → IsCore keeps (parts row replies tree journal queue batch 0 0 first since)
@@ -61,10 +61,10 @@ module _ (keeps : Type 0) (slots : ℕ) (replies : List Reply) (tree : TreeView)
           subst (IsCore keeps) (λ i. parts (sym row_is i) replies tree journal (sym turns_are i) (sym batch_is i) 0 0 (sym first_is i) (sym since_is i)) opened_core
 
       pub opened_chains : IsParted row → HasChains row
-      opened_chains parted = record { parted = parted; four = ap (λ (r : Row Slot). length r.chains) row_is }
+      opened_chains parted = record { parted = parted; four = ap (λ (r : ArenaView Slot). length r.chains) row_is }
 
       pub opened_size : capacity_of row ≡ slots
-      opened_size = ap (λ (r : Row Slot). capacity_of r) row_is ∙ size
+      opened_size = ap (λ (r : ArenaView Slot). capacity_of r) row_is ∙ size
 
       pub opened_ran : 0 ≡ length (slots_on row replies 2)
-      opened_ran = ap (λ (r : Row Slot). length (slots_on r replies 2)) (sym row_is)
+      opened_ran = ap (λ (r : ArenaView Slot). length (slots_on r replies 2)) (sym row_is)

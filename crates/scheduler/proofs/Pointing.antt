@@ -3,7 +3,7 @@ use Rattle.std.proofs.Common.{◌≡◌, ℕ, ◌+◌, ◌-◌, ◌≤◌, Bool,
 use Rattle.std.specs.Prelude.{if◌then◌else◌, is_some, nat_lt, option_map, OnOk, OnErr}
 use Rattle.std.proofs.lemmas.Bool.{ltb-false, true≢false}
 use Rattle.affinity.specs.declared.geometry.Geometry.{Geometry}
-use Rattle.checkpoint.specs.Recovery.{holds}
+use Rattle.checkpoint.specs.Recovery.{recovered_state}
 use Rattle.disk.specs.Moments.{CrashImagesAre}
 use Rattle.image.specs.Pieces.{piece_count}
 use Rattle.journal.specs.Journal.{JournalView, after_call, committed}
@@ -80,7 +80,7 @@ module _ (keeps : Type 0) (p : Parts) (k : IsCore keeps p) (why : point_refusal 
 -- ---- a step that was made, or at which the device failed
 
 module _ (keeps : Type 0) (p : Parts) (k : IsCore keeps p) (works : p.journal.failed ≡ false) (new : JournalView)
-    (any : keeps → CrashImagesAre p.journal.medium new.medium (λ c. holds p.journal.geometry c ≡ committed p.journal)) where
+    (any : keeps → CrashImagesAre p.journal.medium new.medium (λ c. recovered_state p.journal.geometry c ≡ committed p.journal)) where
   pub made_core : (room : ℕ) (left : Option ℕ) (dirty : DirtyPieces) → new ≡ record p.journal { room = room; left = left; dirty = dirty; medium = new.medium }
       → (keeps → committed new ≡ committed p.journal) → IsSoundCoreState p.journal.geometry (core_state_in (with_journal p room left p.journal.failed dirty new.medium))
       → IsCore keeps (record p { journal = new })
@@ -96,7 +96,7 @@ module _ (keeps : Type 0) (p : Parts) (k : IsCore keeps p) (works : p.journal.fa
   step_moment = step_throughout keeps p k works new.medium any (core_view_of (record p { journal = new })) refl
 
 module _ (keeps : Type 0) (p : Parts) (k : IsCore keeps p) (new : JournalView)
-    (any : keeps → CrashImagesAre p.journal.medium new.medium (λ c. holds p.journal.geometry c ≡ committed p.journal)) where
+    (any : keeps → CrashImagesAre p.journal.medium new.medium (λ c. recovered_state p.journal.geometry c ≡ committed p.journal)) where
   abbrev g : Geometry
   g = p.journal.geometry
 

@@ -7,7 +7,7 @@ use Rattle.affinity.specs.declared.geometry.Geometry.{Geometry}
 use Rattle.checkpoint.proofs.Fine.{fine, head}
 use Rattle.checkpoint.proofs.OneGeometry.{same_geometry}
 use Rattle.checkpoint.specs.Header.{HasHeader, marks_of_format}
-use Rattle.checkpoint.specs.Recovery.{holds}
+use Rattle.checkpoint.specs.Recovery.{recovered_state}
 use Rattle.checkpoint.specs.Refusals.{HasNoGeometry, IsRefused, IsRefusedWith, IsUnformatted, fault_if, refused}
 use Rattle.checkpoint.specs.declared.fault.OpenFault.{OpenFault}
 use Rattle.checkpoint.specs.declared.fault.OpenFault.TheVariants.{Device, TooShort, NotFormatted, BadGeometry, OutOfMemory, BadVersion, BadPiece, BadChain, BadRecord}
@@ -83,5 +83,5 @@ module _ (c : List ℕ) where
       none_some : (fault : OpenFault) → ◌≡◌ {A = Option OpenFault} None (Some fault) → ⊥
       none_some fault is = cc
 
-  pub recovers_or_refused : (g : Geometry) (x : State) (fault : OpenFault) → AreBytes c → holds g c ≡ Some x → IsOfBytes fault → IsRefused c fault → ⊥
+  pub recovers_or_refused : (g : Geometry) (x : State) (fault : OpenFault) → AreBytes c → recovered_state g c ≡ Some x → IsOfBytes fault → IsRefused c fault → ⊥
   recovers_or_refused g x fault are stood = opened_or_refused g fault (head g c x are stood) (fine g c x are stood)

@@ -1,4 +1,4 @@
--- The call that takes back what came of a job, by what its callees give.
+-- The call that takes back the result of a job, by what its callees give.
 use Rattle.std.proofs.Common.{◌≡◌, ℕ, zero, suc, ◌+◌, ◌<◌, Bool, true, false, List, [], ◌∷◌, ◌++◌, append_assoc, map, length, get_or, slice_set, Option, Some, refl, ap, sym, subst, ◌∙◌, arith, inl, inr}
 use Rattle.std.specs.Prelude.{◌==◌, ◌||◌, ◌&&◌, not}
 use Rattle.std.specs.List.{AllByRecursion, Contains, concat, list_any}
@@ -9,10 +9,10 @@ use Rattle.std.proofs.lemmas.List.Folds.{list_any-append}
 use Rattle.affinity.specs.Interval.{Interval, IsAffinityOf, interval}
 use Rattle.affinity.specs.Path.{Path}
 use Rattle.affinity.specs.declared.geometry.Geometry.{Geometry}
-use Rattle.arena.proofs.RowLemmas.{chained-listed}
+use Rattle.arena.proofs.ArenaLemmas.{chained-listed}
 use Rattle.arena.proofs.Times.{times-append}
 use Rattle.arena.specs.Lists.{times}
-use Rattle.arena.specs.Row.{IsParted, Row, after_move, capacity_of, chain_at}
+use Rattle.arena.specs.ArenaView.{IsParted, ArenaView, after_move, capacity_of, chain_at}
 use Rattle.journal.specs.Journal.{JournalView}
 use Rattle.legal_runs.proofs.Apart.{apart_turned}
 use Rattle.legal_runs.proofs.Lists.{all_back, all_front, before_first}
@@ -182,7 +182,7 @@ module _ (keeps : Type 0) (p : Parts) (k : IsCore keeps p) (before : List SlotVi
 
 -- ---- the call
 
-module _ (keeps : Type 0) (row : Row Slot) (replies : List Reply) (tree : TreeView) (journal : JournalView) (queue : RunQueueView) (batch : List Msg) (next unlogged : ℕ)
+module _ (keeps : Type 0) (row : ArenaView Slot) (replies : List Reply) (tree : TreeView) (journal : JournalView) (queue : RunQueueView) (batch : List Msg) (next unlogged : ℕ)
     (opened : TreeView) (since : List Msg) (is : HasChains row)
     (k : IsCore keeps (parts row replies tree journal queue batch next unlogged opened since)) (done : Result)
     (result : IsResultOf journal.geometry (core_state_in (parts row replies tree journal queue batch next unlogged opened since)) done) where

@@ -1,8 +1,8 @@
 -- Those that ran: one after the other on their chain, and moved to the chain of those that are logged.
 use Rattle.std.proofs.Common.{◌≡◌, ◌≢◌, ℕ, zero, suc, ◌+◌, ◌<◌, List, [], ◌∷◌, ◌++◌, length, take, drop, Some, None, refl, sym, ap, subst, ◌∙◌, arith, append_assoc}
 use Rattle.arena.specs.Lists.{first_of, without}
-use Rattle.arena.specs.Row.{Row, IsParted, after_move, chain_at, front_of}
-use Rattle.arena.proofs.RowLemmas.{chain-front}
+use Rattle.arena.specs.ArenaView.{ArenaView, IsParted, after_move, chain_at, front_of}
+use Rattle.arena.proofs.ArenaLemmas.{chain-front}
 use Rattle.scheduler.proofs.Chains.{chain_joined, chain_left, chain_stays, four_moved, row_moved}
 use Rattle.scheduler.specs.Moving.{HasLogged}
 use Rattle.scheduler.specs.Slots.{HasChains}
@@ -31,7 +31,7 @@ left_over (suc n) (x ∷ xs) low = left_over n xs (omega (arith, low))
 
 -- ---- what ran is logged
 
-pub none_logged : (row : Row Slot) → HasChains row → HasLogged 0 row row
+pub none_logged : (row : ArenaView Slot) → HasChains row → HasLogged 0 row row
 none_logged row is = record {
   ran = refl;
   logged = sym (append_none (chain_at row 3));
@@ -46,10 +46,10 @@ pub some_first : (xs : List ℕ) → 0 < length xs → first_of xs ≡ None → 
 some_first [] some none = omega (arith, some)
 some_first (x ∷ xs) some none = absurd (cc)
 
-pub first_is_there : (row : Row Slot) → 0 < length (chain_at row 2) → front_of row 2 ≡ None → ⊥
+pub first_is_there : (row : ArenaView Slot) → 0 < length (chain_at row 2) → front_of row 2 ≡ None → ⊥
 first_is_there row some none = some_first (chain_at row 2) some none
 
-module _ (row : Row Slot) (is : HasChains row) (i : ℕ) (first : front_of row 2 ≡ Some i) (parted : IsParted (after_move row i 3)) where
+module _ (row : ArenaView Slot) (is : HasChains row) (i : ℕ) (first : front_of row 2 ≡ Some i) (parted : IsParted (after_move row i 3)) where
   whole : chain_at row 2 ≡ [] ++ i ∷ without i (chain_at row 2)
   whole = chain-front row i 2 is.parted first
 
@@ -65,12 +65,12 @@ module _ (row : Row Slot) (is : HasChains row) (i : ℕ) (first : front_of row 2
     logged = chain_joined row is.parted i 2 3 there other [] (without i (chain_at row 2)) whole ∙ sym (ap (λ (l : List ℕ). chain_at row 3 ++ take 1 l) whole);
     waiting = chain_stays row is.parted i 2 3 there other [] (without i (chain_at row 2)) whole 0 (λ same. omega (arith, same)) (λ same. omega (arith, same));
     out = chain_stays row is.parted i 2 3 there other [] (without i (chain_at row 2)) whole 1 (λ same. omega (arith, same)) (λ same. omega (arith, same));
-    values = ap (λ (r : Row Slot). r.values) (row_moved row is.parted i 2 3 there other [] (without i (chain_at row 2)) whole);
-    free = ap (λ (r : Row Slot). r.free) (row_moved row is.parted i 2 3 there other [] (without i (chain_at row 2)) whole);
+    values = ap (λ (r : ArenaView Slot). r.values) (row_moved row is.parted i 2 3 there other [] (without i (chain_at row 2)) whole);
+    free = ap (λ (r : ArenaView Slot). r.free) (row_moved row is.parted i 2 3 there other [] (without i (chain_at row 2)) whole);
     chains = record { parted = parted; four = four_moved row is.parted i 2 3 there other [] (without i (chain_at row 2)) whole ∙ is.four };
   }
 
-pub one_more_logged : (n : ℕ) (a b c : Row Slot) → HasLogged n a b → HasLogged 1 b c → HasLogged (n + 1) a c
+pub one_more_logged : (n : ℕ) (a b c : ArenaView Slot) → HasLogged n a b → HasLogged 1 b c → HasLogged (n + 1) a c
 one_more_logged n a b c h k =
     let count : suc n ≡ n + 1 = omega arith in
     subst (λ (m : ℕ). HasLogged m a c) count (record {

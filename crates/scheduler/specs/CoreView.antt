@@ -45,11 +45,11 @@ core_state_of c = record {
   left = c.left;
 }
 
--- A crash now leaves the committed state, with the first so many of the messages in `doubt`.
+-- A crash now leaves the committed state, with a prefix of the messages in `doubt`.
 abbrev pub RecoversNow : CoreView → Type 0
 RecoversNow c = (bytes : List ℕ) → IsCrashImage c.medium bytes → HoldsSome c.geometry (core_state_of c).committed c.doubt bytes
 
--- A crash at any moment of a call leaves the committed state, with the first so many of the messages in `doubt`: where the
+-- A crash at any moment of a call leaves the committed state, with a prefix of the messages in `doubt`: where the
 -- device had not failed before, of those that the call is to append.
 abbrev pub RecoversThroughout : List Msg → CoreView → CoreView → Type 0
 RecoversThroughout appended old new =

@@ -17,7 +17,7 @@ pub record IsJobOf (g : Geometry) (w : CoreState) (job : JobView) : Type 0 where
   pub is_out : Contains w.out (job.ticket, job.message)
   pub lent : IsLentOf job w.committed
 
--- The message is in flight, and this is what comes of it where it runs in the committed state.
+-- The message is in flight, and this is its result if it runs in the committed state.
 pub record IsResultOf (g : Geometry) (w : CoreState) (done : Done) : Type 0 where
   pub is_out : Contains w.out (done.ticket, done.message)
   pub suits : Suits g done.message done.parcels

@@ -1,6 +1,6 @@
 -- Inner: What becomes of those that ran when they are logged.
 use Rattle.std.specs.Prelude.{◌≡◌, ℕ, List, ◌++◌, map, take, drop, count_by, unwrap_or}
-use Rattle.arena.specs.Row.{Row, chain_at, value_at}
+use Rattle.arena.specs.ArenaView.{ArenaView, chain_at, value_at}
 use Rattle.legal_runs.specs.Eligible.{changes}
 use Rattle.legal_runs.specs.Events.{loggable}
 use Rattle.messages.specs.declared.Msg.{Msg}
@@ -10,15 +10,15 @@ use Rattle.scheduler.specs.Slots.{HasChains, no_slot, place_at}
 use Rattle.scheduler.specs.declared.slot.Slot.{Slot}
 
 -- those of the messages in these slots that the log keeps
-abbrev pub gathered : Row Slot → List Reply → List ℕ → List Msg
+abbrev pub gathered : ArenaView Slot → List Reply → List ℕ → List Msg
 gathered row replies slots = loggable (map replied_of (map (place_at row replies) slots))
 
 -- how many of them are of a changing kind
-abbrev pub changing_in : Row Slot → List ℕ → ℕ
+abbrev pub changing_in : ArenaView Slot → List ℕ → ℕ
 changing_in row slots = count_by (λ i. changes (unwrap_or (value_at row i) no_slot).message) slots
 
 -- The first n of those that ran became the last of those that are logged, and nothing else has changed.
-pub record HasLogged (n : ℕ) (old new : Row Slot) : Type 0 where
+pub record HasLogged (n : ℕ) (old new : ArenaView Slot) : Type 0 where
   pub ran : chain_at new 2 ≡ drop n (chain_at old 2)
   pub logged : chain_at new 3 ≡ chain_at old 3 ++ take n (chain_at old 2)
   pub waiting : chain_at new 0 ≡ chain_at old 0

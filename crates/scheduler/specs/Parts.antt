@@ -4,7 +4,7 @@ use Rattle.std.specs.List.{AllByRecursion, list_any}
 use Rattle.affinity.specs.Interval.{IsAffinityOf}
 use Rattle.affinity.specs.Path.{Path, begins}
 use Rattle.affinity.specs.declared.geometry.Geometry.{Geometry}
-use Rattle.arena.specs.Row.{Row, capacity_of}
+use Rattle.arena.specs.ArenaView.{ArenaView, capacity_of}
 use Rattle.journal.specs.Journal.{JournalView, committed}
 use Rattle.legal_runs.specs.Eligible.{changes, unlogged_changes}
 use Rattle.legal_runs.specs.Laws.{IsSoundCoreState}
@@ -54,7 +54,7 @@ pub record Parts : Type 0 where
   pub since : List Msg
 
 -- the parts of a core with these fields
-abbrev pub parts : Row Slot → List Reply → TreeView → JournalView → RunQueueView → List Msg → ℕ → ℕ → TreeView → List Msg → Parts
+abbrev pub parts : ArenaView Slot → List Reply → TreeView → JournalView → RunQueueView → List Msg → ℕ → ℕ → TreeView → List Msg → Parts
 parts row replies tree journal queue batch next unlogged opened since = record {
   phases = phases_of row replies;
   free = length row.free;

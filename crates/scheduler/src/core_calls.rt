@@ -2,25 +2,25 @@
 ghost use Rattle.std.specs.Prelude.{cond, nat_lt, ◌≡◌, ◌≢◌, ◌+◌, ◌*◌, ◌≤◌, ◌↔◌, ℕ, true, false, List, Some, None, [], length, OnOk, IfOk, IfErr, MatchResult};
 ghost use Rattle.affinity.specs.declared.geometry.Geometry.{Geometry};
 ghost use Rattle.checkpoint.specs.Header.{HasHeader};
-ghost use Rattle.checkpoint.specs.Recovery.{holds};
+ghost use Rattle.checkpoint.specs.Recovery.{recovered_state};
 ghost use Rattle.checkpoint.specs.Refusals.{IsRefused};
 ghost use Rattle.checkpoint.specs.declared.fault.OpenFault.{OpenFault};
 ghost use Rattle.checkpoint.specs.declared.fault.OpenFault.TheVariants as faults;
 ghost use Rattle.disk.specs.Moments.{moment};
 ghost use Rattle.image.specs.Pieces.{piece_count};
-ghost use Rattle.journal.specs.Costs.{longest_point, opening_takes};
+ghost use Rattle.journal.specs.Costs.{longest_point, opening_cost};
 ghost use Rattle.journal.specs.Opening.{IsRefusedUnwritten, OpeningCrashImages};
 ghost use Rattle.legal_runs.specs.Events.{answer, arrive, batch, flip_refusal, give_back, out_with, point_refusal, touches_device};
 ghost use Rattle.legal_runs.specs.Laws.{IsSoundCoreState};
 ghost use Rattle.legal_runs.specs.CoreState.{Entry};
 ghost use Rattle.legal_runs.specs.declared.outcomes.Step.TheVariants as steps;
 ghost use Rattle.oplog.specs.Beyond.{KeepsBeyond};
-ghost use Rattle.oplog.specs.Costs.{Takes, batches};
+ghost use Rattle.oplog.specs.Costs.{Costs, batches};
 ghost use Rattle.device_map.specs.Layout.{layout_of};
 ghost use Rattle.oplog.specs.Recovery.{in_force, named_area};
 ghost use Rattle.meaning.specs.State.{State};
 ghost use Rattle.scheduler.specs.Calls.{CountsFailure, IsGranted, IsLogStep, IsPieceStep, IsPointStep, answer_outcome, arrive_outcome, log_device_failed, point_device_failed};
-ghost use Rattle.arena.specs.Row.{chain_at};
+ghost use Rattle.arena.specs.ArenaView.{chain_at};
 ghost use Rattle.scheduler.specs.Slots.{HasChains};
 ghost use Rattle.scheduler.specs.Jobs.{IsResultOf};
 ghost use Rattle.scheduler.specs.CoreView.{IsJustOpened, CoreView, RecoversNow, RecoversThroughout, core_state_of};
@@ -75,7 +75,7 @@ pub struct Core<D: Disk> {
 
 impl<D: Disk> Model for Core<D> {
     ghost use Rattle.std.specs.Prelude.{◌≡◌, ◌≤◌, length, vec_capacity};
-    ghost use Rattle.arena.specs.Row.{capacity_of};
+    ghost use Rattle.arena.specs.ArenaView.{capacity_of};
     ghost use Rattle.scheduler.specs.CoreView.{CoreView};
     ghost use Rattle.scheduler.specs.Parts.{IsCore, core_view_of, parts};
     ghost use Rattle.scheduler.specs.Slots.{HasChains, slots_on};
@@ -118,7 +118,7 @@ impl<D: Disk> Core<D> {
         ensures opened { IfOk result (IsJustOpened slots) }
         ensures header { IfOk result (λ core. D.keeps → HasHeader core.geometry (D.medium d).now) }
         ensures recovered_before { IfOk result (λ core. D.keeps →
-            holds core.geometry (D.medium d).now ≡ Some (core_state_of core).committed) }
+            recovered_state core.geometry (D.medium d).now ≡ Some (core_state_of core).committed) }
         ensures emptied { IfOk result (λ core. D.keeps → in_force (layout_of core.geometry)
             (named_area (layout_of core.geometry) core.medium.now) core.medium.now ≡ []) }
 
@@ -132,20 +132,20 @@ impl<D: Disk> Core<D> {
         ensures beyond { D.keeps → (g : Geometry) → HasHeader g (D.medium d).now → MatchResult result
             (λ core. KeepsBeyond (layout_of g) (D.medium d) core.medium)
             (λ e. KeepsBeyond (layout_of g) (D.medium d) (D.medium e.disk)) }
-        ensures takes { D.keeps → MatchResult result
-            (λ core. moment core.medium ≡ moment (D.medium d) + opening_takes core.geometry (D.medium d).now)
+        ensures costs { D.keeps → MatchResult result
+            (λ core. moment core.medium ≡ moment (D.medium d) + opening_cost core.geometry (D.medium d).now)
             (λ e. moment (D.medium e.disk) ≤ moment (D.medium d) + 11) }
         ensures refused { IfErr result (λ e. D.keeps → IsRefused (D.medium d).now e.fault) }
         ensures unwritten { IfErr result (λ e. D.keeps → IsRefusedUnwritten (D.medium d) e.fault (D.medium e.disk)) }
 
         // What recovers to a state is opened, and what is to be refused is refused for its one fault, unless the device fails
         // or want of memory is reported.
-        ensures opens { (g : Geometry) (x : State) → D.keeps → holds g (D.medium d).now ≡ Some x
+        ensures opens { (g : Geometry) (x : State) → D.keeps → recovered_state g (D.medium d).now ≡ Some x
             → IfErr result (λ e. IsOfBytes e.fault → ⊥) }
         ensures exact { (fault : OpenFault) → D.keeps → IsRefused (D.medium d).now fault → IsOfBytes fault
             → MatchResult result (λ core. ⊥) (λ e. IsOfBytes e.fault → e.fault ≡ fault) }
         ensures device { IfErr result (λ e. e.fault ≡ faults.Device ↔ ((D.medium e.disk).faults ≡ (D.medium d).faults + 1)) }
-        ensures fine { IfOk result (λ core. core.medium.faults ≡ (D.medium d).faults) }
+        ensures no_fault { IfOk result (λ core. core.medium.faults ≡ (D.medium d).faults) }
         ensures len { MatchResult result
             (λ core. length core.medium.now ≡ length (D.medium d).now)
             (λ e. length (D.medium e.disk).now ≡ length (D.medium d).now) }
@@ -247,7 +247,7 @@ impl<D: Disk> Core<D> {
         Granted::Job(Job::new(g, ticket, message, standing, parcels))
     }
 
-    /// Takes back what came of a job in flight.
+    /// Takes back the result of a job in flight.
     pub fn give_back(&mut self, d: Done)
         requires { IsResultOf self.old.geometry (core_state_of self.old) d }
         ensures state_after { (found : Entry × List Entry) × (out_with (core_state_of self.old) d.ticket ≡ Some found)
@@ -284,7 +284,7 @@ impl<D: Disk> Core<D> {
         ensures beyond { D.keeps → KeepsBeyond (layout_of self.old.geometry) self.old.medium self.new.medium }
 
         // It takes no more writes and syncs than its batches do.
-        ensures takes { D.keeps → Takes result (4 * batches (length (batch (core_state_of self.old) n))) self.old.medium self.new.medium }
+        ensures costs { D.keeps → Costs result (4 * batches (length (batch (core_state_of self.old) n))) self.old.medium self.new.medium }
         ensures untouched { touches_device (core_state_of self.old) (steps.Log n) ≡ false → self.new.medium ≡ self.old.medium }
     {
         if self.journal.failed() {
@@ -347,7 +347,7 @@ impl<D: Disk> Core<D> {
         ensures beyond { D.keeps → KeepsBeyond (layout_of self.old.geometry) self.old.medium self.new.medium }
         ensures emptied { OnOk result (D.keeps → in_force (layout_of self.new.geometry)
             (named_area (layout_of self.new.geometry) self.new.medium.now) self.new.medium.now ≡ []) }
-        ensures takes { D.keeps → moment self.new.medium ≤ moment self.old.medium + longest_point self.old.geometry }
+        ensures costs { D.keeps → moment self.new.medium ≤ moment self.old.medium + longest_point self.old.geometry }
         ensures untouched { touches_device (core_state_of self.old) steps.Point ≡ false → self.new.medium ≡ self.old.medium }
     {
         if let Some(why) = self.point_refusal() {
@@ -368,7 +368,7 @@ impl<D: Disk> Core<D> {
         ensures counts { CountsFailure (point_device_failed result) self.old.medium.faults self.new.medium.faults }
         ensures any_moment { D.keeps → RecoversThroughout [] self.old self.new }
         ensures beyond { D.keeps → KeepsBeyond (layout_of self.old.geometry) self.old.medium self.new.medium }
-        ensures takes { D.keeps → Takes result 4 self.old.medium self.new.medium }
+        ensures costs { D.keeps → Costs result 4 self.old.medium self.new.medium }
         ensures untouched { touches_device (core_state_of self.old) steps.Cut ≡ false → self.new.medium ≡ self.old.medium }
     {
         if let Some(why) = self.point_refusal() {
@@ -387,7 +387,7 @@ impl<D: Disk> Core<D> {
         ensures counts { CountsFailure (point_device_failed result) self.old.medium.faults self.new.medium.faults }
         ensures any_moment { D.keeps → RecoversThroughout [] self.old self.new }
         ensures beyond { D.keeps → KeepsBeyond (layout_of self.old.geometry) self.old.medium self.new.medium }
-        ensures takes { self.old.left ≢ Some 0 → D.keeps → Takes result 1 self.old.medium self.new.medium }
+        ensures costs { self.old.left ≢ Some 0 → D.keeps → Costs result 1 self.old.medium self.new.medium }
         ensures untouched { touches_device (core_state_of self.old) steps.Piece ≡ false → self.new.medium ≡ self.old.medium }
     {
         if self.journal.failed() {
@@ -410,7 +410,7 @@ impl<D: Disk> Core<D> {
         ensures counts { CountsFailure (point_device_failed result) self.old.medium.faults self.new.medium.faults }
         ensures any_moment { D.keeps → RecoversThroughout [] self.old self.new }
         ensures beyond { D.keeps → KeepsBeyond (layout_of self.old.geometry) self.old.medium self.new.medium }
-        ensures takes { D.keeps → Takes result 3 self.old.medium self.new.medium }
+        ensures costs { D.keeps → Costs result 3 self.old.medium self.new.medium }
         ensures untouched { touches_device (core_state_of self.old) steps.Flip ≡ false → self.new.medium ≡ self.old.medium }
     {
         if self.journal.failed() {

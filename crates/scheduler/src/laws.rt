@@ -10,7 +10,7 @@ ghost use Rattle.parcel.specs.Run.{JobView, IsJobRun};
 ghost use Rattle.parcel.specs.declared.job.Done.{Done};
 ghost use Rattle.scheduler.specs.Jobs.{IsJobOf, IsResultOf};
 
-/// What a job is, and what comes of it, stays so while other events come, as long as it is in flight.
+/// A job and its result stay the same while other events come, as long as it is in flight.
 pub fn jobs_stay()
     ensures ran { (g : Geometry) (w : CoreState) (job : JobView) (done : Done) → IsJobOf g w job → IsJobRun job done → IsResultOf g w done }
     ensures job { (g : Geometry) (old : MachineState) (event : Event) (job : JobView) → IsAllowed g old event → IsSoundCoreState g old.core

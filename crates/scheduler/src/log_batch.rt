@@ -1,6 +1,6 @@
 //! The messages that ran: what is to be logged of them, and how they become those that are logged.
 ghost use Rattle.std.specs.Prelude.{◌≡◌, ◌≤◌, ◌<◌, ◌+◌, [], ◌∷◌, ◌++◌, length, take, vec_capacity};
-ghost use Rattle.arena.specs.Row.{capacity_of, chain_at};
+ghost use Rattle.arena.specs.ArenaView.{capacity_of, chain_at};
 ghost use Rattle.legal_runs.specs.Events.{loggable};
 ghost use Rattle.meaning.specs.Serial.{is_loggable};
 ghost use Rattle.scheduler.specs.Moving.{HasLogged, changing_in, gathered};

@@ -1,7 +1,7 @@
 //! The memory of a core, all of which is taken before a device is touched.
 ghost use Rattle.std.specs.Prelude.{◌≡◌, ◌≤◌, [], IfOk, length, vec_capacity};
 ghost use Rattle.affinity.specs.Geometry.{standard};
-ghost use Rattle.arena.specs.Row.{IsParted, empty_row};
+ghost use Rattle.arena.specs.ArenaView.{IsParted, empty_arena};
 ghost use Rattle.run_queue.specs.RunQueue.{queue_at_start};
 
 use crate::slot::{CHAINS, Slot};
@@ -27,7 +27,7 @@ pub(crate) struct Memory {
 /// Room for `slots` messages, of which there is none yet. Which geometry they will have isn't known yet, so there is room
 /// for any. `AllocError` where there is no memory.
 pub(crate) fn take_memory(alloc: Global, slots: usize) -> Result<Memory, AllocError>
-    ensures row { IfOk result (λ m. m.slots ≡ empty_row slots 4) }
+    ensures row { IfOk result (λ m. m.slots ≡ empty_arena slots 4) }
     ensures parted { IfOk result (λ m. IsParted m.slots) }
     ensures replies { IfOk result (λ m. length m.replies.items ≡ slots) }
     ensures queue { IfOk result (λ m. m.queue ≡ queue_at_start standard slots) }

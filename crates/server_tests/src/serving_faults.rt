@@ -42,7 +42,7 @@ struct Known {
     sent: Vec<u8>,
 }
 
-/// A device that recovers to the first so many changes and on which the others are served, and what may be found on it.
+/// A device that recovers to a prefix of the changes and on which the others are served, and what may be found on it.
 #[derive(Drop)]
 struct Play {
     there: usize,
@@ -83,7 +83,7 @@ fn first(count: usize) -> u32 {
 }
 
 impl Play {
-    /// One on a device that was formatted, with other bytes at some places, so that it recovers to the first so many changes.
+    /// One on a device that was formatted, with other bytes at some places, so that it recovers to a prefix of the changes.
     fn new(alloc: Global, changes: &[(usize, u8)], there: usize) -> Result<Play, Wrong> {
         let Ok(g) = Geometry::new(SMALL) else {
             return Err(Wrong::Unfit);
@@ -109,7 +109,7 @@ impl Play {
         Ok(play)
     }
 
-    /// Whether this may be found where so many lines were written.
+    /// Whether this may be found where this many lines were written.
     fn allows(&self, answered: usize, found: &OpenedDevice) -> bool {
         let OpenedDevice::Tells(sent) = found else {
             return false;
@@ -165,7 +165,7 @@ fn left_of(alloc: Global, device: MemDisk, crash: Crash) -> Result<MemDisk, Wron
     }
 }
 
-/// Lets the call of this crash fail, or stop the device for good: which call that is.
+/// Lets the call of this crash fail, or stop the device permanently: which call that is.
 fn set_injected_fault(device: &mut MemDisk, crash: Crash) -> u64 {
     let n = crash.call.max(1);
     if crash.kind < KINDS {
@@ -252,7 +252,7 @@ impl Openings {
         Ok(place)
     }
 
-    /// Whether this may be found where so many lines were written.
+    /// Whether this may be found where this many lines were written.
     fn allows(
         &mut self,
         alloc: Global,

@@ -1,4 +1,4 @@
-//! How input is read and output is written, and what comes of it where one of them fails.
+//! How input is read and output is written, and what happens if one of them fails.
 use crate::serving_drawing::draw_lines;
 use crate::serving_noting::Notes;
 use crate::serving_running::{

@@ -70,7 +70,7 @@ quiet_goes_on {keeps} {start} {new} p h =
       output = h.output;
     }
 
--- A failed device has failed for good.
+-- A failed device stays failed.
 run_fails : (g : Geometry) (old : MachineState) (events : List Event) → IsLegal g old events → old.core.failed ≡ true
     → (last old events).core.failed ≡ true
 run_fails g old [] legal failed = failed

@@ -70,8 +70,8 @@ pub record HasRunLines (keeps : Type 0) (start : MachineView) (new : CoreView)
       → left_since new.medium (moment (device_after start.core.medium (take k stages))) c
       → RecoversForRun start.core.geometry (machine_of start) (events_of stages) k c
 
--- Such a run led to what was written: each line that was written is of a line that is no message or is out of range, or of one that
--- was answered in the run. These lines that were read are not answered in the output.
+-- Such a run led to the output: each reply there is to a line that is no message or is out of range, or to a message that the run
+-- answered. `unsent` are the lines that were read and have no reply in the output.
 pub record HasServed (keeps : Type 0) (start : MachineView) (new : CoreView) (unsent : List Line)
     (input before written : Option (List ℕ)) : Type 0 where
   pub taken : List (List ℕ)

@@ -2,7 +2,7 @@
 use Rattle.std.specs.Prelude.{◌≡◌, ◌⊎◌, ℕ, true, false, List, [], ◌∷◌, ◌++◌, Option, Some, None}
 use Rattle.std.specs.List.{Contains}
 use Rattle.affinity.specs.declared.geometry.Geometry.{Geometry}
-use Rattle.checkpoint.specs.Recovery.{holds}
+use Rattle.checkpoint.specs.Recovery.{recovered_state}
 use Rattle.legal_runs.specs.Events.{loggable}
 use Rattle.legal_runs.specs.Laws.{IsSerialLog}
 use Rattle.legal_runs.specs.CoreState.{Entry, Replied}
@@ -36,4 +36,4 @@ AreInLog g log n (l ∷ ls) (line ∷ lines) =
 pub record HoldsLog (g : Geometry) (x : State) (arrivals : List Entry) (log : List Replied) (bytes : List ℕ) : Type 0 where
   pub more : List Replied
   pub serial : IsSerialLog g x arrivals (log ++ more)
-  pub recovers : holds g bytes ≡ Some (fold g x (loggable (log ++ more)))
+  pub recovers : recovered_state g bytes ≡ Some (fold g x (loggable (log ++ more)))

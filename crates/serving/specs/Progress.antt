@@ -21,8 +21,8 @@ pub record IsServing (keeps : Type 0) (start now : MachineView) (taken : List (L
   pub known : AreKnown start.core.geometry reply_pairs start.core.next taken (sent_lines ++ unsent)
   pub answered : AllByRecursion (λ line. is_completed line ≡ true) sent_lines
 
--- From its start the server has come to this machine. It has consumed lines of the input, of which this is unread, and it has
--- written the answers to those that are not among these (a session's outstanding lines).
+-- Since its start the server has reached this machine state. It has consumed lines of the input, of which `unread` is left, and has
+-- written the replies to all of them but `unsent`, a session's outstanding lines.
 pub record ServingProgress (keeps : Type 0) (start now : MachineView) (unsent : List Line)
     (input unread : Option (List ℕ)) (ended : Bool) (before written : Option (List ℕ)) : Type 0 where
   pub taken : List (List ℕ)

@@ -3,7 +3,7 @@ use Rattle.std.specs.Prelude.{◌≡◌, ◌⊎◌, ℕ, Bool, false, ◌&&◌, 
 use Rattle.std.specs.List.{AllByRecursion}
 use Rattle.affinity.specs.Path.{are_related}
 use Rattle.affinity.specs.declared.geometry.Geometry.{Geometry}
-use Rattle.checkpoint.specs.Recovery.{holds}
+use Rattle.checkpoint.specs.Recovery.{recovered_state}
 use Rattle.messages.specs.Grammar.{message_of}
 use Rattle.messages.specs.Lines.{lines}
 use Rattle.messages.specs.Messages.{is_in_range, place}
@@ -36,5 +36,5 @@ pub record RecoversTo (g : Geometry) (start now : State) (input written : List �
 -- These bytes recover to a state to which a server recovers that began in this one.
 pub record BytesRecover (g : Geometry) (start : State) (input before written : Option (List ℕ)) (bytes : List ℕ) : Type 0 where
   pub now : State
-  pub holds_now : holds g bytes ≡ Some now
+  pub holds_now : recovered_state g bytes ≡ Some now
   pub recovers : WritesOutput input before written (RecoversTo g start now)

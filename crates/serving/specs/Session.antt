@@ -176,7 +176,7 @@ EndsBy p (Err faults.Device) =
 EndsBy p (Err faults.Write) = NoneInFlight p.dispatch_seat.lent × (p.core.logged ≡ []) × (p.core.failed ≡ false → p.core.ran ≡ [])
 EndsBy p (Err _) = ⊥
 
--- what is reported: what came of the call, or want of memory where a worker could not be started
+-- what is reported: the result of the call, or that there was no memory to start a worker
 abbrev pub reported : {F : Type 0} → Result (Result (Unit {0}) ServeFault) F → Result (Unit {0}) ServeFault
 reported (Ok result) = result
 reported (Err f) = Err faults.OutOfMemory

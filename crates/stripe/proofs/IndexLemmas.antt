@@ -8,7 +8,7 @@ use Rattle.arena.specs.Lists.{times, without}
 use Rattle.arena.proofs.Parts.{times-tail, value-same, value-other, held-within, held-not_free, parted-restore}
 use Rattle.std.proofs.lemmas.List.{length-replicate, length-set, take-map, drop-map, map-append}
 use Rattle.arena.proofs.Times.{length-numbers, times-append, times-cons_same, times-cons_is, times-cons_other}
-use Rattle.arena.specs.Row.{Row, value_at, holds_value, IsParted, with_value, slot_from, put_answer, put_into, after_put, after_take, empty_row}
+use Rattle.arena.specs.ArenaView.{ArenaView, value_at, holds_value, IsParted, with_value, slot_from, put_answer, put_into, after_put, after_take, empty_arena}
 use Rattle.stripe.specs.declared.blocks.IndexEntry.{IndexEntry}
 use Rattle.stripe.specs.Stripe.{BlockEntry, StripePart, content_at, ComesBefore, IsAscending}
 use Rattle.stripe.specs.Index.{no_block, entry_at, entries_of, slots_of, IsStored, no_entry, PrecedesEntry, IsSplit, IsAt, IsGap, rewritten}
@@ -99,7 +99,7 @@ pub length-entries : (values : List (Option Block)) (index : List IndexEntry) �
 length-entries values [] = refl
 length-entries values (p ∷ index) = ap (λ n. suc n) (length-entries values index)
 
-pub length-stored : (row : Row Block) (index : List IndexEntry) → IsStored row index → length (entries_of row.values index) ≤ 64
+pub length-stored : (row : ArenaView Block) (index : List IndexEntry) → IsStored row index → length (entries_of row.values index) ≤ 64
 length-stored row index stored =
     let same = length-entries row.values index in let count = stored.free in let small = stored.small in omega arith
 
@@ -132,12 +132,12 @@ unwrapped : (o : Option Block) (d : Block) → is_some o ≡ true → o ≡ Some
 unwrapped None d there = absurd (cc)
 unwrapped (Some x) d there = refl
 
-pub held-content : (row : Row Block) (index : List IndexEntry) (n : ℕ) (p : IndexEntry) → IsStored row index → n < length index → p ≡ slice_index_or index n p
+pub held-content : (row : ArenaView Block) (index : List IndexEntry) (n : ℕ) (p : IndexEntry) → IsStored row index → n < length index → p ≡ slice_index_or index n p
     → value_at row p.slot ≡ Some (entry_at row.values p).content
 held-content row index n p stored within here =
     unwrapped (value_at row p.slot) no_block (stored.hold p.slot (times-place index n p within here))
 
-pub found-value : {row : Row Block} {index : List IndexEntry} {es : List BlockEntry} {f b n : ℕ} {p : IndexEntry} → IsStored row index
+pub found-value : {row : ArenaView Block} {index : List IndexEntry} {es : List BlockEntry} {f b n : ℕ} {p : IndexEntry} → IsStored row index
     → entries_of row.values index ≡ es → IsAt es f b n → p ≡ slice_index_or index n p → value_at row p.slot ≡ content_at es f b
 found-value {row} {index} {es} {f} {b} {n} {p} stored same at here =
     let within : n < length (entries_of row.values index) = rw (← same) at at.within in
@@ -191,7 +191,7 @@ entries-written values (q ∷ index) (suc n) {p} content once within here fits =
     (λ same. absurd (let more = times-cons_is p.slot q.slot (slots_of index) same in let most = once p.slot in omega arith)))
     (entries-written values index n content (λ i. let tail = times-tail i q.slot (slots_of index) in let most = once i in omega arith) (omega arith) here fits)
 
-pub stored-written : (row : Row Block) (index : List IndexEntry) (n : ℕ) (p : IndexEntry) (content : Block) → IsStored row index → n < length index
+pub stored-written : (row : ArenaView Block) (index : List IndexEntry) (n : ℕ) (p : IndexEntry) (content : Block) → IsStored row index → n < length index
     → p ≡ slice_index_or index n p → IsStored (with_value row p.slot content) index
 stored-written row index n p content stored within here =
     let held = stored.hold p.slot (times-place index n p within here) in
@@ -211,7 +211,7 @@ stored-written row index n p content stored within here =
     }
 
 -- the slot of a place is there
-pub slot-within : (row : Row Block) (index : List IndexEntry) (n : ℕ) (p : IndexEntry) → IsStored row index → n < length index
+pub slot-within : (row : ArenaView Block) (index : List IndexEntry) (n : ℕ) (p : IndexEntry) → IsStored row index → n < length index
     → p ≡ slice_index_or index n p → p.slot < length row.values
 slot-within row index n p stored within here = held-within row.values p.slot (stored.hold p.slot (times-place index n p within here))
 
@@ -254,7 +254,7 @@ length-index_inserted [] (suc n) p = refl
 length-index_inserted (q ∷ index) (suc n) p = ap (λ k. suc k) (length-index_inserted index n p)
 
 -- a free slot holds nothing, so no place has it
-unclaimed : (row : Row Block) (index : List IndexEntry) (i : ℕ) → IsStored row index → 0 < times i row.free → times i (slots_of index) ≡ 0
+unclaimed : (row : ArenaView Block) (index : List IndexEntry) (i : ℕ) → IsStored row index → 0 < times i row.free → times i (slots_of index) ≡ 0
 unclaimed row index i stored some = elim (leb_tells 1 (times i (slots_of index))) [
   | inl e ↦ absurd (let held = stored.hold i e.1 in let empty = stored.parted.free_empty i some in let lost : false ≡ true = sym (ap is_some empty) ∙ held in cc)
   | inr n ↦ omega arith
@@ -264,11 +264,11 @@ first-free : (free : List ℕ) (slot : ℕ) (content : Block) → slot_from free
 first-free [] slot content answer = absurd (cc)
 first-free (i ∷ rest) slot content answer = (rest, let same : i ≡ slot = cc in rw same refl)
 
-after_put-is : (row : Row Block) (slot : ℕ) (content : Block) (rest : List ℕ) → row.free ≡ slot ∷ rest
+after_put-is : (row : ArenaView Block) (slot : ℕ) (content : Block) (rest : List ℕ) → row.free ≡ slot ∷ rest
     → after_put row content ≡ record row { values = slice_set row.values slot (Some content); free = rest }
 after_put-is row slot content rest first = ap (λ (xs : List ℕ). put_into row xs content) first
 
-module _ (row : Row Block) (index : List IndexEntry) (slot : ℕ) (content : Block) (stored : IsStored row index) (answer : put_answer row content ≡ Ok slot) where
+module _ (row : ArenaView Block) (index : List IndexEntry) (slot : ℕ) (content : Block) (stored : IsStored row index) (answer : put_answer row content ≡ Ok slot) where
   slot-some : 0 < times slot row.free
   slot-some =
       let first = first-free row.free slot content answer in
@@ -327,14 +327,14 @@ module _ (row : Row Block) (index : List IndexEntry) (slot : ℕ) (content : Blo
 
 -- ---- a run is cut out
 
--- the slots of so many places of a run were taken
-pub record IsTaken (before now : Row Block) (run : List IndexEntry) (count : ℕ) : Type 0 where
+-- the slots of n places of a run were taken
+pub record IsTaken (before now : ArenaView Block) (run : List IndexEntry) (count : ℕ) : Type 0 where
   pub parted : IsParted now
   pub free : length now.free ≡ length before.free + count
   pub long : length now.values ≡ length before.values
   pub others : (i : ℕ) → times i (slots_of (take count run)) ≡ 0 → value_at now i ≡ value_at before i
 
-pub taken-none : (row : Row Block) (run : List IndexEntry) → IsParted row → IsTaken row row run 0
+pub taken-none : (row : ArenaView Block) (run : List IndexEntry) → IsParted row → IsTaken row row run 0
 taken-none row run parted = record { parted = parted; free = omega arith; long = refl; others = λ i none. refl }
 
 times-taken : (i : ℕ) (run : List IndexEntry) (k : ℕ) → times i (slots_of (take k run)) ≤ times i (slots_of run)
@@ -355,11 +355,11 @@ times-next i (q ∷ run) (suc k) p within here =
     under_times i q.slot (slots_of (take (suc k) run)) (p.slot ∷ slots_of (take k run)) (times-next i run k p (omega arith) here)
     ∙ times-swapped i q.slot p.slot (slots_of (take k run))
 
-after_take-is : (row : Row Block) (i : ℕ) → holds_value row i ≡ true
+after_take-is : (row : ArenaView Block) (i : ℕ) → holds_value row i ≡ true
     → after_take row i ≡ record { values = slice_set row.values i None; free = i ∷ row.free; chains = map (without i) row.chains }
 after_take-is row i held = rw held refl
 
-pub taken-more : {before now : Row Block} {run : List IndexEntry} {k : ℕ} {p : IndexEntry} → IsTaken before now run k → ((i : ℕ) → times i (slots_of run) ≤ 1)
+pub taken-more : {before now : ArenaView Block} {run : List IndexEntry} {k : ℕ} {p : IndexEntry} → IsTaken before now run k → ((i : ℕ) → times i (slots_of run) ≤ 1)
     → ((i : ℕ) → 0 < times i (slots_of run) → holds_value before i ≡ true) → k < length run → p ≡ slice_index_or run k p
     → IsParted (after_take now p.slot) → IsTaken before (after_take now p.slot) run (k + 1)
 taken-more {before} {now} {run} {k} {p} taken once hold within here parted =
@@ -425,7 +425,7 @@ entries-same values others (q ∷ index) same =
     (same q.slot (let some = times-cons_same q.slot (slots_of index) in omega arith)))
     (entries-same values others index (λ i some. same i (let more = times-tail i q.slot (slots_of index) in omega arith)))
 
-module _ (before now : Row Block) (index : List IndexEntry) (from m end : ℕ) (stored : IsStored before index) (sum : end ≡ from + m) (within : end ≤ length index)
+module _ (before now : ArenaView Block) (index : List IndexEntry) (from m end : ℕ) (stored : IsStored before index) (sum : end ≡ from + m) (within : end ≤ length index)
     (taken : IsTaken before now (take m (drop from index)) m) where
   left : List IndexEntry
   left = take from index ++ drop end index
@@ -470,7 +470,7 @@ abbrev pub run_of : List IndexEntry → ℕ → ℕ → List IndexEntry
 run_of index from end = take (end - from) (drop from index)
 
 -- the next place of the run between two indices
-pub taken-next : {before now : Row Block} {index : List IndexEntry} (from end : ℕ) {k : ℕ} (d : IndexEntry) → IsStored before index → from ≤ end
+pub taken-next : {before now : ArenaView Block} {index : List IndexEntry} (from end : ℕ) {k : ℕ} (d : IndexEntry) → IsStored before index → from ≤ end
     → IsTaken before now (run_of index from end) k → k < length (run_of index from end)
     → IsParted (after_take now (slice_index_or (run_of index from end) k d).slot)
     → IsTaken before (after_take now (slice_index_or (run_of index from end) k d).slot) (run_of index from end) (k + 1)
@@ -483,7 +483,7 @@ taken-next {index = index} from end {k} d stored order taken low parted =
 
 -- ---- the start
 
-pub stored-empty : (quota chains : ℕ) → quota ≤ 64 → IsParted {T = Block} (empty_row quota chains) → IsStored (empty_row quota chains) []
+pub stored-empty : (quota chains : ℕ) → quota ≤ 64 → IsParted {T = Block} (empty_arena quota chains) → IsStored (empty_arena quota chains) []
 stored-empty quota chains small parted =
     let long = length-replicate {A = Option Block} quota None in
     record {

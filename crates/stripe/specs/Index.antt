@@ -3,7 +3,7 @@ use Rattle.std.specs.Prelude.{◌≡◌, true, ◌⊎◌, ℕ, ◌+◌, ◌<◌,
 use Rattle.std.specs.List.{AllByRecursion}
 use Rattle.messages.specs.declared.Block.{Block}
 use Rattle.arena.specs.Lists.{times}
-use Rattle.arena.specs.Row.{Row, capacity_of, holds_value, IsParted}
+use Rattle.arena.specs.ArenaView.{ArenaView, capacity_of, holds_value, IsParted}
 use Rattle.stripe.specs.declared.blocks.IndexEntry.{IndexEntry}
 use Rattle.affinity.specs.declared.geometry.Geometry.{Geometry}
 use Rattle.stripe.specs.Entries.{entry_bytes, entry_in, can_stand}
@@ -27,7 +27,7 @@ abbrev pub slots_of : List IndexEntry → List ℕ
 slots_of index = map (λ p. p.slot) index
 
 -- The blocks ascend, and each index entry has a slot of its own, which holds a value. All slots but these are free.
-pub record IsStored (row : Row Block) (index : List IndexEntry) : Type 0 where
+pub record IsStored (row : ArenaView Block) (index : List IndexEntry) : Type 0 where
   pub ascending : IsAscending (entries_of row.values index)
   pub parted : IsParted row
   pub once : (i : ℕ) → times i (slots_of index) ≤ 1

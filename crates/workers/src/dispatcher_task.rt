@@ -10,7 +10,7 @@ use std::sync::Wait;
 use std::thread;
 use std::thread::{Scope, Threads};
 
-/// What the calling thread does at a bench while others work there, and what comes of it.
+/// What the calling thread does at a bench while others work there, and its result.
 pub trait DispatcherTask<E> {
     /// Whether it can be begun.
     ghost can_begin: { Self → Type 0 };

@@ -1,6 +1,6 @@
 //! What a journal gives without a call of its device, and the device at its end.
 ghost use Rattle.std.specs.Prelude.{◌≡◌, false};
-ghost use Rattle.journal.specs.Journal.{IsCommitted};
+ghost use Rattle.journal.specs.Journal.{IsRecoverable};
 
 use super::Journal;
 use affinity::Geometry;
@@ -10,7 +10,7 @@ impl<D: Disk> Journal<D> {
     /// How many more records the current half takes.
     pub fn room(&self) -> usize
         ensures room { result ≡ self.now.room }
-        ensures sound { self.now.failed ≡ false → D.keeps → IsCommitted self.now }
+        ensures recoverable { self.now.failed ≡ false → D.keeps → IsRecoverable self.now }
     {
         self.halves.room()
     }

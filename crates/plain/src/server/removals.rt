@@ -53,7 +53,7 @@ impl Server {
         }
     }
 
-    /// Takes all its blocks out of a file.
+    /// Removes all blocks of a file.
     fn clear_file(&mut self, g: &Geometry, a: u16, v: u16, f: u16)
         requires sound { IsConsistent g.now self.old }
         ensures state { server_state self.new ≡ without_blocks (is_block_of_file a v f) (server_state self.old) }
@@ -93,7 +93,7 @@ impl Server {
         }
     }
 
-    /// Takes all its blocks out of a volume.
+    /// Removes all blocks of a volume.
     fn clear_volume(&mut self, g: &Geometry, a: u16, v: u16)
         requires sound { IsConsistent g.now self.old }
         ensures state { server_state self.new ≡ without_blocks (is_block_of a v) (server_state self.old) }

@@ -2,7 +2,7 @@
 use Rattle.std.proofs.Common.{◌≡◌, true, false, is_some, None, sym, subst, ◌∙◌, slice_index_or, arith, length}
 use Rattle.std.specs.List.{concat}
 use Rattle.arena.specs.Lists.{times}
-use Rattle.arena.specs.Row.{Row, is_lent}
+use Rattle.arena.specs.ArenaView.{ArenaView, is_lent}
 use Rattle.arena.proofs.Keeping.{restore-kept, lent-alone, not_lent-outside, not_lent-listed, not_lent, refused-answer, refused-row, restored-answer, restored-row}
 use Rattle.arena.proofs.Arena.restore.Goals as goal
 use Rattle.arena.proofs.Arena.restore.Goals.{then-i-capacity-via-then-i-capacity, then-i-capacity-via-else-i-capacity+then-holds, then-i-capacity-via-else-i-capacity+else-holds+then-not-is_alone}
@@ -15,7 +15,7 @@ returns-then-i-capacity-clause-answer g c =
       | then-i-capacity-via-else-i-capacity+else-holds+then-not-is_alone w ↦ (
           let listed : times c.args.i (concat c.self.inside.links.lists) ≡ 0 → ⊥ =
           (λ none. let answer = w.is_alone.ensures.1 none in let wrong = w.if-not-is_alone.true in cc) in
-          let P = λ (m : Row g.row.T.Denot). is_lent m c.args.i ≡ false in
+          let P = λ (m : ArenaView g.row.T.Denot). is_lent m c.args.i ≡ false in
           subst P c.self.view_is (not_lent-listed c.args.i c.self.invariant listed))
     ])
 
@@ -27,7 +27,7 @@ returns-then-i-capacity-clause-row g c =
       | then-i-capacity-via-else-i-capacity+else-holds+then-not-is_alone w ↦ (
           let listed : times c.args.i (concat c.self.inside.links.lists) ≡ 0 → ⊥ =
           (λ none. let answer = w.is_alone.ensures.1 none in let wrong = w.if-not-is_alone.true in cc) in
-          let P = λ (m : Row g.row.T.Denot). is_lent m c.args.i ≡ false in
+          let P = λ (m : ArenaView g.row.T.Denot). is_lent m c.args.i ≡ false in
           subst P c.self.view_is (not_lent-listed c.args.i c.self.invariant listed))
     ])
 
@@ -42,7 +42,7 @@ returns-clause-answer g c =
     let count : c.capacity.result ≡ length c.self.inside.values.items = rw (← c.self.view_is) at c.capacity.ensures.count in
     let alone : times c.args.i (concat c.self.inside.links.lists) ≡ 0 = c.is_alone.ensures.0 c.if-not-is_alone.false in
     let empty : is_some (slice_index_or c.self.inside.values.items c.args.i None) ≡ false = rw (← c.self.view_is) at (sym c.holds.ensures.answer ∙ c.if-holds.false) in
-    let P = λ (m : Row g.row.T.Denot). is_lent m c.args.i ≡ true in
+    let P = λ (m : ArenaView g.row.T.Denot). is_lent m c.args.i ≡ true in
     restored-answer c.args.self.now c.args.i c.args.value (subst P c.self.view_is
     (lent-alone c.args.i c.self.invariant (omega arith) empty alone))
 
@@ -51,7 +51,7 @@ returns-clause-row g c =
     let count : c.capacity.result ≡ length c.self.inside.values.items = rw (← c.self.view_is) at c.capacity.ensures.count in
     let alone : times c.args.i (concat c.self.inside.links.lists) ≡ 0 = c.is_alone.ensures.0 c.if-not-is_alone.false in
     let empty : is_some (slice_index_or c.self.inside.values.items c.args.i None) ≡ false = rw (← c.self.view_is) at (sym c.holds.ensures.answer ∙ c.if-holds.false) in
-    let P = λ (m : Row g.row.T.Denot). is_lent m c.args.i ≡ true in
+    let P = λ (m : ArenaView g.row.T.Denot). is_lent m c.args.i ≡ true in
     restored-row c.self.inside.links c.args.i c.args.value (subst P c.self.view_is
     (lent-alone c.args.i c.self.invariant (omega arith) empty alone))
     c.fill.ensures c.self.view_is

@@ -1,7 +1,7 @@
 -- Shut the gate, lay out the rest, open the gate: a crash leaves the old device, a shut one, or the new one.
 use Rattle.std.proofs.Common.{◌≡◌, ◌⊎◌, Some, ◌∙◌, subst, arith, ℕ}
-use Rattle.checkpoint.specs.Formatting.{IsShut}
-use Rattle.checkpoint.specs.Recovery.{holds}
+use Rattle.checkpoint.specs.Formatting.{HasNoFormatByte}
+use Rattle.checkpoint.specs.Recovery.{recovered_state}
 use Rattle.disk.specs.Moments.{CrashImagesAre}
 use Rattle.meaning.specs.State.{empty}
 use Rattle.checkpoint.proofs.Opened.{shut_moments, laid_moments, opened_moments}
@@ -20,7 +20,7 @@ pub returns-clause-any_moment : goal.returns-clause-any_moment
 returns-clause-any_moment g c = λ k.
     opened_moments c.args.g.now _ c.requires.long_enough _ _ (c.shut_gate.ensures.any_moment k) (c.in_ok-shut_gate.ensures.shut k) 64 _ (omega arith) (c.lay_out.ensures.any_moment k) _
     (subst (λ (n : ℕ). CrashImagesAre (g.D.Disk.medium c.lay_out.new.disk) (g.D.Disk.medium c.open_gate.new.disk)
-    (λ l. IsShut n l ⊎ (holds c.args.g.now l ≡ Some empty))) (c.lay_out.ensures.call.1 ∙ c.shut_gate.ensures.call.1)
+    (λ l. HasNoFormatByte n l ⊎ (recovered_state c.args.g.now l ≡ Some empty))) (c.lay_out.ensures.call.1 ∙ c.shut_gate.ensures.call.1)
     (c.open_gate.ensures.any_moment k))
 
 pub returns-in_err-shut_gate-clause-beyond : goal.returns-in_err-shut_gate-clause-beyond

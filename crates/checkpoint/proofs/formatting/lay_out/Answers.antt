@@ -1,6 +1,6 @@
 -- All four writes lie between the header and the end of the parts; together they lay out the empty state.
 use Rattle.std.proofs.Common.{◌+◌, ℕ, List, [], ◌∷◌, replicate, sym, ◌∙◌, ap, subst, arith}
-use Rattle.checkpoint.specs.Formatting.{IsLaid}
+use Rattle.checkpoint.specs.Formatting.{IsAllButHeader}
 use Rattle.checkpoint.proofs.Changed.{changed_then, changed_within}
 use Rattle.checkpoint.proofs.Laid.{image_some, laid_out}
 use Rattle.disk.specs.Device.{overlaid}
@@ -45,4 +45,4 @@ returns-clause-laid g c = λ k.
     let second = c.in_ok-write_zeros-2.ensures.written k ∙ (λ i. overlaid (first i) (c.half_at.ensures i) (replicate (64 + c.from-front.ensures i) 0)) in
     let third = c.in_ok-write_zeros-3.ensures.written k ∙ (λ i. overlaid (second i) (c.image_at.ensures i) (replicate (c.image_size.ensures.size i) 0)) in
     let fourth = (c.in_ok-store.ensures.stored k).now ∙ (λ i. overlaid (third i) (c.image_at-2.ensures i) (2 ∷ [])) in
-    subst (λ (l : List ℕ). IsLaid c.args.g.now l) (sym fourth) (laid_out c.args.g.now start c.requires.long_enough)
+    subst (λ (l : List ℕ). IsAllButHeader c.args.g.now l) (sym fourth) (laid_out c.args.g.now start c.requires.long_enough)

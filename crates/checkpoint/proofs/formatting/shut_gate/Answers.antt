@@ -1,6 +1,6 @@
 -- Once synced, a crash leaves the gate as it is; a 0 over an open one leaves the old bytes or a shut gate.
 use Rattle.std.proofs.Common.{sym, ◌∙◌, arith}
-use Rattle.checkpoint.proofs.Shut.{begun, calm_shut, now_calm, now_kept, now_read, shutting, stored_shut}
+use Rattle.checkpoint.proofs.Shut.{begun, synced_shut, now_synced, now_kept, now_read, shutting, stored_shut}
 use Rattle.disk.proofs.Calls.{after_read, after_sync}
 use Rattle.oplog.proofs.Beyond.{beyond_sync, beyond_then, beyond_write}
 use Rattle.checkpoint.proofs.formatting.shut_gate.Goals as goal
@@ -19,7 +19,7 @@ returns-else-is_open-clause-any_moment g c = λ k.
 pub returns-in_err-store-clause-any_moment : goal.returns-in_err-store-clause-any_moment
 returns-in_err-store-clause-any_moment g c = λ k.
     shutting (g.met.D.Disk.bytes c.args.disk.now)
-    (now_calm _ _ _ _ (c.in_ok-sync.ensures.syncs k).ok (c.in_ok-read_at.ensures.reads k).ok (c.read_at.auto.out))
+    (now_synced _ _ _ _ (c.in_ok-sync.ensures.syncs k).ok (c.in_ok-read_at.ensures.reads k).ok (c.read_at.auto.out))
     (now_kept _ _ _ _ (c.in_ok-sync.ensures.syncs k).ok (c.in_ok-read_at.ensures.reads k).ok (c.read_at.auto.out))
     (now_read _ _ _ _ (c.in_ok-sync.ensures.syncs k).ok (c.in_ok-read_at.ensures.reads k).ok (c.read_at.auto.out) ∙ c.is_open.ensures.open c.if-is_open.true)
     (after_read _ _ _ _ (after_sync _ _ _ _ (begun _) c.sync.result (c.sync.ensures.syncs k)) _ _ c.read_at.result (c.read_at.ensures.reads k))
@@ -28,7 +28,7 @@ returns-in_err-store-clause-any_moment g c = λ k.
 pub returns-in_ok-store-clause-any_moment : goal.returns-in_ok-store-clause-any_moment
 returns-in_ok-store-clause-any_moment g c = λ k.
     shutting (g.met.D.Disk.bytes c.args.disk.now)
-    (now_calm _ _ _ _ (c.in_ok-sync.ensures.syncs k).ok (c.in_ok-read_at.ensures.reads k).ok (c.read_at.auto.out))
+    (now_synced _ _ _ _ (c.in_ok-sync.ensures.syncs k).ok (c.in_ok-read_at.ensures.reads k).ok (c.read_at.auto.out))
     (now_kept _ _ _ _ (c.in_ok-sync.ensures.syncs k).ok (c.in_ok-read_at.ensures.reads k).ok (c.read_at.auto.out))
     (now_read _ _ _ _ (c.in_ok-sync.ensures.syncs k).ok (c.in_ok-read_at.ensures.reads k).ok (c.read_at.auto.out) ∙ c.is_open.ensures.open c.if-is_open.true)
     (after_read _ _ _ _ (after_sync _ _ _ _ (begun _) c.sync.result (c.sync.ensures.syncs k)) _ _ c.read_at.result (c.read_at.ensures.reads k))
@@ -40,8 +40,8 @@ returns-in_ok-store-clause-shut g c = λ k.
 
 pub returns-else-is_open-clause-shut : goal.returns-else-is_open-clause-shut
 returns-else-is_open-clause-shut g c = λ k.
-    calm_shut _ (g.D.Disk.medium c.read_at.new.self)
-    (now_calm (g.D.Disk.medium c.args.disk.now) (g.D.Disk.medium c.sync.new.self) (g.D.Disk.medium c.read_at.new.self) _
+    synced_shut _ (g.D.Disk.medium c.read_at.new.self)
+    (now_synced (g.D.Disk.medium c.args.disk.now) (g.D.Disk.medium c.sync.new.self) (g.D.Disk.medium c.read_at.new.self) _
     (c.in_ok-sync.ensures.syncs k).ok (c.in_ok-read_at.ensures.reads k).ok (c.read_at.auto.out))
     (c.read_at.ensures.call.1 ∙ c.sync.ensures.call.1)
     (λ is_open. c.is_open.ensures.shut c.if-is_open.false (sym (now_read (g.D.Disk.medium c.args.disk.now) (g.D.Disk.medium c.sync.new.self)

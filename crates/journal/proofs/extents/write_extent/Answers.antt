@@ -41,13 +41,13 @@ returns-clause-written g c = λ k.
     one_patched c.requires.n c.requires.size (image_long c.args.g.now c.args.area (g.D.Disk.medium c.args.disk.now) c.requires.area c.requires.long_enough) place
     (c.in_ok-write_run.ensures.written k ∙ ap (λ (m : ℕ). overlaid old c.loop-i.at (slice c.args.bytes.now c.loop-i.at m)) count)
 
-pub returns-in_err-write_run-clause-takes : goal.returns-in_err-write_run-clause-takes
-returns-in_err-write_run-clause-takes g c =
+pub returns-in_err-write_run-clause-costs : goal.returns-in_err-write_run-clause-costs
+returns-in_err-write_run-clause-costs g c =
     let p = err_from_is_err_and c.from_residual.result c.from_residual.ensures.1 in
     let some = stretch_some c.args.g.now c.args.n in
-    rw p.1 (λ k. c.in_err-write_run.ensures.takes (omega (arith, some, c.extent_size.ensures.size)) k)
+    rw p.1 (λ k. c.in_err-write_run.ensures.costs (omega (arith, some, c.extent_size.ensures.size)) k)
 
-pub returns-clause-takes : goal.returns-clause-takes
-returns-clause-takes g c =
+pub returns-clause-costs : goal.returns-clause-costs
+returns-clause-costs g c =
     let some = stretch_some c.args.g.now c.args.n in
-    λ k. c.in_ok-write_run.ensures.takes (omega (arith, some, c.extent_size.ensures.size)) k
+    λ k. c.in_ok-write_run.ensures.costs (omega (arith, some, c.extent_size.ensures.size)) k

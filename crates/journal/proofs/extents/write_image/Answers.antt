@@ -55,7 +55,7 @@ loop-n-preserved g c =
             faults = ap (λ d. (g.D.Disk.medium d).faults) w.disk-is ∙ w.in_ok-write_run.ensures.call.0 ∙ c.loop-n.invariant.faults;
             runs = λ k.
                 run_closed (c.loop-n.invariant.runs k) (omega (arith, few, c.requires.dirty)) clean (omega (arith, w.at-is, w.from-is))
-                (λ some. ap (λ d. moment (g.D.Disk.medium d)) w.disk-is ∙ w.in_ok-write_run.ensures.takes some k)
+                (λ some. ap (λ d. moment (g.D.Disk.medium d)) w.disk-is ∙ w.in_ok-write_run.ensures.costs some k)
                 (λ none. ap (λ d. moment (g.D.Disk.medium d)) (w.disk-is ∙ w.write_run.ensures.none none));
             so_far = λ k.
                 along_patch w.from-is (ap (λ d. g.D.Disk.medium d) w.disk-is)
@@ -106,37 +106,37 @@ returns-clause-written g c = λ k.
     c.loop-n.invariant.order (omega (arith, end)) (c.write_run-2.ensures.same k) (c.in_ok-write_run-2.ensures.written k)))
     ((c.in_ok-sync_image.ensures.syncs k).ok)
 
-pub returns-in_err-write_run-clause-takes : goal.returns-in_err-write_run-clause-takes
-returns-in_err-write_run-clause-takes g c =
+pub returns-in_err-write_run-clause-costs : goal.returns-in_err-write_run-clause-costs
+returns-in_err-write_run-clause-costs g c =
     let p = err_from_is_err_and c.from_residual.result c.from_residual.ensures.1 in
     rw p.1
     (λ k.
-    run_failed _ (c.loop-n.invariant.runs k) (λ some. c.in_err-write_run.ensures.takes some k)
+    run_failed _ (c.loop-n.invariant.runs k) (λ some. c.in_err-write_run.ensures.costs some k)
     (λ none. ap (λ d. moment (g.D.Disk.medium d)) (c.write_run.ensures.none none)))
 
-pub returns-in_err-write_run-2-clause-takes : goal.returns-in_err-write_run-2-clause-takes
-returns-in_err-write_run-2-clause-takes g c =
+pub returns-in_err-write_run-2-clause-costs : goal.returns-in_err-write_run-2-clause-costs
+returns-in_err-write_run-2-clause-costs g c =
     let p = err_from_is_err_and c.from_residual-in_err-write_run-2.result c.from_residual-in_err-write_run-2.ensures.1 in
     rw p.1
     (λ k.
-    run_failed _ (c.loop-n.invariant.runs k) (λ some. c.in_err-write_run-2.ensures.takes some k)
+    run_failed _ (c.loop-n.invariant.runs k) (λ some. c.in_err-write_run-2.ensures.costs some k)
     (λ none. ap (λ d. moment (g.D.Disk.medium d)) (c.write_run-2.ensures.none none)))
 
-pub returns-in_err-sync_image-clause-takes : goal.returns-in_err-sync_image-clause-takes
-returns-in_err-sync_image-clause-takes g c =
+pub returns-in_err-sync_image-clause-costs : goal.returns-in_err-sync_image-clause-costs
+returns-in_err-sync_image-clause-costs g c =
     let p = err_from_is_err_and c.from_residual-in_err-sync_image.result c.from_residual-in_err-sync_image.ensures.1 in
     rw p.1
     (λ k.
     let all : c.loop-n.n ≡ piece_count c.args.g.now = grind (arith, common_steps) in
     let ended =
-    run_ended (c.loop-n.invariant.runs k) (omega (arith, all, c.requires.dirty)) (λ some. c.in_ok-write_run-2.ensures.takes some k)
+    run_ended (c.loop-n.invariant.runs k) (omega (arith, all, c.requires.dirty)) (λ some. c.in_ok-write_run-2.ensures.costs some k)
     (λ none. ap (λ d. moment (g.D.Disk.medium d)) (c.write_run-2.ensures.none none)) in
-    omega (arith, ended, c.in_err-sync_image.ensures.takes k))
+    omega (arith, ended, c.in_err-sync_image.ensures.costs k))
 
-pub returns-clause-takes : goal.returns-clause-takes
-returns-clause-takes g c = λ k.
+pub returns-clause-costs : goal.returns-clause-costs
+returns-clause-costs g c = λ k.
     let all : c.loop-n.n ≡ piece_count c.args.g.now = grind (arith, common_steps) in
     let ended =
-    run_ended (c.loop-n.invariant.runs k) (omega (arith, all, c.requires.dirty)) (λ some. c.in_ok-write_run-2.ensures.takes some k)
+    run_ended (c.loop-n.invariant.runs k) (omega (arith, all, c.requires.dirty)) (λ some. c.in_ok-write_run-2.ensures.costs some k)
     (λ none. ap (λ d. moment (g.D.Disk.medium d)) (c.write_run-2.ensures.none none)) in
-    omega (arith, ended, c.in_ok-sync_image.ensures.takes k)
+    omega (arith, ended, c.in_ok-sync_image.ensures.costs k)

@@ -20,25 +20,26 @@ point_on-requires-clause-image g c = λ k.
     let geometry = p.halves.geometry in
     let all = subst (λ (l : List Bool). AreAllDirty geometry l) (sym c.deref.ensures.value) c.requires.loaded.all in
     let right = all_right p.tree.geometry geometry x c.deref.result.now c.deref_mut.result.now c.requires.loaded.geometry all in
-    let frozen = whole_put p.frozen.len c.freeze.new.bytes p.frozen.items (c.freeze.ensures.size ∙ ap length c.deref_mut.ensures.value) (c.freeze.ensures.size ∙ c.deref_mut.ensures.len) in
-    let spelled = c.deref-2.ensures.value ∙ frozen ∙ c.freeze.ensures.image right ∙ ap (λ (h : Geometry). image_of 2 h x) c.requires.loaded.geometry in
+    let snapshot = whole_put p.snapshot.len c.update_snapshot.new.bytes p.snapshot.items (c.update_snapshot.ensures.size ∙ ap length c.deref_mut.ensures.value)
+        (c.update_snapshot.ensures.size ∙ c.deref_mut.ensures.len) in
+    let spelled = c.deref-2.ensures.value ∙ snapshot ∙ c.update_snapshot.ensures.image right ∙ ap (λ (h : Geometry). image_of 2 h x) c.requires.loaded.geometry in
     ap (read geometry) spelled ∙ read_again geometry x (subst (λ (h : Geometry). IsState h x) c.requires.loaded.geometry c.requires.loaded.tree.state)
-    ∙ sym (c.requires.holds k)
+    ∙ sym (c.requires.recovers k)
 
 pub point_on-requires-clause-clean : goal.point_on-requires-clause-clean
 point_on-requires-clause-clean g c = λ k n few clean.
     let all = subst (λ (l : List Bool). AreAllDirty c.args.parts.now.halves.geometry l) (sym c.deref-3.ensures.value) c.requires.loaded.all in
     absurd (true≢false (sym (all n few) ∙ clean))
 
-pub returns-in_err-point_on-clause-takes : goal.returns-in_err-point_on-clause-takes
-returns-in_err-point_on-clause-takes g c =
+pub returns-in_err-point_on-clause-costs : goal.returns-in_err-point_on-clause-costs
+returns-in_err-point_on-clause-costs g c =
     let p = err_from_is_err_and c.from_residual.result c.from_residual.ensures.1 in
     rw p.1
     (λ k.
     let one = ap count_runs c.deref-3.ensures.value ∙ one_run c.args.parts.now.halves.geometry c.args.parts.now.other_dirty.items c.requires.loaded.other_dirty c.requires.loaded.all in
-    omega (arith, one, c.in_err-point_on.ensures.takes k))
+    omega (arith, one, c.in_err-point_on.ensures.costs k))
 
-pub returns-clause-takes : goal.returns-clause-takes
-returns-clause-takes g c = λ k.
+pub returns-clause-costs : goal.returns-clause-costs
+returns-clause-costs g c = λ k.
     let one = ap count_runs c.deref-3.ensures.value ∙ one_run c.args.parts.now.halves.geometry c.args.parts.now.other_dirty.items c.requires.loaded.other_dirty c.requires.loaded.all in
-    omega (arith, one, c.in_ok-point_on.ensures.takes k)
+    omega (arith, one, c.in_ok-point_on.ensures.costs k)

@@ -3,7 +3,7 @@ use Rattle.std.proofs.Common.{Bool, true, false, refl, sym, ◌∙◌, ap, subst
 use Rattle.std.proofs.lemmas.Result.{err_from_is_err_and}
 use Rattle.affinity.specs.declared.geometry.Geometry.{Geometry}
 use Rattle.checkpoint.specs.Loading.{NamedHolds}
-use Rattle.checkpoint.specs.Recovery.{holds}
+use Rattle.checkpoint.specs.Recovery.{recovered_state}
 use Rattle.checkpoint.specs.Refusals.{refused}
 use Rattle.checkpoint.proofs.Replays.{same_bytes}
 use Rattle.disk.specs.Moments.{CrashImagesAre}
@@ -20,10 +20,10 @@ use Rattle.parcel.specs.Tree.{state_in}
 use Rattle.journal.proofs.opening.load_in_order.Goals as goal
 
 pub returns-in_err-named-clause-any_moment : goal.returns-in_err-named-clause-any_moment
-returns-in_err-named-clause-any_moment g c = λ k. still_read c.args.parts.now.tree.geometry _ _ (c.requires.calm k) (c.load_named.ensures.untouched k)
+returns-in_err-named-clause-any_moment g c = λ k. still_read c.args.parts.now.tree.geometry _ _ (c.requires.synced k) (c.load_named.ensures.untouched k)
 
 pub returns-in_err-named-clause-alike : goal.returns-in_err-named-clause-alike
-returns-in_err-named-clause-alike g c = λ k. alike_read c.args.parts.now.tree.geometry _ _ (c.requires.header k) (c.requires.calm k) (c.load_named.ensures.untouched k)
+returns-in_err-named-clause-alike g c = λ k. alike_read c.args.parts.now.tree.geometry _ _ (c.requires.header k) (c.requires.synced k) (c.load_named.ensures.untouched k)
 
 pub returns-in_err-named-clause-unwritten : goal.returns-in_err-named-clause-unwritten
 returns-in_err-named-clause-unwritten g c =
@@ -31,10 +31,10 @@ returns-in_err-named-clause-unwritten g c =
     rw (p.1, p.2) (λ k. all_unwritten _ _ _ (unread _ _ (c.load_named.ensures.untouched k)) (λ h. c.in_err-named.ensures.half k))
 
 pub returns-then-not-named-clause-any_moment : goal.returns-then-not-named-clause-any_moment
-returns-then-not-named-clause-any_moment g c = λ k. still_read c.args.parts.now.tree.geometry _ _ (c.requires.calm k) (c.load_named.ensures.untouched k)
+returns-then-not-named-clause-any_moment g c = λ k. still_read c.args.parts.now.tree.geometry _ _ (c.requires.synced k) (c.load_named.ensures.untouched k)
 
 pub returns-then-not-named-clause-alike : goal.returns-then-not-named-clause-alike
-returns-then-not-named-clause-alike g c = λ k. alike_read c.args.parts.now.tree.geometry _ _ (c.requires.header k) (c.requires.calm k) (c.load_named.ensures.untouched k)
+returns-then-not-named-clause-alike g c = λ k. alike_read c.args.parts.now.tree.geometry _ _ (c.requires.header k) (c.requires.synced k) (c.load_named.ensures.untouched k)
 
 pub returns-then-not-named-clause-alone : goal.returns-then-not-named-clause-alone
 returns-then-not-named-clause-alone g c = λ k.
@@ -44,7 +44,7 @@ returns-then-not-named-clause-alone g c = λ k.
     alone_recovers c.load_named.new.log w1 (state_in c.load_named.new.tree)
     (held_after w0 w1 c.in_ok-named.ensures.log (not_on c.in_ok-named.named.chained c.if-not-named.true) only
     (c.in_ok-named.ensures.loaded k))
-    (still_synced w0 w1 only (c.requires.calm k))
+    (still_synced w0 w1 only (c.requires.synced k))
 
 pub returns-then-not-named-clause-was : goal.returns-then-not-named-clause-was
 returns-then-not-named-clause-was g c = λ k.
@@ -62,8 +62,8 @@ returns-then-not-named-clause-sound g c = λ k.
     alone_fine geometry now c.in_ok-named.named.area x (subst (λ (t : Bool). NamedHolds geometry now c.in_ok-named.named.area t x)
     (not_on c.in_ok-named.named.chained c.if-not-named.true) (c.in_ok-named.ensures.loaded k))
 
-pub replay_behind-requires-clause-holds : goal.replay_behind-requires-clause-holds
-replay_behind-requires-clause-holds g c = λ k.
+pub replay_behind-requires-clause-recovers : goal.replay_behind-requires-clause-recovers
+replay_behind-requires-clause-recovers g c = λ k.
     held_after (g.D.Disk.medium c.args.disk.now) (g.D.Disk.medium c.load_named.new.disk) c.in_ok-named.ensures.log
     (not_off c.in_ok-named.named.chained c.if-not-named.false) (c.load_named.ensures.untouched k) (c.in_ok-named.ensures.loaded k)
 
@@ -72,7 +72,7 @@ returns-in_err-replay_behind-clause-any_moment g c = λ k.
     let w1 = g.D.Disk.medium c.load_named.new.disk in
     let w2 = g.D.Disk.medium c.replay_behind.new.disk in
     let log = ap (λ (l : Log). l.geometry) c.in_ok-named.ensures.log in
-    still_after c.args.parts.now.tree.geometry (g.D.Disk.medium c.args.disk.now) w1 w2 (c.requires.calm k) (c.load_named.ensures.untouched k)
+    still_after c.args.parts.now.tree.geometry (g.D.Disk.medium c.args.disk.now) w1 w2 (c.requires.synced k) (c.load_named.ensures.untouched k)
     (subst (λ (h : Geometry). RecoversStill h w1 w2) log (c.replay_behind.ensures.any_moment k))
 
 pub returns-in_err-replay_behind-clause-alike : goal.returns-in_err-replay_behind-clause-alike
@@ -80,7 +80,7 @@ returns-in_err-replay_behind-clause-alike g c = λ k.
     let w1 = g.D.Disk.medium c.load_named.new.disk in
     let w2 = g.D.Disk.medium c.replay_behind.new.disk in
     let log = ap (λ (l : Log). l.geometry) c.in_ok-named.ensures.log in
-    alike_after c.args.parts.now.tree.geometry (g.D.Disk.medium c.args.disk.now) w1 w2 (c.requires.header k) (c.requires.calm k) (c.load_named.ensures.untouched k)
+    alike_after c.args.parts.now.tree.geometry (g.D.Disk.medium c.args.disk.now) w1 w2 (c.requires.header k) (c.requires.synced k) (c.load_named.ensures.untouched k)
     (subst (λ (h : Geometry). CrashImagesAre w1 w2 (IsRefusedAlike h w1.now)) log (c.replay_behind.ensures.alike k))
 
 pub returns-in_err-replay_behind-clause-unwritten : goal.returns-in_err-replay_behind-clause-unwritten
@@ -100,7 +100,7 @@ returns-clause-any_moment g c = λ k.
     let w1 = g.D.Disk.medium c.load_named.new.disk in
     let w2 = g.D.Disk.medium c.replay_behind.new.disk in
     let log = ap (λ (l : Log). l.geometry) c.in_ok-named.ensures.log in
-    still_after c.args.parts.now.tree.geometry (g.D.Disk.medium c.args.disk.now) w1 w2 (c.requires.calm k) (c.load_named.ensures.untouched k)
+    still_after c.args.parts.now.tree.geometry (g.D.Disk.medium c.args.disk.now) w1 w2 (c.requires.synced k) (c.load_named.ensures.untouched k)
     (subst (λ (h : Geometry). RecoversStill h w1 w2) log (c.replay_behind.ensures.any_moment k))
 
 pub returns-clause-alike : goal.returns-clause-alike
@@ -108,14 +108,14 @@ returns-clause-alike g c = λ k.
     let w1 = g.D.Disk.medium c.load_named.new.disk in
     let w2 = g.D.Disk.medium c.replay_behind.new.disk in
     let log = ap (λ (l : Log). l.geometry) c.in_ok-named.ensures.log in
-    alike_after c.args.parts.now.tree.geometry (g.D.Disk.medium c.args.disk.now) w1 w2 (c.requires.header k) (c.requires.calm k) (c.load_named.ensures.untouched k)
+    alike_after c.args.parts.now.tree.geometry (g.D.Disk.medium c.args.disk.now) w1 w2 (c.requires.header k) (c.requires.synced k) (c.load_named.ensures.untouched k)
     (subst (λ (h : Geometry). CrashImagesAre w1 w2 (IsRefusedAlike h w1.now)) log (c.replay_behind.ensures.alike k))
 
 pub returns-clause-was : goal.returns-clause-was
 returns-clause-was g c = λ k.
     let same = same_bytes (g.D.Disk.medium c.args.disk.now) (g.D.Disk.medium c.load_named.new.disk) (c.load_named.ensures.untouched k) in
     let log = ap (λ (l : Log). l.geometry) c.in_ok-named.ensures.log in
-    sym (λ i. holds (log i) (same i)) ∙ c.in_ok-replay_behind.ensures.was k
+    sym (λ i. recovered_state (log i) (same i)) ∙ c.in_ok-replay_behind.ensures.was k
 
 pub returns-clause-sound : goal.returns-clause-sound
 returns-clause-sound g c = λ k.
@@ -127,30 +127,30 @@ pub replay_behind-requires-clause-loaded : goal.replay_behind-requires-clause-lo
 replay_behind-requires-clause-loaded g c =
     let taken = c.requires.taken in
     are_loaded {p = c.args.parts.now} c.in_ok-named.ensures.log refl refl c.in_ok-named.ensures.whole c.in_ok-named.ensures.geometry
-    (record { frozen = refl; named_dirty = refl; other_dirty = refl; due = refl })
-    (record { frozen = taken.frozen; named_dirty = taken.named_dirty; other_dirty = taken.other_dirty; all = taken.all })
+    (record { snapshot = refl; named_dirty = refl; other_dirty = refl; due = refl })
+    (record { snapshot = taken.snapshot; named_dirty = taken.named_dirty; other_dirty = taken.other_dirty; all = taken.all })
     (omega (arith, c.requires.long_enough, c.load_named.ensures.call.1))
 
 pub returns-then-not-named-clause-loaded : goal.returns-then-not-named-clause-loaded
 returns-then-not-named-clause-loaded g c =
     let taken = c.requires.taken in
     are_loaded {p = c.args.parts.now} c.in_ok-named.ensures.log refl refl c.in_ok-named.ensures.whole c.in_ok-named.ensures.geometry
-    (record { frozen = refl; named_dirty = refl; other_dirty = refl; due = refl })
-    (record { frozen = taken.frozen; named_dirty = taken.named_dirty; other_dirty = taken.other_dirty; all = taken.all })
+    (record { snapshot = refl; named_dirty = refl; other_dirty = refl; due = refl })
+    (record { snapshot = taken.snapshot; named_dirty = taken.named_dirty; other_dirty = taken.other_dirty; all = taken.all })
     (omega (arith, c.requires.long_enough, c.load_named.ensures.call.1))
 
 pub returns-then-not-named-clause-room : goal.returns-then-not-named-clause-room
-returns-then-not-named-clause-room g c = record { frozen = refl; named_dirty = refl; other_dirty = refl; due = refl }
+returns-then-not-named-clause-room g c = record { snapshot = refl; named_dirty = refl; other_dirty = refl; due = refl }
 
 pub returns-clause-room : goal.returns-clause-room
 returns-clause-room g c =
     let room = c.in_ok-replay_behind.ensures.room in
-    record { frozen = room.frozen; named_dirty = room.named_dirty; other_dirty = room.other_dirty; due = room.due }
+    record { snapshot = room.snapshot; named_dirty = room.named_dirty; other_dirty = room.other_dirty; due = room.due }
 
 pub returns-in_err-named-clause-synced : goal.returns-in_err-named-clause-synced
 returns-in_err-named-clause-synced g c =
     let p = err_from_is_err_and c.from_residual.result c.from_residual.ensures.1 in
-    rw p.1 (λ not_device k. still_synced (g.D.Disk.medium c.args.disk.now) (g.D.Disk.medium c.load_named.new.disk) (c.load_named.ensures.untouched k) (c.requires.calm k))
+    rw p.1 (λ not_device k. still_synced (g.D.Disk.medium c.args.disk.now) (g.D.Disk.medium c.load_named.new.disk) (c.load_named.ensures.untouched k) (c.requires.synced k))
 
 pub returns-in_err-replay_behind-clause-synced : goal.returns-in_err-replay_behind-clause-synced
 returns-in_err-replay_behind-clause-synced g c =
@@ -189,34 +189,34 @@ returns-clause-beyond g c = λ k.
     beyond_then (layout_of t) w0 w1 w2 (beyond_read (layout_of t) w0 w1 (c.load_named.ensures.untouched k))
     (subst (λ (h : Geometry). KeepsBeyond (layout_of h) w1 w2) log (c.replay_behind.ensures.beyond k))
 
-pub returns-in_err-named-clause-takes : goal.returns-in_err-named-clause-takes
-returns-in_err-named-clause-takes g c =
+pub returns-in_err-named-clause-costs : goal.returns-in_err-named-clause-costs
+returns-in_err-named-clause-costs g c =
     let p = err_from_is_err_and c.from_residual.result c.from_residual.ensures.1 in
     rw p.1
     (λ k.
     let read = no_call (g.D.Disk.medium c.args.disk.now) (g.D.Disk.medium c.load_named.new.disk) (c.load_named.ensures.untouched k) in
     omega (arith, read))
 
-pub returns-then-not-named-clause-takes : goal.returns-then-not-named-clause-takes
-returns-then-not-named-clause-takes g c = λ k.
+pub returns-then-not-named-clause-costs : goal.returns-then-not-named-clause-costs
+returns-then-not-named-clause-costs g c = λ k.
     let read = no_call (g.D.Disk.medium c.args.disk.now) (g.D.Disk.medium c.load_named.new.disk) (c.load_named.ensures.untouched k) in
     let none = finish_is c.args.parts.now.tree.geometry (g.D.Disk.medium c.args.disk.now).now c.in_ok-named.named.area c.in_ok-named.named.chained
     false (state_in c.load_named.new.tree) (not_on c.in_ok-named.named.chained c.if-not-named.true) (c.in_ok-named.ensures.loaded k) in
     omega (arith, read, none)
 
-pub returns-in_err-replay_behind-clause-takes : goal.returns-in_err-replay_behind-clause-takes
-returns-in_err-replay_behind-clause-takes g c =
+pub returns-in_err-replay_behind-clause-costs : goal.returns-in_err-replay_behind-clause-costs
+returns-in_err-replay_behind-clause-costs g c =
     let p = err_from_is_err_and c.from_residual-in_err-replay_behind.result c.from_residual-in_err-replay_behind.ensures.1 in
     rw p.1
     (λ k.
     let read = no_call (g.D.Disk.medium c.args.disk.now) (g.D.Disk.medium c.load_named.new.disk) (c.load_named.ensures.untouched k) in
     let four = finish_is c.args.parts.now.tree.geometry (g.D.Disk.medium c.args.disk.now).now c.in_ok-named.named.area c.in_ok-named.named.chained
     true (state_in c.load_named.new.tree) (not_off c.in_ok-named.named.chained c.if-not-named.false) (c.in_ok-named.ensures.loaded k) in
-    omega (arith, read, four, c.in_err-replay_behind.ensures.takes k))
+    omega (arith, read, four, c.in_err-replay_behind.ensures.costs k))
 
-pub returns-clause-takes : goal.returns-clause-takes
-returns-clause-takes g c = λ k.
+pub returns-clause-costs : goal.returns-clause-costs
+returns-clause-costs g c = λ k.
     let read = no_call (g.D.Disk.medium c.args.disk.now) (g.D.Disk.medium c.load_named.new.disk) (c.load_named.ensures.untouched k) in
     let four = finish_is c.args.parts.now.tree.geometry (g.D.Disk.medium c.args.disk.now).now c.in_ok-named.named.area c.in_ok-named.named.chained
     true (state_in c.load_named.new.tree) (not_off c.in_ok-named.named.chained c.if-not-named.false) (c.in_ok-named.ensures.loaded k) in
-    omega (arith, read, four, c.in_ok-replay_behind.ensures.takes k)
+    omega (arith, read, four, c.in_ok-replay_behind.ensures.costs k)

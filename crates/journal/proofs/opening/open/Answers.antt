@@ -1,7 +1,7 @@
 -- The parts that were opened make a sound journal, of the state to which the device recovers.
 use Rattle.std.proofs.Common.{◌+◌, sym, ◌∙◌, ap}
 use Rattle.disk.specs.Moments.{moment}
-use Rattle.journal.specs.Costs.{opening_takes}
+use Rattle.journal.specs.Costs.{opening_cost}
 use Rattle.journal.specs.Journal.{JournalView}
 use Rattle.journal.proofs.Loaded.{opened}
 use Rattle.journal.proofs.opening.open.Goals as goal
@@ -14,8 +14,8 @@ returns-in-Ok-clause-opened g c = λ k.
     opened c.in-Ok.parts (g.D.Disk.medium c.args.d) (g.D.Disk.medium c.open_on.new.disk) c.new-journal.result c.in-Ok.ensures.made
     (c.in-Ok.ensures.made_of k) c.in-Ok.ensures.whole c.new-journal.ensures
 
-pub returns-in-Ok-clause-takes : goal.returns-in-Ok-clause-takes
-returns-in-Ok-clause-takes g c = λ k.
+pub returns-in-Ok-clause-costs : goal.returns-in-Ok-clause-costs
+returns-in-Ok-clause-costs g c = λ k.
     let m = g.D.Disk.medium c.args.d in
-    ap (λ (j : JournalView). moment j.medium) c.new-journal.ensures ∙ c.in-Ok.ensures.takes k
-    ∙ sym (ap (λ (j : JournalView). moment m + opening_takes j.geometry m.now) c.new-journal.ensures)
+    ap (λ (j : JournalView). moment j.medium) c.new-journal.ensures ∙ c.in-Ok.ensures.costs k
+    ∙ sym (ap (λ (j : JournalView). moment m + opening_cost j.geometry m.now) c.new-journal.ensures)

@@ -16,7 +16,7 @@ returns-in_err-first_sync-clause-any_moment g c = λ k. never_synced _ _ (c.firs
 pub returns-clause-any_moment : goal.returns-clause-any_moment
 returns-clause-any_moment g c = λ k.
     synced_then (g.D.Disk.medium c.args.disk.now) (g.D.Disk.medium c.first_sync.new.disk) (g.D.Disk.medium c.open_committed.new.disk)
-    (c.in_ok-first_sync.ensures.calm k) (c.first_sync.ensures.now k) (c.first_sync.ensures.any_moment k) (c.open_committed.ensures.any_moment k)
+    (c.in_ok-first_sync.ensures.synced k) (c.first_sync.ensures.now k) (c.first_sync.ensures.any_moment k) (c.open_committed.ensures.any_moment k)
 
 pub returns-clause-made_of : goal.returns-clause-made_of
 returns-clause-made_of g c =
@@ -31,7 +31,7 @@ returns-clause-unwritten g c =
     let w2 = g.D.Disk.medium c.open_committed.new.disk in
     if_err c.open_committed.result _ _
     (λ e is k.
-    unwritten_from e w0 w1 w2 (c.first_sync.ensures.now k) (unwritten_then w0 w1 w2 (g.met.D.Disk.bytes c.args.disk.now) (c.in_ok-first_sync.ensures.calm k)
+    unwritten_from e w0 w1 w2 (c.first_sync.ensures.now k) (unwritten_then w0 w1 w2 (g.met.D.Disk.bytes c.args.disk.now) (c.in_ok-first_sync.ensures.synced k)
     (c.first_sync.ensures.now k) (c.first_sync.ensures.any_moment k)) (is k))
     c.open_committed.ensures.unwritten
 
@@ -51,12 +51,12 @@ returns-clause-beyond g c = λ k h head.
     beyond_then (layout_of h) w0 w1 w2 (c.first_sync.ensures.beyond k (layout_of h))
     (c.open_committed.ensures.beyond k h (subst (λ (l : List ℕ). HasHeader h l) (sym (c.first_sync.ensures.now k)) head))
 
-pub returns-in_err-first_sync-clause-takes : goal.returns-in_err-first_sync-clause-takes
-returns-in_err-first_sync-clause-takes g c =
+pub returns-in_err-first_sync-clause-costs : goal.returns-in_err-first_sync-clause-costs
+returns-in_err-first_sync-clause-costs g c =
     let p = err_from_is_err_and c.from_residual.result c.from_residual.ensures.1 in
-    rw p.1 (λ k. omega (arith, c.in_err-first_sync.ensures.takes k))
+    rw p.1 (λ k. omega (arith, c.in_err-first_sync.ensures.costs k))
 
-pub returns-clause-takes : goal.returns-clause-takes
-returns-clause-takes g c = λ k.
+pub returns-clause-costs : goal.returns-clause-costs
+returns-clause-costs g c = λ k.
     opening_after c.open_committed.result (g.D.Disk.medium c.args.disk.now) (g.D.Disk.medium c.first_sync.new.disk)
-    (g.D.Disk.medium c.open_committed.new.disk) (c.first_sync.ensures.now k) (c.in_ok-first_sync.ensures.takes k) (c.open_committed.ensures.takes k)
+    (g.D.Disk.medium c.open_committed.new.disk) (c.first_sync.ensures.now k) (c.in_ok-first_sync.ensures.costs k) (c.open_committed.ensures.costs k)

@@ -50,7 +50,7 @@ returns-clause-begun g c = λ k.
       at = record {
         recovers = begun_recovers geometry named _ is_area w0 w1 w2 recovers clears cleared chains are c.requires.long_enough chained;
         ready = begun_ready geometry named _ is_area w0 w1 w2 recovers clears cleared chains are c.requires.long_enough chained;
-        calm = chained.calm;
+        synced = chained.synced;
       };
       none = begun_none geometry named _ is_area w0 w1 w2 recovers clears cleared chains are c.requires.long_enough chained;
       forced = begun_forced geometry named _ is_area w0 w1 w2 recovers clears cleared chains are c.requires.long_enough chained
@@ -86,7 +86,7 @@ returns-clause-beyond g c = λ k.
     let chains = subst (λ (log : Log). Chains log w1 w2) c.in_ok-clear_other.ensures.log (c.open_chain.ensures.any_moment k) in
     beyond_then l w0 w1 w2 cleared (beyond l w1 w2 (IsSameButChain l c.args.halves.now.named) (λ o d h. h.same.rest) chains)
 
-pub returns-in_err-clear_other-clause-takes : goal.returns-in_err-clear_other-clause-takes
-returns-in_err-clear_other-clause-takes g c =
+pub returns-in_err-clear_other-clause-costs : goal.returns-in_err-clear_other-clause-costs
+returns-in_err-clear_other-clause-costs g c =
     let p = err_from_is_err_and c.from_residual.result c.from_residual.ensures.1 in
-    rw p.1 (λ k. omega (arith, c.in_err-clear_other.ensures.takes k))
+    rw p.1 (λ k. omega (arith, c.in_err-clear_other.ensures.costs k))

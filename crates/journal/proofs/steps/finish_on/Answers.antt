@@ -60,7 +60,7 @@ pub returns-then-is_err-clause-alike : goal.returns-then-is_err-clause-alike
 returns-then-is_err-clause-alike g c = λ k x reads held.
     let writes = along (λ (h : Geometry) (n : ℕ). ChangesOnly (g.D.Disk.medium c.args.disk.now) (g.D.Disk.medium c.write_image.new.disk)
     (IsSameBut (layout_of h) (image (other n)))) c.geometry-g.ensures c.named-second.ensures.named (c.write_image.ensures.any_moment k) in
-    image_alike c.args.halves.now.geometry c.args.halves.now.named (omega (arith, c.named-second.ensures.named, c.named-second.ensures.half)) x _ _ (c.requires.unfinished k).calm held writes
+    image_alike c.args.halves.now.geometry c.args.halves.now.named (omega (arith, c.named-second.ensures.named, c.named-second.ensures.half)) x _ _ (c.requires.unfinished k).synced held writes
 
 pub returns-in_err-flip_root-clause-alike : goal.returns-in_err-flip_root-clause-alike
 returns-in_err-flip_root-clause-alike g c = λ k x reads held.
@@ -69,7 +69,7 @@ returns-in_err-flip_root-clause-alike g c = λ k x reads held.
     let imaged = along (λ (h : Geometry) (n : ℕ). Imaged h (other n) c.args.bytes.now (g.D.Disk.medium c.args.disk.now)
     (g.D.Disk.medium c.write_image.new.disk)) c.geometry-g.ensures c.named-second.ensures.named
     (on_ok c.write_image.result _ (sym c.is_err.ensures.value ∙ c.if-is_err.false) c.write_image.ensures.written k) in
-    finish_alike c.args.halves.now.geometry c.args.halves.now.named (omega (arith, c.named-second.ensures.named, c.named-second.ensures.half)) x _ _ (c.requires.unfinished k).calm held
+    finish_alike c.args.halves.now.geometry c.args.halves.now.named (omega (arith, c.named-second.ensures.named, c.named-second.ensures.half)) x _ _ (c.requires.unfinished k).synced held
     (g.met.D.Disk.bytes c.write_image.new.disk) c.args.bytes.now reads imaged _ writes (c.flip_root.ensures.any_moment k)
 
 pub returns-clause-alike : goal.returns-clause-alike
@@ -79,7 +79,7 @@ returns-clause-alike g c = λ k x reads held.
     let imaged = along (λ (h : Geometry) (n : ℕ). Imaged h (other n) c.args.bytes.now (g.D.Disk.medium c.args.disk.now)
     (g.D.Disk.medium c.write_image.new.disk)) c.geometry-g.ensures c.named-second.ensures.named
     (on_ok c.write_image.result _ (sym c.is_err.ensures.value ∙ c.if-is_err.false) c.write_image.ensures.written k) in
-    finish_alike c.args.halves.now.geometry c.args.halves.now.named (omega (arith, c.named-second.ensures.named, c.named-second.ensures.half)) x _ _ (c.requires.unfinished k).calm held
+    finish_alike c.args.halves.now.geometry c.args.halves.now.named (omega (arith, c.named-second.ensures.named, c.named-second.ensures.half)) x _ _ (c.requires.unfinished k).synced held
     (g.met.D.Disk.bytes c.write_image.new.disk) c.args.bytes.now reads imaged _ writes (c.flip_root.ensures.any_moment k)
 
 pub returns-then-is_err-clause-beyond : goal.returns-then-is_err-clause-beyond
@@ -114,23 +114,23 @@ returns-clause-beyond g c = λ k.
     let w2 = g.D.Disk.medium c.flip_root.new.disk in
     beyond_then l w0 w1 w2 imaged (beyond l w1 w2 (IsSameButRoot l) (λ o d h. h.same.rest) (c.flip_root.ensures.any_moment k))
 
-pub returns-then-is_err-clause-takes : goal.returns-then-is_err-clause-takes
-returns-then-is_err-clause-takes g c = λ k.
+pub returns-then-is_err-clause-costs : goal.returns-then-is_err-clause-costs
+returns-then-is_err-clause-costs g c = λ k.
     let one = one_run c.args.halves.now.geometry c.args.dirty.now c.requires.dirty c.requires.all in
-    let wrote = takes_most c.write_image.result _ _ _ (c.write_image.ensures.takes k) in
+    let wrote = takes_most c.write_image.result _ _ _ (c.write_image.ensures.costs k) in
     omega (arith, one, wrote)
 
-pub returns-in_err-flip_root-clause-takes : goal.returns-in_err-flip_root-clause-takes
-returns-in_err-flip_root-clause-takes g c =
+pub returns-in_err-flip_root-clause-costs : goal.returns-in_err-flip_root-clause-costs
+returns-in_err-flip_root-clause-costs g c =
     let p = err_from_is_err_and c.from_residual.result c.from_residual.ensures.1 in
     rw p.1
     (λ k.
     let one = one_run c.args.halves.now.geometry c.args.dirty.now c.requires.dirty c.requires.all in
-    let wrote = takes_all c.write_image.result _ _ _ (sym c.is_err.ensures.value ∙ c.if-is_err.false) (c.write_image.ensures.takes k) in
-    omega (arith, one, wrote, c.in_err-flip_root.ensures.takes k))
+    let wrote = takes_all c.write_image.result _ _ _ (sym c.is_err.ensures.value ∙ c.if-is_err.false) (c.write_image.ensures.costs k) in
+    omega (arith, one, wrote, c.in_err-flip_root.ensures.costs k))
 
-pub returns-clause-takes : goal.returns-clause-takes
-returns-clause-takes g c = λ k.
+pub returns-clause-costs : goal.returns-clause-costs
+returns-clause-costs g c = λ k.
     let one = one_run c.args.halves.now.geometry c.args.dirty.now c.requires.dirty c.requires.all in
-    let wrote = takes_all c.write_image.result _ _ _ (sym c.is_err.ensures.value ∙ c.if-is_err.false) (c.write_image.ensures.takes k) in
-    omega (arith, one, wrote, c.in_ok-flip_root.ensures.takes k)
+    let wrote = takes_all c.write_image.result _ _ _ (sym c.is_err.ensures.value ∙ c.if-is_err.false) (c.write_image.ensures.costs k) in
+    omega (arith, one, wrote, c.in_ok-flip_root.ensures.costs k)

@@ -1,6 +1,6 @@
 -- The synced image and the records behind it recover to the same as the named area, so a torn root byte does no harm.
 use Rattle.std.proofs.Common.{◌≡◌, sym, ◌∙◌, subst}
-use Rattle.checkpoint.specs.Recovery.{holds}
+use Rattle.checkpoint.specs.Recovery.{recovered_state}
 use Rattle.disk.specs.Device.{Medium}
 use Rattle.disk.specs.Moments.{CrashImagesAre}
 use Rattle.journal.proofs.Cutting.{name_moments, named_alone, named_before, named_below, named_images, named_ready, named_recovers, sync_moments}
@@ -25,7 +25,7 @@ returns-in_err-flip_root-clause-any_moment g c = λ k.
     let syncs = on_ok c.sync_image.result _ (sym c.is_err.ensures.value ∙ c.if-is_err.false) (c.sync_image.ensures.syncs k).ok in
     let is_area = named_below geometry named _ _ w0 (g.met.D.Disk.bytes c.args.disk.now) written.by.recovers in
     let flips = subst (λ (m : Medium). Flips c.args.halves.now m w2) syncs (c.flip_root.ensures.any_moment k) in
-    let so_far = subst (λ (m : Medium). CrashImagesAre w0 m (λ c'. holds geometry c' ≡ holds geometry w0.now)) syncs
+    let so_far = subst (λ (m : Medium). CrashImagesAre w0 m (λ c'. recovered_state geometry c' ≡ recovered_state geometry w0.now)) syncs
     (sync_moments geometry named c.args.halves.now.used _ c.args.bytes.now w0 written.by.recovers (g.D.Disk.medium c.sync_image.new.disk)
     c.sync_image.result (c.sync_image.ensures.syncs k)) in
     name_moments geometry named c.args.halves.now.used _ c.args.bytes.now w0 written.by.recovers is_area written.by.some written.is written.behind w2 (g.met.D.Disk.bytes c.args.disk.now) so_far flips
@@ -40,7 +40,7 @@ returns-clause-any_moment g c = λ k.
     let syncs = on_ok c.sync_image.result _ (sym c.is_err.ensures.value ∙ c.if-is_err.false) (c.sync_image.ensures.syncs k).ok in
     let is_area = named_below geometry named _ _ w0 (g.met.D.Disk.bytes c.args.disk.now) written.by.recovers in
     let flips = subst (λ (m : Medium). Flips c.args.halves.now m w2) syncs (c.flip_root.ensures.any_moment k) in
-    let so_far = subst (λ (m : Medium). CrashImagesAre w0 m (λ c'. holds geometry c' ≡ holds geometry w0.now)) syncs
+    let so_far = subst (λ (m : Medium). CrashImagesAre w0 m (λ c'. recovered_state geometry c' ≡ recovered_state geometry w0.now)) syncs
     (sync_moments geometry named c.args.halves.now.used _ c.args.bytes.now w0 written.by.recovers (g.D.Disk.medium c.sync_image.new.disk)
     c.sync_image.result (c.sync_image.ensures.syncs k)) in
     name_moments geometry named c.args.halves.now.used _ c.args.bytes.now w0 written.by.recovers is_area written.by.some written.is written.behind w2 (g.met.D.Disk.bytes c.args.disk.now) so_far flips
@@ -61,7 +61,7 @@ returns-clause-flipped g c = λ k.
         recovers = named_recovers geometry named c.args.halves.now.used _ c.args.bytes.now w0 written.by.recovers is_area written.by.some written.is written.behind w2 are flipped;
         ready = named_ready geometry named c.args.halves.now.used _ c.args.bytes.now w0 written.by.recovers is_area written.by.some written.is
             written.behind w2 are flipped c.requires.long_enough written.ready;
-        calm = flipped.calm;
+        synced = flipped.synced;
       };
       before = named_before geometry named c.args.halves.now.used _ c.args.bytes.now w0 written.by.recovers is_area written.by.some written.is written.behind w2 are flipped;
       alone = named_alone geometry named c.args.halves.now.used _ c.args.bytes.now w0 written.by.recovers is_area written.by.some written.is written.behind w2 are flipped;

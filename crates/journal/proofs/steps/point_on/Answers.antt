@@ -81,7 +81,7 @@ returns-clause-pointed g c = λ k.
       at = record {
         recovers = now_recovers geometry named _ is_area w0 w1 recovers clears w2 writes some c.args.bytes.now (c.requires.image k) cleared imaged w3 are c.requires.long_enough flipped;
         ready = now_ready geometry named _ is_area w0 w1 recovers clears w2 writes some c.args.bytes.now (c.requires.image k) cleared imaged w3 are c.requires.long_enough flipped;
-        calm = flipped.calm;
+        synced = flipped.synced;
       };
       emptied = now_emptied geometry named _ is_area w0 w1 recovers clears w2 writes some c.args.bytes.now (c.requires.image k) cleared imaged w3 are c.requires.long_enough flipped;
       is = now_is geometry named _ is_area w0 w1 recovers clears w2 writes some c.args.bytes.now (c.requires.image k) cleared imaged w3 are c.requires.long_enough flipped;
@@ -133,25 +133,25 @@ returns-clause-beyond g c = λ k.
     let flips = subst (λ (log : Log). Flips log w2 w3) c.in_ok-clear_other.ensures.log (c.flip_root.ensures.any_moment k) in
     beyond_then l w0 w2 w3 imaged (beyond l w2 w3 (IsSameButRoot l) (λ o d h. h.same.rest) flips)
 
-pub returns-in_err-clear_other-clause-takes : goal.returns-in_err-clear_other-clause-takes
-returns-in_err-clear_other-clause-takes g c =
+pub returns-in_err-clear_other-clause-costs : goal.returns-in_err-clear_other-clause-costs
+returns-in_err-clear_other-clause-costs g c =
     let p = err_from_is_err_and c.from_residual.result c.from_residual.ensures.1 in
-    rw p.1 (λ k. omega (arith, c.in_err-clear_other.ensures.takes k))
+    rw p.1 (λ k. omega (arith, c.in_err-clear_other.ensures.costs k))
 
-pub returns-then-is_err-clause-takes : goal.returns-then-is_err-clause-takes
-returns-then-is_err-clause-takes g c = λ k.
-    let wrote = takes_most c.write_image.result _ _ _ (c.write_image.ensures.takes k) in
-    omega (arith, wrote, c.in_ok-clear_other.ensures.takes k)
+pub returns-then-is_err-clause-costs : goal.returns-then-is_err-clause-costs
+returns-then-is_err-clause-costs g c = λ k.
+    let wrote = takes_most c.write_image.result _ _ _ (c.write_image.ensures.costs k) in
+    omega (arith, wrote, c.in_ok-clear_other.ensures.costs k)
 
-pub returns-in_err-flip_root-clause-takes : goal.returns-in_err-flip_root-clause-takes
-returns-in_err-flip_root-clause-takes g c =
+pub returns-in_err-flip_root-clause-costs : goal.returns-in_err-flip_root-clause-costs
+returns-in_err-flip_root-clause-costs g c =
     let p = err_from_is_err_and c.from_residual-in_err-flip_root.result c.from_residual-in_err-flip_root.ensures.1 in
     rw p.1
     (λ k.
-    let wrote = takes_all c.write_image.result _ _ _ (sym c.is_err.ensures.value ∙ c.if-is_err.false) (c.write_image.ensures.takes k) in
-    omega (arith, wrote, c.in_ok-clear_other.ensures.takes k, c.in_err-flip_root.ensures.takes k))
+    let wrote = takes_all c.write_image.result _ _ _ (sym c.is_err.ensures.value ∙ c.if-is_err.false) (c.write_image.ensures.costs k) in
+    omega (arith, wrote, c.in_ok-clear_other.ensures.costs k, c.in_err-flip_root.ensures.costs k))
 
-pub returns-clause-takes : goal.returns-clause-takes
-returns-clause-takes g c = λ k.
-    let wrote = takes_all c.write_image.result _ _ _ (sym c.is_err.ensures.value ∙ c.if-is_err.false) (c.write_image.ensures.takes k) in
-    omega (arith, wrote, c.in_ok-clear_other.ensures.takes k, c.in_ok-flip_root.ensures.takes k)
+pub returns-clause-costs : goal.returns-clause-costs
+returns-clause-costs g c = λ k.
+    let wrote = takes_all c.write_image.result _ _ _ (sym c.is_err.ensures.value ∙ c.if-is_err.false) (c.write_image.ensures.costs k) in
+    omega (arith, wrote, c.in_ok-clear_other.ensures.costs k, c.in_ok-flip_root.ensures.costs k)

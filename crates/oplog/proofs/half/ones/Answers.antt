@@ -1,4 +1,4 @@
--- The first so many of 64 open gates are a row of so many.
+-- The first n of 64 open gates are n open gates.
 use Rattle.std.proofs.lemmas.List.{take-replicate}
 use Rattle.oplog.proofs.half.ones.Goals as goal
 

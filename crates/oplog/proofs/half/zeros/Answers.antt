@@ -1,4 +1,4 @@
--- The first so many of 1,088 zeros are a row of so many zeros.
+-- The first n of 1,088 zeros are n zeros.
 use Rattle.std.proofs.lemmas.List.{take-replicate}
 use Rattle.oplog.proofs.half.zeros.Goals as goal
 

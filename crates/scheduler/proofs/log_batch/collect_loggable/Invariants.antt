@@ -2,7 +2,7 @@
 use Rattle.std.proofs.Common.{◌≡◌, ◌≤◌, length, take, drop}
 use Rattle.std.specs.Prelude.{vec_capacity}
 use Rattle.arena.specs.Lists.{first_of}
-use Rattle.arena.specs.Row.{chain_at}
+use Rattle.arena.specs.ArenaView.{chain_at}
 use Rattle.scheduler.specs.Moving.{changing_in, gathered}
 use Rattle.scheduler.proofs.log_batch.collect_loggable.Given as goal
 

@@ -1,6 +1,6 @@
 -- Each iteration moves one more, and those that are left are the ones behind it.
 use Rattle.std.proofs.Common.{◌<◌, sym, subst, length, arith, List, ℕ}
-use Rattle.arena.specs.Row.{chain_at}
+use Rattle.arena.specs.ArenaView.{chain_at}
 use Rattle.scheduler.proofs.Shifting.{left_over, none_logged, one_more_logged}
 use Rattle.scheduler.proofs.log_batch.move_ran.Goals as goal
 

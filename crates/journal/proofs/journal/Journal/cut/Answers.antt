@@ -2,7 +2,7 @@
 use Rattle.std.proofs.Common.{◌≡◌, ◌-◌, Bool, false, Option, Some, None, ℕ, List, length, replicate, refl, sym, ◌∙◌, ap, subst, arith}
 use Rattle.std.proofs.lemmas.List.{length-replicate}
 use Rattle.affinity.specs.declared.geometry.Geometry.{Geometry}
-use Rattle.checkpoint.specs.Recovery.{holds}
+use Rattle.checkpoint.specs.Recovery.{recovered_state}
 use Rattle.disk.specs.Moments.{CrashImagesAre}
 use Rattle.image.specs.Image.{image_of}
 use Rattle.image.specs.Pieces.{piece_count}
@@ -11,7 +11,7 @@ use Rattle.journal.specs.Images.{KeepsImages}
 use Rattle.journal.specs.Keeping.{IsCutState, journal_view_of}
 use Rattle.journal.specs.DirtyPieces.{all_clean, count_dirty, cut_dirty}
 use Rattle.journal.specs.Steps.{cut_now}
-use Rattle.journal.proofs.Logging.{committed_of, sound_along}
+use Rattle.journal.proofs.Logging.{recoverable_of, sound_along}
 use Rattle.journal.proofs.Rows.{count_most, whole_items, whole_put}
 use Rattle.journal.proofs.Saving.{frozen_right, cut_committed, cut_sound}
 use Rattle.oplog.specs.Beyond.{KeepsBeyond}
@@ -23,45 +23,45 @@ use Rattle.journal.proofs.journal.Journal.cut.Goals as goal
 
 pub returns-in-Err-clause-any_moment : goal.returns-in-Err-clause-any_moment
 returns-in-Err-clause-any_moment g c = λ k.
-    subst (λ (h : JournalView). CrashImagesAre h.medium (g.D.Disk.medium c.cut_on.new.disk) (λ c'. holds h.geometry c' ≡ committed h)) c.self.view_is (c.cut_on.ensures.any_moment k)
+    subst (λ (h : JournalView). CrashImagesAre h.medium (g.D.Disk.medium c.cut_on.new.disk) (λ c'. recovered_state h.geometry c' ≡ committed h)) c.self.view_is (c.cut_on.ensures.any_moment k)
 
 pub returns-clause-any_moment : goal.returns-clause-any_moment
 returns-clause-any_moment g c = λ k.
-    subst (λ (h : JournalView). CrashImagesAre h.medium (g.D.Disk.medium c.cut_on.new.disk) (λ c'. holds h.geometry c' ≡ committed h)) c.self.view_is (c.cut_on.ensures.any_moment k)
+    subst (λ (h : JournalView). CrashImagesAre h.medium (g.D.Disk.medium c.cut_on.new.disk) (λ c'. recovered_state h.geometry c' ≡ committed h)) c.self.view_is (c.cut_on.ensures.any_moment k)
 
 pub returns-clause-committed : goal.returns-clause-committed
 returns-clause-committed g c = λ k.
-    let fine : c.self.inside.failed ≡ false = ap (λ (h : JournalView). h.failed) c.self.view_is ∙ c.requires.sound in
+    let fine : c.self.inside.failed ≡ false = ap (λ (h : JournalView). h.failed) c.self.view_is ∙ c.requires.not_failed in
     let no_cut : c.self.inside.left ≡ None = ap (λ (h : JournalView). h.left) c.self.view_is ∙ c.requires.no_cut in
     let geometry : c.args.tree.now.geometry ≡ c.self.inside.halves.geometry = c.requires.geometry ∙ sym (ap (λ (h : JournalView). h.geometry) c.self.view_is) in
     let is_state = subst (λ (x : Geometry). IsState x (state_in c.args.tree.now)) geometry c.requires.whole.state in
     let w0 = g.D.Disk.medium c.self.inside.disk in
-    let is : holds c.self.inside.halves.geometry w0.now ≡ Some (state_in c.args.tree.now) = ap committed c.self.view_is ∙ c.requires.state k in
+    let is : recovered_state c.self.inside.halves.geometry w0.now ≡ Some (state_in c.args.tree.now) = ap committed c.self.view_is ∙ c.requires.state k in
     let right = frozen_right no_cut (c.self.invariant.7 fine k) is geometry c.deref.ensures.value c.deref_mut.ensures.value in
-    let spelled : c.freeze.new.bytes ≡ image_of 2 c.self.inside.halves.geometry (state_in c.args.tree.now) = c.freeze.ensures.image right
+    let spelled : c.update_snapshot.new.bytes ≡ image_of 2 c.self.inside.halves.geometry (state_in c.args.tree.now) = c.update_snapshot.ensures.image right
     ∙ ap (λ (x : Geometry). image_of 2 x (state_in c.args.tree.now)) geometry in
     let w1 = g.D.Disk.medium c.cut_on.new.disk in
     let begun = c.in_default.ensures.begun k in
-    ap (λ (x : Geometry). holds x w1.now) c.cut_on.ensures.geometry
+    ap (λ (x : Geometry). recovered_state x w1.now) c.cut_on.ensures.geometry
     ∙ cut_committed no_cut (c.self.invariant.6 fine).1 (c.self.invariant.7 fine k) is is_state spelled (g.met.D.Disk.bytes c.self.inside.disk)
     (g.met.D.Disk.bytes c.cut_on.new.disk) begun ∙ ap committed c.self.view_is
 
-pub returns-clause-sound : goal.returns-clause-sound
-returns-clause-sound g c = λ k.
-    let fine : c.self.inside.failed ≡ false = ap (λ (h : JournalView). h.failed) c.self.view_is ∙ c.requires.sound in
+pub returns-clause-recoverable : goal.returns-clause-recoverable
+returns-clause-recoverable g c = λ k.
+    let fine : c.self.inside.failed ≡ false = ap (λ (h : JournalView). h.failed) c.self.view_is ∙ c.requires.not_failed in
     let no_cut : c.self.inside.left ≡ None = ap (λ (h : JournalView). h.left) c.self.view_is ∙ c.requires.no_cut in
     let geometry : c.args.tree.now.geometry ≡ c.self.inside.halves.geometry = c.requires.geometry ∙ sym (ap (λ (h : JournalView). h.geometry) c.self.view_is) in
     let is_state = subst (λ (x : Geometry). IsState x (state_in c.args.tree.now)) geometry c.requires.whole.state in
-    let frozen = whole_put c.self.inside.frozen.len c.freeze.new.bytes c.self.inside.frozen.items
-    (c.freeze.ensures.size ∙ ap length c.deref_mut.ensures.value) (c.freeze.ensures.size ∙ c.deref_mut.ensures.len) in
+    let snapshot = whole_put c.self.inside.snapshot.len c.update_snapshot.new.bytes c.self.inside.snapshot.items
+    (c.update_snapshot.ensures.size ∙ ap length c.deref_mut.ensures.value) (c.update_snapshot.ensures.size ∙ c.deref_mut.ensures.len) in
     let w0 = g.D.Disk.medium c.self.inside.disk in
-    let is : holds c.self.inside.halves.geometry w0.now ≡ Some (state_in c.args.tree.now) = ap committed c.self.view_is ∙ c.requires.state k in
+    let is : recovered_state c.self.inside.halves.geometry w0.now ≡ Some (state_in c.args.tree.now) = ap committed c.self.view_is ∙ c.requires.state k in
     let right = frozen_right no_cut (c.self.invariant.7 fine k) is geometry c.deref.ensures.value c.deref_mut.ensures.value in
-    let spelled : c.freeze.new.bytes ≡ image_of 2 c.self.inside.halves.geometry (state_in c.args.tree.now) = c.freeze.ensures.image right
+    let spelled : c.update_snapshot.new.bytes ≡ image_of 2 c.self.inside.halves.geometry (state_in c.args.tree.now) = c.update_snapshot.ensures.image right
     ∙ ap (λ (x : Geometry). image_of 2 x (state_in c.args.tree.now)) geometry in
     let begun = c.in_default.ensures.begun k in
-    committed_of
-    (sound_along c.in_default.ensures.log frozen refl refl refl
+    recoverable_of
+    (sound_along c.in_default.ensures.log snapshot refl refl refl
     (cut_sound no_cut (c.self.invariant.6 fine).1 (c.self.invariant.7 fine k) is is_state spelled (g.met.D.Disk.bytes c.self.inside.disk) (g.met.D.Disk.bytes c.cut_on.new.disk)
     {others' = whole_items c.swap.new.y.len c.clear_dirty.new.dirty c.swap.new.y.items} (ap (λ v. v.items) c.swap.ensures.x_after) begun))
 
@@ -101,12 +101,12 @@ returns-clause-images g c = λ k.
 
 pub invariant_of-self-2 : goal.invariant_of-self-2
 invariant_of-self-2 g c =
-    let fine : c.self.inside.failed ≡ false = ap (λ (h : JournalView). h.failed) c.self.view_is ∙ c.requires.sound in
+    let fine : c.self.inside.failed ≡ false = ap (λ (h : JournalView). h.failed) c.self.view_is ∙ c.requires.not_failed in
     let no_cut : c.self.inside.left ≡ None = ap (λ (h : JournalView). h.left) c.self.view_is ∙ c.requires.no_cut in
     let geometry : c.args.tree.now.geometry ≡ c.self.inside.halves.geometry = c.requires.geometry ∙ sym (ap (λ (h : JournalView). h.geometry) c.self.view_is) in
     let is_state = subst (λ (x : Geometry). IsState x (state_in c.args.tree.now)) geometry c.requires.whole.state in
-    let frozen = whole_put c.self.inside.frozen.len c.freeze.new.bytes c.self.inside.frozen.items
-    (c.freeze.ensures.size ∙ ap length c.deref_mut.ensures.value) (c.freeze.ensures.size ∙ c.deref_mut.ensures.len) in
+    let snapshot = whole_put c.self.inside.snapshot.len c.update_snapshot.new.bytes c.self.inside.snapshot.items
+    (c.update_snapshot.ensures.size ∙ ap length c.deref_mut.ensures.value) (c.update_snapshot.ensures.size ∙ c.deref_mut.ensures.len) in
     let log = c.in_default.ensures.log in
     let same = c.cut_on.ensures.geometry in
     let cleared = whole_put c.swap.new.y.len c.clear_dirty.new.dirty c.swap.new.y.items
@@ -114,7 +114,7 @@ invariant_of-self-2 g c =
     (ap length c.clear_dirty.ensures ∙ length-replicate _ false ∙ c.deref_mut-2.ensures.len) in (
       omega (arith, c.self.invariant.0, c.cut_on.ensures.call.1, ap (λ (l : Log). device_size (layout l)) log),
       omega (arith, ap (λ (l : Log). l.used) log),
-      ap length frozen ∙ c.freeze.ensures.size ∙ ap length c.deref_mut.ensures.value ∙ c.self.invariant.2 ∙ sym (ap image_size same),
+      ap length snapshot ∙ c.update_snapshot.ensures.size ∙ ap length c.deref_mut.ensures.value ∙ c.self.invariant.2 ∙ sym (ap image_size same),
       c.self.invariant.3 ∙ sym (ap piece_count same),
       ap length cleared ∙ ap length c.clear_dirty.ensures ∙ length-replicate _ false ∙ ap length c.deref_mut-2.ensures.value
           ∙ ap (λ v. length v.items) c.swap.ensures.y_after ∙ c.self.invariant.5 ∙ sym (ap piece_count same),
@@ -126,12 +126,12 @@ invariant_of-self-2 g c =
           )),
       (λ fine k.
           let w0 = g.D.Disk.medium c.self.inside.disk in
-          let is : holds c.self.inside.halves.geometry w0.now ≡ Some (state_in c.args.tree.now) = ap committed c.self.view_is ∙ c.requires.state k in
+          let is : recovered_state c.self.inside.halves.geometry w0.now ≡ Some (state_in c.args.tree.now) = ap committed c.self.view_is ∙ c.requires.state k in
           let right = frozen_right no_cut (c.self.invariant.7 fine k) is geometry c.deref.ensures.value c.deref_mut.ensures.value in
-          let spelled : c.freeze.new.bytes ≡ image_of 2 c.self.inside.halves.geometry (state_in c.args.tree.now) = c.freeze.ensures.image right
+          let spelled : c.update_snapshot.new.bytes ≡ image_of 2 c.self.inside.halves.geometry (state_in c.args.tree.now) = c.update_snapshot.ensures.image right
           ∙ ap (λ (x : Geometry). image_of 2 x (state_in c.args.tree.now)) geometry in
           let begun = c.in_default.ensures.begun k in
-          sound_along c.in_default.ensures.log frozen refl refl refl
+          sound_along c.in_default.ensures.log snapshot refl refl refl
           (cut_sound no_cut (c.self.invariant.6 fine).1 (c.self.invariant.7 fine k) is is_state spelled (g.met.D.Disk.bytes c.self.inside.disk)
           (g.met.D.Disk.bytes c.cut_on.new.disk) (ap (λ v. v.items) c.swap.ensures.x_after) begun)),
       omega arith,

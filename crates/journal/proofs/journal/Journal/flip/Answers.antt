@@ -1,7 +1,7 @@
 -- Up to the root byte a crash reads the old area and then the new one, and both recover to the committed state.
 use Rattle.std.proofs.Common.{◌≡◌, false, Option, Some, ℕ, List, ◌++◌, length, refl, sym, ◌∙◌, ap, subst, arith}
 use Rattle.affinity.specs.declared.geometry.Geometry.{Geometry}
-use Rattle.checkpoint.specs.Recovery.{holds}
+use Rattle.checkpoint.specs.Recovery.{recovered_state}
 use Rattle.disk.specs.Moments.{CrashImagesAre}
 use Rattle.journal.specs.Journal.{JournalView, records, records_in, committed}
 use Rattle.journal.specs.Images.{KeepsImages}
@@ -9,7 +9,7 @@ use Rattle.journal.specs.Keeping.{IsCutState}
 use Rattle.journal.specs.Steps.{IsWritten}
 use Rattle.checkpoint.specs.Version.{named_version}
 use Rattle.journal.proofs.Flipping.{flip_asks, flip_sound, flip_version}
-use Rattle.journal.proofs.Logging.{committed_of, sound_along}
+use Rattle.journal.proofs.Logging.{recoverable_of, sound_along}
 use Rattle.journal.proofs.Recovering.{holds_now}
 use Rattle.image.specs.Pieces.{piece_count}
 use Rattle.oplog.specs.Front.{front}
@@ -20,34 +20,34 @@ use Rattle.journal.proofs.journal.Journal.flip.Goals as goal
 
 pub flip_on-requires-clause-written : goal.flip_on-requires-clause-written
 flip_on-requires-clause-written g c = λ k.
-    let fine : c.self.inside.failed ≡ false = ap (λ (h : JournalView). h.failed) c.self.view_is ∙ c.requires.sound in
+    let fine : c.self.inside.failed ≡ false = ap (λ (h : JournalView). h.failed) c.self.view_is ∙ c.requires.not_failed in
     let none : c.self.inside.left ≡ Some 0 = ap (λ (h : JournalView). h.left) c.self.view_is ∙ c.requires.written in
     subst (λ (l : List ℕ). IsWritten c.self.inside.halves l (g.D.Disk.medium c.self.inside.disk)) (sym c.deref.ensures.value)
     (flip_asks none c.self.invariant.0 c.self.invariant.2 c.self.invariant.5 (g.met.D.Disk.bytes c.self.inside.disk) (c.self.invariant.6 fine).1 (c.self.invariant.7 fine k))
 
 pub returns-in-Err-clause-any_moment : goal.returns-in-Err-clause-any_moment
 returns-in-Err-clause-any_moment g c = λ k.
-    subst (λ (h : JournalView). CrashImagesAre h.medium (g.D.Disk.medium c.flip_on.new.disk) (λ c'. holds h.geometry c' ≡ committed h)) c.self.view_is (c.flip_on.ensures.any_moment k)
+    subst (λ (h : JournalView). CrashImagesAre h.medium (g.D.Disk.medium c.flip_on.new.disk) (λ c'. recovered_state h.geometry c' ≡ committed h)) c.self.view_is (c.flip_on.ensures.any_moment k)
 
 pub returns-clause-any_moment : goal.returns-clause-any_moment
 returns-clause-any_moment g c = λ k.
-    subst (λ (h : JournalView). CrashImagesAre h.medium (g.D.Disk.medium c.flip_on.new.disk) (λ c'. holds h.geometry c' ≡ committed h)) c.self.view_is (c.flip_on.ensures.any_moment k)
+    subst (λ (h : JournalView). CrashImagesAre h.medium (g.D.Disk.medium c.flip_on.new.disk) (λ c'. recovered_state h.geometry c' ≡ committed h)) c.self.view_is (c.flip_on.ensures.any_moment k)
 
 pub returns-clause-committed : goal.returns-clause-committed
 returns-clause-committed g c = λ k.
-    subst (λ (h : JournalView). holds c.flip_on.new.halves.geometry (g.D.Disk.medium c.flip_on.new.disk).now ≡ committed h) c.self.view_is
-    (ap (λ (x : _). holds x (g.D.Disk.medium c.flip_on.new.disk).now) c.flip_on.ensures.geometry
-    ∙ holds_now c.self.inside.halves.geometry _ _ (holds c.self.inside.halves.geometry (g.D.Disk.medium c.self.inside.disk).now)
+    subst (λ (h : JournalView). recovered_state c.flip_on.new.halves.geometry (g.D.Disk.medium c.flip_on.new.disk).now ≡ committed h) c.self.view_is
+    (ap (λ (x : _). recovered_state x (g.D.Disk.medium c.flip_on.new.disk).now) c.flip_on.ensures.geometry
+    ∙ holds_now c.self.inside.halves.geometry _ _ (recovered_state c.self.inside.halves.geometry (g.D.Disk.medium c.self.inside.disk).now)
     (g.D.Disk.medium c.flip_on.new.disk) (g.met.D.Disk.bytes c.flip_on.new.disk) (c.in_default.ensures.flipped k).at.recovers)
 
-pub returns-clause-sound : goal.returns-clause-sound
-returns-clause-sound g c = λ k.
-    let fine : c.self.inside.failed ≡ false = ap (λ (h : JournalView). h.failed) c.self.view_is ∙ c.requires.sound in
+pub returns-clause-recoverable : goal.returns-clause-recoverable
+returns-clause-recoverable g c = λ k.
+    let fine : c.self.inside.failed ≡ false = ap (λ (h : JournalView). h.failed) c.self.view_is ∙ c.requires.not_failed in
     let none : c.self.inside.left ≡ Some 0 = ap (λ (h : JournalView). h.left) c.self.view_is ∙ c.requires.written in
     let sound = c.self.invariant.7 fine k in
     let placed = (c.self.invariant.6 fine).1 in
     let written = flip_asks none c.self.invariant.0 c.self.invariant.2 c.self.invariant.5 (g.met.D.Disk.bytes c.self.inside.disk) placed sound in
-    committed_of
+    recoverable_of
     (sound_along c.in_default.ensures.log refl (ap (λ v. v.items) c.swap.ensures.x_after) (ap (λ v. v.items) c.swap.ensures.y_after) refl
     (flip_sound none (g.met.D.Disk.bytes c.self.inside.disk) (g.met.D.Disk.bytes c.flip_on.new.disk) placed written sound (c.in_default.ensures.flipped k)))
 
@@ -62,7 +62,7 @@ returns-clause-records g c = λ k.
 
 pub returns-clause-version : goal.returns-clause-version
 returns-clause-version g c = λ k.
-    let fine : c.self.inside.failed ≡ false = ap (λ (h : JournalView). h.failed) c.self.view_is ∙ c.requires.sound in
+    let fine : c.self.inside.failed ≡ false = ap (λ (h : JournalView). h.failed) c.self.view_is ∙ c.requires.not_failed in
     let none : c.self.inside.left ≡ Some 0 = ap (λ (h : JournalView). h.left) c.self.view_is ∙ c.requires.written in
     let sound = c.self.invariant.7 fine k in
     let placed = (c.self.invariant.6 fine).1 in

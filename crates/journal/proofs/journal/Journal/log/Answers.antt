@@ -1,13 +1,13 @@
 -- A crash recovers to the committed state with the first m of the messages run on it; all they touch is dirty.
 use Rattle.std.proofs.Common.{◌≡◌, ℕ, ◌+◌, ◌++◌, false, Some, length, option_map, refl, sym, ◌∙◌, ap, subst, arith}
 use Rattle.affinity.specs.declared.geometry.Geometry.{Geometry}
-use Rattle.checkpoint.specs.Recovery.{holds}
+use Rattle.checkpoint.specs.Recovery.{recovered_state}
 use Rattle.disk.specs.Moments.{CrashImagesAre}
 use Rattle.image.specs.Pieces.{piece_count}
 use Rattle.journal.specs.Journal.{AreCarriedOut, JournalView, HoldsSome, records, records_in, committed}
 use Rattle.journal.specs.Keeping.{IsCutState, journal_view_of}
 use Rattle.journal.specs.DirtyPieces.{AreBothTouched}
-use Rattle.journal.proofs.Logging.{log_kept, log_moments, log_records, log_told, placed_used, committed_of, sound_along, touched_along}
+use Rattle.journal.proofs.Logging.{log_kept, log_moments, log_records, log_told, placed_used, recoverable_of, sound_along, touched_along}
 use Rattle.journal.proofs.Rows.{same_dirty, whole_items, whole_put}
 use Rattle.disk.proofs.Moments.{weaker}
 use Rattle.oplog.specs.Beyond.{KeepsBeyond}
@@ -20,7 +20,7 @@ use Rattle.journal.proofs.journal.Journal.log.Goals as goal
 
 pub returns-in-Err-clause-any_moment : goal.returns-in-Err-clause-any_moment
 returns-in-Err-clause-any_moment g c = λ k x is.
-    let fine : c.self.inside.failed ≡ false = ap (λ (h : JournalView). h.failed) c.self.view_is ∙ c.requires.sound in
+    let fine : c.self.inside.failed ≡ false = ap (λ (h : JournalView). h.failed) c.self.view_is ∙ c.requires.not_failed in
     let out = subst (λ (h : JournalView). AreCarriedOut h.geometry x c.args.messages.now) (sym c.self.view_is) (c.requires.carried_out k x is) in
     subst (λ (h : JournalView). CrashImagesAre h.medium (g.D.Disk.medium c.append.new.disk) (HoldsSome h.geometry x c.args.messages.now)) c.self.view_is
     (log_moments c.args.messages.now (g.D.Disk.medium c.append.new.disk) (g.met.D.Disk.bytes c.self.inside.disk) (c.self.invariant.7 fine k)
@@ -28,7 +28,7 @@ returns-in-Err-clause-any_moment g c = λ k x is.
 
 pub returns-clause-any_moment : goal.returns-clause-any_moment
 returns-clause-any_moment g c = λ k x is.
-    let fine : c.self.inside.failed ≡ false = ap (λ (h : JournalView). h.failed) c.self.view_is ∙ c.requires.sound in
+    let fine : c.self.inside.failed ≡ false = ap (λ (h : JournalView). h.failed) c.self.view_is ∙ c.requires.not_failed in
     let out = subst (λ (h : JournalView). AreCarriedOut h.geometry x c.args.messages.now) (sym c.self.view_is) (c.requires.carried_out k x is) in
     subst (λ (h : JournalView). CrashImagesAre h.medium (g.D.Disk.medium c.append.new.disk) (HoldsSome h.geometry x c.args.messages.now)) c.self.view_is
     (log_moments c.args.messages.now (g.D.Disk.medium c.append.new.disk) (g.met.D.Disk.bytes c.self.inside.disk) (c.self.invariant.7 fine k)
@@ -36,21 +36,22 @@ returns-clause-any_moment g c = λ k x is.
 
 pub returns-clause-committed : goal.returns-clause-committed
 returns-clause-committed g c = λ k.
-    let fine : c.self.inside.failed ≡ false = ap (λ (h : JournalView). h.failed) c.self.view_is ∙ c.requires.sound in
-    let out : (x : State) → holds c.self.inside.halves.geometry (g.D.Disk.medium c.self.inside.disk).now ≡ Some x → AreCarriedOut c.self.inside.halves.geometry x c.args.messages.now =
+    let fine : c.self.inside.failed ≡ false = ap (λ (h : JournalView). h.failed) c.self.view_is ∙ c.requires.not_failed in
+    let out : (x : State) → recovered_state c.self.inside.halves.geometry (g.D.Disk.medium c.self.inside.disk).now ≡ Some x → AreCarriedOut c.self.inside.halves.geometry x c.args.messages.now =
     λ x is. subst (λ (h : JournalView). AreCarriedOut h.geometry x c.args.messages.now) (sym c.self.view_is) (c.requires.carried_out k x (sym (ap committed c.self.view_is) ∙ is)) in
-    subst (λ (h : JournalView). holds c.append.new.self.geometry (g.D.Disk.medium c.append.new.disk).now ≡ option_map (λ x. fold h.geometry x c.args.messages.now) (committed h)) c.self.view_is
-    (ap (λ (l : Log). holds l.geometry (g.D.Disk.medium c.append.new.disk).now) c.in_default.ensures.log
+    subst (λ (h : JournalView). recovered_state c.append.new.self.geometry (g.D.Disk.medium c.append.new.disk).now ≡ option_map
+        (λ x. fold h.geometry x c.args.messages.now) (committed h)) c.self.view_is
+    (ap (λ (l : Log). recovered_state l.geometry (g.D.Disk.medium c.append.new.disk).now) c.in_default.ensures.log
     ∙ log_told c.args.messages.now (g.met.D.Disk.bytes c.self.inside.disk)
     (g.met.D.Disk.bytes c.append.new.disk) (c.self.invariant.7 fine k) out (c.in_default.ensures.added k))
 
-pub returns-clause-sound : goal.returns-clause-sound
-returns-clause-sound g c = λ k.
-    let fine : c.self.inside.failed ≡ false = ap (λ (h : JournalView). h.failed) c.self.view_is ∙ c.requires.sound in
-    let out : (x : State) → holds c.self.inside.halves.geometry (g.D.Disk.medium c.self.inside.disk).now ≡ Some x → AreCarriedOut c.self.inside.halves.geometry x c.args.messages.now =
+pub returns-clause-recoverable : goal.returns-clause-recoverable
+returns-clause-recoverable g c = λ k.
+    let fine : c.self.inside.failed ≡ false = ap (λ (h : JournalView). h.failed) c.self.view_is ∙ c.requires.not_failed in
+    let out : (x : State) → recovered_state c.self.inside.halves.geometry (g.D.Disk.medium c.self.inside.disk).now ≡ Some x → AreCarriedOut c.self.inside.halves.geometry x c.args.messages.now =
     λ x is. subst (λ (h : JournalView). AreCarriedOut h.geometry x c.args.messages.now) (sym c.self.view_is) (c.requires.carried_out k x (sym (ap committed c.self.view_is) ∙ is)) in
     let same : c.geometry-g.result ≡ c.self.inside.halves.geometry = c.geometry-g.ensures ∙ ap (λ (l : Log). l.geometry) c.in_default.ensures.log in
-    committed_of
+    recoverable_of
     (sound_along c.in_default.ensures.log refl refl refl refl
     (log_kept {named' = c.dirty_touched.new.dirty} {others' = c.dirty_touched-2.new.dirty} c.args.messages.now (g.met.D.Disk.bytes c.self.inside.disk)
     (g.met.D.Disk.bytes c.append.new.disk) (c.self.invariant.7 fine k) out (c.in_default.ensures.added k) (c.self.invariant.6 fine).1
@@ -61,7 +62,7 @@ returns-clause-sound g c = λ k.
 
 pub returns-clause-records : goal.returns-clause-records
 returns-clause-records g c = λ k.
-    let fine : c.self.inside.failed ≡ false = ap (λ (h : JournalView). h.failed) c.self.view_is ∙ c.requires.sound in
+    let fine : c.self.inside.failed ≡ false = ap (λ (h : JournalView). h.failed) c.self.view_is ∙ c.requires.not_failed in
     subst (λ (h : JournalView). records_in c.append.new.self.geometry (g.D.Disk.medium c.append.new.disk).now ≡ records h ++ records_of c.args.messages.now) c.self.view_is
     (ap (λ (l : Log). records_in l.geometry (g.D.Disk.medium c.append.new.disk).now) c.in_default.ensures.log
     ∙ log_records c.args.messages.now (g.D.Disk.medium c.append.new.disk) (g.met.D.Disk.bytes c.self.inside.disk) (c.self.invariant.7 fine k) (c.in_default.ensures.added k))
@@ -122,7 +123,7 @@ invariant_of-self-2 g c =
             (c.self.invariant.6 fine).1),
       )),
       (λ fine k.
-          let out : (x : State) → holds c.self.inside.halves.geometry (g.D.Disk.medium c.self.inside.disk).now ≡ Some x → AreCarriedOut c.self.inside.halves.geometry x c.args.messages.now =
+          let out : (x : State) → recovered_state c.self.inside.halves.geometry (g.D.Disk.medium c.self.inside.disk).now ≡ Some x → AreCarriedOut c.self.inside.halves.geometry x c.args.messages.now =
           λ x is. subst (λ (h : JournalView). AreCarriedOut h.geometry x c.args.messages.now) (sym c.self.view_is) (c.requires.carried_out k x (sym (ap committed c.self.view_is) ∙ is)) in
           sound_along log refl refl refl refl
           (log_kept c.args.messages.now (g.met.D.Disk.bytes c.self.inside.disk) (g.met.D.Disk.bytes c.append.new.disk) (c.self.invariant.7 fine k)

@@ -2,15 +2,15 @@
 use Rattle.std.proofs.Common.{◌≡◌, ◌<◌, ◌-◌, ℕ, Bool, true, false, List, length, get_or, Option, Some, is_some, option_map, refl, sym, ◌∙◌, ap, subst, arith}
 use Rattle.std.proofs.lemmas.List.{length-set}
 use Rattle.affinity.specs.declared.geometry.Geometry.{Geometry}
-use Rattle.checkpoint.specs.Recovery.{holds}
+use Rattle.checkpoint.specs.Recovery.{recovered_state}
 use Rattle.disk.proofs.Leaves.{itself}
 use Rattle.disk.proofs.Moments.{started}
 use Rattle.disk.specs.Moments.{CrashImagesAre}
-use Rattle.journal.specs.Journal.{JournalView, IsCommitted, records, committed}
+use Rattle.journal.specs.Journal.{JournalView, IsRecoverable, records, committed}
 use Rattle.journal.specs.Images.{PatchesOne}
 use Rattle.journal.specs.Keeping.{AreCleanBefore, IsCutState}
 use Rattle.journal.specs.DirtyPieces.{count_dirty}
-use Rattle.journal.proofs.Logging.{committed_of}
+use Rattle.journal.proofs.Logging.{recoverable_of}
 use Rattle.journal.proofs.Rows.{clear_set}
 use Rattle.journal.proofs.Piecing.{piece_counted, piece_left, piece_moments, piece_records, none_due, patches_one, piece_same, piece_some, piece_sound, pieced_along, some_left}
 use Rattle.oplog.specs.Beyond.{KeepsBeyond}
@@ -20,76 +20,76 @@ use Rattle.device_map.specs.Layout.{layout_of, image, other}
 use Rattle.oplog.proofs.Answered.{on_ok}
 use Rattle.journal.proofs.journal.Journal.piece.Goals as goal
 
-pub returns-in_default-clause-sound : goal.returns-in_default-clause-sound
-returns-in_default-clause-sound g c = λ k.
-    let fine : c.self.inside.failed ≡ false = ap (λ (h : JournalView). h.failed) c.self.view_is ∙ c.requires.sound in
-    subst (λ (h : JournalView). IsCommitted h) c.self.view_is
-    (committed_of (c.self.invariant.7 fine k))
+pub returns-in_default-clause-recoverable : goal.returns-in_default-clause-recoverable
+returns-in_default-clause-recoverable g c = λ k.
+    let fine : c.self.inside.failed ≡ false = ap (λ (h : JournalView). h.failed) c.self.view_is ∙ c.requires.not_failed in
+    subst (λ (h : JournalView). IsRecoverable h) c.self.view_is
+    (recoverable_of (c.self.invariant.7 fine k))
 
 pub returns-in_default-clause-any_moment : goal.returns-in_default-clause-any_moment
 returns-in_default-clause-any_moment g c = λ k.
-    let fine : c.self.inside.failed ≡ false = ap (λ (h : JournalView). h.failed) c.self.view_is ∙ c.requires.sound in
-    let still : IsCommitted c.args.self.now = subst (λ (h : JournalView). IsCommitted h) c.self.view_is
-    (committed_of (c.self.invariant.7 fine k)) in
+    let fine : c.self.inside.failed ≡ false = ap (λ (h : JournalView). h.failed) c.self.view_is ∙ c.requires.not_failed in
+    let still : IsRecoverable c.args.self.now = subst (λ (h : JournalView). IsRecoverable h) c.self.view_is
+    (recoverable_of (c.self.invariant.7 fine k)) in
     started c.args.self.now.medium _ still.each
 
 pub returns-then-is_err-clause-any_moment : goal.returns-then-is_err-clause-any_moment
 returns-then-is_err-clause-any_moment g c = λ k.
-    let fine : c.self.inside.failed ≡ false = ap (λ (h : JournalView). h.failed) c.self.view_is ∙ c.requires.sound in
+    let fine : c.self.inside.failed ≡ false = ap (λ (h : JournalView). h.failed) c.self.view_is ∙ c.requires.not_failed in
     let w0 = g.D.Disk.medium c.self.inside.disk in
     let w1 = g.D.Disk.medium c.write_extent.new.disk in
     let moments = subst (λ (n : ℕ). ChangesOnly w0 w1 (IsSameBut (layout_of c.self.inside.halves.geometry) (image (other n)))) c.named-area.ensures.named
     (subst (λ (x : Geometry). ChangesOnly w0 w1 (IsSameBut (layout_of x) (image (other c.named-area.result)))) c.geometry-g.ensures (c.write_extent.ensures.any_moment k)) in
-    subst (λ (h : JournalView). CrashImagesAre h.medium w1 (λ c'. holds h.geometry c' ≡ committed h)) c.self.view_is
+    subst (λ (h : JournalView). CrashImagesAre h.medium w1 (λ c'. recovered_state h.geometry c' ≡ committed h)) c.self.view_is
     (piece_moments w1 (g.met.D.Disk.bytes c.self.inside.disk) (c.self.invariant.7 fine k) moments)
 
 pub returns-then-is_err-clause-none : goal.returns-then-is_err-clause-none
 returns-then-is_err-clause-none g c = λ none.
-    let fine : c.self.inside.failed ≡ false = ap (λ (h : JournalView). h.failed) c.self.view_is ∙ c.requires.sound in
+    let fine : c.self.inside.failed ≡ false = ap (λ (h : JournalView). h.failed) c.self.view_is ∙ c.requires.not_failed in
     let dirty_at = subst (λ (l : List Bool). get_or l c.in-Some.n false ≡ true) c.deref.ensures.value c.in-Some.ensures.dirty_at in
     absurd (piece_some c.self.inside.halves c.self.inside.due.items c.self.inside.left c.in-Some.n (c.self.invariant.6 fine).1 dirty_at (ap (λ (h : JournalView). h.left) c.self.view_is ∙ none))
 
 pub returns-clause-none : goal.returns-clause-none
 returns-clause-none g c = λ none.
-    let fine : c.self.inside.failed ≡ false = ap (λ (h : JournalView). h.failed) c.self.view_is ∙ c.requires.sound in
+    let fine : c.self.inside.failed ≡ false = ap (λ (h : JournalView). h.failed) c.self.view_is ∙ c.requires.not_failed in
     let dirty_at = subst (λ (l : List Bool). get_or l c.in-Some.n false ≡ true) c.deref.ensures.value c.in-Some.ensures.dirty_at in
     absurd (piece_some c.self.inside.halves c.self.inside.due.items c.self.inside.left c.in-Some.n (c.self.invariant.6 fine).1 dirty_at (ap (λ (h : JournalView). h.left) c.self.view_is ∙ none))
 
 pub returns-clause-any_moment : goal.returns-clause-any_moment
 returns-clause-any_moment g c = λ k.
-    let fine : c.self.inside.failed ≡ false = ap (λ (h : JournalView). h.failed) c.self.view_is ∙ c.requires.sound in
+    let fine : c.self.inside.failed ≡ false = ap (λ (h : JournalView). h.failed) c.self.view_is ∙ c.requires.not_failed in
     let w0 = g.D.Disk.medium c.self.inside.disk in
     let w1 = g.D.Disk.medium c.write_extent.new.disk in
     let moments = subst (λ (n : ℕ). ChangesOnly w0 w1 (IsSameBut (layout_of c.self.inside.halves.geometry) (image (other n)))) c.named-area.ensures.named
     (subst (λ (x : Geometry). ChangesOnly w0 w1 (IsSameBut (layout_of x) (image (other c.named-area.result)))) c.geometry-g.ensures (c.write_extent.ensures.any_moment k)) in
-    subst (λ (h : JournalView). CrashImagesAre h.medium w1 (λ c'. holds h.geometry c' ≡ committed h)) c.self.view_is
+    subst (λ (h : JournalView). CrashImagesAre h.medium w1 (λ c'. recovered_state h.geometry c' ≡ committed h)) c.self.view_is
     (piece_moments w1 (g.met.D.Disk.bytes c.self.inside.disk) (c.self.invariant.7 fine k) moments)
 
 pub returns-clause-committed : goal.returns-clause-committed
 returns-clause-committed g c = λ k.
-    let fine : c.self.inside.failed ≡ false = ap (λ (h : JournalView). h.failed) c.self.view_is ∙ c.requires.sound in
+    let fine : c.self.inside.failed ≡ false = ap (λ (h : JournalView). h.failed) c.self.view_is ∙ c.requires.not_failed in
     let w0 = g.D.Disk.medium c.self.inside.disk in
     let w1 = g.D.Disk.medium c.write_extent.new.disk in
     let moments = subst (λ (n : ℕ). ChangesOnly w0 w1 (IsSameBut (layout_of c.self.inside.halves.geometry) (image (other n)))) c.named-area.ensures.named
     (subst (λ (x : Geometry). ChangesOnly w0 w1 (IsSameBut (layout_of x) (image (other c.named-area.result)))) c.geometry-g.ensures (c.write_extent.ensures.any_moment k)) in
     piece_same w1 (g.met.D.Disk.bytes c.self.inside.disk) (c.self.invariant.7 fine k) (g.met.D.Disk.bytes c.write_extent.new.disk) moments ∙ ap committed c.self.view_is
 
-pub returns-clause-sound : goal.returns-clause-sound
-returns-clause-sound g c = λ k.
-    let fine : c.self.inside.failed ≡ false = ap (λ (h : JournalView). h.failed) c.self.view_is ∙ c.requires.sound in
+pub returns-clause-recoverable : goal.returns-clause-recoverable
+returns-clause-recoverable g c = λ k.
+    let fine : c.self.inside.failed ≡ false = ap (λ (h : JournalView). h.failed) c.self.view_is ∙ c.requires.not_failed in
     let w1 = g.D.Disk.medium c.write_extent.new.disk in
     let few = subst (λ (l : List Bool). c.in-Some.n < length l) c.deref.ensures.value c.in-Some.ensures.inside in
     let left = some_left c.self.inside.left (ap (λ (h : JournalView). is_some h.left) c.self.view_is ∙ c.requires.running) in
     let written = on_ok c.write_extent.result _ (sym c.is_err.ensures.value ∙ c.if-is_err.false) c.write_extent.ensures.written k in
     let pieced = pieced_along c.geometry-g.ensures c.named-area.ensures.named c.deref-2.ensures.value
     (record { moments = c.write_extent.ensures.any_moment k; same = c.write_extent.ensures.same k; is = written; ready = c.write_extent.ensures.ready k }) in
-    committed_of
+    recoverable_of
     (piece_sound w1 (g.met.D.Disk.bytes c.self.inside.disk) (c.self.invariant.7 fine k) (g.met.D.Disk.bytes c.write_extent.new.disk)
     c.in-Some.n left.0 c.saturating_sub-left.result left.1 few pieced)
 
 pub returns-clause-left : goal.returns-clause-left
 returns-clause-left g c =
-    let fine : c.self.inside.failed ≡ false = ap (λ (h : JournalView). h.failed) c.self.view_is ∙ c.requires.sound in
+    let fine : c.self.inside.failed ≡ false = ap (λ (h : JournalView). h.failed) c.self.view_is ∙ c.requires.not_failed in
     let dirty_at = subst (λ (l : List Bool). get_or l c.in-Some.n false ≡ true) c.deref.ensures.value c.in-Some.ensures.dirty_at in
     let running = ap (λ (h : JournalView). is_some h.left) c.self.view_is ∙ c.requires.running in
     sym (ap (λ (h : JournalView). option_map (λ (l : ℕ). l - 1) h.left) c.self.view_is)
@@ -99,7 +99,7 @@ returns-clause-left g c =
 
 pub returns-clause-after : goal.returns-clause-after
 returns-clause-after g c =
-    let fine : c.self.inside.failed ≡ false = ap (λ (h : JournalView). h.failed) c.self.view_is ∙ c.requires.sound in
+    let fine : c.self.inside.failed ≡ false = ap (λ (h : JournalView). h.failed) c.self.view_is ∙ c.requires.not_failed in
     let dirty_at = subst (λ (l : List Bool). get_or l c.in-Some.n false ≡ true) c.deref.ensures.value c.in-Some.ensures.dirty_at in
     let running = ap (λ (h : JournalView). is_some h.left) c.self.view_is ∙ c.requires.running in
     let left = piece_left c.self.inside.halves c.self.inside.due.items c.self.inside.left c.in-Some.n running (c.self.invariant.6 fine).1 dirty_at
@@ -111,7 +111,7 @@ returns-clause-after g c =
 
 pub returns-clause-records : goal.returns-clause-records
 returns-clause-records g c = λ k.
-    let fine : c.self.inside.failed ≡ false = ap (λ (h : JournalView). h.failed) c.self.view_is ∙ c.requires.sound in
+    let fine : c.self.inside.failed ≡ false = ap (λ (h : JournalView). h.failed) c.self.view_is ∙ c.requires.not_failed in
     let w0 = g.D.Disk.medium c.self.inside.disk in
     let w1 = g.D.Disk.medium c.write_extent.new.disk in
     let moments = subst (λ (n : ℕ). ChangesOnly w0 w1 (IsSameBut (layout_of c.self.inside.halves.geometry) (image (other n)))) c.named-area.ensures.named
@@ -120,21 +120,21 @@ returns-clause-records g c = λ k.
 
 pub returns-in_default-clause-one : goal.returns-in_default-clause-one
 returns-in_default-clause-one g c = λ some.
-    let fine : c.self.inside.failed ≡ false = ap (λ (h : JournalView). h.failed) c.self.view_is ∙ c.requires.sound in
+    let fine : c.self.inside.failed ≡ false = ap (λ (h : JournalView). h.failed) c.self.view_is ∙ c.requires.not_failed in
     let none : count_dirty c.self.inside.due.items ≡ 0 = sym (ap count_dirty c.deref.ensures.value) ∙ c.in_default.ensures.none refl in
     absurd (some (sym (ap (λ (h : JournalView). h.left) c.self.view_is)
     ∙ none_due c.self.inside.halves c.self.inside.due.items c.self.inside.left (ap (λ (h : JournalView). is_some h.left) c.self.view_is ∙ c.requires.running) (c.self.invariant.6 fine).1 none))
 
-pub returns-in_default-clause-takes : goal.returns-in_default-clause-takes
-returns-in_default-clause-takes g c = λ some.
-    let fine : c.self.inside.failed ≡ false = ap (λ (h : JournalView). h.failed) c.self.view_is ∙ c.requires.sound in
+pub returns-in_default-clause-costs : goal.returns-in_default-clause-costs
+returns-in_default-clause-costs g c = λ some.
+    let fine : c.self.inside.failed ≡ false = ap (λ (h : JournalView). h.failed) c.self.view_is ∙ c.requires.not_failed in
     let none : count_dirty c.self.inside.due.items ≡ 0 = sym (ap count_dirty c.deref.ensures.value) ∙ c.in_default.ensures.none refl in
     absurd (some (sym (ap (λ (h : JournalView). h.left) c.self.view_is)
     ∙ none_due c.self.inside.halves c.self.inside.due.items c.self.inside.left (ap (λ (h : JournalView). is_some h.left) c.self.view_is ∙ c.requires.running) (c.self.invariant.6 fine).1 none))
 
 pub returns-clause-one : goal.returns-clause-one
 returns-clause-one g c = λ some k.
-    let fine : c.self.inside.failed ≡ false = ap (λ (h : JournalView). h.failed) c.self.view_is ∙ c.requires.sound in
+    let fine : c.self.inside.failed ≡ false = ap (λ (h : JournalView). h.failed) c.self.view_is ∙ c.requires.not_failed in
     let w0 = g.D.Disk.medium c.self.inside.disk in
     let w1 = g.D.Disk.medium c.write_extent.new.disk in
     let written = on_ok c.write_extent.result _ (sym c.is_err.ensures.value ∙ c.if-is_err.false) c.write_extent.ensures.written k in

@@ -7,7 +7,7 @@ use Rattle.message.proofs.reading.LineReader.gather.Given as goal
 abbrev pub invariant-loop-self : goal.invariant-loop-self
 invariant-loop-self g l = record {
   line : line_of l.self ≡ [];
-  sound : has_failed l.self ≡ false;
+  not_failed : has_failed l.self ≡ false;
   bytes : Keeps (unread g.R.Read.remaining l.initial.self) (unread g.R.Read.remaining l.self);
   at_once : HoldsLine l.initial.self → l.self ≡ l.initial.self;
   told : has_ended l.initial.self ≡ true → l.self ≡ l.initial.self;

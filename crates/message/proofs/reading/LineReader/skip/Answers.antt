@@ -33,7 +33,7 @@ loop-preserved g c =
     let b = unread g.R.Read.remaining c.refill.new.self in
     record {
       line = c.refill.ensures.line;
-      sound = c.in_ok-refill.ensures.failed;
+      not_failed = c.in_ok-refill.ensures.failed;
       open_still = c.if-self.false;
       within_line = c.has_newline.ensures.none c.if-has_newline.false;
       lost = LosesFront-trans a (prepend_known empty known) b lost (LosesFront-kept (prepend_known empty known) b c.in_ok-refill.ensures.bytes);

@@ -7,7 +7,7 @@ use Rattle.message.proofs.reading.LineReader.skip.Given as goal
 abbrev pub invariant-loop : goal.invariant-loop
 invariant-loop g l = record {
   line : line_of l.self ≡ [];
-  sound : has_failed l.self ≡ false;
+  not_failed : has_failed l.self ≡ false;
   open_still : l.self.ended ≡ false;
   within_line : IsWithinLine (held_bytes l.self.held);
   lost : IfSome (unread g.R.Read.remaining l.initial.self) (λ bs. LosesFront bs (unread g.R.Read.remaining l.self));

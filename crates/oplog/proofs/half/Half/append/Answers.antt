@@ -27,16 +27,16 @@ returns-in_err-append_batch-clause-any_moment g c = λ k.
     messages_moments (layout_of c.args.self.geometry) c.args.self.number c.args.used c.loop-done.done (c.min-end.result - c.loop-done.done) c.args.messages.now (omega arith)
     (g.D.Disk.medium c.args.disk.now) (g.D.Disk.medium c.loop-done.disk) (g.D.Disk.medium c.append_batch.new.disk) (c.loop-done.invariant.so_far k) (c.append_batch.ensures.any_moment k)
 
-pub returns-in_err-append_batch-clause-takes : goal.returns-in_err-append_batch-clause-takes
-returns-in_err-append_batch-clause-takes g c =
+pub returns-in_err-append_batch-clause-costs : goal.returns-in_err-append_batch-clause-costs
+returns-in_err-append_batch-clause-costs g c =
     let p = err_from_is_err_and c.from_residual.result c.from_residual.ensures.1 in
     rw p.1
     (λ k.
     let left = batch_left c.loop-done.done (length c.args.messages.now) (omega arith) (c.loop-done.invariant.whole (omega arith)) in
-    omega (arith, left, c.loop-done.invariant.takes k, c.in_err-append_batch.ensures.takes k))
+    omega (arith, left, c.loop-done.invariant.takes k, c.in_err-append_batch.ensures.costs k))
 
-pub returns-clause-takes : goal.returns-clause-takes
-returns-clause-takes g c = λ k.
+pub returns-clause-costs : goal.returns-clause-costs
+returns-clause-costs g c = λ k.
     let all : c.loop-done.done ≡ length c.args.messages.now = omega arith in
     c.loop-done.invariant.takes k ∙ ap (λ (n : ℕ). moment (g.D.Disk.medium c.args.disk.now) + 4 * batches n) all
 
@@ -50,7 +50,7 @@ loop-done-preserved g c = record {
   whole = λ more. whole_batch c.loop-done.done c.min-end.result (length c.args.messages.now) (c.loop-done.invariant.whole (omega arith)) c.min-end.ensures (omega (arith, more));
   takes = λ k.
       let one = one_batch c.loop-done.done c.min-end.result (length c.args.messages.now) (omega arith) (c.loop-done.invariant.whole (omega arith)) c.min-end.ensures in
-      omega (arith, one, c.loop-done.invariant.takes k, c.in_ok-append_batch.ensures.takes k);
+      omega (arith, one, c.loop-done.invariant.takes k, c.in_ok-append_batch.ensures.costs k);
   so_far = λ k.
       let end : c.loop-done.done + (c.min-end.result - c.loop-done.done) ≡ c.min-end.result = omega arith in
       subst (λ (j : ℕ). SoFar (layout_of c.args.self.geometry) c.args.self.number c.args.used (records_of (take j c.args.messages.now))

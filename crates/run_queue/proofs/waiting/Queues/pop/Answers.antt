@@ -1,7 +1,7 @@
 -- The first slot of the chain is emptied.
 use Rattle.std.proofs.Common.{◌≡◌, ◌∙◌, ◌≤◌, ℕ, sym, subst, find, Some}
 use Rattle.std.proofs.lemmas.Option.{none-some}
-use Rattle.arena.specs.Row.{Row, IsParted}
+use Rattle.arena.specs.ArenaView.{ArenaView, IsParted}
 use Rattle.run_queue.specs.RunQueue.{has_number}
 use Rattle.run_queue.specs.Slots.{times_seated}
 use Rattle.run_queue.specs.Queues.{Waiting, IsQueued}
@@ -16,8 +16,8 @@ invariant_of-self c =
     let some = chained-some row c.args.number c.in-Some.i c.self.invariant first in
     let once = subst (λ (q : Waiting). (s : ℕ) → times_seated s q.messages ≤ 1) (sym c.self.view_is) c.requires.once in
     let is = c.take.ensures.row ∙ pop-row row c.args.number c.in-Some.i some.0 c.self.invariant first some.1 once in
-    subst (λ (r : Row QueuedMessage). IsQueued r) (sym is)
-    (pop-queued row c.args.number c.in-Some.i some.0 c.self.invariant first some.1 once (subst (λ (r : Row QueuedMessage). IsParted r) is c.take.ensures.parted))
+    subst (λ (r : ArenaView QueuedMessage). IsQueued r) (sym is)
+    (pop-queued row c.args.number c.in-Some.i some.0 c.self.invariant first some.1 once (subst (λ (r : ArenaView QueuedMessage). IsParted r) is c.take.ensures.parted))
 
 pub returns-in-Some : goal.returns-in-Some
 returns-in-Some c = λ t found.

@@ -1,6 +1,6 @@
 -- It takes a free slot, and is last on its chain.
 use Rattle.std.proofs.Common.{◌∙◌, ◌<◌, ℕ, sym, ap, subst, List, length}
-use Rattle.arena.specs.Row.{Row, IsParted, slot_from, after_move}
+use Rattle.arena.specs.ArenaView.{ArenaView, IsParted, slot_from, after_move}
 use Rattle.run_queue.specs.RunQueue.{CameBefore}
 use Rattle.run_queue.specs.Queues.{Waiting, IsQueued}
 use Rattle.run_queue.specs.declared.queued_message.QueuedMessage.{QueuedMessage}
@@ -18,10 +18,10 @@ invariant_of-self c =
     let there = subst (λ k. k < length row.chains) number
     (subst (λ (q : Waiting). t.affinity.number < q.numbers) (sym c.self.view_is) c.requires.number) in
     let later = subst (λ (q : Waiting). CameBefore t.ticket q.messages) (sym c.self.view_is) c.requires.later in
-    let is = c.move_to.ensures.row ∙ ap (λ (m : Row QueuedMessage). after_move m i n) c.put.ensures.row
+    let is = c.move_to.ensures.row ∙ ap (λ (m : ArenaView QueuedMessage). after_move m i n) c.put.ensures.row
     ∙ push-row row t i free.0 n c.self.invariant free.1 there number later in
-    subst (λ (r : Row QueuedMessage). IsQueued r) (sym is)
-    (push-queued row t i free.0 n c.self.invariant free.1 there number later (subst (λ (r : Row QueuedMessage). IsParted r) is c.move_to.ensures.parted))
+    subst (λ (r : ArenaView QueuedMessage). IsQueued r) (sym is)
+    (push-queued row t i free.0 n c.self.invariant free.1 there number later (subst (λ (r : ArenaView QueuedMessage). IsParted r) is c.move_to.ensures.parted))
 
 pub returns-in-Ok : goal.returns-in-Ok
 returns-in-Ok c =
@@ -34,7 +34,7 @@ returns-in-Ok c =
     let there = subst (λ k. k < length row.chains) number
     (subst (λ (q : Waiting). t.affinity.number < q.numbers) (sym c.self.view_is) c.requires.number) in
     let later = subst (λ (q : Waiting). CameBefore t.ticket q.messages) (sym c.self.view_is) c.requires.later in
-    let is = c.move_to.ensures.row ∙ ap (λ (m : Row QueuedMessage). after_move m i n) c.put.ensures.row
+    let is = c.move_to.ensures.row ∙ ap (λ (m : ArenaView QueuedMessage). after_move m i n) c.put.ensures.row
     ∙ push-row row t i free.0 n c.self.invariant free.1 there number later in
     rw (← c.self.view_is, is) (push-view row t i free.0 n c.self.invariant free.1 there number later)
 

@@ -1,7 +1,7 @@
 -- The message that was logged first leaves its slot and frees its affinity, with the reply that was kept for it.
 use Rattle.std.proofs.Common.{◌≡◌, ℕ, ◌<◌, ◌≤◌, length, sym, ap, subst, ◌∙◌, arith}
 use Rattle.std.specs.Prelude.{vec_capacity}
-use Rattle.arena.specs.Row.{Row, IsParted, after_take, capacity_of}
+use Rattle.arena.specs.ArenaView.{ArenaView, IsParted, after_take, capacity_of}
 use Rattle.legal_runs.specs.Events.{answer}
 use Rattle.legal_runs.specs.declared.outcomes.Outcome.TheVariants as outcomes
 use Rattle.messages.specs.declared.Reply.TheVariants.{Done}
@@ -24,7 +24,7 @@ invariant_of-self g c =
     let v = c.self.invariant in
     let first = sym c.front.ensures.slot ∙ c.in_ok-slot.was in
     let value = sym c.take.ensures.answer ∙ c.in-Some.is in
-    subst (λ (row : Row Slot). HasChains row × IsCore g.D.Disk.keeps (parts row c.self.inside.replies.items c.self.inside.tree c.self.inside.journal
+    subst (λ (row : ArenaView Slot). HasChains row × IsCore g.D.Disk.keeps (parts row c.self.inside.replies.items c.self.inside.tree c.self.inside.journal
     c.free.new.self c.self.inside.batch.items c.self.inside.next c.self.inside.unlogged c.self.inside.history.opened c.self.inside.history.since)
     × (capacity_of row ≤ vec_capacity c.self.inside.batch) × (length c.self.inside.replies.items ≡ capacity_of row)
     × (c.self.inside.ran ≡ length (slots_on row c.self.inside.replies.items 2))) (sym c.take.ensures.row) (

@@ -2,7 +2,7 @@
 use Rattle.std.proofs.Common.{◌≡◌, ℕ, ◌+◌, ◌≤◌, Bool, [], ◌∷◌, ◌++◌, length, refl, sym, ap, subst, ◌∙◌}
 use Rattle.std.specs.Prelude.{vec_capacity}
 use Rattle.affinity.specs.Kind.{is_changing}
-use Rattle.arena.specs.Row.{Row, IsParted, after_move, after_put, capacity_of}
+use Rattle.arena.specs.ArenaView.{ArenaView, IsParted, after_move, after_put, capacity_of}
 use Rattle.legal_runs.specs.Events.{arrive}
 use Rattle.legal_runs.specs.declared.outcomes.ArriveRefusal.TheVariants as arrivals
 use Rattle.legal_runs.specs.declared.outcomes.Outcome.TheVariants as outcomes
@@ -17,7 +17,7 @@ use Rattle.scheduler.proofs.core_calls.Core.arrive.Goals as goal
 
 pub invariant_of-self : goal.invariant_of-self
 invariant_of-self g c =
-    subst (λ (row : Row Slot). HasChains row × IsCore g.D.Disk.keeps (parts row c.self.inside.replies.items c.self.inside.tree c.self.inside.journal
+    subst (λ (row : ArenaView Slot). HasChains row × IsCore g.D.Disk.keeps (parts row c.self.inside.replies.items c.self.inside.tree c.self.inside.journal
     c.self.inside.queue c.self.inside.batch.items c.self.inside.next c.self.inside.unlogged c.self.inside.history.opened
     c.self.inside.history.since)
     × (capacity_of row ≤ vec_capacity c.self.inside.batch) × (length c.self.inside.replies.items ≡ capacity_of row) × (c.self.inside.ran ≡ length (slots_on row c.self.inside.replies.items 2)))
@@ -67,8 +67,8 @@ arrive-requires-clause-new_slot g c = arrive_new g.D.Disk.keeps c.self.inside.sl
 
 pub invariant_of-self-2 : goal.invariant_of-self-2
 invariant_of-self-2 g c =
-    let rows = c.move_to.ensures.row ∙ ap (λ (r : Row Slot). after_move r c.in-Ok.slot 0) c.put.ensures.row in
-    subst (λ (row : Row Slot). HasChains row × IsCore g.D.Disk.keeps (parts row c.self.inside.replies.items c.self.inside.tree c.self.inside.journal
+    let rows = c.move_to.ensures.row ∙ ap (λ (r : ArenaView Slot). after_move r c.in-Ok.slot 0) c.put.ensures.row in
+    subst (λ (row : ArenaView Slot). HasChains row × IsCore g.D.Disk.keeps (parts row c.self.inside.replies.items c.self.inside.tree c.self.inside.journal
     c.arrive.new.self c.self.inside.batch.items (c.self.inside.next + 1) c.self.inside.unlogged c.self.inside.history.opened
     c.self.inside.history.since)
     × (capacity_of row ≤ vec_capacity c.self.inside.batch) × (length c.self.inside.replies.items ≡ capacity_of row) × (c.self.inside.ran ≡ length (slots_on row c.self.inside.replies.items 2)))
@@ -121,7 +121,7 @@ invariant_of-self-2 g c =
 
 pub returns-clause-state_after : goal.returns-clause-state_after
 returns-clause-state_after g c =
-    let rows = c.move_to.ensures.row ∙ ap (λ (r : Row Slot). after_move r c.in-Ok.slot 0) c.put.ensures.row in
+    let rows = c.move_to.ensures.row ∙ ap (λ (r : ArenaView Slot). after_move r c.in-Ok.slot 0) c.put.ensures.row in
     (λ i. (
       outcomes.Ticket c.self.inside.next,
       core_state_in (parts (rows i) c.self.inside.replies.items c.self.inside.tree c.self.inside.journal

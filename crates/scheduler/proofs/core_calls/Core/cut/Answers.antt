@@ -106,15 +106,15 @@ pub returns-clause-beyond : goal.returns-clause-beyond
 returns-clause-beyond g c = λ keep.
     subst (λ (o : CoreView). KeepsBeyond (layout_of o.geometry) o.medium c.cut.new.self.medium) c.self.view_is (c.cut.ensures.beyond keep)
 
-pub returns-in-Some-clause-takes : goal.returns-in-Some-clause-takes
-returns-in-Some-clause-takes g c = λ keep. none_taken c.args.self.now.medium 4
+pub returns-in-Some-clause-costs : goal.returns-in-Some-clause-costs
+returns-in-Some-clause-costs g c = λ keep. none_taken c.args.self.now.medium 4
 
-pub returns-then-is_err-clause-takes : goal.returns-then-is_err-clause-takes
-returns-then-is_err-clause-takes g c = λ keep.
+pub returns-then-is_err-clause-costs : goal.returns-then-is_err-clause-costs
+returns-then-is_err-clause-costs g c = λ keep.
     subst (λ (o : CoreView). moment c.cut.new.self.medium ≤ moment o.medium + 4) c.self.view_is
-    (broken_takes c.cut.result _ _ _ (sym c.is_err.ensures.value ∙ c.if-is_err.true) (c.cut.ensures.takes keep))
+    (broken_takes c.cut.result _ _ _ (sym c.is_err.ensures.value ∙ c.if-is_err.true) (c.cut.ensures.costs keep))
 
-pub returns-clause-takes : goal.returns-clause-takes
-returns-clause-takes g c = λ keep.
+pub returns-clause-costs : goal.returns-clause-costs
+returns-clause-costs g c = λ keep.
     subst (λ (o : CoreView). moment c.cut.new.self.medium ≡ moment o.medium + 4) c.self.view_is
-    (made_takes c.cut.result _ _ _ (sym c.is_err.ensures.value ∙ c.if-is_err.false) (c.cut.ensures.takes keep))
+    (made_takes c.cut.result _ _ _ (sym c.is_err.ensures.value ∙ c.if-is_err.false) (c.cut.ensures.costs keep))

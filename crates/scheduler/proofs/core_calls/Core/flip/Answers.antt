@@ -95,21 +95,21 @@ pub returns-clause-beyond : goal.returns-clause-beyond
 returns-clause-beyond g c = λ keep.
     subst (λ (o : CoreView). KeepsBeyond (layout_of o.geometry) o.medium c.flip.new.self.medium) c.self.view_is (c.flip.ensures.beyond keep)
 
-pub returns-then-failed-clause-takes : goal.returns-then-failed-clause-takes
-returns-then-failed-clause-takes g c = λ keep. none_taken c.args.self.now.medium 3
+pub returns-then-failed-clause-costs : goal.returns-then-failed-clause-costs
+returns-then-failed-clause-costs g c = λ keep. none_taken c.args.self.now.medium 3
 
-pub returns-in_default-clause-takes : goal.returns-in_default-clause-takes
-returns-in_default-clause-takes g c = λ keep. none_taken c.args.self.now.medium 3
+pub returns-in_default-clause-costs : goal.returns-in_default-clause-costs
+returns-in_default-clause-costs g c = λ keep. none_taken c.args.self.now.medium 3
 
-pub returns-then-left-gt0-clause-takes : goal.returns-then-left-gt0-clause-takes
-returns-then-left-gt0-clause-takes g c = λ keep. none_taken c.args.self.now.medium 3
+pub returns-then-left-gt0-clause-costs : goal.returns-then-left-gt0-clause-costs
+returns-then-left-gt0-clause-costs g c = λ keep. none_taken c.args.self.now.medium 3
 
-pub returns-then-is_err-clause-takes : goal.returns-then-is_err-clause-takes
-returns-then-is_err-clause-takes g c = λ keep.
+pub returns-then-is_err-clause-costs : goal.returns-then-is_err-clause-costs
+returns-then-is_err-clause-costs g c = λ keep.
     subst (λ (o : CoreView). moment c.flip.new.self.medium ≤ moment o.medium + 3) c.self.view_is
-    (broken_takes c.flip.result _ _ _ (sym c.is_err.ensures.value ∙ c.if-is_err.true) (c.flip.ensures.takes keep))
+    (broken_takes c.flip.result _ _ _ (sym c.is_err.ensures.value ∙ c.if-is_err.true) (c.flip.ensures.costs keep))
 
-pub returns-clause-takes : goal.returns-clause-takes
-returns-clause-takes g c = λ keep.
+pub returns-clause-costs : goal.returns-clause-costs
+returns-clause-costs g c = λ keep.
     subst (λ (o : CoreView). moment c.flip.new.self.medium ≡ moment o.medium + 3) c.self.view_is
-    (made_takes c.flip.result _ _ _ (sym c.is_err.ensures.value ∙ c.if-is_err.false) (c.flip.ensures.takes keep))
+    (made_takes c.flip.result _ _ _ (sym c.is_err.ensures.value ∙ c.if-is_err.false) (c.flip.ensures.costs keep))

@@ -4,7 +4,7 @@ use Rattle.std.specs.Prelude.{vec_capacity}
 use Rattle.std.proofs.lemmas.Bool.{true≢false}
 use Rattle.affinity.specs.Interval.{IsAffinityOf}
 use Rattle.affinity.specs.Path.{Path}
-use Rattle.arena.specs.Row.{IsParted, Row, capacity_of}
+use Rattle.arena.specs.ArenaView.{IsParted, ArenaView, capacity_of}
 use Rattle.legal_runs.specs.Events.{give_back, out_with}
 use Rattle.legal_runs.specs.CoreState.{Entry}
 use Rattle.messages.specs.Messages.{four_numbers, kind}
@@ -61,7 +61,7 @@ unreachable-requires-in_default-restore g c = back_goes_in g.D.Disk.keeps c.self
 pub invariant_of-self : goal.invariant_of-self
 invariant_of-self g c =
     let rows = c.move_to.ensures.row in
-    subst (λ (row : Row Slot). HasChains row × IsCore g.D.Disk.keeps (parts row
+    subst (λ (row : ArenaView Slot). HasChains row × IsCore g.D.Disk.keeps (parts row
     (slice_set c.self.inside.replies.items c.in-Some-holder.slot c.reply.result.now) c.restore.new.self c.self.inside.journal
     c.self.inside.queue c.self.inside.batch.items c.self.inside.next c.self.inside.unlogged c.self.inside.history.opened
     c.self.inside.history.since)
@@ -128,7 +128,7 @@ returns-clause-state_after g c =
     × (core_state_in (parts c.move_to.new.self (slice_set c.self.inside.replies.items c.in-Some-holder.slot c.reply.result.now) c.restore.new.self
     c.self.inside.journal c.self.inside.queue c.self.inside.batch.items c.self.inside.next c.self.inside.unlogged c.self.inside.history.opened
     c.self.inside.history.since) ≡ give_back o.geometry (core_state_of o) found)) c.self.view_is
-    (subst (λ (row : Row Slot). (found : Entry × List Entry) × (out_with
+    (subst (λ (row : ArenaView Slot). (found : Entry × List Entry) × (out_with
     (core_state_in (parts c.self.inside.slots c.self.inside.replies.items c.self.inside.tree c.self.inside.journal c.self.inside.queue
     c.self.inside.batch.items c.self.inside.next c.self.inside.unlogged c.self.inside.history.opened c.self.inside.history.since)) c.args.d.ticket
     ≡ Some found) × (found.0 ≡ (c.args.d.ticket, c.args.d.message))

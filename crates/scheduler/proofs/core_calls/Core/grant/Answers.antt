@@ -3,7 +3,7 @@ use Rattle.std.proofs.Common.{◌≡◌, ℕ, ◌+◌, ◌≤◌, length, sym, a
 use Rattle.std.specs.Prelude.{nat_lt, option_copied, vec_capacity}
 use Rattle.affinity.specs.Interval.{IsAffinityOf}
 use Rattle.affinity.specs.declared.geometry.Geometry.{Geometry}
-use Rattle.arena.specs.Row.{IsParted, Row, after_move, capacity_of}
+use Rattle.arena.specs.ArenaView.{IsParted, ArenaView, after_move, capacity_of}
 use Rattle.messages.specs.Messages.{place}
 use Rattle.parcel.specs.Fits.{Suits}
 use Rattle.parcel.specs.Run.{JobView}
@@ -67,7 +67,7 @@ pub invariant_of-self : goal.invariant_of-self
 invariant_of-self g c =
     let v = c.self.invariant in
     let rows = c.move_to.ensures.row in
-    subst (λ (row : Row Slot). HasChains row × IsCore g.D.Disk.keeps (parts row c.self.inside.replies.items c.lend.new.self c.self.inside.journal
+    subst (λ (row : ArenaView Slot). HasChains row × IsCore g.D.Disk.keeps (parts row c.self.inside.replies.items c.lend.new.self c.self.inside.journal
     c.dispatch.new.self c.self.inside.batch.items c.self.inside.next (c.self.inside.unlogged + c.one_if-more.result) c.self.inside.history.opened
     c.self.inside.history.since)
     × (capacity_of row ≤ vec_capacity c.self.inside.batch) × (length c.self.inside.replies.items ≡ capacity_of row) × (c.self.inside.ran ≡ length (slots_on row c.self.inside.replies.items 2)))
@@ -102,7 +102,7 @@ returns-clause-state_after g c =
     (parts c.move_to.new.self c.self.inside.replies.items c.lend.new.self c.self.inside.journal c.dispatch.new.self c.self.inside.batch.items
     c.self.inside.next (c.self.inside.unlogged + c.one_if-more.result) c.self.inside.history.opened c.self.inside.history.since)) c.new.result)
     c.self.view_is
-    (subst (λ (row : Row Slot). IsGrantOf c.self.inside.journal.geometry
+    (subst (λ (row : ArenaView Slot). IsGrantOf c.self.inside.journal.geometry
     (core_state_in (parts c.self.inside.slots c.self.inside.replies.items c.self.inside.tree c.self.inside.journal c.self.inside.queue
     c.self.inside.batch.items c.self.inside.next c.self.inside.unlogged c.self.inside.history.opened c.self.inside.history.since))
     (core_state_in (parts row c.self.inside.replies.items c.lend.new.self c.self.inside.journal c.dispatch.new.self c.self.inside.batch.items

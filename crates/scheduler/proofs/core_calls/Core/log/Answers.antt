@@ -1,7 +1,7 @@
 -- The changes that ran fit into the log, a crash recovers a prefix of them, and then they are logged.
 use Rattle.std.proofs.Common.{◌≡◌, ℕ, ◌+◌, ◌*◌, ◌-◌, ◌≤◌, List, length, take, true, false, refl, sym, ap, subst, ◌∙◌}
 use Rattle.std.specs.Prelude.{if◌then◌else◌, vec_capacity}
-use Rattle.arena.specs.Row.{capacity_of, chain_at}
+use Rattle.arena.specs.ArenaView.{capacity_of, chain_at}
 use Rattle.disk.specs.Moments.{CrashImagesAre, moment}
 use Rattle.journal.specs.Journal.{HoldsSome}
 use Rattle.legal_runs.specs.Events.{batch, log, touches_device}
@@ -32,7 +32,7 @@ returns-then-failed-clause-any_moment g c = λ keep.
 
 pub log-requires : goal.log-requires
 log-requires g c = record {
-  sound = (sym c.failed.ensures ∙ c.if-failed.false);
+  not_failed = (sym c.failed.ensures ∙ c.if-failed.false);
   room = log_fits g.D.Disk.keeps c.self.inside.slots c.self.inside.replies.items c.self.inside.tree c.self.inside.journal c.self.inside.queue
       c.self.inside.batch.items c.self.inside.next c.self.inside.unlogged c.self.inside.history.opened c.self.inside.history.since c.self.invariant.0
       c.self.invariant.1 (sym c.failed.ensures ∙ c.if-failed.false) c.args.n c.min-count.result c.self.inside.ran c.self.invariant.4
@@ -143,7 +143,7 @@ invariant_of-self-2 g c = (
       c.deref-2.result.now c.deref-2.ensures.value c.log.new.self c.log.ensures.any_moment
       (made_from c.log.result _ c.self.inside.journal c.log.new.self (sym c.is_err.ensures.value ∙ c.if-is_err.false) c.log.ensures.after)
       (on_ok c.log.result _ (sym c.is_err.ensures.value ∙ c.if-is_err.false) c.log.ensures.committed)
-      (on_ok c.log.result _ (sym c.is_err.ensures.value ∙ c.if-is_err.false) c.log.ensures.sound) c.move_ran.new.slots c.move_ran.ensures
+      (on_ok c.log.result _ (sym c.is_err.ensures.value ∙ c.if-is_err.false) c.log.ensures.recoverable) c.move_ran.new.slots c.move_ran.ensures
       c.collect_loggable-changing.result c.collect_loggable-changing.ensures.changing c.note.new.self.opened (λ i. (c.note.ensures i).opened)
       c.note.new.self.since (λ i. (c.note.ensures i).since) c.clear.new.self.items c.clear.ensures.items,
   subst (λ (n : ℕ). n ≤ vec_capacity c.clear.new.self) (sym (log_size g.D.Disk.keeps c.self.inside.slots c.self.inside.replies.items
@@ -154,7 +154,7 @@ invariant_of-self-2 g c = (
       (take c.min-count.result (chain_at c.self.inside.slots 2))) c.deref.ensures.value) c.deref-2.result.now c.deref-2.ensures.value c.log.new.self
       c.log.ensures.any_moment (made_from c.log.result _ c.self.inside.journal c.log.new.self (sym c.is_err.ensures.value ∙ c.if-is_err.false)
       c.log.ensures.after) (on_ok c.log.result _ (sym c.is_err.ensures.value ∙ c.if-is_err.false) c.log.ensures.committed)
-      (on_ok c.log.result _ (sym c.is_err.ensures.value ∙ c.if-is_err.false) c.log.ensures.sound) c.move_ran.new.slots c.move_ran.ensures
+      (on_ok c.log.result _ (sym c.is_err.ensures.value ∙ c.if-is_err.false) c.log.ensures.recoverable) c.move_ran.new.slots c.move_ran.ensures
       c.collect_loggable-changing.result c.collect_loggable-changing.ensures.changing c.note.new.self.opened (λ i. (c.note.ensures i).opened)
       c.note.new.self.since (λ i. (c.note.ensures i).since) c.clear.new.self.items c.clear.ensures.items))
       (subst (λ (n : ℕ). capacity_of c.self.inside.slots ≤ n) (sym (c.clear.ensures.capacity ∙ c.collect_loggable-changing.ensures.capacity)) c.self.invariant.2),
@@ -166,7 +166,7 @@ invariant_of-self-2 g c = (
       (take c.min-count.result (chain_at c.self.inside.slots 2))) c.deref.ensures.value) c.deref-2.result.now c.deref-2.ensures.value c.log.new.self
       c.log.ensures.any_moment (made_from c.log.result _ c.self.inside.journal c.log.new.self (sym c.is_err.ensures.value ∙ c.if-is_err.false)
       c.log.ensures.after) (on_ok c.log.result _ (sym c.is_err.ensures.value ∙ c.if-is_err.false) c.log.ensures.committed)
-      (on_ok c.log.result _ (sym c.is_err.ensures.value ∙ c.if-is_err.false) c.log.ensures.sound) c.move_ran.new.slots c.move_ran.ensures
+      (on_ok c.log.result _ (sym c.is_err.ensures.value ∙ c.if-is_err.false) c.log.ensures.recoverable) c.move_ran.new.slots c.move_ran.ensures
       c.collect_loggable-changing.result c.collect_loggable-changing.ensures.changing c.note.new.self.opened (λ i. (c.note.ensures i).opened)
       c.note.new.self.since (λ i. (c.note.ensures i).since) c.clear.new.self.items c.clear.ensures.items),
   log_ran g.D.Disk.keeps c.self.inside.slots c.self.inside.replies.items c.self.inside.tree c.self.inside.journal c.self.inside.queue
@@ -177,7 +177,7 @@ invariant_of-self-2 g c = (
       c.deref-2.result.now c.deref-2.ensures.value c.log.new.self c.log.ensures.any_moment
       (made_from c.log.result _ c.self.inside.journal c.log.new.self (sym c.is_err.ensures.value ∙ c.if-is_err.false) c.log.ensures.after)
       (on_ok c.log.result _ (sym c.is_err.ensures.value ∙ c.if-is_err.false) c.log.ensures.committed)
-      (on_ok c.log.result _ (sym c.is_err.ensures.value ∙ c.if-is_err.false) c.log.ensures.sound) c.move_ran.new.slots c.move_ran.ensures
+      (on_ok c.log.result _ (sym c.is_err.ensures.value ∙ c.if-is_err.false) c.log.ensures.recoverable) c.move_ran.new.slots c.move_ran.ensures
       c.collect_loggable-changing.result c.collect_loggable-changing.ensures.changing c.note.new.self.opened (λ i. (c.note.ensures i).opened)
       c.note.new.self.since (λ i. (c.note.ensures i).since) c.clear.new.self.items c.clear.ensures.items,
 )
@@ -202,7 +202,7 @@ returns-clause-state_after g c =
           c.log.new.self c.log.ensures.any_moment (made_from c.log.result _ c.self.inside.journal c.log.new.self
           (sym c.is_err.ensures.value ∙ c.if-is_err.false) c.log.ensures.after)
           (on_ok c.log.result _ (sym c.is_err.ensures.value ∙ c.if-is_err.false) c.log.ensures.committed)
-          (on_ok c.log.result _ (sym c.is_err.ensures.value ∙ c.if-is_err.false) c.log.ensures.sound) c.move_ran.new.slots c.move_ran.ensures
+          (on_ok c.log.result _ (sym c.is_err.ensures.value ∙ c.if-is_err.false) c.log.ensures.recoverable) c.move_ran.new.slots c.move_ran.ensures
           c.collect_loggable-changing.result c.collect_loggable-changing.ensures.changing c.note.new.self.opened (λ i. (c.note.ensures i).opened)
           c.note.new.self.since (λ i. (c.note.ensures i).since) c.clear.new.self.items c.clear.ensures.items,
     )
@@ -242,11 +242,11 @@ pub returns-clause-beyond : goal.returns-clause-beyond
 returns-clause-beyond g c = λ keep.
     subst (λ (o : CoreView). KeepsBeyond (layout_of o.geometry) o.medium c.log.new.self.medium) c.self.view_is (c.log.ensures.beyond keep)
 
-pub returns-then-failed-clause-takes : goal.returns-then-failed-clause-takes
-returns-then-failed-clause-takes g c = λ keep. none_taken c.args.self.now.medium (4 * batches (length (batch (core_state_of c.args.self.now) c.args.n)))
+pub returns-then-failed-clause-costs : goal.returns-then-failed-clause-costs
+returns-then-failed-clause-costs g c = λ keep. none_taken c.args.self.now.medium (4 * batches (length (batch (core_state_of c.args.self.now) c.args.n)))
 
-pub returns-then-is_err-clause-takes : goal.returns-then-is_err-clause-takes
-returns-then-is_err-clause-takes g c = λ keep.
+pub returns-then-is_err-clause-costs : goal.returns-then-is_err-clause-costs
+returns-then-is_err-clause-costs g c = λ keep.
     subst (λ (o : CoreView). moment c.log.new.self.medium ≤ moment o.medium + 4 * batches (length (batch (core_state_of o) c.args.n))) c.self.view_is
     (subst (λ (m : ℕ). moment c.log.new.self.medium ≤ moment c.self.inside.journal.medium + 4 * batches m)
     (log_length g.D.Disk.keeps c.self.inside.slots c.self.inside.replies.items c.self.inside.tree c.self.inside.journal c.self.inside.queue
@@ -255,10 +255,10 @@ returns-then-is_err-clause-takes g c = λ keep.
     c.self.invariant.4 c.min-count.ensures c.collect_loggable-changing.new.batch.items
     (c.collect_loggable-changing.ensures.batch ∙ ap (λ (rs : List Reply). gathered c.self.inside.slots rs
     (take c.min-count.result (chain_at c.self.inside.slots 2))) c.deref.ensures.value) c.deref-2.result.now c.deref-2.ensures.value)
-    (broken_takes c.log.result _ _ _ (sym c.is_err.ensures.value ∙ c.if-is_err.true) (c.log.ensures.takes keep)))
+    (broken_takes c.log.result _ _ _ (sym c.is_err.ensures.value ∙ c.if-is_err.true) (c.log.ensures.costs keep)))
 
-pub returns-clause-takes : goal.returns-clause-takes
-returns-clause-takes g c = λ keep.
+pub returns-clause-costs : goal.returns-clause-costs
+returns-clause-costs g c = λ keep.
     subst (λ (o : CoreView). moment c.log.new.self.medium ≡ moment o.medium + 4 * batches (length (batch (core_state_of o) c.args.n))) c.self.view_is
     (subst (λ (m : ℕ). moment c.log.new.self.medium ≡ moment c.self.inside.journal.medium + 4 * batches m)
     (log_length g.D.Disk.keeps c.self.inside.slots c.self.inside.replies.items c.self.inside.tree c.self.inside.journal c.self.inside.queue
@@ -267,4 +267,4 @@ returns-clause-takes g c = λ keep.
     c.self.invariant.4 c.min-count.ensures c.collect_loggable-changing.new.batch.items
     (c.collect_loggable-changing.ensures.batch ∙ ap (λ (rs : List Reply). gathered c.self.inside.slots rs
     (take c.min-count.result (chain_at c.self.inside.slots 2))) c.deref.ensures.value) c.deref-2.result.now c.deref-2.ensures.value)
-    (made_takes c.log.result _ _ _ (sym c.is_err.ensures.value ∙ c.if-is_err.false) (c.log.ensures.takes keep)))
+    (made_takes c.log.result _ _ _ (sym c.is_err.ensures.value ∙ c.if-is_err.false) (c.log.ensures.costs keep)))

@@ -5,7 +5,7 @@ use Rattle.std.proofs.lemmas.Result.{err_from_is_err_and}
 use Rattle.affinity.specs.declared.geometry.Geometry.{Geometry}
 use Rattle.disk.proofs.Moments.{started}
 use Rattle.disk.specs.Device.{IsCrashImage}
-use Rattle.journal.specs.Journal.{IsCommitted, committed}
+use Rattle.journal.specs.Journal.{IsRecoverable, committed}
 use Rattle.oplog.proofs.Beyond.{beyond_none}
 use Rattle.device_map.specs.Layout.{layout_of}
 use Rattle.parcel.specs.Tree.{state_in}
@@ -32,7 +32,7 @@ invariant_of-result g c =
     let journal = c.in_ok-journal.journal in
     let same = c.in_ok-journal.ensures.tree.0 in
     let whole = c.in_ok-journal.ensures.tree.1 in
-    let holds : keeps → (committed journal ≡ Some (state_in tree)) × IsCommitted journal = λ k. let o = c.in_ok-journal.ensures.opened k in (o.is, o.sound) in
+    let holds : keeps → (committed journal ≡ Some (state_in tree)) × IsRecoverable journal = λ k. let o = c.in_ok-journal.ensures.opened k in (o.is, o.recoverable) in
     let row = c.in-Ok.ensures.row in
     let queue = c.set_geometry.ensures ∙ ap (λ (q : RunQueueView). queue_at_start c.geometry.result q.slots) c.in-Ok.ensures.queue
     ∙ ap (λ (h : Geometry). queue_at_start h c.args.slots) c.geometry.ensures in
@@ -60,7 +60,7 @@ returns-in_err-journal-clause-exact g c =
 pub returns-clause-exact : goal.returns-clause-exact
 returns-clause-exact g c = λ fault k also told.
     let o = c.in_ok-journal.ensures.opened k in
-    opened_or_refused (g.D.Disk.medium c.args.d).now c.in_ok-journal.journal.geometry fault o.header o.fine told also
+    opened_or_refused (g.D.Disk.medium c.args.d).now c.in_ok-journal.journal.geometry fault o.header o.accepted told also
 
 pub returns-in_default-clause-beyond : goal.returns-in_default-clause-beyond
 returns-in_default-clause-beyond g c = λ k h header. beyond_none (layout_of h) (g.D.Disk.medium c.args.d)
@@ -73,13 +73,13 @@ returns-in_err-journal-clause-beyond g c =
 pub returns-clause-beyond : goal.returns-clause-beyond
 returns-clause-beyond g c = λ k h header. c.in_ok-journal.ensures.beyond k h header
 
-pub returns-in_default-clause-takes : goal.returns-in_default-clause-takes
-returns-in_default-clause-takes g c = λ k. omega arith
+pub returns-in_default-clause-costs : goal.returns-in_default-clause-costs
+returns-in_default-clause-costs g c = λ k. omega arith
 
-pub returns-in_err-journal-clause-takes : goal.returns-in_err-journal-clause-takes
-returns-in_err-journal-clause-takes g c =
+pub returns-in_err-journal-clause-costs : goal.returns-in_err-journal-clause-costs
+returns-in_err-journal-clause-costs g c =
     let p = err_from_is_err_and c.from_residual.result c.from_residual.ensures.1 in
-    rw (p.1, p.2) (λ k. c.in_err-journal.ensures.takes k)
+    rw (p.1, p.2) (λ k. c.in_err-journal.ensures.costs k)
 
-pub returns-clause-takes : goal.returns-clause-takes
-returns-clause-takes g c = λ k. c.in_ok-journal.ensures.takes k
+pub returns-clause-costs : goal.returns-clause-costs
+returns-clause-costs g c = λ k. c.in_ok-journal.ensures.costs k

@@ -91,15 +91,15 @@ pub returns-clause-beyond : goal.returns-clause-beyond
 returns-clause-beyond g c = λ keep.
     subst (λ (o : CoreView). KeepsBeyond (layout_of o.geometry) o.medium c.point.new.self.medium) c.self.view_is (c.point.ensures.beyond keep)
 
-pub returns-in-Some-clause-takes : goal.returns-in-Some-clause-takes
-returns-in-Some-clause-takes g c = λ keep. none_taken c.args.self.now.medium (longest_point c.args.self.now.geometry)
+pub returns-in-Some-clause-costs : goal.returns-in-Some-clause-costs
+returns-in-Some-clause-costs g c = λ keep. none_taken c.args.self.now.medium (longest_point c.args.self.now.geometry)
 
-pub returns-then-is_err-clause-takes : goal.returns-then-is_err-clause-takes
-returns-then-is_err-clause-takes g c = λ keep.
-    let took = broken_takes c.point.result _ _ _ (sym c.is_err.ensures.value ∙ c.if-is_err.true) (c.point.ensures.takes keep) in
+pub returns-then-is_err-clause-costs : goal.returns-then-is_err-clause-costs
+returns-then-is_err-clause-costs g c = λ keep.
+    let took = broken_takes c.point.result _ _ _ (sym c.is_err.ensures.value ∙ c.if-is_err.true) (c.point.ensures.costs keep) in
     subst (λ (o : CoreView). moment c.point.new.self.medium ≤ moment o.medium + longest_point o.geometry) c.self.view_is (omega (arith, took, c.point.ensures.few))
 
-pub returns-clause-takes : goal.returns-clause-takes
-returns-clause-takes g c = λ keep.
-    let took = made_takes c.point.result _ _ _ (sym c.is_err.ensures.value ∙ c.if-is_err.false) (c.point.ensures.takes keep) in
+pub returns-clause-costs : goal.returns-clause-costs
+returns-clause-costs g c = λ keep.
+    let took = made_takes c.point.result _ _ _ (sym c.is_err.ensures.value ∙ c.if-is_err.false) (c.point.ensures.costs keep) in
     subst (λ (o : CoreView). moment c.point.new.self.medium ≤ moment o.medium + longest_point o.geometry) c.self.view_is (omega (arith, took, c.point.ensures.few))

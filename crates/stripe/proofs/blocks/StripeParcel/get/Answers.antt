@@ -1,6 +1,6 @@
 -- The buffer at the index of the block has its content.
 use Rattle.std.proofs.Common.{ap, sym, ◌∙◌}
-use Rattle.arena.specs.Row.{value_at}
+use Rattle.arena.specs.ArenaView.{value_at}
 use Rattle.stripe.specs.Stripe.{StripePart}
 use Rattle.stripe.proofs.EntryLemmas.{content-gap}
 use Rattle.stripe.proofs.IndexLemmas.{found-value}

@@ -1,6 +1,6 @@
 -- The first free slot gets the content, and the index a place for it.
 use Rattle.std.proofs.Common.{◌≡◌, ◌≤◌, ap, sym, arith, length, vec_capacity, Ok}
-use Rattle.arena.specs.Row.{put_answer}
+use Rattle.arena.specs.ArenaView.{put_answer}
 use Rattle.stripe.specs.Stripe.{StripePart}
 use Rattle.stripe.specs.Index.{IsGap, entries_of}
 use Rattle.stripe.proofs.IndexLemmas.{slot-small, length-put, entries-put, stored-put, part_same}

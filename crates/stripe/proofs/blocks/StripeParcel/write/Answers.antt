@@ -1,7 +1,7 @@
 -- The slot of the block gets the content, and the other slots stay.
 use Rattle.std.proofs.Common.{◌<◌, length, ap, Some, arith}
 use Rattle.std.proofs.lemmas.List.{length-set}
-use Rattle.arena.specs.Row.{value_at}
+use Rattle.arena.specs.ArenaView.{value_at}
 use Rattle.stripe.specs.Stripe.{StripePart}
 use Rattle.stripe.proofs.IndexLemmas.{held-content, entries-written, stored-written, slot-within, length-entries, part_same}
 use Rattle.stripe.proofs.blocks.StripeParcel.write.Goals as goal

@@ -1,6 +1,6 @@
 -- The slot of a block that is there holds a value.
 use Rattle.std.proofs.Common.{◌<◌, length, ap, arith}
-use Rattle.arena.specs.Row.{value_at}
+use Rattle.arena.specs.ArenaView.{value_at}
 use Rattle.stripe.specs.Stripe.{StripePart}
 use Rattle.stripe.proofs.IndexLemmas.{held-content, length-entries}
 use Rattle.stripe.proofs.blocks.StripeParcel.write_entry.Goals as goal

@@ -5,14 +5,14 @@ use Rattle.std.specs.Coded.{Coded, code_by, coded×, coded_ℕ, coded_list, code
 use Rattle.arena.specs.Lists.{times, is_on, without, numbers_from, first_of, behind_in}
 
 -- The value in each slot, the free list, and the chains. A slot on none of these lists is aside.
-pub record Row (T : Type 0) : Type 0 where
+pub record ArenaView (T : Type 0) : Type 0 where
   pub values : List (Option T)
   pub free : List ℕ
   pub chains : List (List ℕ)
 
 -- a row is stored as the tuple of its fields
-abbrev pub row_code : {T : Type 0} → Coded T → Coded (Row T)
-row_code {T} code =
+abbrev pub arena_view_code : {T : Type 0} → Coded T → Coded (ArenaView T)
+arena_view_code {T} code =
     code_by
     (List (Option T) × (List ℕ × List (List ℕ)))
     (coded× (coded_list (coded_option code)) (coded× (coded_list coded_ℕ) (coded_list (coded_list coded_ℕ))))
@@ -26,35 +26,35 @@ moved chains i c = let others = map (without i) chains in slice_set others c (sl
 
 module _ {T : Type 0} where
   -- how many slots there are
-  abbrev pub capacity_of : Row T → ℕ
+  abbrev pub capacity_of : ArenaView T → ℕ
   capacity_of m = length m.values
 
   -- the value in a slot: none where the slot is free, where its value is out, and where there is no slot
-  abbrev pub value_at : Row T → ℕ → Option T
+  abbrev pub value_at : ArenaView T → ℕ → Option T
   value_at m i = slice_index_or m.values i None
 
   -- whether a slot holds its value
-  abbrev pub holds_value : Row T → ℕ → Bool
+  abbrev pub holds_value : ArenaView T → ℕ → Bool
   holds_value m i = is_some (value_at m i)
 
   -- a chain, which is empty where there is none
-  abbrev pub chain_at : Row T → ℕ → List ℕ
+  abbrev pub chain_at : ArenaView T → ℕ → List ℕ
   chain_at m c = slice_index_or m.chains c []
 
   -- whether a slot is claimed and its value out
-  abbrev pub is_lent : Row T → ℕ → Bool
+  abbrev pub is_lent : ArenaView T → ℕ → Bool
   is_lent m i = nat_lt i (capacity_of m) && (is_none (value_at m i) && not (is_on i m.free))
 
   -- the slots on the free list and on the chains
-  abbrev pub listed : Row T → List ℕ
+  abbrev pub listed : ArenaView T → List ℕ
   listed m = m.free ++ concat m.chains
 
   -- the slots aside: those on no list
-  abbrev pub aside : Row T → List ℕ
+  abbrev pub aside : ArenaView T → List ℕ
   aside m = filter (λ i. not (is_on i (listed m))) (numbers_from 0 (capacity_of m))
 
   -- The free list, the chains and the slots aside partition the slots. A free slot holds no value, and a slot on a chain does.
-  pub record IsParted (m : Row T) : Type 0 where
+  pub record IsParted (m : ArenaView T) : Type 0 where
     -- each number below the capacity is once in all parts together, and no other number is
     pub parts : (i : ℕ) → times i (listed m ++ aside m) ≡ (if nat_lt i (capacity_of m) then 1 else 0)
     pub once : (i : ℕ) → times i (listed m) ≤ 1
@@ -62,58 +62,58 @@ module _ {T : Type 0} where
     pub free_empty : (i : ℕ) → 0 < times i m.free → value_at m i ≡ None
     pub chains_hold : (i : ℕ) → 0 < times i (concat m.chains) → IsTrue (holds_value m i)
 
-  -- so many free slots, in order, and so many empty chains
-  abbrev pub empty_row : ℕ → ℕ → Row T
-  empty_row slots chains = record { values = replicate slots None; free = numbers_from 0 slots; chains = replicate chains [] }
+  -- this many free slots, in order, and this many empty chains
+  abbrev pub empty_arena : ℕ → ℕ → ArenaView T
+  empty_arena slots chains = record { values = replicate slots None; free = numbers_from 0 slots; chains = replicate chains [] }
 
   -- `put` takes the first free slot
   abbrev pub slot_from : List ℕ → T → Result ℕ T
   slot_from [] value = Err value
   slot_from (i ∷ rest) value = Ok i
 
-  abbrev pub put_answer : Row T → T → Result ℕ T
+  abbrev pub put_answer : ArenaView T → T → Result ℕ T
   put_answer m value = slot_from m.free value
 
-  abbrev pub put_into : Row T → List ℕ → T → Row T
+  abbrev pub put_into : ArenaView T → List ℕ → T → ArenaView T
   put_into m [] value = m
   put_into m (i ∷ rest) value = record m { values = slice_set m.values i (Some value); free = rest }
 
-  abbrev pub after_put : Row T → T → Row T
+  abbrev pub after_put : ArenaView T → T → ArenaView T
   after_put m value = put_into m m.free value
 
   -- the first slot of a chain, and the slot after one on its chain
-  abbrev pub front_of : Row T → ℕ → Option ℕ
+  abbrev pub front_of : ArenaView T → ℕ → Option ℕ
   front_of m c = first_of (chain_at m c)
 
-  abbrev pub next_of : Row T → ℕ → Option ℕ
+  abbrev pub next_of : ArenaView T → ℕ → Option ℕ
   next_of m i = behind_in i m.chains
 
   -- `move_to` wants a slot that holds its value, and a chain
-  abbrev pub can_move : Row T → ℕ → ℕ → Bool
+  abbrev pub can_move : ArenaView T → ℕ → ℕ → Bool
   can_move m i c = holds_value m i && nat_lt c (length m.chains)
 
-  abbrev pub after_move : Row T → ℕ → ℕ → Row T
+  abbrev pub after_move : ArenaView T → ℕ → ℕ → ArenaView T
   after_move m i c = if can_move m i c then record m { chains = moved m.chains i c } else m
 
   -- `lend` gives the value out, and the slot leaves its chain
-  abbrev pub after_lend : Row T → ℕ → Row T
+  abbrev pub after_lend : ArenaView T → ℕ → ArenaView T
   after_lend m i =
       if holds_value m i then record m { values = slice_set m.values i None; chains = map (without i) m.chains } else m
 
   -- `restore` wants a slot whose value is out
-  abbrev pub restore_answer : Row T → ℕ → T → Result (Unit {0}) T
+  abbrev pub restore_answer : ArenaView T → ℕ → T → Result (Unit {0}) T
   restore_answer m i value = if is_lent m i then Ok tt else Err value
 
-  abbrev pub after_restore : Row T → ℕ → T → Row T
+  abbrev pub after_restore : ArenaView T → ℕ → T → ArenaView T
   after_restore m i value = if is_lent m i then record m { values = slice_set m.values i (Some value) } else m
 
   -- `take` gives the value out, and the slot leaves its chain and becomes the first free one
-  abbrev pub after_take : Row T → ℕ → Row T
+  abbrev pub after_take : ArenaView T → ℕ → ArenaView T
   after_take m i =
       if holds_value m i
       then record m { values = slice_set m.values i None; free = i ∷ m.free; chains = map (without i) m.chains }
       else m
 
   -- a write to the value in a slot
-  abbrev pub with_value : Row T → ℕ → T → Row T
+  abbrev pub with_value : ArenaView T → ℕ → T → ArenaView T
   with_value m i value = record m { values = slice_set m.values i (Some value) }

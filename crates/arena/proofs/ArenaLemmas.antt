@@ -7,7 +7,7 @@ use Rattle.std.proofs.lemmas.List.{length-set, get_or-set_same, get_or-set_other
 use Rattle.std.proofs.lemmas.Map.Steps.{le-length_from_below}
 use Rattle.std.specs.List.{concat, list_any}
 use Rattle.arena.specs.Lists.{times, without, first_of}
-use Rattle.arena.specs.Row.{Row, capacity_of, holds_value, chain_at, listed, aside, IsParted, moved, front_of}
+use Rattle.arena.specs.ArenaView.{ArenaView, capacity_of, holds_value, chain_at, listed, aside, IsParted, moved, front_of}
 use Rattle.arena.proofs.Times.{times-append, times-cons_is, times-cons_other, times-at, without-absent, length-once}
 use Rattle.arena.proofs.Keeping.{each-from_times}
 
@@ -63,28 +63,28 @@ first-without i (x ∷ xs) first once =
 
 module _ {T : Type 0} where
   -- a slot on a chain holds its value, is not free, and is on no other chain
-  pub chained-listed : (m : Row T) (i c : ℕ) → 0 < times i (chain_at m c) → 0 < times i (concat m.chains)
+  pub chained-listed : (m : ArenaView T) (i c : ℕ) → 0 < times i (chain_at m c) → 0 < times i (concat m.chains)
   chained-listed m i c some = omega (arith, times-at i m.chains c)
 
-  pub chained-holds : (m : Row T) (i c : ℕ) → IsParted m → 0 < times i (chain_at m c) → holds_value m i ≡ true
+  pub chained-holds : (m : ArenaView T) (i c : ℕ) → IsParted m → 0 < times i (chain_at m c) → holds_value m i ≡ true
   chained-holds m i c parted some = parted.chains_hold i (chained-listed m i c some)
 
-  pub chained-once : (m : Row T) (i c : ℕ) → IsParted m → times i (chain_at m c) ≤ 1
+  pub chained-once : (m : ArenaView T) (i c : ℕ) → IsParted m → times i (chain_at m c) ≤ 1
   chained-once m i c parted = omega (arith, times-at i m.chains c, times-append i m.free (concat m.chains), parted.once i)
 
-  pub chained-apart : (m : Row T) (i c d : ℕ) → IsParted m → c ≢ d → 0 < times i (chain_at m c) → times i (chain_at m d) ≡ 0
+  pub chained-apart : (m : ArenaView T) (i c d : ℕ) → IsParted m → c ≢ d → 0 < times i (chain_at m c) → times i (chain_at m d) ≡ 0
   chained-apart m i c d parted other some =
       omega (arith, times-two i m.chains c d other, times-append i m.free (concat m.chains), parted.once i)
 
   -- the first slot of a chain, and what is left of the chain without it
-  pub front-chained : (m : Row T) (i c : ℕ) → front_of m c ≡ Some i → 0 < times i (chain_at m c)
+  pub front-chained : (m : ArenaView T) (i c : ℕ) → front_of m c ≡ Some i → 0 < times i (chain_at m c)
   front-chained m i c first = times-first i (chain_at m c) first
 
-  pub chain-front : (m : Row T) (i c : ℕ) → IsParted m → front_of m c ≡ Some i → chain_at m c ≡ i ∷ without i (chain_at m c)
+  pub chain-front : (m : ArenaView T) (i c : ℕ) → IsParted m → front_of m c ≡ Some i → chain_at m c ≡ i ∷ without i (chain_at m c)
   chain-front m i c parted first = first-without i (chain_at m c) first (chained-once m i c parted)
 
   -- the numbers of the slots in the parts add up to the capacity
-  pub length-parts : (m : Row T) → IsParted m → length m.free + length (concat m.chains) + length (aside m) ≡ capacity_of m
+  pub length-parts : (m : ArenaView T) → IsParted m → length m.free + length (concat m.chains) + length (aside m) ≡ capacity_of m
   length-parts m parted =
       let all = listed m ++ aside m in
       let short = length-once (capacity_of m) all (λ i. at_most i) (each-from_times (λ x. x < capacity_of m) all (λ i some. below i some)) in

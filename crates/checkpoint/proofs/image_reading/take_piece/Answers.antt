@@ -3,8 +3,8 @@ use Rattle.std.proofs.Common.{◌≡◌, ℕ, sym, ◌∙◌}
 use Rattle.image.specs.Pieces.{piece_of, with_piece}
 use Rattle.parcel.specs.Tree.{state_in}
 use Rattle.checkpoint.proofs.Walked.{not_taken, second_version, was_taken}
-use Rattle.checkpoint.proofs.imaging.take_piece.Goals as goal
-use Rattle.checkpoint.proofs.imaging.take_piece.Goals.{then-version-eq1, else-version-eq1}
+use Rattle.checkpoint.proofs.image_reading.take_piece.Goals as goal
+use Rattle.checkpoint.proofs.image_reading.take_piece.Goals.{then-version-eq1, else-version-eq1}
 
 pub returns-then-is_err-clause-good : goal.returns-then-is_err-clause-good
 returns-then-is_err-clause-good c =

@@ -11,8 +11,8 @@ use Rattle.journal.proofs.FrozenBytes.{IsFrozenTo, all_put, headed, none_behind,
 use Rattle.affinity.specs.declared.geometry.Geometry.{Geometry}
 use Rattle.device_map.specs.Layout.{image_size}
 use Rattle.parcel.specs.Tree.{state_in}
-use Rattle.journal.proofs.snapshot.freeze.Goals as goal
-use Rattle.journal.proofs.snapshot.freeze.Goals.{then-is_dirty, else-is_dirty}
+use Rattle.journal.proofs.snapshot.update_snapshot.Goals as goal
+use Rattle.journal.proofs.snapshot.update_snapshot.Goals.{then-is_dirty, else-is_dirty}
 
 pub write_head-requires : goal.write_head-requires
 write_head-requires c = omega (arith, c.requires.size, whole_image c.args.tree.now.geometry)

@@ -7,7 +7,7 @@ use Rattle.device_map.specs.Layout.{image, layout_of, part_bytes, part_at}
 use Rattle.parcel.specs.Tree.{state_in}
 use Rattle.checkpoint.proofs.Replays.{same_bytes}
 use Rattle.checkpoint.proofs.Walked.{all_read, bad_queued, free_at_first, free_queued, good_queued, next_place, no_bad_piece, read_there, room_left, decoded_turn}
-use Rattle.checkpoint.proofs.imaging.read_pieces.Goals as goal
+use Rattle.checkpoint.proofs.image_reading.read_pieces.Goals as goal
 
 pub loop-n-init : goal.loop-n-init
 loop-n-init g c = record {

@@ -6,7 +6,7 @@ use Rattle.image.specs.Image.{AreGood, decoded_before, version_in}
 use Rattle.image.specs.Pieces.{piece_at}
 use Rattle.device_map.specs.Layout.{image, layout_of, part_bytes, part_at}
 use Rattle.parcel.specs.Tree.{IsWholeTree, state_in}
-use Rattle.checkpoint.proofs.imaging.read_pieces.Given as goal
+use Rattle.checkpoint.proofs.image_reading.read_pieces.Given as goal
 
 abbrev pub invariant-loop-n : goal.invariant-loop-n
 invariant-loop-n g l = record {
