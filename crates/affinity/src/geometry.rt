@@ -1,11 +1,11 @@
-//! The eight numbers of a server.
+//! The geometry of a server: its eight sizes.
 ghost use Rattle.std.specs.Prelude.{◌≡◌, ◌↔◌, IsOk, IfOk};
 ghost use Rattle.affinity.specs.Limits.{IsWithin, AreInRange};
 
 use std::error::Error;
 use std::fmt;
 
-/// The eight numbers of a server. Each value keeps them in their ranges.
+/// The geometry of a server: eight sizes, each in its range.
 #[derive(Clone, Copy, Debug, PartialEq, Eq)]
 pub struct Geometry {
     /// Aggregates of the server, 1 to 4.

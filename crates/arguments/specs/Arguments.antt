@@ -99,11 +99,11 @@ numbers_in rows =
     ∷ number_in rows (codes "half") standard.half
     ∷ []
 
--- the numbers of a service in their order: its workers, its slots, and after how many records it makes a checkpoint
+-- the options of `serve` in their order: workers, slots, and after how many records a checkpoint is made
 abbrev pub service_numbers : ServiceNumbers → List ℕ
 service_numbers s = s.workers ∷ s.slots ∷ s.every ∷ []
 
--- the numbers of a service
+-- the options of `serve`
 abbrev pub service_in : List Row → List ℕ
 service_in rows =
     number_in rows (codes "workers") 2
@@ -142,7 +142,7 @@ abbrev pub numbers_at : Option (Text × List Row) → List ℕ
 numbers_at None = numbers_of standard
 numbers_at (Some command) = numbers_in command.1
 
--- the numbers of the service that the options of the command give
+-- the options of `serve` that the command line gives
 abbrev pub service_at : Option (Text × List Row) → List ℕ
 service_at None = 2 ∷ 16 ∷ 0 ∷ []
 service_at (Some command) = service_in command.1

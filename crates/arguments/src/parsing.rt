@@ -289,7 +289,7 @@ fn geometry_given(options: &ArgMatches<'_>) -> Result<Geometry, ArgumentRefusal>
     }
 }
 
-/// The numbers of the service that the options ask for.
+/// The options of `serve` that the command line gives.
 fn service_given(options: &ArgMatches<'_>) -> ServiceNumbers
     ensures { service_numbers result ≡ service_in (rows_of (found_of options.now)) }
 {

@@ -10,7 +10,7 @@ use Rattle.messages.specs.Messages.{IsMessage, kind, four_numbers, place}
 use Rattle.parcel.specs.Fits.{Fits, IsKindOf}
 use Rattle.parcel.specs.Nodes.{Nodes, tree_state}
 use Rattle.parcel.specs.Run.{JobView, IsJobRun, IsSerialStep}
-use Rattle.parcel.specs.RunLaws.{CanBePutBack, LendsJob, LendsRunsRestores, job_place}
+use Rattle.parcel.specs.RunLaws.{CanBeRestored, LendsJob, LendsRunsRestores, job_place}
 use Rattle.parcel.specs.Tree.{IsIn, IsOut, LendsAt, RestoresAt}
 use Rattle.parcel.specs.declared.job.Done.{Done}
 use Rattle.parcel.specs.declared.parts.Parcels.{Parcels}
@@ -34,8 +34,8 @@ module _ {g : Geometry} {m : Msg} {s : Standing} {l : Parcels} {job : JobView} (
       (subst (λ (i : Geometry). (p : Path) → IsAffinityOf i p a → LendsAt i p s l old lent) (sym same) took (place g m) there)
 
   -- what was run goes back
-  pub goes_back : CanBePutBack g (place g m) done.parcels lent
-  goes_back = subst (λ (j : JobView). CanBePutBack j.geometry (job_place j) done.parcels lent) is (ran_goes_back job done old lent lends ran)
+  pub goes_back : CanBeRestored g (place g m) done.parcels lent
+  goes_back = subst (λ (j : JobView). CanBeRestored j.geometry (job_place j) done.parcels lent) is (ran_goes_back job done old lent lends ran)
 
   module _ {k : Geometry} (alike : g ≡ k) {r : Parcels} (is_done : r ≡ done.parcels) where
     pub fits_there : (q : Path) → IsAffinityOf k q a → IsKindOf q r → Fits k q r

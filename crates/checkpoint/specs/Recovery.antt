@@ -12,7 +12,7 @@ use Rattle.oplog.specs.Recovery.{Decoding, recovers}
 use Rattle.meaning.specs.Serial.{is_loggable, next_state, reply_to}
 use Rattle.meaning.specs.State.{State}
 
--- The bytes are the record of the message, which is in range, changing, and carried out there.
+-- The bytes are the record of the message, which is in range, changing, and carried out in this state.
 abbrev pub is_record_there : Geometry → State → List ℕ → Msg → Bool
 is_record_there g x bytes m = bytes_eq bytes (record_of m) && is_in_range g m && is_loggable m (reply_to g x m)
 
@@ -20,7 +20,7 @@ abbrev pub apply_decoded : Geometry → State → List ℕ → Option Msg → Op
 apply_decoded g x bytes None = None
 apply_decoded g x bytes (Some m) = if is_record_there g x bytes m then Some (next_state g x m) else None
 
--- the state after the record with these bytes; none where they are no record that can be run there
+-- the state after the record with these bytes; none where they are no record that can be run in the state
 abbrev pub apply : Geometry → State → List ℕ → Option State
 apply g x bytes = apply_decoded g x bytes (message_in_fields bytes)
 
@@ -28,6 +28,6 @@ apply g x bytes = apply_decoded g x bytes (message_in_fields bytes)
 abbrev pub means : Geometry → Decoding State
 means g = record { read = read g; apply = apply g; is_header = is_header g }
 
--- the state that a device of this geometry recovers to; none where it isn't sound
+-- the state that a device of this geometry recovers to; none where its header, length, chain bytes, image or a record in force is bad
 abbrev pub recovered_state : Geometry → List ℕ → Option State
 recovered_state g c = recovers (means g) (layout_of g) c

@@ -1,4 +1,4 @@
-//! Why a device can't be made or opened.
+//! Why a device can't be formatted or opened.
 ghost use Rattle.std.specs.Prelude.{◌≡◌};
 ghost use Rattle.checkpoint.specs.declared.fault.OpenFault.TheVariants.{OutOfMemory};
 ghost use Rattle.checkpoint.specs.Loading.{fault_of_log};
@@ -8,7 +8,7 @@ use oplog::LogFault;
 use std::alloc::AllocError;
 use thiserror::Error;
 
-/// Why a device can't be made.
+/// Why a device can't be formatted.
 #[derive(Clone, Copy, Debug, PartialEq, Eq, Error)]
 pub enum FormatFault {
     /// The device failed during the call.
@@ -22,7 +22,7 @@ pub enum FormatFault {
     OutOfMemory,
 }
 
-/// The device that can't be made, and why.
+/// The device that can't be formatted, and why.
 #[derive(Drop)]
 pub struct FormatError<D: Disk> {
     /// The device, as far as it was written.
@@ -43,7 +43,7 @@ pub enum OpenFault {
     /// The device doesn't begin with the marks of a formatted one.
     #[error("not formatted")]
     NotFormatted,
-    /// The header has a number out of its range, or more than its numbers.
+    /// No geometry has this header: one of its numbers is out of range, or the bytes after them aren't all zero.
     #[error("bad geometry")]
     BadGeometry,
     /// There was no memory.
@@ -58,7 +58,7 @@ pub enum OpenFault {
     /// The chain bytes of both halves are 1.
     #[error("bad chain")]
     BadChain,
-    /// This record, given by its half and its number there, is in force and can't be run there.
+    /// This record, given by its half and its number in that half, is in force and can't be run on the state before it.
     #[error("bad record {0} {1}")]
     BadRecord(usize, usize),
 }

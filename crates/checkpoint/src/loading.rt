@@ -46,7 +46,7 @@ pub(crate) struct Loaded {
 
 /// All memory that loading a device of this geometry takes: an empty tree, a log of which nothing is known, and a
 /// buffer for the largest piece of an image. `OutOfMemory` where there isn't so much.
-pub fn take_room(alloc: Global, g: &Geometry) -> Result<(Tree, Halves, Vec<u8>), OpenFault>
+pub fn take_loading_memory(alloc: Global, g: &Geometry) -> Result<(Tree, Halves, Vec<u8>), OpenFault>
     ensures whole { IfOk result (λ r. IsWholeTree r.0) }
     ensures empty { IfOk result (λ r. state_in r.0 ≡ empty) }
     ensures geometry { IfOk result (λ r. r.0.geometry ≡ g.now) }
@@ -228,7 +228,7 @@ pub(crate) fn load<D: Disk>(alloc: Global, disk: &mut D) -> Result<Loaded, OpenF
     ensures call { IsOpeningCall result (D.medium disk.old) (D.medium disk.new) }
 {
     let g = read_header(disk)?;
-    let (mut tree, mut log, mut buffer) = take_room(alloc, &g)?;
+    let (mut tree, mut log, mut buffer) = take_loading_memory(alloc, &g)?;
     let area = named_area(disk, &g)?;
     let version = read_image(disk, &mut tree, area, &mut buffer)?;
     let chained = chain_of(disk, &g, area)?;

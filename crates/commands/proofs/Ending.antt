@@ -12,7 +12,7 @@ use Rattle.meaning.specs.Output.{WritesOutput, IsBeginning}
 use Rattle.meaning.specs.State.{empty}
 use Rattle.commands.specs.Ends.{EndsMaking, EndsInMemory}
 use Rattle.commands.specs.Serving.{EndsInFile}
-use Rattle.commands.specs.declared.service.Service.{Service}
+use Rattle.commands.specs.declared.serve_options.ServeOptions.{ServeOptions}
 use Rattle.commands.proofs.Services.{service_same}
 use Rattle.disk.specs.declared.fault.FileFault.TheVariants as file
 use Rattle.commands.specs.Calls.{Ends, EndsFormat, EndsHelp, EndsPlain, EndsRefused, EndsServe, EndsShow, status_at, status_of_refusal}
@@ -89,7 +89,7 @@ shown_nothing words refusal.OutOfMemory asks reason = (Err OutOfMemory, refl, re
 shown_nothing words refusal.GeometryOutOfRange asks reason = absurd (reason.1 asks.1)
 shown_nothing words (refusal.Words error) asks reason = absurd (no_mistake words error asks.0 reason)
 
-pub served_on_nothing : (words : List Text) {path : List ℕ} {s : Service} (why : ArgumentRefusal) {input old : Option (List ℕ)} → AsksServe words path s
+pub served_on_nothing : (words : List Text) {path : List ℕ} {s : ServeOptions} (why : ArgumentRefusal) {input old : Option (List ℕ)} → AsksServe words path s
     → IsReason words why → EndsServe s (status_of_refusal why) input input old old
 served_on_nothing words refusal.OutOfMemory asks reason =
     (Err OutOfMemory, refl, inl (record { why = file.OutOfMemory; ends = refl; unread = refl; unwritten = refl }))
@@ -124,7 +124,7 @@ shown words (Show there) end given asks ends = ((end, refl, ends.1), ends.0)
 shown words (Serve there s) end given asks ends = let same : codes "show" ≡ codes "serve" = two_names _ _ (command_of words) asks.1 given.1 in cc
 shown words (Help text) end given asks ends = absurd (subst (IsAmong (kind_of text)) asks.0 given.0)
 
-pub served_on : (words : List Text) (request : Request) {path : List ℕ} {s : Service} (end : Result (Unit {0}) Fault) {input left old new : Option (List ℕ)}
+pub served_on : (words : List Text) (request : Request) {path : List ℕ} {s : ServeOptions} (end : Result (Unit {0}) Fault) {input left old new : Option (List ℕ)}
     → Asks words request → AsksServe words path s → Ends request end input left old new → EndsServe s (status_at end) input left old new
 served_on words (Plain h) end given asks ends = absurd (given.1.2 asks.1)
 served_on words (Format there h) end given asks ends = let same : codes "format" ≡ codes "serve" = two_names _ _ (command_of words) given.1 asks.1 in cc

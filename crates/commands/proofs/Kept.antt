@@ -20,9 +20,9 @@ use Rattle.commands.specs.Acknowledged.{HoldsAcknowledged, KeepsAcknowledged, Un
 use Rattle.commands.specs.Serving.{HasServedBy, machine_at_start}
 use Rattle.commands.specs.declared.faults.Fault.{Fault}
 use Rattle.commands.specs.declared.faults.Fault.TheVariants as ends
-use Rattle.commands.specs.declared.service.Service.{Service}
+use Rattle.commands.specs.declared.serve_options.ServeOptions.{ServeOptions}
 
-module _ {keeps : Type 0} {s : Service} {old new : Medium} {end : Result (Unit {0}) ServeFault} {input left before written : Option (List ℕ)}
+module _ {keeps : Type 0} {s : ServeOptions} {old new : Medium} {end : Result (Unit {0}) ServeFault} {input left before written : Option (List ℕ)}
     (h : HasServedBy keeps s old new end input left before written) where
   held : {unsent : List Line} → HasServed keeps (machine_at_start s h.start) h.now unsent input before written → keeps → (c : List ℕ) → IsCrashImage new c
       → HoldsAcknowledged old input before written c
@@ -53,7 +53,7 @@ module _ {keeps : Type 0} {s : Service} {old new : Medium} {end : Result (Unit {
       }
 
 -- whatever the end
-pub keeps_acknowledged : {keeps : Type 0} {s : Service} {old new : Medium} (end : Result (Unit {0}) ServeFault) {input left before written : Option (List ℕ)}
+pub keeps_acknowledged : {keeps : Type 0} {s : ServeOptions} {old new : Medium} (end : Result (Unit {0}) ServeFault) {input left before written : Option (List ℕ)}
     → HasServedBy keeps s old new end input left before written → KeepsAcknowledged keeps old new (as_fault end) input before written
 keeps_acknowledged (Ok _) h = held h h.served.run.served
 keeps_acknowledged (Err faults.Device) h = held h h.served.run.1

@@ -14,12 +14,12 @@ use Rattle.meaning.specs.Serial.{fold}
 use Rattle.messages.specs.declared.Msg.{Msg}
 use Rattle.scheduler.specs.CoreView.{IsJustOpened, CoreView, RecoversNow, core_state_of}
 use Rattle.serving.specs.Ends.{HasRunLines, committed_in}
-use Rattle.serving.specs.Serve.{HasEmptyLog, ServesSo}
+use Rattle.serving.specs.Serve.{HasEmptyLog, ServePromise}
 use Rattle.serving.specs.declared.server.ServeFault.{ServeFault}
 use Rattle.serving.specs.declared.server.ServeFault.TheVariants as faults
 use Rattle.commands.specs.Faults.{as_fault}
-use Rattle.commands.specs.Serving.{EndsOnDevice, CrashesSafely, HasNoRecords, HasServedBy, HasServedNothing, IsIncarnation, RecoversFor, RecoveredTo, ServedDevice, machine_at_start, legal_run_of}
-use Rattle.commands.specs.declared.service.Service.{Service}
+use Rattle.commands.specs.Serving.{EndsOnDevice, CrashesSafely, HasNoRecords, HasServedBy, HasServedNothing, IsIncarnation, RecoversDurably, RecoveredTo, ServedDevice, machine_at_start, legal_run_of}
+use Rattle.commands.specs.declared.serve_options.ServeOptions.{ServeOptions}
 
 -- no message is in a core that was just opened
 pub is_idle : (slots : ℕ) (c : CoreView) → IsJustOpened slots c → IsIdle (core_state_of c)
@@ -28,7 +28,7 @@ is_idle slots c just = record { none_waits = just.none_waits; none_held = rw (ju
 -- ---- the run
 
 -- what is known of the core before and after
-module _ (keeps : Type 0) (s : Service) (old : Medium) (start now : CoreView) (end : Result (Unit {0}) ServeFault)
+module _ (keeps : Type 0) (s : ServeOptions) (old : Medium) (start now : CoreView) (end : Result (Unit {0}) ServeFault)
     (input left before written : Option (List ℕ)) where
   pub is_incarnation : IsJustOpened s.slots start → (keeps → HasHeader start.geometry old.now) → (keeps → recovered_state start.geometry old.now ≡ Some (committed_in start))
       → (taken : List (List ℕ)) (stages : List Stage) → HasRunLines keeps (machine_at_start s start) now input taken stages → keeps
@@ -43,7 +43,7 @@ module _ (keeps : Type 0) (s : Service) (old : Medium) (start now : CoreView) (e
 
   abbrev pub has_served_by : IsJustOpened s.slots start → (keeps → HasHeader start.geometry old.now)
       → (keeps → recovered_state start.geometry old.now ≡ Some (committed_in start)) → (keeps → OpeningCrashImages old start.medium)
-      → ServesSo keeps s.workers start (now, end) input left before written
+      → ServePromise keeps s.workers start (now, end) input left before written
       → (keeps → RecoversNow now) → HasServedBy keeps s old now.medium end input left before written
   has_served_by fresh header recovered_before opening served leaves = record {
     start = start;
@@ -59,7 +59,7 @@ module _ (keeps : Type 0) (s : Service) (old : Medium) (start now : CoreView) (e
   }
 
 -- such a service crashes safely
-pub has_lived : {keeps : Type 0} {s : Service} {old new : Medium} (end : Result (Unit {0}) ServeFault) {input left before written : Option (List ℕ)}
+pub has_lived : {keeps : Type 0} {s : ServeOptions} {old new : Medium} (end : Result (Unit {0}) ServeFault) {input left before written : Option (List ℕ)}
     → HasServedBy keeps s old new end input left before written → CrashesSafely keeps s old new (as_fault end) input left before written
 has_lived (Ok _) h = (Ok tt, refl, h)
 has_lived (Err faults.NoWorkers) h = (Err faults.NoWorkers, refl, h)
@@ -73,7 +73,7 @@ has_lived (Err faults.Exhausted) h = (Err faults.Exhausted, refl, h)
 
 -- a core that has not failed: its device recovers to what is committed
 recovers_for : (keeps : Type 0) (now : CoreView) → now.doubt ≡ [] → (keeps → RecoversNow now) → AreBytes now.medium.now
-    → RecoversFor keeps now.medium now.geometry (committed_in now)
+    → RecoversDurably keeps now.medium now.geometry (committed_in now)
 recovers_for keeps now none leaves bytes = record {
   now = λ k. one k now.medium.now (itself now.medium.now now.medium.unsynced bytes);
   each = one;
@@ -91,17 +91,17 @@ recovers_for keeps now none leaves bytes = record {
 no_records : (now : CoreView) (g : Geometry) (new : Medium) → now.geometry ≡ g → new ≡ now.medium → HasEmptyLog now → HasNoRecords g new
 no_records now g new same back none = rw (back, ← same) none
 
-module _ {keeps : Type 0} {s : Service} {old new : Medium} {end : Result (Unit {0}) ServeFault} {input left before written : Option (List ℕ)}
+module _ {keeps : Type 0} {s : ServeOptions} {old new : Medium} {end : Result (Unit {0}) ServeFault} {input left before written : Option (List ℕ)}
     (h : HasServedBy keeps s old new end input left before written) (no_doubt : h.now.failed ≡ false → h.now.doubt ≡ [])
     (bytes : AreBytes new.now) where
   abbrev recovered_to : RecoveredTo keeps old h.start.geometry (committed_in h.start)
   recovered_to = record { header = h.header; recovered_before = h.recovered_before }
 
-  recovers_so : h.now.geometry ≡ h.start.geometry → h.now.failed ≡ false → RecoversFor keeps new h.start.geometry (committed_in h.now)
+  recovers_so : h.now.geometry ≡ h.start.geometry → h.now.failed ≡ false → RecoversDurably keeps new h.start.geometry (committed_in h.now)
   recovers_so same works =
       let own = recovers_for keeps h.now (no_doubt works) h.leaves (subst (λ (m : Medium). AreBytes m.now) h.given_back bytes) in
-      subst (λ (m : Medium). RecoversFor keeps m h.start.geometry (committed_in h.now)) (sym h.given_back)
-      (subst (λ (g : Geometry). RecoversFor keeps h.now.medium g (committed_in h.now)) same own)
+      subst (λ (m : Medium). RecoversDurably keeps m h.start.geometry (committed_in h.now)) (sym h.given_back)
+      (subst (λ (g : Geometry). RecoversDurably keeps h.now.medium g (committed_in h.now)) same own)
 
   abbrev went : h.now.geometry ≡ h.start.geometry → h.now.failed ≡ false → ServedDevice keeps old new
   went same works = record {
@@ -117,7 +117,7 @@ module _ {keeps : Type 0} {s : Service} {old new : Medium} {end : Result (Unit {
       (went (ap (λ (c : CoreView). c.geometry) same) (ap (λ (c : CoreView). c.failed) same ∙ h.fresh.works), ap committed_in same, unread, unwritten)
 
 -- what a service promises of each of its ends
-pub ends_on_device : {keeps : Type 0} {s : Service} {old new : Medium} (end : Result (Unit {0}) ServeFault) {input left before written : Option (List ℕ)}
+pub ends_on_device : {keeps : Type 0} {s : ServeOptions} {old new : Medium} (end : Result (Unit {0}) ServeFault) {input left before written : Option (List ℕ)}
     → (h : HasServedBy keeps s old new end input left before written) → (h.now.failed ≡ false → h.now.doubt ≡ []) → AreBytes new.now
     → EndsOnDevice keeps s old new (as_fault end) input left before written
 ends_on_device {new} (Ok _) h no_doubt bytes =

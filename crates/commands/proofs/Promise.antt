@@ -37,12 +37,12 @@ use Rattle.commands.specs.Promise.{GoesOn, HoldsRecovered, LeavesRecovered, Unle
 use Rattle.commands.specs.Serving.{EndsOnDevice, CrashesSafely, HasServedBy, HasServedUntilCrash, RecoveredTo, machine_at_start}
 use Rattle.commands.specs.declared.faults.Fault.{Fault}
 use Rattle.commands.specs.declared.faults.Fault.TheVariants as ends
-use Rattle.commands.specs.declared.service.Service.{Service}
+use Rattle.commands.specs.declared.serve_options.ServeOptions.{ServeOptions}
 
 -- ---- whatever a crash leaves at the end of a service
 
 -- Where a write failed, no line counts as written.
-write_failed : {keeps : Type 0} {s : Service} {old new : Medium} {input left before written : Option (List ℕ)}
+write_failed : {keeps : Type 0} {s : ServeOptions} {old new : Medium} {input left before written : Option (List ℕ)}
     → HasServedBy keeps s old new (Err faults.Write) input left before written → keeps → (c : List ℕ) → IsCrashImage new c
     → HoldsAcknowledged old input None written c
 write_failed {keeps} {s} {input} h keep c leaves =
@@ -70,7 +70,7 @@ write_failed {keeps} {s} {input} h keep c leaves =
       not_refused = fine g c state leaves.bytes on_device.recovers;
     }
 
-held_at : {keeps : Type 0} {s : Service} {old new : Medium} (end : Result (Unit {0}) ServeFault) {input left before written : Option (List ℕ)}
+held_at : {keeps : Type 0} {s : ServeOptions} {old new : Medium} (end : Result (Unit {0}) ServeFault) {input left before written : Option (List ℕ)}
     → HasServedBy keeps s old new end input left before written → keeps → (c : List ℕ) → IsCrashImage new c
     → HoldsAcknowledged old input (known_unless_write_failed (as_fault end) before) written c
 held_at (Ok _) h = keeps_acknowledged (Ok tt) h
@@ -91,12 +91,12 @@ recovered {input} {before} {written} {c} h = record {
   recovered = bytes_recover 0 h.taken h.sent h.first h.output h.kept h.holds;
 }
 
-recovered_at : {keeps : Type 0} {s : Service} {old new : Medium} (end : Result (Unit {0}) ServeFault) {input left before written : Option (List ℕ)}
+recovered_at : {keeps : Type 0} {s : ServeOptions} {old new : Medium} (end : Result (Unit {0}) ServeFault) {input left before written : Option (List ℕ)}
     → HasServedBy keeps s old new end input left before written → keeps → (c : List ℕ) → IsCrashImage new c
     → HoldsRecovered old input (known_unless_write_failed (as_fault end) before) written c
 recovered_at end h keep c leaves = recovered (held_at end h keep c leaves)
 
-pub leaves_recovered : {keeps : Type 0} {s : Service} {old new : Medium} (end : Result (Unit {0}) ServeFault) {input left before written : Option (List ℕ)}
+pub leaves_recovered : {keeps : Type 0} {s : ServeOptions} {old new : Medium} (end : Result (Unit {0}) ServeFault) {input left before written : Option (List ℕ)}
     → HasServedBy keeps s old new end input left before written → LeavesRecovered keeps old new (as_fault end) input before written
 leaves_recovered (Ok _) h = recovered_at (Ok tt) h
 leaves_recovered (Err faults.Device) h = recovered_at (Err faults.Device) h
@@ -137,7 +137,7 @@ written_so (Some bytes) before written P Q f h = (h.0, h.1, f bytes h.0 h.2)
 
 -- A service that ends without fault has answered all of its input.
 module _ (g : Geometry) {x : State} (old : Medium) (recovers : recovered_state g old.now ≡ Some x) where
-  serves_so : (s : Service) (new : Medium) (end : Result (Unit {0}) Fault) (input left before written : Option (List ℕ))
+  serves_so : (s : ServeOptions) (new : Medium) (end : Result (Unit {0}) Fault) (input left before written : Option (List ℕ))
       → EndsOnDevice (Unit {0}) s old new end input left before written → OnOk end (WritesOutput input before written (λ bytes out. out ≡ serial_out g x bytes))
   serves_so s new (Err fault) input left before written h = tt
   serves_so s new (Ok done) input left before written h =
@@ -175,7 +175,7 @@ module _ (g : Geometry) (old new : Medium) (made : recovered_state g old.now ≡
       silent (Some bytes) =
           ([], subst (λ (w : Option (List ℕ)). Appends before w []) (sym unwritten) (Appends-nil before), none_written g empty bytes)
 
-  module _ (s : Service) (input left before written : Option (List ℕ)) where
+  module _ (s : ServeOptions) (input left before written : Option (List ℕ)) where
     left_served : (end : Result (Unit {0}) Fault)
         → (ended : Result (Unit {0}) ServeFault) × (end ≡ as_fault ended) × HasServedBy (Unit {0}) s old new ended input left before written
         → BytesRecover g empty input (known_unless_write_failed end before) written c
@@ -197,7 +197,7 @@ module _ (g : Geometry) (old new : Medium) (made : recovered_state g old.now ≡
     left_at (Err (ends.Format fault)) synced h e = left_served (Err (ends.Format fault)) h
 
 -- A device that was just made was served until it was crashed, and then served again.
-pub goes_on : {g : Geometry} {s : Service} {began : Medium} {torn : Torn} {crashed : Memory} (last : Medium)
+pub goes_on : {g : Geometry} {s : ServeOptions} {began : Medium} {torn : Torn} {crashed : Memory} (last : Medium)
     {first second : Result (Unit {0}) Fault} {input left before written next_input : Option (List ℕ)} (next_left : Option (List ℕ))
     {next_before next_written : Option (List ℕ)} → recovered_state g began.now ≡ Some empty → IsSynced began
     → HasServedUntilCrash s began torn crashed first input left before written

@@ -1,13 +1,13 @@
 -- A service is its three numbers.
 use Rattle.std.proofs.Common.{◌≡◌, ◌≤◌, ℕ, List, [], ◌∷◌, ap, subst}
 use Rattle.std.specs.Coded.{le_prop}
-use Rattle.commands.specs.Serving.{numbers_of_service}
-use Rattle.commands.specs.declared.service.Service.{Service}
+use Rattle.commands.specs.Serving.{options_in_order}
+use Rattle.commands.specs.declared.serve_options.ServeOptions.{ServeOptions}
 
 abbrev Numbers : Type 0
 Numbers = ℕ × ℕ × ℕ
 
-abbrev made_of : (n : Numbers) → n.0 ≤ 64 → Service
+abbrev made_of : (n : Numbers) → n.0 ≤ 64 → ServeOptions
 made_of n few = record { workers = n.0; slots = n.1; every = n.2; few = few }
 
 same_bound : (n : Numbers) (a b : n.0 ≤ 64) → a ≡ b
@@ -21,6 +21,6 @@ numbers_in : List ℕ → Numbers
 numbers_in (workers ∷ slots ∷ every ∷ []) = (workers, slots, every)
 numbers_in _ = (0, 0, 0)
 
-pub service_same : (s t : Service) → numbers_of_service s ≡ numbers_of_service t → s ≡ t
+pub service_same : (s t : ServeOptions) → options_in_order s ≡ options_in_order t → s ≡ t
 unfolding numbers_in
 service_same s t e = made_of-same (s.workers, s.slots, s.every) (t.workers, t.slots, t.every) (ap numbers_in e) s.few t.few

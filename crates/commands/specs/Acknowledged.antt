@@ -32,7 +32,7 @@ pub record HoldsAcknowledged (old : Medium) (input before written : Option (List
   pub header : HasHeader geometry bytes
   pub not_refused : refused geometry bytes ≡ None
 
--- Where a write failed it is open what was sent, and where the device could not be opened nothing was. At each other end this is so.
+-- Where a write failed it is unknown what was sent, and where the device could not be opened nothing was. At each other end P holds.
 abbrev pub UnlessWriteFailed : Result (Unit {0}) Fault → Option (List ℕ) → Option (List ℕ) → Type 0 → Type 0
 UnlessWriteFailed (Err Write) before written P = Unit {0}
 UnlessWriteFailed (Err (Open fault)) before written P = written ≡ before

@@ -3,10 +3,10 @@ use Rattle.std.specs.Prelude.{◌≡◌, ◌⊎◌, ℕ, List, Option, Result, O
 use Rattle.affinity.specs.declared.geometry.Geometry.{Geometry}
 use Rattle.commands.specs.Ends.{EndsMaking, EndsInMemory, EndsShowing}
 use Rattle.commands.specs.Faults.{status_of}
-use Rattle.commands.specs.Serving.{EndsInFile, numbers_of_service}
+use Rattle.commands.specs.Serving.{EndsInFile, options_in_order}
 use Rattle.commands.specs.declared.faults.Fault.{Fault}
 use Rattle.commands.specs.declared.faults.Fault.TheVariants.{Write, GeometryOutOfRange, OutOfMemory}
-use Rattle.commands.specs.declared.service.Service.{Service}
+use Rattle.commands.specs.declared.serve_options.ServeOptions.{ServeOptions}
 use Rattle.commands.specs.Services.{with_at_most_64_workers}
 use Rattle.arguments.specs.Arguments.{service_numbers}
 use Rattle.arguments.specs.declared.parsing.Request.{Request}
@@ -14,17 +14,17 @@ use Rattle.arguments.specs.declared.parsing.Request.TheVariants.{Help, Plain, Fo
 use Rattle.arguments.specs.declared.parsing.ArgumentRefusal.{ArgumentRefusal}
 use Rattle.arguments.specs.declared.parsing.ArgumentRefusal.TheVariants as refusal
 
--- How a request ends, as its command does: `input` and `left` are what the reader had before and after, `old` and `new` what the output
--- had. Help and the version read nothing; their text, and whether it was written, is open. The service has the numbers that were given.
+-- How a request ends, as its command does: `input` and `remaining` are what the reader had before and after, `old` and `new` what the
+-- output had. Help and the version read nothing; their text, and whether it was written, is unknown. The server has the options given.
 abbrev pub Ends : Request → Result (Unit {0}) Fault → Option (List ℕ) → Option (List ℕ) → Option (List ℕ) → Option (List ℕ) → Type 0
-Ends (Help text) (Ok _) input left old new = left ≡ input
-Ends (Help text) (Err Write) input left old new = left ≡ input
-Ends (Help text) (Err _) input left old new = ⊥
-Ends (Plain g) end input left old new = EndsInMemory g end input left old new
-Ends (Format path g) end input left old new = (left ≡ input) × EndsMaking g end old new
-Ends (Show path) end input left old new = (left ≡ input) × EndsShowing end old new
-Ends (Serve path given) end input left old new = (s : Service) × (numbers_of_service s ≡ with_at_most_64_workers (service_numbers given))
-    × EndsInFile s end input left old new
+Ends (Help text) (Ok _) input remaining old new = remaining ≡ input
+Ends (Help text) (Err Write) input remaining old new = remaining ≡ input
+Ends (Help text) (Err _) input remaining old new = ⊥
+Ends (Plain g) end input remaining old new = EndsInMemory g end input remaining old new
+Ends (Format path g) end input remaining old new = (remaining ≡ input) × EndsMaking g end old new
+Ends (Show path) end input remaining old new = (remaining ≡ input) × EndsShowing end old new
+Ends (Serve path given) end input remaining old new = (s : ServeOptions)
+    × (options_in_order s ≡ with_at_most_64_workers (service_numbers given)) × EndsInFile s end input remaining old new
 
 abbrev pub status_at : Result (Unit {0}) Fault → ℕ
 status_at (Ok _) = 0
@@ -38,7 +38,8 @@ status_of_refusal refusal.GeometryOutOfRange = status_of GeometryOutOfRange
 
 -- The service came to an end that has this status.
 abbrev pub EndsPlain : Geometry → ℕ → Option (List ℕ) → Option (List ℕ) → Option (List ℕ) → Option (List ℕ) → Type 0
-EndsPlain g status input left old new = (end : Result (Unit {0}) Fault) × (status ≡ status_at end) × EndsInMemory g end input left old new
+EndsPlain g status input remaining old new =
+    (end : Result (Unit {0}) Fault) × (status ≡ status_at end) × EndsInMemory g end input remaining old new
 
 -- The making of a device came to an end that has this status.
 abbrev pub EndsFormat : Geometry → ℕ → Option (List ℕ) → Option (List ℕ) → Type 0
@@ -49,8 +50,9 @@ abbrev pub EndsShow : ℕ → Option (List ℕ) → Option (List ℕ) → Type 0
 EndsShow status old new = (end : Result (Unit {0}) Fault) × (status ≡ status_at end) × EndsShowing end old new
 
 -- The service with a device came to an end that has this status.
-abbrev pub EndsServe : Service → ℕ → Option (List ℕ) → Option (List ℕ) → Option (List ℕ) → Option (List ℕ) → Type 0
-EndsServe s status input left old new = (end : Result (Unit {0}) Fault) × (status ≡ status_at end) × EndsInFile s end input left old new
+abbrev pub EndsServe : ServeOptions → ℕ → Option (List ℕ) → Option (List ℕ) → Option (List ℕ) → Option (List ℕ) → Type 0
+EndsServe s status input remaining old new =
+    (end : Result (Unit {0}) Fault) × (status ≡ status_at end) × EndsInFile s end input remaining old new
 
 -- Help or the version was printed, or could not be written, or there was no memory.
 abbrev pub EndsHelp : ℕ → Type 0

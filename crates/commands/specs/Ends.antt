@@ -12,18 +12,19 @@ use Rattle.commands.specs.Lines.{formatted_line, shown_lines}
 use Rattle.commands.specs.declared.faults.Fault.{Fault}
 use Rattle.commands.specs.declared.faults.Fault.TheVariants.{Read, Write, OutOfMemory, Device, Format, Open}
 
--- What was written where the service came to this end, and what is left of the input: all that the serial server writes for the input, and
--- nothing is left; the answers to all whole lines that were taken; the first lines of the output. A failed write leaves it open.
+-- What was written where the service came to this end, and what remains of the input: all that the serial server writes for the input, and
+-- nothing remains; the answers to all whole lines that were taken; the first lines of the output. After a failed write it is unknown.
 abbrev pub EndsInMemory : Geometry → Result (Unit {0}) Fault → Option (List ℕ) → Option (List ℕ) → Option (List ℕ) → Option (List ℕ)
     → Type 0
-EndsInMemory g (Ok _) input left old new = WritesOutput input old new (λ read written. written ≡ serial_out g empty read) × IsAtEnd left
-EndsInMemory g (Err Read) input left old new = WritesOutput input old new (AnswersWholeLines g empty left)
-EndsInMemory g (Err Write) input left old new = Unit {0}
-EndsInMemory g (Err OutOfMemory) input left old new = WritesOutput input old new (IsBeginning g empty)
-EndsInMemory g (Err _) input left old new = ⊥
+EndsInMemory g (Ok _) input remaining old new =
+    WritesOutput input old new (λ read written. written ≡ serial_out g empty read) × IsAtEnd remaining
+EndsInMemory g (Err Read) input remaining old new = WritesOutput input old new (AnswersWholeLines g empty remaining)
+EndsInMemory g (Err Write) input remaining old new = Unit {0}
+EndsInMemory g (Err OutOfMemory) input remaining old new = WritesOutput input old new (IsBeginning g empty)
+EndsInMemory g (Err _) input remaining old new = ⊥
 
--- A device was made and its length printed, or it was not made and nothing was written. A failed write leaves open what was written. What
--- the file holds is open.
+-- A device was made and its length printed, or it was not made and nothing was written. After a failed write it is unknown what was
+-- written. What the file has is unknown.
 abbrev pub EndsMaking : Geometry → Result (Unit {0}) Fault → Option (List ℕ) → Option (List ℕ) → Type 0
 EndsMaking g (Ok _) old new = Appends old new (formatted_line g)
 EndsMaking g (Err Write) old new = Unit {0}
@@ -33,7 +34,7 @@ EndsMaking g (Err (Format formatting.TooShort)) old new = ⊥
 EndsMaking g (Err (Format fault)) old new = new ≡ old
 EndsMaking g (Err _) old new = ⊥
 
--- What a device holds was printed, or nothing was. A failed write leaves open what was written.
+-- What a device holds was printed, or nothing was. After a failed write it is unknown what was written.
 abbrev pub EndsShowing : Result (Unit {0}) Fault → Option (List ℕ) → Option (List ℕ) → Type 0
 EndsShowing (Ok _) old new = (shown : Shown) × Appends old new (shown_lines shown)
 EndsShowing (Err Write) old new = Unit {0}

@@ -10,7 +10,7 @@ ghost use Rattle.meaning.specs.State.{empty};
 
 use crate::faults::Fault;
 use crate::serve::serve_on;
-use crate::service::Service;
+use crate::serve_options::ServeOptions;
 use crate::stopped::serve_stopped;
 use affinity::Geometry;
 use checkpoint::{device_len, format};
@@ -20,8 +20,8 @@ use std::io::{Read, Write};
 use std::sync::Wait;
 use std::thread::Threads;
 
-/// A device of the empty state, in memory.
-fn made(alloc: Global, geometry: Geometry) -> Result<MemDisk, Fault>
+/// A device in memory, formatted with the empty state.
+fn formatted_in_memory(alloc: Global, geometry: Geometry) -> Result<MemDisk, Fault>
     ensures recovers { IfOk result (λ d. recovered_state geometry (medium_of d).now ≡ Some empty) }
     ensures synced { IfOk result (λ d. IsSynced (medium_of d)) }
     ensures streams { IfErr result (λ fault. (fault ≢ faults.Read) × (fault ≢ faults.Write)) }
@@ -33,16 +33,16 @@ fn made(alloc: Global, geometry: Geometry) -> Result<MemDisk, Fault>
     }
 }
 
-/// Makes a device in memory, and answers the lines of `r` on `w` with it until its n-th call, whichever that is. The device stops there,
-/// and a crash tears what was not synced. Then answers the lines of `next_r` on `next_w` with what the crash left. It answers how both
-/// ended. At `Err` there was no device: nothing was read or written.
+/// Makes a device in memory, and answers the lines of `r` on `w` with it until the device's n-th call, for any n. The device stops there,
+/// and a crash tears what was not synced. Then answers the lines of `next_r` on `next_w` with what the crash left. Returns how both
+/// ended. At `Err` there was no device: no input was read and no output written.
 pub fn serve_again<T: Threads + Wait + Sync, R: Read, W: Write, S: Read, V: Write>(
     rt: &T,
     alloc: Global,
     geometry: Geometry,
     n: u64,
     torn: Torn,
-    service: Service,
+    service: ServeOptions,
     r: &mut R,
     w: &mut W,
     next_r: &mut S,
@@ -56,7 +56,7 @@ pub fn serve_again<T: Threads + Wait + Sync, R: Read, W: Write, S: Read, V: Writ
     ensures unwritten { IfErr result (λ _. (W.contents w.new ≡ W.contents w.old) × (V.contents next_w.new ≡ V.contents next_w.old)) }
     ensures streams { IfErr result (λ fault. (fault ≢ faults.Read) × (fault ≢ faults.Write)) }
 {
-    let disk = made(alloc, geometry)?;
+    let disk = formatted_in_memory(alloc, geometry)?;
     let (disk, first) = serve_stopped(rt, alloc, disk, n, torn, service, r, w);
     let (_disk, second) = serve_on(rt, alloc, disk, service, next_r, next_w);
     Ok((first, second))

@@ -11,7 +11,7 @@ mod program;
 mod reports;
 mod serial;
 mod serve;
-mod service;
+mod serve_options;
 mod show;
 mod stopped;
 
@@ -22,6 +22,6 @@ pub use program::command;
 pub use reports::{WRONG_ARGUMENTS, report, report_unreadable_arguments};
 pub use serial::answer_input;
 pub use serve::{serve_device, serve_on};
-pub use service::Service;
+pub use serve_options::ServeOptions;
 pub use show::show_device;
 pub use stopped::serve_stopped;

@@ -5,15 +5,15 @@ ghost use Rattle.commands.specs.Calls.{Ends, EndsFormat, EndsHelp, EndsPlain, En
 ghost use Rattle.commands.specs.Services.{AsksServe, with_at_most_64_workers};
 ghost use Rattle.arguments.specs.Arguments.{AsksFormat, AsksHelp, AsksNoService, AsksPlain, AsksShow, AsksVersion, AreRefused, service_numbers};
 ghost use Rattle.affinity.specs.declared.geometry.Geometry.{Geometry};
-ghost use Rattle.commands.specs.Serving.{numbers_of_service};
-ghost use Rattle.commands.specs.declared.service.Service.{Service};
+ghost use Rattle.commands.specs.Serving.{options_in_order};
+ghost use Rattle.commands.specs.declared.serve_options.ServeOptions.{ServeOptions};
 
 use crate::faults::Fault;
 use crate::format::format_device;
 use crate::reports::{WRONG_ARGUMENTS, report};
 use crate::serial::answer_input;
 use crate::serve::serve_device;
-use crate::service::Service;
+use crate::serve_options::ServeOptions;
 use crate::show::show_device;
 use arguments::{ArgumentRefusal, Request, ServiceNumbers, read_arguments};
 use std::alloc::Global;
@@ -24,10 +24,10 @@ use std::sync::Wait;
 use std::thread::Threads;
 
 /// The service that has these numbers, with 64 workers where more are given.
-fn service_of(numbers: ServiceNumbers) -> Service
-    ensures { numbers_of_service result ≡ with_at_most_64_workers (service_numbers numbers) }
+fn service_of(numbers: ServiceNumbers) -> ServeOptions
+    ensures { options_in_order result ≡ with_at_most_64_workers (service_numbers numbers) }
 {
-    Service::new(numbers.workers, numbers.slots, numbers.every)
+    ServeOptions::new(numbers.workers, numbers.slots, numbers.every)
 }
 
 /// Does what was asked for, from `r` to `w`.
@@ -91,7 +91,7 @@ pub fn command<T: Files<File = File> + Threads + Wait + Sync, R: Read, W: Write,
     ensures shown { (path : List ℕ) → AsksShow (map string_bytes words.now) path
         → EndsShow result (W.contents w.old) (W.contents w.new)
         × (R.remaining r.new ≡ R.remaining r.old) }
-    ensures served_on { (path : List ℕ) → (s : Service) → AsksServe (map string_bytes words.now) path s
+    ensures served_on { (path : List ℕ) → (s : ServeOptions) → AsksServe (map string_bytes words.now) path s
         → EndsServe s result (R.remaining r.old) (R.remaining r.new)
         (W.contents w.old) (W.contents w.new) }
     ensures help { AsksHelp (map string_bytes words.now)

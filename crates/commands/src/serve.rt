@@ -2,14 +2,14 @@
 ghost use Rattle.std.specs.Prelude.{◌≡◌, false};
 ghost use Rattle.legal_runs.specs.Laws.{IsIdle};
 ghost use Rattle.scheduler.specs.CoreView.{core_state_of};
-ghost use Rattle.serving.specs.Serve.{ServesSo};
+ghost use Rattle.serving.specs.Serve.{ServePromise};
 ghost use Rattle.commands.specs.Faults.{as_fault};
 ghost use Rattle.commands.specs.Acknowledged.{KeepsAcknowledged};
 ghost use Rattle.commands.specs.Promise.{LeavesRecovered};
 ghost use Rattle.commands.specs.Serving.{EndsInFile, EndsOnDevice, CrashesSafely};
 
 use crate::faults::Fault;
-use crate::service::Service;
+use crate::serve_options::ServeOptions;
 use disk::{Disk, FileDisk};
 use scheduler::Core;
 use serving::{ServeError, ServeFault, serve};
@@ -31,18 +31,18 @@ fn as_fault(end: Result<(), ServeFault>) -> Result<(), Fault>
     }
 }
 
-/// Serves with a core in which no message is, and hands it back.
+/// Serves with an idle core, and hands it back.
 fn serve_core<T: Threads + Wait + Sync, R: Read, W: Write, D: Disk + Drop>(
     rt: &T,
     alloc: Global,
     core: Core<D>,
-    service: Service,
+    service: ServeOptions,
     r: &mut R,
     w: &mut W,
 ) -> (Core<D>, Result<(), ServeFault>)
     requires idle { IsIdle (core_state_of core) }
     requires works { core.failed ≡ false }
-    ensures { ServesSo D.keeps service.workers core result (R.remaining r.old) (R.remaining r.new) (W.contents w.old)
+    ensures { ServePromise D.keeps service.workers core result (R.remaining r.old) (R.remaining r.new) (W.contents w.old)
         (W.contents w.new) }
 {
     let workers = usize::from(service.workers);
@@ -59,7 +59,7 @@ pub fn serve_on<T: Threads + Wait + Sync, R: Read, W: Write, D: Disk + Drop>(
     rt: &T,
     alloc: Global,
     disk: D,
-    service: Service,
+    service: ServeOptions,
     r: &mut R,
     w: &mut W,
 ) -> (D, Result<(), Fault>)
@@ -87,7 +87,7 @@ pub fn serve_device<T: Files<File = File> + Threads + Wait + Sync, R: Read, W: W
     rt: &T,
     alloc: Global,
     path: &str,
-    service: Service,
+    service: ServeOptions,
     r: &mut R,
     w: &mut W,
 ) -> Result<(), Fault>

@@ -9,7 +9,7 @@ ghost use Rattle.commands.specs.Serving.{HasServedUntilCrash};
 
 use crate::faults::Fault;
 use crate::serve::serve_on;
-use crate::service::Service;
+use crate::serve_options::ServeOptions;
 use disk::{MemDisk, Torn};
 use std::alloc::Global;
 use std::io::{Read, Write};
@@ -24,7 +24,7 @@ fn serve_and_crash<T: Threads + Wait + Sync, R: Read, W: Write>(
     disk: MemDisk,
     _n: u64,
     torn: Torn,
-    service: Service,
+    service: ServeOptions,
     r: &mut R,
     w: &mut W,
 ) -> (MemDisk, Result<(), Fault>)
@@ -42,14 +42,15 @@ fn serve_and_crash<T: Threads + Wait + Sync, R: Read, W: Write>(
 }
 
 /// Answers the lines of `r` on `w` with a device that stops at its n-th call, whichever that is, and crashes it. The service ended as
-/// `serve_on` says. What the crash leaves, however it tears what was not synced, holds each change whose line was written.
+/// `serve_on` says. What the crash leaves, however it tears what was not synced, holds each change whose reply was written, unless a write
+/// of the output failed.
 pub fn serve_stopped<T: Threads + Wait + Sync, R: Read, W: Write>(
     rt: &T,
     alloc: Global,
     disk: MemDisk,
     n: u64,
     torn: Torn,
-    service: Service,
+    service: ServeOptions,
     r: &mut R,
     w: &mut W,
 ) -> (MemDisk, Result<(), Fault>)

@@ -1,4 +1,4 @@
-//! The map of a device: where each of its parts begins and how long it is. No crate above writes an offset of them.
+//! The map of a device: where each of its parts begins and how long it is. No other crate spells out an offset of them.
 #![tactic(auto)]
 
 mod layout;

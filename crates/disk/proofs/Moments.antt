@@ -1,10 +1,10 @@
 -- How what a crash leaves at each moment goes on from call to call.
 use Rattle.std.proofs.Common.{◌≡◌, ◌⊎◌, ◌≤◌, ℕ, List, [], ◌∷◌, length, inl, inr, ⊎_elim, ap, subst, arith}
 use Rattle.disk.specs.Device.{AreBytes, Moment, Medium, IsTornFrom, IsCrashImage, moments}
-use Rattle.disk.specs.Moments.{moment, LeftSince, left_since, CrashImagesAre}
+use Rattle.disk.specs.Moments.{moment, LeftByMoments, left_since, CrashImagesAre}
 
 -- no moment comes after the newest
-none_later : (ms : List Moment) (t : ℕ) (c : List ℕ) → length ms ≤ t → LeftSince ms t c → ⊥
+none_later : (ms : List Moment) (t : ℕ) (c : List ℕ) → length ms ≤ t → LeftByMoments ms t c → ⊥
 none_later [] t c late since = since
 none_later (m ∷ earlier) t c late since =
     ⊎_elim (λ (here : (t ≤ length earlier) × IsTornFrom m.now m.unsynced c). omega (arith, here.0, late)) (none_later earlier t c (omega (arith, late))) since
@@ -29,7 +29,7 @@ started m P here = record {
 pub next : (old mid new : Medium) (P : List ℕ → Type 0) → CrashImagesAre old mid P → new.past ≡ moments mid → ((c : List ℕ) → IsCrashImage new c → P c) → CrashImagesAre old new P
 next old mid new P so_far past here =
     let since : (t : ℕ) (c : List ℕ) → left_since new t c → P c ⊎ left_since mid t c =
-    λ t c left. ⊎_elim (λ (now : (t ≤ length new.past) × IsCrashImage new c). inl (here c now.1)) (λ earlier. inr (subst (λ (ms : List Moment). LeftSince ms t c) past earlier)) left in
+    λ t c left. ⊎_elim (λ (now : (t ≤ length new.past) × IsCrashImage new c). inl (here c now.1)) (λ earlier. inr (subst (λ (ms : List Moment). LeftByMoments ms t c) past earlier)) left in
     record {
       later = omega (arith, so_far.later, ap length past);
       each = λ c left. ⊎_elim (λ (p : P c). p) (so_far.each c) (since (moment old) c left);
@@ -39,7 +39,7 @@ next old mid new P so_far past here =
 -- a call that changes nothing of what a crash leaves, now or earlier
 pub same : (old mid new : Medium) (P : List ℕ → Type 0) → CrashImagesAre old mid P → moments new ≡ moments mid → CrashImagesAre old new P
 same old mid new P so_far unchanged =
-    let since : (t : ℕ) (c : List ℕ) → left_since new t c → left_since mid t c = λ t c. subst (λ (ms : List Moment). LeftSince ms t c) unchanged in
+    let since : (t : ℕ) (c : List ℕ) → left_since new t c → left_since mid t c = λ t c. subst (λ (ms : List Moment). LeftByMoments ms t c) unchanged in
     record {
       later = omega (arith, so_far.later, ap length unchanged);
       each = λ c left. so_far.each c (since (moment old) c left);
@@ -66,7 +66,7 @@ then old mid new P first second = record {
 pub leaves_now : (old new : Medium) (P : List ℕ → Type 0) → CrashImagesAre old new P → (c : List ℕ) → IsCrashImage new c → P c
 leaves_now old new P so_far c left = so_far.each c (counts_now new (moment old) c so_far.later left)
 
-some_bytes : (ms : List Moment) (t : ℕ) (c : List ℕ) → LeftSince ms t c → AreBytes c
+some_bytes : (ms : List Moment) (t : ℕ) (c : List ℕ) → LeftByMoments ms t c → AreBytes c
 some_bytes [] t c since = absurd since
 some_bytes (m ∷ earlier) t c since =
     ⊎_elim (λ (here : (t ≤ length earlier) × IsTornFrom m.now m.unsynced c). here.1.bytes) (some_bytes earlier t c) since

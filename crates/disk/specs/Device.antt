@@ -51,7 +51,7 @@ overlaid (x ∷ xs) zero [] = x ∷ xs
 overlaid (x ∷ xs) zero (y ∷ items) = y ∷ overlaid xs zero items
 overlaid (x ∷ xs) (suc at) items = x ∷ overlaid xs at items
 
--- the flags after a write of n bytes
+-- the flags after a write of n bytes from this offset on
 abbrev pub marked : List Bool → ℕ → ℕ → List Bool
 marked unsynced at n = overlaid unsynced at (replicate n true)
 
@@ -111,13 +111,13 @@ pub record Syncs (result : Result (Unit {0}) DiskFault) (old new : Medium) : Typ
   pub outside : IsErrOf result OutOfRange → ⊥
   pub device : IsErrOf result Device → new ≡ failed old
 
--- A call adds one to the count of failures exactly where it answers `Device`.
+-- A call adds one to the count of failures exactly where it returns `Device`.
 abbrev pub CountsFault : {T : Type 0} → Result T DiskFault → ℕ → ℕ → Type 0
 CountsFault (Ok _) old new = new ≡ old
 CountsFault (Err OutOfRange) old new = new ≡ old
 CountsFault (Err Device) old new = new ≡ old + 1
 
--- What every call of a device does, whatever it is for: it counts a failure exactly where it answers `Device`, and the
+-- What every call of a device does, whatever it is for: it counts a failure exactly where it returns `Device`, and the
 -- device stays as long as it was.
 abbrev pub IsDeviceCall : {T : Type 0} → Result T DiskFault → Medium → Medium → Type 0
 IsDeviceCall result old new = CountsFault result old.faults new.faults × (length new.now ≡ length old.now)

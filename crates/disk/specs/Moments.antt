@@ -7,13 +7,13 @@ abbrev pub moment : Medium → ℕ
 moment m = length m.past
 
 -- one of these moments, with number t or a greater one, may leave c
-abbrev pub LeftSince : List Moment → ℕ → List ℕ → Type 0
-LeftSince [] t c = ⊥
-LeftSince (m ∷ earlier) t c = ((t ≤ length earlier) × IsTornFrom m.now m.unsynced c) ⊎ LeftSince earlier t c
+abbrev pub LeftByMoments : List Moment → ℕ → List ℕ → Type 0
+LeftByMoments [] t c = ⊥
+LeftByMoments (m ∷ earlier) t c = ((t ≤ length earlier) × IsTornFrom m.now m.unsynced c) ⊎ LeftByMoments earlier t c
 
 -- a crash at some moment from number t on might have left c
 abbrev pub left_since : Medium → ℕ → List ℕ → Type 0
-left_since m t c = LeftSince (moments m) t c
+left_since m t c = LeftByMoments (moments m) t c
 
 -- A crash at any moment from `old` to `new`, both among them, leaves only what has P.
 pub record CrashImagesAre (old new : Medium) (P : List ℕ → Type 0) : Type 0 where

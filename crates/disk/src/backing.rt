@@ -5,8 +5,8 @@ ghost use Rattle.disk.specs.BackingFile.{device_result};
 
 use std::io;
 
-/// A positioned file of a fixed length: three calls, each in `medium` once it has answered. What each does is stated in the words of the
-/// device's own contract.
+/// A file of a fixed length with positioned reads and writes: three calls, each of which `medium` shows once it has returned. What each
+/// does is stated in the words of the device's own contract.
 pub trait BackingFile {
     /// The file as a device has it: its bytes, which of them are unsynced, and its past.
     ghost medium: { Self → Medium };

@@ -20,28 +20,28 @@ use Rattle.device_map.specs.Layout.{layout_of, image_size, other}
 use Rattle.oplog.specs.Log.{Log}
 use Rattle.meaning.specs.State.{State}
 
-module _ {log : Log} {snapshot : List ℕ} {named others due : List Bool} {left : Option ℕ} {w0 : Medium} (none_left : left ≡ Some 0) where
-  pub flip_asks : HasParts log w0 → length snapshot ≡ image_size log.geometry → length due ≡ piece_count log.geometry → AreBytes w0.now
-      → IsCutState log due left → IsSoundJournal log snapshot named others due left w0 → IsWritten log snapshot w0
+module _ {log : Log} {snapshot : List ℕ} {named others pending : List Bool} {left : Option ℕ} {w0 : Medium} (none_left : left ≡ Some 0) where
+  pub flip_asks : HasParts log w0 → length snapshot ≡ image_size log.geometry → length pending ≡ piece_count log.geometry → AreBytes w0.now
+      → IsCutState log pending left → IsSoundJournal log snapshot named others pending left w0 → IsWritten log snapshot w0
   flip_asks whole size size' are placed' sound =
-      let placed = subst (λ (l : Option ℕ). IsCutState log due l) none_left placed' in
-      let sound' = subst (λ (l : Option ℕ). IsSoundJournal log snapshot named others due l w0) none_left sound in
+      let placed = subst (λ (l : Option ℕ). IsCutState log pending l) none_left placed' in
+      let sound' = subst (λ (l : Option ℕ). IsSoundJournal log snapshot named others pending l w0) none_left sound in
       record {
         by = record {
           some = sound'.some;
           recovers = subst (λ (h : ℕ). RecoversByArea log.geometry log.named h (recovered_state log.geometry w0.now) w0) placed.0 sound'.recovers;
         };
         ready = subst (λ (h : ℕ). IsReady (layout_of log.geometry) h log.used w0) placed.0 sound'.ready;
-        is = all_agree log.geometry (image_in log.geometry (other log.named) w0) snapshot (λ n few. sound'.by_cut.written n few (no_dirty due n placed.1 (omega (arith, few, size'))))
+        is = all_agree log.geometry (image_in log.geometry (other log.named) w0) snapshot (λ n few. sound'.by_cut.written n few (no_dirty pending n placed.1 (omega (arith, few, size'))))
             (image_long log.geometry (other log.named) w0 (omega arith) whole) size;
         behind = sound'.by_cut.behind;
       }
 
-  pub flip_sound : {w1 : Medium} → AreBytes w0.now → AreBytes w1.now → IsCutState log due left → IsWritten log snapshot w0
-      → IsSoundJournal log snapshot named others due left w0 → IsFlipped log w0 w1 → IsSoundJournal (named_now log) snapshot others named due None w1
+  pub flip_sound : {w1 : Medium} → AreBytes w0.now → AreBytes w1.now → IsCutState log pending left → IsWritten log snapshot w0
+      → IsSoundJournal log snapshot named others pending left w0 → IsFlipped log w0 w1 → IsSoundJournal (named_now log) snapshot others named pending None w1
   flip_sound {w1} are are' placed' written sound flipped =
-      let placed = subst (λ (l : Option ℕ). IsCutState log due l) none_left placed' in
-      let sound' = subst (λ (l : Option ℕ). IsSoundJournal log snapshot named others due l w0) none_left sound in
+      let placed = subst (λ (l : Option ℕ). IsCutState log pending l) none_left placed' in
+      let sound' = subst (λ (l : Option ℕ). IsSoundJournal log snapshot named others pending l w0) none_left sound in
       let is_area = named_below log.geometry log.named log.current (recovered_state log.geometry w0.now) w0 are sound.recovers in
       let same = holds_now log.geometry (other log.named) (other log.named) (recovered_state log.geometry w0.now) w1 are' flipped.at.recovers in
       let back : other (other log.named) ≡ log.named = omega (arith, is_area) in
@@ -65,9 +65,9 @@ module _ {log : Log} {snapshot : List ℕ} {named others due : List Bool} {left 
         by_cut = tt;
       }
 
-  pub flip_version : {w1 : Medium} → AreBytes w1.now → IsWritten log snapshot w0 → IsSoundJournal log snapshot named others due left w0 → IsFlipped log w0 w1
+  pub flip_version : {w1 : Medium} → AreBytes w1.now → IsWritten log snapshot w0 → IsSoundJournal log snapshot named others pending left w0 → IsFlipped log w0 w1
       → named_version log.geometry w1.now ≡ 2
   flip_version {w1} are' written sound flipped =
-      let sound' = subst (λ (l : Option ℕ). IsSoundJournal log snapshot named others due l w0) none_left sound in
+      let sound' = subst (λ (l : Option ℕ). IsSoundJournal log snapshot named others pending l w0) none_left sound in
       ap (λ (n : ℕ). version_in (image_in log.geometry n w1)) (flipped.at.recovers w1.now (itself w1.now w1.unsynced are')).named
       ∙ ap version_in (flipped.images (other log.named) (omega arith) ∙ written.is) ∙ sound'.by_cut.version

@@ -22,7 +22,7 @@ use Rattle.journal.specs.Journal.{JournalView}
 use Rattle.journal.specs.DirtyPieces.{opened_dirty}
 use Rattle.journal.specs.Keeping.{journal_view_of}
 use Rattle.journal.specs.Opening.{IsOpened}
-use Rattle.journal.specs.Parts.{AreLoaded, AreUnloaded, IsMade, IsMadeOf, KeepsRoom}
+use Rattle.journal.specs.Parts.{AreLoaded, AreUnloaded, IsMade, IsMadeOf, KeepsBuffers}
 use Rattle.journal.specs.Steps.{IsAlone, IsPointed, IsUnfinished, pointed, run_on}
 use Rattle.journal.specs.Extents.{AreAllDirty}
 use Rattle.journal.proofs.Logging.{recoverable_of, sound_along}
@@ -117,12 +117,12 @@ held_after {g} {n} {t} {u} {x} w0 w1 is chained only held =
 
 -- ---- the parts
 
-pub kept_then : (p q r : Parts) → KeepsRoom p q → KeepsRoom q r → KeepsRoom p r
+pub kept_then : (p q r : Parts) → KeepsBuffers p q → KeepsBuffers q r → KeepsBuffers p r
 kept_then p q r first second = record {
   snapshot = second.snapshot ∙ first.snapshot;
   named_dirty = second.named_dirty ∙ first.named_dirty;
   other_dirty = second.other_dirty ∙ first.other_dirty;
-  due = second.due ∙ first.due;
+  pending = second.pending ∙ first.pending;
 }
 
 -- Room for an image of this geometry, and flags for each of its pieces, of which those of the other image are set.
@@ -134,7 +134,7 @@ pub record HasRoom (g : Geometry) (p : Parts) : Type 0 where
 
 -- loaded with this log, of parts that had the room that it asks for
 pub are_loaded : {p q : Parts} {log : Log} {m : Medium} → q.halves ≡ log → log.failed ≡ false → log.current ≡ log.named → IsWholeTree q.tree
-    → q.tree.geometry ≡ log.geometry → KeepsRoom p q → HasRoom log.geometry p → device_size (layout_of log.geometry) ≤ length m.now → AreLoaded q m
+    → q.tree.geometry ≡ log.geometry → KeepsBuffers p q → HasRoom log.geometry p → device_size (layout_of log.geometry) ≤ length m.now → AreLoaded q m
 are_loaded {q} {log} {m} is_log not_failed current_is_named tree geometry kept room long_enough =
     let same : q.halves.geometry ≡ log.geometry = ap (λ (l : Log). l.geometry) is_log in
     record {
@@ -152,7 +152,7 @@ are_loaded {q} {log} {m} is_log not_failed current_is_named tree geometry kept r
     }
 
 -- once the last point is made
-pub made : {p q r : Parts} {w2 w3 : Medium} → AreUnloaded p → q.halves.geometry ≡ p.tree.geometry → KeepsRoom p q → AreLoaded q w2 → KeepsRoom q r
+pub made : {p q r : Parts} {w2 w3 : Medium} → AreUnloaded p → q.halves.geometry ≡ p.tree.geometry → KeepsBuffers p q → AreLoaded q w2 → KeepsBuffers q r
     → r.tree ≡ q.tree → r.halves ≡ pointed q.halves → length w3.now ≡ length w2.now → IsMade r w3
 made {p} {q} {r} {w3} taken same room loaded room' tree log long =
     let is : r.halves.geometry ≡ q.halves.geometry = ap (λ (l : Log). l.geometry) log in
@@ -169,7 +169,7 @@ made {p} {q} {r} {w3} taken same room loaded room' tree log long =
       named_dirty = (λ i. length (kept.named_dirty i).items) ∙ taken.named_dirty ∙ sym (ap piece_count (is ∙ same));
       other_dirty = (λ i. length (kept.other_dirty i).items) ∙ taken.other_dirty ∙ sym (ap piece_count (is ∙ same));
       dirty = (λ i. record { named = (kept.named_dirty i).items; others = (kept.other_dirty i).items }) ∙ taken.dirty ∙ sym (ap opened_dirty (is ∙ same));
-      due = (λ i. length (kept.due i).items) ∙ taken.due ∙ sym (ap piece_count (is ∙ same));
+      pending = (λ i. length (kept.pending i).items) ∙ taken.pending ∙ sym (ap piece_count (is ∙ same));
     }
 
 -- ---- in the words of contracts

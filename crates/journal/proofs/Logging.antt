@@ -14,7 +14,7 @@ use Rattle.image.specs.Touched.{may_change}
 use Rattle.image.proofs.Untouched.{piece_stays}
 use Rattle.meaning.proofs.Kept.{step_kept}
 use Rattle.std.specs.List.{AllByRecursion}
-use Rattle.journal.specs.Journal.{AreCarriedOut, HoldsSome, IsRecoverable, records_in}
+use Rattle.journal.specs.Journal.{AreCarriedOut, RecoversWithPrefix, IsRecoverable, records_in}
 use Rattle.journal.specs.Keeping.{IsCutOr, IsFresh, IsCutState, IsSoundJournal, coming, journal_view_of}
 use Rattle.journal.specs.DirtyPieces.{AreBothTouched, DirtiesTouched}
 use Rattle.journal.specs.Steps.{RecoversByArea, run_on}
@@ -93,8 +93,8 @@ fresh_more {g} {x} ms old new bytes is_state out touched fresh y is n few clean 
     fresh x refl n few kept.0 ∙ sym (all_stay g x ms n is_state out kept.1) ∙ ap (λ (o : Option State). extent_of g (unwrap_or o x) n) is
 
 -- the journal's facts, in the words of contracts
-pub recoverable_of : {log : Log} {snapshot : List ℕ} {named others due a b : List Bool} {left : Option ℕ} {failed : Bool} {m : Medium}
-    → IsSoundJournal log snapshot named others due left m → IsRecoverable (journal_view_of log a b left failed m)
+pub recoverable_of : {log : Log} {snapshot : List ℕ} {named others pending a b : List Bool} {left : Option ℕ} {failed : Bool} {m : Medium}
+    → IsSoundJournal log snapshot named others pending left m → IsRecoverable (journal_view_of log a b left failed m)
 recoverable_of {log} {m} sound = record {
   some = sound.some;
   each = λ c gone. holds_by log.geometry log.named log.current (recovered_state log.geometry m.now) c (sound.recovers c gone);
@@ -106,14 +106,15 @@ recoverable_of {log} {m} sound = record {
 }
 
 -- the same of a log, a snapshot and flags that are equal to these
-pub sound_along : {log log' : Log} {snapshot snapshot' : List ℕ} {named named' others others' due : List Bool} {left left' : Option ℕ} {m : Medium} → log' ≡ log → snapshot' ≡ snapshot
-    → named' ≡ named → others' ≡ others → left' ≡ left → IsSoundJournal log snapshot named others due left m → IsSoundJournal log' snapshot' named' others' due left' m
-sound_along {due} {m} log bytes row row' left sound = subst (λ (t : Type 0). t) (sym (λ i. IsSoundJournal (log i) (bytes i) (row i) (row' i) due (left i) m)) sound
+pub sound_along : {log log' : Log} {snapshot snapshot' : List ℕ} {named named' others others' pending : List Bool} {left left' : Option ℕ} {m : Medium} → log' ≡ log → snapshot' ≡ snapshot
+    → named' ≡ named → others' ≡ others → left' ≡ left → IsSoundJournal log snapshot named others pending left m → IsSoundJournal log' snapshot' named' others' pending left' m
+sound_along {pending} {m} log bytes row row' left sound = subst (λ (t : Type 0). t) (sym (λ i. IsSoundJournal (log i) (bytes i) (row i) (row' i) pending (left i) m)) sound
 
 -- how many records there are is no fact of a cut
-cut_used : (log : Log) (used : ℕ) (snapshot : List ℕ) (due : List Bool) (left : Option ℕ) (m : Medium) → IsCutOr log snapshot due left m → IsCutOr (record log { used = used }) snapshot due left m
-cut_used log used snapshot due None m cut = tt
-cut_used log used snapshot due (Some k) m cut = record { behind = cut.behind; written = cut.written; version = cut.version }
+cut_used : (log : Log) (used : ℕ) (snapshot : List ℕ) (pending : List Bool) (left : Option ℕ) (m : Medium) → IsCutOr log snapshot pending left m
+    → IsCutOr (record log { used = used }) snapshot pending left m
+cut_used log used snapshot pending None m cut = tt
+cut_used log used snapshot pending (Some k) m cut = record { behind = cut.behind; written = cut.written; version = cut.version }
 
 coming_used : (log : Log) (used : ℕ) (snapshot : List ℕ) (left : Option ℕ) (m : Medium) → coming (record log { used = used }) snapshot left m ≡ coming log snapshot left m
 coming_used log used snapshot None m = refl
@@ -121,15 +122,15 @@ coming_used log used snapshot (Some k) m = refl
 
 -- ---- logging
 
-module _ {log : Log} {snapshot : List ℕ} {named others due : List Bool} {left : Option ℕ} (ms : List Msg) {w0 : Medium} (w1 : Medium) (are : AreBytes w0.now)
-    (sound : IsSoundJournal log snapshot named others due left w0) where
+module _ {log : Log} {snapshot : List ℕ} {named others pending : List Bool} {left : Option ℕ} (ms : List Msg) {w0 : Medium} (w1 : Medium) (are : AreBytes w0.now)
+    (sound : IsSoundJournal log snapshot named others pending left w0) where
   is_area : log.named < 2
   is_area = named_below log.geometry log.named log.current (recovered_state log.geometry w0.now) w0 are sound.recovers
 
   is_half : log.current < 2
   is_half = half_below log.geometry log.named log.current (recovered_state log.geometry w0.now) w0 are sound.recovers
 
-  pub log_moments : Grows log ms w0 w1 → (x : State) → recovered_state log.geometry w0.now ≡ Some x → AreCarriedOut log.geometry x ms → CrashImagesAre w0 w1 (HoldsSome log.geometry x ms)
+  pub log_moments : Grows log ms w0 w1 → (x : State) → recovered_state log.geometry w0.now ≡ Some x → AreCarriedOut log.geometry x ms → CrashImagesAre w0 w1 (RecoversWithPrefix log.geometry x ms)
   log_moments grows x is out =
       weaker w0 w1 _ _ (append_recovers (means log.geometry) (layout_of log.geometry) log.named log.current (recovered_state log.geometry w0.now)
           (records_of ms) w0 w1 is_area is_half sound.recovers grows)
@@ -177,7 +178,7 @@ module _ {log : Log} {snapshot : List ℕ} {named others due : List Bool} {left 
     still_coming None = images (other log.named) (omega arith)
     still_coming (Some k) = refl
 
-    cut_more : (left : Option ℕ) → IsCutState log due left → IsCutOr log snapshot due left w0 → IsCutOr log snapshot due left w1
+    cut_more : (left : Option ℕ) → IsCutState log pending left → IsCutOr log snapshot pending left w0 → IsCutOr log snapshot pending left w1
     cut_more None placed cut = tt
     cut_more (Some k) placed cut = record {
       behind =
@@ -185,13 +186,13 @@ module _ {log : Log} {snapshot : List ℕ} {named others due : List Bool} {left 
           (subst (λ (h : ℕ). front (layout_of log.geometry) h w1.now ≡ front (layout_of log.geometry) h w0.now ++ records_of ms) placed.0 has.has.front)
           ∙ run-append (means log.geometry) (read log.geometry snapshot) (front (layout_of log.geometry) (other log.named) w0.now) (records_of ms)
           ∙ ap (λ (o : Option State). run_on log.geometry o (records_of ms)) cut.behind ∙ leads ∙ sym log_committed;
-      written = subst (λ (l : List ℕ). AgreeOnClean log.geometry due l snapshot) (sym (images (other log.named) (omega arith))) cut.written;
+      written = subst (λ (l : List ℕ). AgreeOnClean log.geometry pending l snapshot) (sym (images (other log.named) (omega arith))) cut.written;
       version = cut.version;
     }
 
-    pub log_sound : {named' others' : List Bool} → IsCutState log due left
+    pub log_sound : {named' others' : List Bool} → IsCutState log pending left
         → AreBothTouched log.geometry ms (record { named = named; others = others }) (record { named = named'; others = others' })
-        → IsSoundJournal (record log { used = log.used + length ms }) snapshot named' others' due left w1
+        → IsSoundJournal (record log { used = log.used + length ms }) snapshot named' others' pending left w1
     log_sound {named'} {others'} placed touched =
         let used : log.used + length (records_of ms) ≡ log.used + length ms = ap (λ (n : ℕ). log.used + n) (length-map ms record_of) in
         record {
@@ -216,30 +217,30 @@ module _ {log : Log} {snapshot : List ℕ} {named others due : List Bool} {left 
               (fresh_more ms others others' (coming log snapshot left w1) (sound.state x is) out touched.others
               (subst (λ (l : List ℕ). IsFresh log.geometry (Some x) others l) (sym (still_coming left))
               (subst (λ (o : Option State). IsFresh log.geometry o others (coming log snapshot left w0)) is sound.others_fresh))));
-          by_cut = cut_used log (log.used + length ms) snapshot due left w1 (cut_more left placed sound.by_cut);
+          by_cut = cut_used log (log.used + length ms) snapshot pending left w1 (cut_more left placed sound.by_cut);
         }
 
 -- ---- the same in the words of the code
 
-pub placed_used : (log : Log) (used : ℕ) (due : List Bool) (left : Option ℕ) → IsCutState log due left → IsCutState (record log { used = used }) due left
-placed_used log used due None placed = placed
-placed_used log used due (Some k) placed = placed
+pub placed_used : (log : Log) (used : ℕ) (pending : List Bool) (left : Option ℕ) → IsCutState log pending left → IsCutState (record log { used = used }) pending left
+placed_used log used pending None placed = placed
+placed_used log used pending (Some k) placed = placed
 
 pub touched_along : {g g' : Geometry} → (ms : List Msg) → {old old' new new' : List Bool} → g ≡ g' → old ≡ old' → new' ≡ new → DirtiesTouched g ms old new → DirtiesTouched g' ms old' new'
 touched_along {g} ms {old} {old'} {new'} same was is touched =
     subst (λ (x : Geometry). DirtiesTouched x ms old' new') same (subst (λ (l : List Bool). DirtiesTouched g ms l new') was (subst (λ (l : List Bool). DirtiesTouched g ms old l) (sym is) touched))
 
-pub log_kept : {log : Log} {snapshot : List ℕ} {named others due named' others' : List Bool} {left : Option ℕ} → (ms : List Msg) → {w0 w1 : Medium} → AreBytes w0.now
-    → AreBytes w1.now → IsSoundJournal log snapshot named others due left w0
-    → ((x : State) → recovered_state log.geometry w0.now ≡ Some x → AreCarriedOut log.geometry x ms) → HasAdded log ms w0 w1 → IsCutState log due left
+pub log_kept : {log : Log} {snapshot : List ℕ} {named others pending named' others' : List Bool} {left : Option ℕ} → (ms : List Msg) → {w0 w1 : Medium} → AreBytes w0.now
+    → AreBytes w1.now → IsSoundJournal log snapshot named others pending left w0
+    → ((x : State) → recovered_state log.geometry w0.now ≡ Some x → AreCarriedOut log.geometry x ms) → HasAdded log ms w0 w1 → IsCutState log pending left
     → AreBothTouched log.geometry ms (record { named = named; others = others }) (record { named = named'; others = others' })
-    → IsSoundJournal (record log { used = log.used + length ms }) snapshot named' others' due left w1
+    → IsSoundJournal (record log { used = log.used + length ms }) snapshot named' others' pending left w1
 log_kept {log} ms {w0} {w1} are are' sound out has placed touched =
     let value = some_value (recovered_state log.geometry w0.now) sound.some in
     log_sound ms w1 are sound value.0 value.1 (out value.0 value.1) has are' placed touched
 
-pub log_told : {log : Log} {snapshot : List ℕ} {named others due : List Bool} {left : Option ℕ} → (ms : List Msg) → {w0 w1 : Medium} → AreBytes w0.now
-    → AreBytes w1.now → IsSoundJournal log snapshot named others due left w0
+pub log_told : {log : Log} {snapshot : List ℕ} {named others pending : List Bool} {left : Option ℕ} → (ms : List Msg) → {w0 w1 : Medium} → AreBytes w0.now
+    → AreBytes w1.now → IsSoundJournal log snapshot named others pending left w0
     → ((x : State) → recovered_state log.geometry w0.now ≡ Some x → AreCarriedOut log.geometry x ms) → HasAdded log ms w0 w1 → recovered_state log.geometry w1.now
     ≡ option_map (λ x. fold log.geometry x ms) (recovered_state log.geometry w0.now)
 log_told {log} ms {w0} {w1} are are' sound out has =

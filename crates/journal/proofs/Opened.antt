@@ -208,7 +208,7 @@ pub synced_then : (w0 w1 w2 : Medium) → IsSynced w1 → w1.now ≡ w0.now → 
 synced_then w0 w1 w2 synced now first later = record {
   synced = w1;
   first = first;
-  rest = inr (record { synced = synced; now = now; later = subst (λ (c : List ℕ). CrashImagesAre w1 w2 (RecoversAs c)) now later });
+  rest = inr (record { is_synced = synced; now = now; later = subst (λ (c : List ℕ). CrashImagesAre w1 w2 (RecoversAs c)) now later });
 }
 
 -- ---- what a read leaves

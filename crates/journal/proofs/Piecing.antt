@@ -30,29 +30,29 @@ use Rattle.meaning.specs.State.{State}
 
 -- ---- how many are left
 
-pub piece_left : (log : Log) (due : List Bool) (left : Option ℕ) (n : ℕ) → {count : ℕ} → is_some left ≡ true → IsCutState log due left
-    → get_or due n false ≡ true → count ≡ count_dirty (set due n false) → option_map (λ l. l - 1) left ≡ Some count
-piece_left log due None n some placed dirty_at is = absurd (true≢false (sym some))
-piece_left log due (Some l) n {count} some placed dirty_at is =
-    let fewer = count_cleared due n dirty_at in
+pub piece_left : (log : Log) (pending : List Bool) (left : Option ℕ) (n : ℕ) → {count : ℕ} → is_some left ≡ true → IsCutState log pending left
+    → get_or pending n false ≡ true → count ≡ count_dirty (set pending n false) → option_map (λ l. l - 1) left ≡ Some count
+piece_left log pending None n some placed dirty_at is = absurd (true≢false (sym some))
+piece_left log pending (Some l) n {count} some placed dirty_at is =
+    let fewer = count_cleared pending n dirty_at in
     let one : l - 1 ≡ count = omega (arith, fewer, is, placed.1) in
     ap (λ (k : ℕ). Some k) one
 
--- one fewer, and those are the ones that are due then
-pub piece_counted : (log : Log) (due : List Bool) (left : Option ℕ) (n : ℕ) → {fewer : ℕ} → is_some left ≡ true → IsCutState log due left
-    → get_or due n false ≡ true → fewer ≡ unwrap_or left 0 - 1 → fewer ≡ count_dirty (set due n false)
-piece_counted log due None n some placed dirty_at is = absurd (true≢false (sym some))
-piece_counted log due (Some l) n some placed dirty_at is = let one = count_cleared due n dirty_at in omega (arith, one, is, placed.1)
+-- one fewer, and those are the ones that are pending then
+pub piece_counted : (log : Log) (pending : List Bool) (left : Option ℕ) (n : ℕ) → {fewer : ℕ} → is_some left ≡ true → IsCutState log pending left
+    → get_or pending n false ≡ true → fewer ≡ unwrap_or left 0 - 1 → fewer ≡ count_dirty (set pending n false)
+piece_counted log pending None n some placed dirty_at is = absurd (true≢false (sym some))
+piece_counted log pending (Some l) n some placed dirty_at is = let one = count_cleared pending n dirty_at in omega (arith, one, is, placed.1)
 
--- where none is due, none is left
-pub none_due : (log : Log) (due : List Bool) (left : Option ℕ) → is_some left ≡ true → IsCutState log due left → count_dirty due ≡ 0 → left ≡ Some 0
-none_due log due None some placed none = absurd (true≢false (sym some))
-none_due log due (Some l) some placed none = ap (λ (k : ℕ). Some k) (sym placed.1 ∙ none)
+-- where none is pending, none is left
+pub none_due : (log : Log) (pending : List Bool) (left : Option ℕ) → is_some left ≡ true → IsCutState log pending left → count_dirty pending ≡ 0 → left ≡ Some 0
+none_due log pending None some placed none = absurd (true≢false (sym some))
+none_due log pending (Some l) some placed none = ap (λ (k : ℕ). Some k) (sym placed.1 ∙ none)
 
-pub piece_some : (log : Log) (due : List Bool) (left : Option ℕ) (n : ℕ) → IsCutState log due left → get_or due n false ≡ true → left ≡ Some 0 → ⊥
-piece_some log due left n placed dirty_at none =
-    let placed' = subst (λ (l : Option ℕ). IsCutState log due l) none placed in
-    let fewer = count_cleared due n dirty_at in
+pub piece_some : (log : Log) (pending : List Bool) (left : Option ℕ) (n : ℕ) → IsCutState log pending left → get_or pending n false ≡ true → left ≡ Some 0 → ⊥
+piece_some log pending left n placed dirty_at none =
+    let placed' = subst (λ (l : Option ℕ). IsCutState log pending l) none placed in
+    let fewer = count_cleared pending n dirty_at in
     omega (arith, fewer, placed'.1)
 
 -- ---- the write of one extent
@@ -68,8 +68,8 @@ pub pieced_along : {g g' : Geometry} {a a' n : ℕ} {bytes bytes' : List ℕ} {w
 pieced_along {g'} {a} {a'} {n} {bytes} {w0} {w1} same same' are held =
     subst (λ (l : List ℕ). IsPieced g' (other a') n l w0 w1) are (subst (λ (b : ℕ). IsPieced g' (other b) n bytes w0 w1) same' (subst (λ (x : Geometry). IsPieced x (other a) n bytes w0 w1) same held))
 
-module _ {log : Log} {snapshot : List ℕ} {named others due : List Bool} {left : Option ℕ} {w0 : Medium} (w1 : Medium) (are : AreBytes w0.now)
-    (sound : IsSoundJournal log snapshot named others due left w0) where
+module _ {log : Log} {snapshot : List ℕ} {named others pending : List Bool} {left : Option ℕ} {w0 : Medium} (w1 : Medium) (are : AreBytes w0.now)
+    (sound : IsSoundJournal log snapshot named others pending left w0) where
   is_area : log.named < 2
   is_area = named_below log.geometry log.named log.current (recovered_state log.geometry w0.now) w0 are sound.recovers
 
@@ -96,11 +96,11 @@ module _ {log : Log} {snapshot : List ℕ} {named others due : List Bool} {left 
     pub piece_records : ChangesOnly w0 w1 (IsSameBut (layout_of log.geometry) (image (other log.named))) → records_in log.geometry w1.now ≡ records_in log.geometry w0.now
     piece_records moments = each_forced moments w1.now (itself w1.now w1.unsynced are')
 
-    pub piece_sound : (n l count : ℕ) → left ≡ Some l → n < length due → IsPieced log.geometry (other log.named) n snapshot w0 w1
-        → IsSoundJournal log snapshot named others (set due n false) (Some count) w1
+    pub piece_sound : (n l count : ℕ) → left ≡ Some l → n < length pending → IsPieced log.geometry (other log.named) n snapshot w0 w1
+        → IsSoundJournal log snapshot named others (set pending n false) (Some count) w1
     piece_sound n l count is_left few pieced =
         let same = piece_same pieced.moments in
-        let sound' = subst (λ (o : Option ℕ). IsSoundJournal log snapshot named others due o w0) is_left sound in
+        let sound' = subst (λ (o : Option ℕ). IsSoundJournal log snapshot named others pending o w0) is_left sound in
         let other_half = half_same (layout_of log.geometry) (other log.named) w0.now w1.now (pieced.same.others (half (other log.named)) (λ is. omega (arith, is))) in
         record {
           some = ap is_some same ∙ sound.some;
@@ -121,7 +121,7 @@ module _ {log : Log} {snapshot : List ℕ} {named others due : List Bool} {left 
                 ⊎_elim
                 (λ (here : i ≡ n). ap (λ (j : ℕ). extent_in log.geometry (image_in log.geometry (other log.named) w1) j) here ∙ pieced.is.is
                 ∙ sym (ap (λ (j : ℕ). extent_in log.geometry snapshot j) here))
-                (λ (elsewhere : i ≢ n). pieced.is.others i few' elsewhere ∙ sound'.by_cut.written i few' (sym (get_or-set_other due n i false true elsewhere) ∙ clean))
+                (λ (elsewhere : i ≢ n). pieced.is.others i few' elsewhere ∙ sound'.by_cut.written i few' (sym (get_or-set_other pending n i false true elsewhere) ∙ clean))
                 (cases_eq i n);
             version = sound'.by_cut.version;
           };

@@ -50,21 +50,21 @@ all_right g h y dirty bytes same all =
 -- ---- of a journal with no cut in progress
 
 -- the last snapshot, where it is clean
-pub frozen_right : {log : Log} {snapshot : List ℕ} {named others due : List Bool} {left : Option ℕ} {w0 : Medium} {y : State} {g : Geometry} {dirty : List Bool} {bytes : List ℕ}
-    → left ≡ None → IsSoundJournal log snapshot named others due left w0 → recovered_state log.geometry w0.now ≡ Some y
+pub frozen_right : {log : Log} {snapshot : List ℕ} {named others pending : List Bool} {left : Option ℕ} {w0 : Medium} {y : State} {g : Geometry} {dirty : List Bool} {bytes : List ℕ}
+    → left ≡ None → IsSoundJournal log snapshot named others pending left w0 → recovered_state log.geometry w0.now ≡ Some y
     → g ≡ log.geometry → dirty ≡ named → bytes ≡ snapshot → AreSpelled g y dirty bytes
 frozen_right {log} {named} {y} {dirty} {bytes} alone sound is same same' same'' =
     subst (λ (h : Geometry). AreSpelled h y dirty bytes) (sym same) (subst (λ (row : List Bool). AreSpelled log.geometry y row bytes) (sym same')
     (subst (λ (l : List ℕ). AreSpelled log.geometry y named l) (sym same'') (sound.snapshot_fresh alone y is)))
 
-module _ {log : Log} {snapshot snapshot' : List ℕ} {named others due : List Bool} {left : Option ℕ} {w0 : Medium} {y : State} (alone : left ≡ None)
-    (placed' : IsCutState log due left) (sound' : IsSoundJournal log snapshot named others due left w0)
+module _ {log : Log} {snapshot snapshot' : List ℕ} {named others pending : List Bool} {left : Option ℕ} {w0 : Medium} {y : State} (alone : left ≡ None)
+    (placed' : IsCutState log pending left) (sound' : IsSoundJournal log snapshot named others pending left w0)
     (is : recovered_state log.geometry w0.now ≡ Some y) (is_state : IsState log.geometry y) (spelled : snapshot' ≡ image_of 2 log.geometry y) (are : AreBytes w0.now) where
   pub current_is_named : log.current ≡ log.named
-  current_is_named = subst (λ (l : Option ℕ). IsCutState log due l) alone placed'
+  current_is_named = subst (λ (l : Option ℕ). IsCutState log pending l) alone placed'
 
-  sound : IsSoundJournal log snapshot named others due None w0
-  sound = subst (λ (l : Option ℕ). IsSoundJournal log snapshot named others due l w0) alone sound'
+  sound : IsSoundJournal log snapshot named others pending None w0
+  sound = subst (λ (l : Option ℕ). IsSoundJournal log snapshot named others pending l w0) alone sound'
 
   is_area : log.named < 2
   is_area = named_below log.geometry log.named log.current (recovered_state log.geometry w0.now) w0 are sound.recovers
@@ -85,7 +85,7 @@ module _ {log : Log} {snapshot snapshot' : List ℕ} {named others due : List Bo
     pub point_committed : IsPointed log snapshot' w0 w1 → recovered_state log.geometry w1.now ≡ recovered_state log.geometry w0.now
     point_committed made = holds_now log.geometry (other log.named) (other log.named) (recovered_state log.geometry w0.now) w1 are' made.at.recovers
 
-    pub point_sound : {named' others' : List Bool} → others' ≡ named → IsPointed log snapshot' w0 w1 → IsSoundJournal (pointed log) snapshot' named' others' due None w1
+    pub point_sound : {named' others' : List Bool} → others' ≡ named → IsPointed log snapshot' w0 w1 → IsSoundJournal (pointed log) snapshot' named' others' pending None w1
     point_sound {named'} {others'} same_dirty made =
         let same = point_committed made in
         let back : other (other log.named) ≡ log.named = omega (arith, is_area) in
@@ -114,7 +114,7 @@ module _ {log : Log} {snapshot snapshot' : List ℕ} {named others due : List Bo
     pub cut_committed : IsBegun log w0 w1 → recovered_state log.geometry w1.now ≡ recovered_state log.geometry w0.now
     cut_committed begun = holds_now log.geometry log.named (other log.named) (recovered_state log.geometry w0.now) w1 are' begun.at.recovers
 
-    pub cut_sound : {others' due' : List Bool} {count : ℕ} → due' ≡ others → IsBegun log w0 w1 → IsSoundJournal (cut_now log) snapshot' named others' due' (Some count) w1
+    pub cut_sound : {others' pending' : List Bool} {count : ℕ} → pending' ≡ others → IsBegun log w0 w1 → IsSoundJournal (cut_now log) snapshot' named others' pending' (Some count) w1
     cut_sound {others'} same_dirty begun =
         let same = cut_committed begun in
         record {
@@ -155,8 +155,8 @@ pub record HoldsAlone (log : Log) (x : State) (m : Medium) : Type 0 where
   pub state : IsState log.geometry x
 
 -- The last point of an opening wrote the whole image; nothing is known of the other one, whose pieces are all dirty.
-pub opened_sound : {log : Log} {snapshot : List ℕ} {named others due : List Bool} {w0 w1 : Medium} {y : State} → HoldsAlone log y w0 → snapshot ≡ image_of 2 log.geometry y
-    → ((n : ℕ) → n < piece_count log.geometry → get_or others n true ≡ true) → AreBytes w1.now → IsPointed log snapshot w0 w1 → IsSoundJournal (pointed log) snapshot named others due None w1
+pub opened_sound : {log : Log} {snapshot : List ℕ} {named others pending : List Bool} {w0 w1 : Medium} {y : State} → HoldsAlone log y w0 → snapshot ≡ image_of 2 log.geometry y
+    → ((n : ℕ) → n < piece_count log.geometry → get_or others n true ≡ true) → AreBytes w1.now → IsPointed log snapshot w0 w1 → IsSoundJournal (pointed log) snapshot named others pending None w1
 opened_sound {log} {snapshot} {named} {w0} {w1} {y} held spelled all are made =
     let same = holds_now log.geometry (other log.named) (other log.named) (recovered_state log.geometry w0.now) w1 are made.at.recovers in
     record {

@@ -39,7 +39,7 @@ all_clean dirty = replicate (length dirty) false
 abbrev pub pointed_dirty : DirtyPieces → DirtyPieces
 pointed_dirty dirty = record { named = all_clean dirty.others; others = dirty.named }
 
--- A cut has begun: the pieces of the other image that were dirty are due, and no piece of it is dirty now.
+-- A cut has begun: the pieces of the other image that were dirty are pending, and no piece of it is dirty now.
 abbrev pub cut_dirty : DirtyPieces → DirtyPieces
 cut_dirty dirty = record { named = dirty.named; others = all_clean dirty.others }
 

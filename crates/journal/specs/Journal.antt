@@ -36,26 +36,26 @@ abbrev pub records : JournalView → List (List ℕ)
 records j = records_in j.geometry j.medium.now
 
 -- It recovers to a state, and so does whatever a crash leaves now, with the same records in force. While no cut is in
--- progress, a half has room for these and for as many more as can still be logged.
+-- progress, these records and the room for more make up exactly one half.
 pub record IsRecoverable (j : JournalView) : Type 0 where
   pub some : is_some (committed j) ≡ true
   pub each : (c : List ℕ) → IsCrashImage j.medium c → recovered_state j.geometry c ≡ committed j
   pub forced : (c : List ℕ) → IsCrashImage j.medium c → records_in j.geometry c ≡ records j
   pub room : j.left ≡ None → length (records j) + j.room ≡ j.geometry.half
 
--- Each of the messages is logged where they run from x on, one after the other: it is changing, in range, and done.
+-- Run from x on, one after the other, each of the messages is logged: it is changing, in range, and carried out.
 abbrev pub AreCarriedOut : Geometry → State → List Msg → Type 0
 AreCarriedOut g x [] = Unit {0}
 AreCarriedOut g x (m ∷ ms) = IsMessage m × IsChangeInRange g m × (is_loggable m (reply_to g x m) ≡ true)
     × AreCarriedOut g (next_state g x m) ms
 
 -- These bytes recover to x with a prefix of these messages run on it.
-pub record HoldsSome (g : Geometry) (x : State) (ms : List Msg) (c : List ℕ) : Type 0 where
+pub record RecoversWithPrefix (g : Geometry) (x : State) (ms : List Msg) (c : List ℕ) : Type 0 where
   pub added : ℕ
   pub at_most : added ≤ length ms
   pub is : recovered_state g c ≡ Some (fold g x (take added ms))
 
--- after a call with this answer: at `Ok` as given, and else failed
+-- after a call with this result: at `Ok` as given, and else failed
 abbrev pub after_call : {T E : Type 0} → Result T E → JournalView → JournalView → JournalView
 after_call (Ok _) done old = done
 after_call (Err _) done old = record old { failed = true; medium = done.medium }

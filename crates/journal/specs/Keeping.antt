@@ -27,21 +27,21 @@ abbrev pub AreCleanBefore : ℕ → List Bool → Type 0
 AreCleanBefore n dirty = (i : ℕ) → i < n → get_or dirty i false ≡ false
 
 -- A cut is in progress: its image, with the records of the other half run on it, leads to what the device recovers to, and
--- each of its extents that isn't due is on the device. Its image is one of version 2.
-pub record IsCut (log : Log) (snapshot : List ℕ) (due : List Bool) (m : Medium) : Type 0 where
+-- each of its extents that isn't pending is on the device. Its image is one of version 2.
+pub record IsCut (log : Log) (snapshot : List ℕ) (pending : List Bool) (m : Medium) : Type 0 where
   pub behind : run_on log.geometry (read log.geometry snapshot) (front (layout_of log.geometry) (other log.named) m.now)
       ≡ recovered_state log.geometry m.now
-  pub written : AgreeOnClean log.geometry due (image_in log.geometry (other log.named) m) snapshot
+  pub written : AgreeOnClean log.geometry pending (image_in log.geometry (other log.named) m) snapshot
   pub version : version_in snapshot ≡ 2
 
 abbrev pub IsCutOr : Log → List ℕ → List Bool → Option ℕ → Medium → Type 0
-IsCutOr log snapshot due None m = Unit {0}
-IsCutOr log snapshot due (Some left) m = IsCut log snapshot due m
+IsCutOr log snapshot pending None m = Unit {0}
+IsCutOr log snapshot pending (Some left) m = IsCut log snapshot pending m
 
--- which half is current, and how many extents are due
+-- which half is current, and how many extents are pending
 abbrev pub IsCutState : Log → List Bool → Option ℕ → Type 0
-IsCutState log due None = log.current ≡ log.named
-IsCutState log due (Some left) = (log.current ≡ other log.named) × (count_dirty due ≡ left)
+IsCutState log pending None = log.current ≡ log.named
+IsCutState log pending (Some left) = (log.current ≡ other log.named) × (count_dirty pending ≡ left)
 
 -- the image that the area that isn't named has, or will have once the cut is written
 abbrev pub coming : Log → List ℕ → Option ℕ → Medium → List ℕ
@@ -51,8 +51,8 @@ coming log snapshot (Some left) m = snapshot
 -- ---- the journal
 
 -- What holds of a journal whose device has not failed and keeps its bytes. The lists are the dirty flags of the named area and
--- of the other one, and the flags of what is due.
-pub record IsSoundJournal (log : Log) (snapshot : List ℕ) (named others due : List Bool) (left : Option ℕ) (m : Medium) : Type 0 where
+-- of the other one, and the flags of what is pending.
+pub record IsSoundJournal (log : Log) (snapshot : List ℕ) (named others pending : List Bool) (left : Option ℕ) (m : Medium) : Type 0 where
   pub some : is_some (recovered_state log.geometry m.now) ≡ true
   pub recovers : RecoversByArea log.geometry log.named log.current (recovered_state log.geometry m.now) m
   pub ready : IsReadyFor log m
@@ -63,7 +63,7 @@ pub record IsSoundJournal (log : Log) (snapshot : List ℕ) (named others due : 
   -- while no cut is in progress, the last snapshot is the named image, so that the same flags hold of it
   pub snapshot_fresh : left ≡ None → IsFresh log.geometry (recovered_state log.geometry m.now) named snapshot
   pub others_fresh : IsFresh log.geometry (recovered_state log.geometry m.now) others (coming log snapshot left m)
-  pub by_cut : IsCutOr log snapshot due left m
+  pub by_cut : IsCutOr log snapshot pending left m
 
 abbrev pub journal_view_of : Log → List Bool → List Bool → Option ℕ → Bool → Medium → JournalView
 journal_view_of log named others left failed m = record {

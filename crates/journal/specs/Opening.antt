@@ -43,7 +43,7 @@ pub record RecoversAs (before c : List ℕ) : Type 0 where
 -- The first sync is over: nothing was unsynced then, and from then on a crash leaves what recovers to the same, or is refused
 -- for the same fault.
 pub record IsPastSync (old synced new : Medium) : Type 0 where
-  pub synced : IsSynced synced
+  pub is_synced : IsSynced synced
   pub now : synced.now ≡ old.now
   pub later : CrashImagesAre synced new (RecoversAs old.now)
 

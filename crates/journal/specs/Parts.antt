@@ -45,7 +45,7 @@ pub record AreUnloaded (p : Parts) : Type 0 where
   pub snapshot : length p.snapshot.items ≡ image_size p.tree.geometry
   pub named_dirty : length p.named_dirty.items ≡ piece_count p.tree.geometry
   pub other_dirty : length p.other_dirty.items ≡ piece_count p.tree.geometry
-  pub due : length p.due.items ≡ piece_count p.tree.geometry
+  pub pending : length p.pending.items ≡ piece_count p.tree.geometry
   pub dirty : marks_of p ≡ opened_dirty p.tree.geometry
   pub all : AreAllDirty p.tree.geometry p.other_dirty.items
 
@@ -63,11 +63,11 @@ pub record AreLoaded (p : Parts) (m : Medium) : Type 0 where
   pub all : AreAllDirty p.halves.geometry p.other_dirty.items
 
 -- No flag has changed, nor the size of the snapshot.
-pub record KeepsRoom (old new : Parts) : Type 0 where
+pub record KeepsBuffers (old new : Parts) : Type 0 where
   pub snapshot : length new.snapshot.items ≡ length old.snapshot.items
   pub named_dirty : new.named_dirty ≡ old.named_dirty
   pub other_dirty : new.other_dirty ≡ old.other_dirty
-  pub due : new.due ≡ old.due
+  pub pending : new.pending ≡ old.pending
 
 -- What a journal is made of: a log with no record and all its room, and the flags of each piece.
 pub record IsMade (p : Parts) (m : Medium) : Type 0 where
@@ -80,7 +80,7 @@ pub record IsMade (p : Parts) (m : Medium) : Type 0 where
   pub named_dirty : length p.named_dirty.items ≡ piece_count p.halves.geometry
   pub other_dirty : length p.other_dirty.items ≡ piece_count p.halves.geometry
   pub dirty : marks_of p ≡ opened_dirty p.halves.geometry
-  pub due : length p.due.items ≡ piece_count p.halves.geometry
+  pub pending : length p.pending.items ≡ piece_count p.halves.geometry
 
 -- It was opened from a device with these bytes, and the tree holds the state to which they recover.
 pub record IsMadeOf (c : List ℕ) (p : Parts) (m : Medium) : Type 0 where
@@ -90,4 +90,4 @@ pub record IsMadeOf (c : List ℕ) (p : Parts) (m : Medium) : Type 0 where
   pub is : recovered_state p.halves.geometry m.now ≡ Some (state_in p.tree)
   pub version : named_version p.halves.geometry m.now ≡ 2
   pub emptied : in_force (layout_of p.halves.geometry) (named_area (layout_of p.halves.geometry) m.now) m.now ≡ []
-  pub sound : IsSoundJournal p.halves p.snapshot.items p.named_dirty.items p.other_dirty.items p.due.items None m
+  pub sound : IsSoundJournal p.halves p.snapshot.items p.named_dirty.items p.other_dirty.items p.pending.items None m

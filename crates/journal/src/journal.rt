@@ -6,7 +6,7 @@ ghost use Rattle.disk.specs.Moments.{CrashImagesAre};
 ghost use Rattle.image.specs.Pieces.{piece_count};
 ghost use Rattle.journal.specs.Costs.{longest_point, point_cost};
 ghost use Rattle.journal.specs.Images.{KeepsImages, PatchesOne};
-ghost use Rattle.journal.specs.Journal.{JournalView, AreCarriedOut, HoldsSome, IsRecoverable, after_call, records, committed};
+ghost use Rattle.journal.specs.Journal.{JournalView, AreCarriedOut, RecoversWithPrefix, IsRecoverable, after_call, records, committed};
 ghost use Rattle.journal.specs.DirtyPieces.{AreBothTouched, count_dirty, cut_dirty, flipped_dirty, pointed_dirty};
 ghost use Rattle.oplog.specs.Beyond.{KeepsBeyond};
 ghost use Rattle.oplog.specs.Costs.{Costs, batches};
@@ -48,12 +48,12 @@ pub struct Journal<D: Disk> {
     other_dirty: Vec<bool>,
 
     /// Which pieces of a cut are still to be written.
-    due: Vec<bool>,
+    pending: Vec<bool>,
 
-    /// A number before which no piece is due: the next one is looked for from here on.
-    looked: usize,
+    /// No piece before this one is pending: the next one is looked for from here on.
+    next_pending: usize,
 
-    /// How many are due, while a cut is in progress.
+    /// How many are pending, while a cut is in progress.
     left: Option<usize>,
     failed: bool,
 }
@@ -75,11 +75,11 @@ impl<D: Disk> Model for Journal<D> {
         × (length j.snapshot.items ≡ image_size j.halves.geometry)
         × (length j.named_dirty.items ≡ piece_count j.halves.geometry)
         × (length j.other_dirty.items ≡ piece_count j.halves.geometry)
-        × (length j.due.items ≡ piece_count j.halves.geometry)
-        × (j.failed ≡ false → (j.halves.failed ≡ false) × IsCutState j.halves j.due.items j.left)
+        × (length j.pending.items ≡ piece_count j.halves.geometry)
+        × (j.failed ≡ false → (j.halves.failed ≡ false) × IsCutState j.halves j.pending.items j.left)
         × (j.failed ≡ false → D.keeps →
-        IsSoundJournal j.halves j.snapshot.items j.named_dirty.items j.other_dirty.items j.due.items j.left (D.medium j.disk))
-        × (j.looked ≤ length j.due.items) × AreCleanBefore j.looked j.due.items };
+        IsSoundJournal j.halves j.snapshot.items j.named_dirty.items j.other_dirty.items j.pending.items j.left (D.medium j.disk))
+        × (j.next_pending ≤ length j.pending.items) × AreCleanBefore j.next_pending j.pending.items };
 }
 
 impl<D: Disk> Journal<D> {
@@ -94,7 +94,7 @@ impl<D: Disk> Journal<D> {
         snapshot: Vec<u8>,
         named_dirty: Vec<bool>,
         other_dirty: Vec<bool>,
-        due: Vec<bool>,
+        pending: Vec<bool>,
     ) -> Journal<D>
         requires not_failed { halves.failed ≡ false }
         requires current_is_named { halves.current ≡ halves.named }
@@ -103,8 +103,9 @@ impl<D: Disk> Journal<D> {
         requires snapshot { length snapshot.items ≡ image_size halves.geometry }
         requires named_dirty { length named_dirty.items ≡ piece_count halves.geometry }
         requires other_dirty { length other_dirty.items ≡ piece_count halves.geometry }
-        requires due { length due.items ≡ piece_count halves.geometry }
-        requires sound { D.keeps → IsSoundJournal halves snapshot.items named_dirty.items other_dirty.items due.items None (D.medium disk) }
+        requires pending { length pending.items ≡ piece_count halves.geometry }
+        requires sound { D.keeps →
+            IsSoundJournal halves snapshot.items named_dirty.items other_dirty.items pending.items None (D.medium disk) }
         ensures { result ≡ journal_view_of halves named_dirty.items other_dirty.items None false (D.medium disk) }
     {
         Journal {
@@ -113,8 +114,8 @@ impl<D: Disk> Journal<D> {
             snapshot,
             named_dirty,
             other_dirty,
-            due,
-            looked: 0,
+            pending,
+            next_pending: 0,
             left: None,
             failed: false,
         }
@@ -130,7 +131,7 @@ impl<D: Disk> Journal<D> {
         // A crash at any moment of the call leaves a device that recovers to what was committed, with the first m of
         // the messages run on it.
         ensures any_moment { D.keeps → (x : State) → committed self.old ≡ Some x →
-            CrashImagesAre self.old.medium self.new.medium (HoldsSome self.old.geometry x messages.now) }
+            CrashImagesAre self.old.medium self.new.medium (RecoversWithPrefix self.old.geometry x messages.now) }
         ensures beyond { D.keeps → KeepsBeyond (layout_of self.old.geometry) self.old.medium self.new.medium }
         ensures committed { OnOk result (D.keeps →
             committed self.new ≡ option_map (λ x. fold self.old.geometry x messages.now) (committed self.old)) }
@@ -227,10 +228,10 @@ impl<D: Disk> Journal<D> {
             self.failed = true;
             return Err(fault);
         }
-        mem::swap(&mut self.due, &mut self.other_dirty);
+        mem::swap(&mut self.pending, &mut self.other_dirty);
         clear_dirty(&mut self.other_dirty);
-        self.looked = 0;
-        self.left = Some(count_dirty(&self.due));
+        self.next_pending = 0;
+        self.left = Some(count_dirty(&self.pending));
         Ok(())
     }
 
@@ -256,7 +257,7 @@ impl<D: Disk> Journal<D> {
         ensures not_bad { IsNotBad result }
         ensures counts { CountsLogFault result self.old.medium.faults self.new.medium.faults }
     {
-        let Some(n) = first_dirty(&self.due, self.looked) else {
+        let Some(n) = first_dirty(&self.pending, self.next_pending) else {
             return Ok(0);
         };
         let g = self.halves.geometry();
@@ -265,14 +266,14 @@ impl<D: Disk> Journal<D> {
             self.failed = true;
             return Err(LogFault::Device);
         }
-        self.due[n] = false;
-        self.looked = n + 1;
+        self.pending[n] = false;
+        self.next_pending = n + 1;
         let left = self.left.unwrap_or(0).saturating_sub(1);
         self.left = Some(left);
         Ok(left)
     }
 
-    /// Ends the point of a cut of which every piece is written: the image becomes the named one. The records that were in
+    /// Ends a cut of which every piece is written: the image becomes the named one. The records that were in
     /// force before the cut aren't any more; those logged since then are.
     pub fn flip(&mut self) -> Result<(), LogFault>
         requires not_failed { self.old.failed ≡ false }

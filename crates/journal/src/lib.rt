@@ -1,5 +1,5 @@
-//! The durable half of a server: what was carried out is logged on a device, and points keep the log short. A crash at
-//! any moment leaves a device that recovers to what was logged.
+//! The durable part of a server: what was carried out is logged on a device, and checkpoints keep the log short. A crash at any moment
+//! leaves a device that recovers to what was logged, with a prefix of what was being logged.
 #![tactic(auto)]
 
 mod dirty;

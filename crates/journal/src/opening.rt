@@ -11,7 +11,7 @@ ghost use Rattle.disk.specs.Moments.{CrashImagesAre, moment};
 ghost use Rattle.image.specs.Image.{image_of};
 ghost use Rattle.journal.specs.Costs.{finish_cost, opening_cost};
 ghost use Rattle.journal.specs.Opening.{IsOpened, IsRefusedUnwritten, OpeningCrashImages, RecoversAs};
-ghost use Rattle.journal.specs.Parts.{AreLoaded, AreUnloaded, IsBad, IsMade, IsMadeOf, IsRefusedAlike, KeepsRoom};
+ghost use Rattle.journal.specs.Parts.{AreLoaded, AreUnloaded, IsBad, IsMade, IsMadeOf, IsRefusedAlike, KeepsBuffers};
 ghost use Rattle.journal.specs.Steps.{IsAlone, IsFinished, IsPointed, RecoversStill, finished_now, pointed};
 ghost use Rattle.oplog.specs.Beyond.{KeepsBeyond};
 ghost use Rattle.oplog.specs.Costs.{Costs};
@@ -23,7 +23,7 @@ use crate::Journal;
 use crate::snapshot::update_snapshot;
 use crate::steps::{finish_on, point_on};
 use affinity::Geometry;
-use checkpoint::loading::{load_named, read_header, replay, take_room};
+use checkpoint::loading::{load_named, read_header, replay, take_loading_memory};
 use checkpoint::{OpenError, OpenFault};
 use device_map::image_size;
 use disk::Disk;
@@ -48,7 +48,7 @@ struct Parts {
     other_dirty: Vec<bool>,
 
     /// Which pieces of a cut are still to be written.
-    due: Vec<bool>,
+    pending: Vec<bool>,
 }
 
 /// All memory that opening a device takes, with a buffer for the largest piece of an image.
@@ -58,19 +58,19 @@ fn take_memory(alloc: Global, g: &Geometry) -> Result<(Parts, Vec<u8>), OpenFaul
     ensures buffer { IfOk result (λ r. length r.1.items ≡ g.now.quota * 520) }
     ensures fault { IfErr result (λ e. e ≡ OutOfMemory) }
 {
-    let (tree, halves, buffer) = take_room(alloc, g)?;
+    let (tree, halves, buffer) = take_loading_memory(alloc, g)?;
     let snapshot = vec![in alloc; 0u8; image_size(g)]?;
     let pieces = piece_count(g);
     let named_dirty = vec![in alloc; false; pieces]?;
     let other_dirty = vec![in alloc; true; pieces]?;
-    let due = vec![in alloc; false; pieces]?;
+    let pending = vec![in alloc; false; pieces]?;
     let parts = Parts {
         tree,
         halves,
         snapshot,
         named_dirty,
         other_dirty,
-        due,
+        pending,
     };
     Ok((parts, buffer))
 }
@@ -109,7 +109,7 @@ fn finish_cut<D: Disk>(parts: &mut Parts, disk: &mut D) -> Result<(), LogFault>
     ensures costs { D.keeps → Costs result 4 (D.medium disk.old) (D.medium disk.new) }
     ensures log { OnOk result (parts.new.halves ≡ finished_now parts.old.halves) }
     ensures tree { parts.new.tree ≡ parts.old.tree }
-    ensures room { KeepsRoom parts.old parts.new }
+    ensures room { KeepsBuffers parts.old parts.new }
     ensures not_bad { IsNotBad result }
     ensures call { IsLogCall result (D.medium disk.old) (D.medium disk.new) }
 {
@@ -140,7 +140,7 @@ fn replay_behind<D: Disk>(parts: &mut Parts, disk: &mut D) -> Result<(), OpenFau
         IsBad parts.old.halves.geometry (other parts.old.halves.named) (D.medium disk.old) (D.medium disk.new) e) }
     ensures loaded { OnOk result (AreLoaded parts.new (D.medium disk.new)) }
     ensures geometry { OnOk result (parts.new.halves.geometry ≡ parts.old.halves.geometry) }
-    ensures room { OnOk result (KeepsRoom parts.old parts.new) }
+    ensures room { OnOk result (KeepsBuffers parts.old parts.new) }
     ensures call { IsOpeningCall result (D.medium disk.old) (D.medium disk.new) }
 {
     let behind = 1 - parts.halves.named();
@@ -179,7 +179,7 @@ fn load_in_order<D: Disk>(
     ensures synced { IfErr result (λ e. e ≢ Device → D.keeps → IsSynced (D.medium disk.new)) }
     ensures loaded { OnOk result (AreLoaded parts.new (D.medium disk.new)) }
     ensures geometry { OnOk result (parts.new.halves.geometry ≡ parts.old.tree.geometry) }
-    ensures room { OnOk result (KeepsRoom parts.old parts.new) }
+    ensures room { OnOk result (KeepsBuffers parts.old parts.new) }
     ensures call { IsOpeningCall result (D.medium disk.old) (D.medium disk.new) }
 {
     let named = load_named(disk, &mut parts.tree, &mut parts.halves, buffer)?;
@@ -190,7 +190,7 @@ fn load_in_order<D: Disk>(
     Ok(())
 }
 
-/// Makes a point of the whole state, which the tree holds.
+/// Makes a checkpoint of the whole state, which the tree holds.
 fn last_point<D: Disk>(parts: &mut Parts, disk: &mut D) -> Result<(), OpenFault>
     requires loaded { AreLoaded parts.old (D.medium disk.old) }
     requires alone { D.keeps → IsAlone parts.old.halves (D.medium disk.old) }
@@ -205,7 +205,7 @@ fn last_point<D: Disk>(parts: &mut Parts, disk: &mut D) -> Result<(), OpenFault>
     ensures snapshot { parts.new.snapshot.items ≡ image_of 2 parts.old.tree.geometry (state_in parts.old.tree) }
     ensures log { OnOk result (parts.new.halves ≡ pointed parts.old.halves) }
     ensures tree { parts.new.tree ≡ parts.old.tree }
-    ensures room { KeepsRoom parts.old parts.new }
+    ensures room { KeepsBuffers parts.old parts.new }
     ensures device { IfErr result (λ e. e ≡ Device) }
     ensures call { IsOpeningCall result (D.medium disk.old) (D.medium disk.new) }
 {
@@ -265,7 +265,7 @@ fn open_on<D: Disk>(alloc: Global, disk: &mut D) -> Result<Parts, OpenFault>
     open_committed(alloc, disk)
 }
 
-/// Opens a device: reads what it recovers to into a tree, finishes a cut that was in progress, and makes a point.
+/// Opens a device: reads what it recovers to into a tree, finishes a cut that was in progress, and makes a checkpoint.
 ///
 /// It is refused exactly where its bytes are, with the first fault in the order of the tests: length, marks, geometry,
 /// length for that geometry, memory, the head of the named image, its pieces, the chain bytes, the records of the named
@@ -318,9 +318,9 @@ pub fn open<D: Disk>(alloc: Global, d: D) -> Result<(Journal<D>, Tree), OpenErro
                 snapshot,
                 named_dirty,
                 other_dirty,
-                due,
+                pending,
             } = parts;
-            let journal = Journal::new(disk, halves, snapshot, named_dirty, other_dirty, due);
+            let journal = Journal::new(disk, halves, snapshot, named_dirty, other_dirty, pending);
             Ok((journal, tree))
         }
         Err(fault) => Err(OpenError { disk, fault }),

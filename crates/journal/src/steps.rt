@@ -1,4 +1,4 @@
-//! The steps of a point on a device. A crash at any moment of one leaves a device that recovers to the same as before.
+//! The steps of a checkpoint on a device. A crash at any moment of one leaves a device that recovers to the same as before.
 ghost use Rattle.std.specs.Prelude.{◌≡◌, true, false, Some, length, OnOk, OnErr};
 ghost use Rattle.checkpoint.specs.Loading.{NamedHolds};
 ghost use Rattle.checkpoint.specs.Recovery.{recovered_state};
@@ -20,7 +20,7 @@ use crate::extents::{sync_image, write_image};
 use disk::Disk;
 use oplog::{Halves, LogFault};
 
-/// Makes a point into the area that isn't named, with this image of what the device recovers to. Of the image only the
+/// Makes a checkpoint into the area that isn't named, with this image of what the device recovers to. Of the image only the
 /// dirty extents (a piece each; the first with the image's head) are written: all others are on the device already.
 pub(crate) fn point_on<D: Disk>(
     halves: &mut Halves,

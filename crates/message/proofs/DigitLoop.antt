@@ -9,7 +9,7 @@ use Rattle.std.proofs.lemmas.List.Elements.{All-get_or}
 use Rattle.hex.specs.Hex.{decode_pairs, digit_or_error, hex_digit_value, is_hex_digit, pair_value, value_at}
 use Rattle.hex.proofs.HexLemmas.{decode_pairs-ok}
 use Rattle.hex.proofs.Pairs.{decode_done, decode_start, decode_step, prepend}
-use Rattle.message.specs.Digits.{AreDecoded, HasOther, IsDecoded, value_of}
+use Rattle.message.specs.Digits.{AreDecoded, HasNonDigit, IsDecoded, value_of}
 
 read_as : (c i : ℕ) (o : Option ℕ) → unwrap_or o 255 < 16 → digit_or_error c i o ≡ Ok (unwrap_or o 255)
 read_as c i (Some v) h = refl
@@ -135,5 +135,5 @@ decoded digits out fits all =
     decode_done digits out (length out) (omega arith) (omega (arith, fits)) (decoded_to digits out (length out) (omega arith) fits all)
 
 -- Where one is none, they are not.
-pub not_decoded : (digits : List ℕ) → HasOther digits → IsErr (decode_pairs 0 digits)
+pub not_decoded : (digits : List ℕ) → HasNonDigit digits → IsErr (decode_pairs 0 digits)
 not_decoded digits other = other_refused digits other.0 other.1 other.2

@@ -7,16 +7,16 @@ use Rattle.hex.specs.Hex.{hex_digit_value}
 abbrev pub value_of : ℕ → ℕ
 value_of c = unwrap_or (hex_digit_value c) 255
 
--- The byte at this place is that of the two digits at its places.
+-- Byte i has the value of digits 2i and 2i + 1.
 pub record IsDecoded (digits bytes : List ℕ) (i : ℕ) : Type 0 where
   pub high : value_of (slice_index digits (2 * i)) < 16
   pub low : value_of (slice_index digits (2 * i + 1)) < 16
   pub byte : slice_index bytes i ≡ value_of (slice_index digits (2 * i)) * 16 + value_of (slice_index digits (2 * i + 1))
 
--- One of them is no digit.
-abbrev pub HasOther : List ℕ → Type 0
-HasOther digits = (k : ℕ) × (k < length digits) × (16 ≤ value_of (slice_index digits k))
+-- One of these isn't a digit.
+abbrev pub HasNonDigit : List ℕ → Type 0
+HasNonDigit digits = (k : ℕ) × (k < length digits) × (16 ≤ value_of (slice_index digits k))
 
--- So are all bytes from the one place up to the other.
+-- All bytes from `from` up to `to`, without that one, are decoded.
 abbrev pub AreDecoded : List ℕ → List ℕ → ℕ → ℕ → Type 0
 AreDecoded digits bytes from to = (i : ℕ) → from ≤ i → i < to → IsDecoded digits bytes i

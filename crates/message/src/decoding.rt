@@ -4,7 +4,7 @@
 ghost use Rattle.std.specs.Prelude.{◌≡◌, ◌≢◌, ◌+◌, ◌*◌, ◌%◌, ◌<◌, ◌≤◌, ℕ, length, slice_index, Ok, Some, None, IsErr, MatchResult};
 ghost use Rattle.std.specs.Option.{unwrap_or};
 ghost use Rattle.hex.specs.Hex.{decode_sized, hex_digit_value, decode_pairs};
-ghost use Rattle.message.specs.Digits.{AreDecoded, HasOther, value_of};
+ghost use Rattle.message.specs.Digits.{AreDecoded, HasNonDigit, value_of};
 
 /// The value of a byte that is no digit: more than any digit's.
 const NO_DIGIT: u8 = 255;
@@ -36,7 +36,7 @@ fn values_at(digits: &[u8], at: usize, values: &mut [u8; 2 * LANES]) -> u8
     requires { at + 32 ≤ length digits.now }
     ensures each { (k : ℕ) → k < 32 → slice_index values.new k ≡ value_of (slice_index digits.now (at + k)) }
     ensures bound { (k : ℕ) → k < 32 → slice_index values.new k ≤ result }
-    ensures met { 16 ≤ result → HasOther digits.now }
+    ensures met { 16 ≤ result → HasNonDigit digits.now }
 {
     let mut greatest = 0u8;
     for k in 0..2 * LANES {
@@ -70,7 +70,7 @@ fn decode_from(digits: &[u8], out: &mut [u8], from: usize) -> u8
     ensures before { (i : ℕ) → i < from → slice_index out.new i ≡ slice_index out.old i }
     ensures size { length out.new ≡ length out.old }
     ensures read { result < 16 → AreDecoded digits.now out.new from (length out.new) }
-    ensures other { 16 ≤ result → HasOther digits.now }
+    ensures other { 16 ≤ result → HasNonDigit digits.now }
 {
     let mut greatest = 0u8;
     for i in from..out.len() {

@@ -59,13 +59,13 @@ log_after (Ok _) log done = done
 log_after (Err Device) log done = record log { failed = true }
 log_after (Err (BadRecord h i)) log done = log
 
--- A call adds one to the count of failures exactly where it answers `Device`.
+-- A call adds one to the count of failures exactly where it returns `Device`.
 abbrev pub CountsLogFault : {T : Type 0} → Result T LogFault → ℕ → ℕ → Type 0
 CountsLogFault (Ok _) old new = new ≡ old
 CountsLogFault (Err Device) old new = new ≡ old + 1
 CountsLogFault (Err (BadRecord h i)) old new = new ≡ old
 
--- What every call of a log does to its device: it counts a failure exactly where it answers `Device`, and the device stays
+-- What every call of a log does to its device: it counts a failure exactly where it returns `Device`, and the device stays
 -- as long as it was.
 abbrev pub IsLogCall : {T : Type 0} → Result T LogFault → Medium → Medium → Type 0
 IsLogCall result old new = CountsLogFault result old.faults new.faults × (length new.now ≡ length old.now)

@@ -46,6 +46,6 @@ module _ {S : Type 0} (means : Decoding S) where
   abbrev pub recovers_as : Layout → ℕ → List ℕ → Option S
   recovers_as g n c = if is_laid_out g c then run (means.read (part_bytes g (image n) c)) (in_force g n c) else None
 
-  -- the state that the device recovers to; none where it isn't sound
+  -- the state that the device recovers to; none where its header, length, chain bytes, image or a record in force is bad
   abbrev pub recovers : Layout → List ℕ → Option S
   recovers g c = recovers_as g (named_area g c) c

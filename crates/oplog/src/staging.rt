@@ -20,7 +20,7 @@ fn put_record(m: &Msg, place: &mut [u8])
     encode(m, record);
 }
 
-/// Puts the records of these messages in a row at the front of `out`.
+/// Puts the records of these messages in a row at the start of `out`.
 fn put_records(messages: &[Msg], out: &mut [u8])
     requires fit { All FitsRecord messages.now }
     requires room { length messages.now * 520 ≤ length out.old }
@@ -33,7 +33,7 @@ fn put_records(messages: &[Msg], out: &mut [u8])
     }
 }
 
-/// Puts the records of these messages in a row at the front of the buffer.
+/// Puts the records of these messages in a row at the start of the buffer.
 pub(crate) fn stage(messages: &[Msg], buffer: &mut Vec<u8>)
     requires fit { All FitsRecord messages.now }
     requires room { length messages.now * 520 ≤ vec_len buffer.old }

@@ -7,7 +7,7 @@ use Rattle.std.proofs.Math.Seq.{take-length}
 use Rattle.affinity.specs.Path.{Path, begins, are_related}
 use Rattle.affinity.proofs.Paths.{related_below, related_first, related_rest}
 use Rattle.parcel.specs.Fits.{EachFits}
-use Rattle.parcel.specs.Levels.{IsRowPath, Refuses, HandsBack}
+use Rattle.parcel.specs.Levels.{IsRowPath, TakesNothing, HandsBack}
 use Rattle.parcel.specs.Nodes.{Node, Nodes, in_child, in_row, put_at, TakesOut, PutsBack, SameNodes}
 use Rattle.parcel.specs.Tree.{IsOut}
 use Rattle.parcel.specs.declared.parts.Parcels.{Parcels}
@@ -84,8 +84,8 @@ module _ {X : Type 0} (nodes : X → Nodes) (own : Node) (xs : List (Option X)) 
   row_all_in count p h (j ∷ q) path related =
       subst (λ k. is_some (in_child nodes (slice_index_or xs k None) q) ≡ true) (related_first i j p q related) (h q path.1 (related_rest i j p q related))
 
-  pub row_refused : (IsBelow : Path → Type 0) (count : ℕ) (p : Path) → i < count → Refuses IsBelow p (in_child nodes (slice_index_or xs i None)) (in_child nodes y)
-      → Refuses (IsRowPath count IsBelow) (i ∷ p) (in_row nodes own xs) (in_row nodes own (slice_set xs i y))
+  pub row_refused : (IsBelow : Path → Type 0) (count : ℕ) (p : Path) → i < count → TakesNothing IsBelow p (in_child nodes (slice_index_or xs i None)) (in_child nodes y)
+      → TakesNothing (IsRowPath count IsBelow) (i ∷ p) (in_row nodes own xs) (in_row nodes own (slice_set xs i y))
   row_refused IsBelow count p below h = record {
     gap = (i ∷ h.gap.0, (below, h.gap.1), related_below i p h.gap.0 h.gap.2, h.gap.3);
     same = row_same h.same;

@@ -20,7 +20,7 @@ use Rattle.parcel.specs.Fits.{Fits}
 use Rattle.parcel.specs.Holding.{TreeHolds, IsApart, IsJobOut, nowhere, with_place}
 use Rattle.parcel.specs.Nodes.{Node, Nodes, in_parcels, tree_state}
 use Rattle.parcel.specs.Run.{JobView, IsJobRun, Shows}
-use Rattle.parcel.specs.RunLaws.{CanBePutBack, LendsJob, job_place}
+use Rattle.parcel.specs.RunLaws.{CanBeRestored, LendsJob, job_place}
 use Rattle.parcel.specs.Tree.{IsIn, HasGap, IsOut, LendsAt, RestoresAt, path_above}
 use Rattle.parcel.specs.declared.job.Done.{Done}
 use Rattle.parcel.specs.declared.parts.Parcels.{Parcels}
@@ -76,7 +76,7 @@ pub place_is_path : (g : Geometry) (m : Msg) → is_in_range g m ≡ true → Is
 place_is_path g m h = IsPath-place g (kind m) (four_numbers m) h
 
 pub ran_goes_back : (job : JobView) (done : Done) (old lent : Nodes) → LendsJob job old lent → IsJobRun job done
-    → CanBePutBack job.geometry (job_place job) done.parcels lent
+    → CanBeRestored job.geometry (job_place job) done.parcels lent
 ran_goes_back job done old lent h ran =
     let g = job.geometry in
     let p = place g job.message in
@@ -211,7 +211,7 @@ shows_still g p t l x m apart shows = agree-trans shows (agree_within (λ q rela
 
 -- ---- a job that is out, and what it left when it ran
 
-pub job_goes_back : (out : Path → Bool) (job : JobView) (done : Done) (n : Nodes) (x : State) → IsJobOut out job n x → IsJobRun job done → CanBePutBack job.geometry (job_place job) done.parcels n
+pub job_goes_back : (out : Path → Bool) (job : JobView) (done : Done) (n : Nodes) (x : State) → IsJobOut out job n x → IsJobRun job done → CanBeRestored job.geometry (job_place job) done.parcels n
 job_goes_back out job done n x h ran =
     let g = job.geometry in
     let p = place g job.message in

@@ -6,7 +6,7 @@ use Rattle.affinity.specs.declared.geometry.Geometry.{Geometry}
 use Rattle.affinity.specs.Interval.{IsPath}
 use Rattle.affinity.specs.Path.{Path}
 use Rattle.parcel.specs.Fits.{Fits, IsKindOf}
-use Rattle.parcel.specs.Levels.{IsRootPath, Refuses, TakesParcels, Puts}
+use Rattle.parcel.specs.Levels.{IsRootPath, TakesNothing, TakesParcels, Puts}
 use Rattle.parcel.specs.Nodes.{Nodes, in_parcels, put_at, PutsBack, SameNodes}
 use Rattle.parcel.specs.Tree.{HasGap, LendsAt, RestoresAt, standing_at}
 use Rattle.parcel.specs.declared.parts.Parcels.{Parcels}
@@ -46,7 +46,7 @@ kind_of g (a ∷ v ∷ zero ∷ s ∷ []) (parcels.Stripe p) h = tt
 kind_of g (a ∷ v ∷ suc zero ∷ []) (parcels.Label l) h = tt
 kind_of g p l h = absurd h
 
-pub gap_from_refused : (g : Geometry) (p : Path) (old new : Nodes) → Refuses (IsRootPath g) p old new → HasGap g p old × SameNodes old new
+pub gap_from_refused : (g : Geometry) (p : Path) (old new : Nodes) → TakesNothing (IsRootPath g) p old new → HasGap g p old × SameNodes old new
 gap_from_refused g p old new h = ((h.gap.0, path_there g h.gap.0 h.gap.1, h.gap.2, h.gap.3), h.same)
 
 pub lent_from_taken : {g : Geometry} {p : Path} {t : Standing} {l : Parcels} {old new : Nodes} → TakesParcels (IsRootPath g) p l old new → Fits g p l → t ≡ standing_at p old → LendsAt g p t l old new

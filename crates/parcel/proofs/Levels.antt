@@ -5,7 +5,7 @@ use Rattle.std.proofs.lemmas.List.{nil_from_length, get_or_read}
 use Rattle.affinity.specs.Path.{Path}
 use Rattle.affinity.specs.declared.geometry.Geometry.{Geometry}
 use Rattle.parcel.specs.Fits.{Fits, IsKindOf}
-use Rattle.parcel.specs.Levels.{IsLeafPath, IsLogicalPath, IsVolumePath, Refuses, HandsBack}
+use Rattle.parcel.specs.Levels.{IsLeafPath, IsLogicalPath, IsVolumePath, TakesNothing, HandsBack}
 use Rattle.parcel.specs.Nodes.{Nodes, in_child, in_volume, in_logical, in_label, SameNodes}
 use Rattle.parcel.specs.Tree.{IsOut}
 use Rattle.parcel.specs.declared.parts.Label.{Label}
@@ -71,7 +71,8 @@ module _ (g : Geometry) (w : Vol) (y : Option Logical) where
   logical_same h (suc zero ∷ q) = refl
   logical_same h (suc (suc i) ∷ q) = refl
 
-  pub logical_refused : (p : Path) → Refuses (IsLogicalPath g) p (in_child in_logical w.logical) (in_child in_logical y) → Refuses (IsVolumePath g) (0 ∷ p) (in_volume w) (in_volume after_logical)
+  pub logical_refused : (p : Path) → TakesNothing (IsLogicalPath g) p (in_child in_logical w.logical) (in_child in_logical y)
+      → TakesNothing (IsVolumePath g) (0 ∷ p) (in_volume w) (in_volume after_logical)
   logical_refused p h = record { gap = (0 ∷ h.gap.0, h.gap.1, related_below 0 p h.gap.0 h.gap.2, h.gap.3); same = logical_same h.same }
 
   label_same : (z : Option Label) → SameNodes (in_child in_label w.label) (in_child in_label z)

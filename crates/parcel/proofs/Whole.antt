@@ -7,7 +7,7 @@ use Rattle.affinity.specs.Path.{Path}
 use Rattle.affinity.specs.declared.geometry.Geometry.{Geometry}
 use Rattle.stripe.specs.Stripe.{StripePart}
 use Rattle.parcel.specs.Fits.{EachFits, FitsLogical, FitsVolume, FitsAggregate, FitsRoot, IsWholeChild, IsWholeLogical, IsWholeVolume, IsWholeAggregate, IsWholeRoot}
-use Rattle.parcel.specs.Levels.{IsLeafPath, IsRowPath, IsLogicalPath, IsVolumePath, IsAggregatePath, IsRootPath, is_whole_logical, is_whole_volume, is_whole_aggregate, is_whole_root, TakesParcels, Refuses}
+use Rattle.parcel.specs.Levels.{IsLeafPath, IsRowPath, IsLogicalPath, IsVolumePath, IsAggregatePath, IsRootPath, is_whole_logical, is_whole_volume, is_whole_aggregate, is_whole_root, TakesParcels, TakesNothing}
 use Rattle.parcel.specs.Nodes.{Node, Nodes, in_child, in_row, in_parcels, in_stripe, in_label, in_logical, in_volume, in_aggregate, in_root}
 use Rattle.parcel.specs.declared.parts.Label.{Label}
 use Rattle.parcel.specs.declared.parts.Logical.{Logical}
@@ -169,5 +169,5 @@ taken_itself nodes x was now all same = record {
   rest = λ q. ap (λ o. in_child nodes o q) now;
 }
 
-pub refused_itself : (IsThere : Path → Type 0) (n : Nodes) → HasOneOut IsThere n → Refuses IsThere [] n n
+pub refused_itself : (IsThere : Path → Type 0) (n : Nodes) → HasOneOut IsThere n → TakesNothing IsThere [] n n
 refused_itself IsThere n w = record { gap = (w.0, w.1, refl, w.2); same = λ q. refl }

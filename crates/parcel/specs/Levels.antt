@@ -42,7 +42,7 @@ IsRootPath g = IsRowPath g.aggregates (IsAggregatePath g)
 -- ---- taking out
 
 -- Nothing was taken: among these paths is one that is related to the path and out.
-pub record Refuses (IsThere : Path → Type 0) (p : Path) (old new : Nodes) : Type 0 where
+pub record TakesNothing (IsThere : Path → Type 0) (p : Path) (old new : Nodes) : Type 0 where
   pub gap : (q : Path) × IsThere q × (are_related p q ≡ true) × (old q ≡ None)
   pub same : SameNodes old new
 

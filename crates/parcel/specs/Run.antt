@@ -27,7 +27,8 @@ pub record IsSerialStep (g : Geometry) (x : State) (m : Msg) (told : Reply) (y :
   pub reply : told ≡ reply_to g x m
   pub state : y ≡ next_state g x m
 
--- The parcels and the standing show what a state has at a path, below it and above it: they have its share and its standing there.
+-- The parcels and the standing show what a state has at a path: the parcels what lies there and below, the standing what is seen of the
+-- nodes above.
 abbrev pub Shows : Geometry → Path → Standing → Parcels → State → Type 0
 Shows g p t parcels x = AgreeOn g (are_related p) (shown_state g p t parcels) x
 

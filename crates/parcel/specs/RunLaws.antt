@@ -35,8 +35,8 @@ pub record LendsRunsRestores (job : JobView) (done : Done) (old lent new : Nodes
   pub ran : IsJobRun job done
   pub put : RestoresAt job.geometry (job_place job) done.parcels lent new
 
--- Parcels can be put back at a path: it is out, and they are of its kind and fit there.
-pub record CanBePutBack (g : Geometry) (p : Path) (l : Parcels) (n : Nodes) : Type 0 where
+-- Parcels can be restored at a path: it is out, and they are of its kind and fit there.
+pub record CanBeRestored (g : Geometry) (p : Path) (l : Parcels) (n : Nodes) : Type 0 where
   pub out : IsOut p n
   pub kind : IsKindOf p l
   pub fits : Fits g p l

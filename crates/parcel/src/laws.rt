@@ -15,7 +15,7 @@ ghost use Rattle.parcel.specs.Fits.{Fits, IsKindOf};
 ghost use Rattle.parcel.specs.Holding.{IsApart, IsJobOut, TreeHolds, nowhere, with_place};
 ghost use Rattle.parcel.specs.Nodes.{Nodes, in_parcels, tree_state, TakesOut, PutsBack};
 ghost use Rattle.parcel.specs.Run.{JobView, IsJobRun, IsSerialStep, Shows};
-ghost use Rattle.parcel.specs.RunLaws.{CanBePutBack, LendsJob, IsLentOf, IsSerialStepOf, LendsRunsRestores, job_place};
+ghost use Rattle.parcel.specs.RunLaws.{CanBeRestored, LendsJob, IsLentOf, IsSerialStepOf, LendsRunsRestores, job_place};
 ghost use Rattle.parcel.specs.Shown.{shown_state};
 ghost use Rattle.parcel.specs.Tree.{HasGap, IsIn, LendsAt, IsOut, RestoresAt};
 ghost use Rattle.parcel.specs.declared.job.Done.{Done};
@@ -72,7 +72,7 @@ pub fn lent_and_run_can_be_put_back()
         IsPath g p → LendsAt g p t l old lent → IsOut p lent }
     ensures kind { (g : Geometry) (p : Path) (l : Parcels) → Fits g p l → IsKindOf p l }
     ensures ran { (job : JobView) (done : Done) (old lent : Nodes) → LendsJob job old lent →
-        IsJobRun job done → CanBePutBack job.geometry (job_place job) done.parcels lent }
+        IsJobRun job done → CanBeRestored job.geometry (job_place job) done.parcels lent }
 {}
 
 /// A tree of which nothing is out holds the state of its nodes, and no other.
@@ -111,7 +111,7 @@ pub fn step_elsewhere_is_shown()
 pub fn job_back_is_a_step()
     ensures ok { (out : Path → Bool) (job : JobView) (done : Done) (n : Nodes) (x : State) →
         IsJobOut out job n x → IsJobRun job done →
-        CanBePutBack job.geometry (job_place job) done.parcels n }
+        CanBeRestored job.geometry (job_place job) done.parcels n }
     ensures reply { (out : Path → Bool) (job : JobView) (done : Done) (n : Nodes) (x : State) →
         IsJobOut out job n x → IsJobRun job done →
         done.reply ≡ reply_to job.geometry x job.message }

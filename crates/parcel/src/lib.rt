@@ -1,4 +1,4 @@
-//! What a server holds, cut along the tree of affinities: a message runs on the part that was lent
+//! What a server holds, split along the tree of affinities: a message runs on the part that was lent
 //! to it, and touches nothing else.
 #![tactic(auto)]
 

@@ -1,5 +1,5 @@
 //! The pieces of an image: what the tree holds, written as the bytes of its pieces and taken in from
-//! them, one at a time and with no memory of their own.
+//! them, one at a time, without allocating.
 ghost use Rattle.std.specs.Prelude.{◌≡◌, ◌↔◌, ◌<◌, ◌≤◌, ℕ, length, [], ◌∷◌, None, IfSome, IsOk, OnOk};
 ghost use Rattle.image.specs.Pieces.{aggregate_of, volume_of, part_of, part_piece, piece_part_size};
 ghost use Rattle.image.specs.Pieces.{piece_count, piece_of, piece_size, with_piece};
@@ -7,7 +7,7 @@ ghost use Rattle.meaning.specs.State.{State, IsState};
 ghost use Rattle.parcel.specs.Fits.{FitsAggregate, FitsRoot, FitsVolume};
 ghost use Rattle.parcel.specs.Fits.{IsWholeAggregate, IsWholeChild, IsWholeRoot, IsWholeVolume};
 ghost use Rattle.parcel.specs.Pieces.{HasFacts, IsPartRead, IsRead};
-ghost use Rattle.parcel.specs.Levels.{volume_below as volume_at, volume_in};
+ghost use Rattle.parcel.specs.Levels.{volume_below, volume_in};
 ghost use Rattle.parcel.specs.Nodes.{in_aggregate, in_child, in_root, in_volume};
 ghost use Rattle.parcel.specs.Shown.{volume_facts};
 ghost use Rattle.parcel.specs.Tree.{IsWholeTree, state_in};
@@ -24,7 +24,7 @@ use std::fmt;
 use stripes::{read_stripe, write_stripe};
 use volumes::{read_volume, write_volume};
 
-/// Bytes that are not the piece of what they decode to.
+/// Bytes that aren't the canonical piece of what they decode to.
 #[derive(Clone, Copy, Debug, PartialEq, Eq)]
 pub struct BadPiece;
 
@@ -76,8 +76,8 @@ pub fn write_piece(t: &Tree, n: usize, out: &mut [u8])
     }
 }
 
-// Writes the piece of a volume, or of one of its stripes: in each state in which a volume has what
-// this one has.
+// Writes the piece of a volume, or of one of its stripes. It is that piece in every state with a
+// volume of the same content.
 fn write_part(volume: &Vol, g: &Geometry, part: usize, out: &mut [u8])
     requires fits { FitsVolume g.now volume.now }
     requires whole { IsWholeVolume volume.now }
@@ -99,10 +99,10 @@ fn write_part(volume: &Vol, g: &Geometry, part: usize, out: &mut [u8])
     }
 }
 
-/// Takes in bytes as piece `n`, in the place of what the tree has there. `BadPiece` exactly where they
-/// are not the piece, in an image of version 2, of the state that they lead to; then it is unspecified
-/// what the tree has there. Nothing of the tree may be out, and before a volume's own piece it has no
-/// block there.
+/// Reads `bytes` into the tree as piece `n`, in place of what the tree has there. `BadPiece` exactly
+/// where they aren't piece `n`, in an image of version 2, of the state that results; what the tree has
+/// there is then unspecified. Nothing of the tree may be out, and before a volume's own piece is read
+/// the tree has no block of that volume.
 pub fn read_piece(t: &mut Tree, n: usize, bytes: &[u8]) -> Result<(), BadPiece>
     requires whole { IsWholeTree t.old }
     requires piece { n < piece_count t.old.geometry }
@@ -159,7 +159,7 @@ fn read_version(t: &mut Tree, version: u8, n: usize, bytes: &[u8]) -> Result<(),
     Ok(())
 }
 
-// Takes in bytes as a piece of what lies in the tree: whether they are good.
+// Takes in bytes as a piece of what lies in the tree, and returns whether they are good.
 fn read_in_root(
     tree: &mut Option<Root>,
     g: &Geometry,
@@ -205,7 +205,7 @@ fn read_in_aggregate(
     requires size { length bytes.now ≡ piece_part_size g.now place.part }
     ensures fits { IfSome at.new (FitsAggregate g.now) }
     ensures read { IsRead version g.now place.part bytes.now result
-        (place.volume ∷ []) (volume_at at.old place.volume)
+        (place.volume ∷ []) (volume_below at.old place.volume)
         (in_child in_aggregate at.old) (in_child in_aggregate at.new) }
 {
     match at {

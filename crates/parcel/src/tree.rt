@@ -69,9 +69,9 @@ impl Tree {
         Some((standing, parcels))
     }
 
-    /// Puts parcels back at an affinity of the tree's geometry. Where they are of the affinity's
-    /// kind, they have to be whole and of this geometry. They come back where that place isn't out,
-    /// or is out with all that lies above it, and where they are of another kind: then nothing changes.
+    /// Puts parcels back at an affinity of the tree's geometry. Where they are of the affinity's kind, they have to be whole and of this
+    /// geometry. They come back where that place isn't out, or the node above it is out too, and where they are of another kind: then
+    /// nothing changes.
     pub fn restore(&mut self, a: Affinity, p: Parcels) -> Result<(), Parcels>
         requires affinity { IsAffinity self.old.geometry a }
         requires fits { (q : Path) → IsAffinityOf self.old.geometry q a → IsKindOf q p → Fits self.old.geometry q p }

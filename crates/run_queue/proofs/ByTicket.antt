@@ -4,7 +4,7 @@ use Rattle.std.specs.Prelude.{if◌then◌else◌, nat_lt}
 use Rattle.std.specs.List.{list_any, find, AllByRecursion}
 use Rattle.std.proofs.lemmas.Bool.{ltb-true, lt-ltb, false_from_ne_true}
 use Rattle.std.proofs.lemmas.List.Folds.{list_any-append}
-use Rattle.run_queue.specs.RunQueue.{are_related_intervals, is_free_of, has_room, first_to_go, next_queued, CameBefore}
+use Rattle.run_queue.specs.RunQueue.{are_related_intervals, is_free_of, has_room, first_dispatchable, next_queued, CameBefore}
 pub use Rattle.run_queue.specs.Order.{Ascend, comes_first, is_conflict_free}
 use Rattle.run_queue.specs.declared.queued_message.QueuedMessage.{QueuedMessage}
 
@@ -52,14 +52,14 @@ all_came earlier t (d ∷ later) before after =
 
 first_from : (room : Bool) (held waiting earlier later : List QueuedMessage) → waiting ≡ earlier ++ later
     → AllByRecursion (λ d. CameBefore d.ticket earlier) later → Ascend later
-    → first_to_go room held earlier later ≡ find (λ t. has_room room t && is_conflict_free held waiting t) later
+    → first_dispatchable room held earlier later ≡ find (λ t. has_room room t && is_conflict_free held waiting t) later
 first_from room held waiting earlier [] whole before ascends = refl
 first_from room held waiting earlier (t ∷ later) whole before ascends =
     let early = ap (list_any (comes_first t)) whole ∙ only_early t earlier later before.0 ascends.0 in
     let same = ap (λ b. has_room room t && (is_free_of held t && not b)) (sym early) in
     let deeper = first_from room held waiting (earlier ++ t ∷ []) later (whole ∙ sym (append_assoc earlier (t ∷ []) later))
     (all_came earlier t later before.1 ascends.0) ascends.1 in
-    ap (λ b. if b then Some t else first_to_go room held (earlier ++ t ∷ []) later) same
+    ap (λ b. if b then Some t else first_dispatchable room held (earlier ++ t ∷ []) later) same
     ∙ ap (λ o. if has_room room t && is_conflict_free held waiting t then Some t else o) deeper
 
 none_before : (ts : List QueuedMessage) → AllByRecursion (λ d. CameBefore d.ticket []) ts

@@ -12,11 +12,11 @@ use Rattle.arena.specs.ArenaView.{ArenaView, IsParted, capacity_of, value_at, ch
 use Rattle.arena.proofs.Times.{times-append as on-append, times-cons_is as on-cons_is, times-cons_other as on-cons_other, times-at as on-at, without-absent as on-absent}
 use Rattle.arena.proofs.ArenaLemmas.{chain-without, chain-moved_same, chain-moved_other, length-moved, chained-holds, chained-apart, front-chained, chain-front}
 use Rattle.run_queue.specs.RunQueue.{has_slot, has_number, without_slot, CameBefore}
-use Rattle.run_queue.specs.Slots.{times_seated}
+use Rattle.run_queue.specs.Slots.{times_in_slot}
 use Rattle.run_queue.specs.Order.{Ascend}
 use Rattle.run_queue.specs.Queues.{Waiting, present, by_ticket, waiting_in, queued_in, IsQueued}
 use Rattle.run_queue.specs.declared.queued_message.QueuedMessage.{QueuedMessage}
-use Rattle.run_queue.proofs.Seating.{times-cons_is, times-filter}
+use Rattle.run_queue.proofs.SlotCounts.{times-cons_is, times-filter}
 use Rattle.run_queue.proofs.Sorting.{ascend-filter, ascend-last, order-come, order-leave, length-all, without-absent}
 
 -- ---- at the start
@@ -38,17 +38,17 @@ all_numbers from (suc count) i low high = elim (eqb_tells from i) [
       omega (arith, rest, on-cons_other i from (numbers_from (suc from) count) n.1))
 ]
 
-pub start-waiting : (seats numbers : ℕ) → waiting_in (empty_arena seats numbers) ≡ []
-start-waiting seats numbers = ap by_ticket (none_present seats)
+pub start-waiting : (capacity numbers : ℕ) → waiting_in (empty_arena capacity numbers) ≡ []
+start-waiting capacity numbers = ap by_ticket (none_present capacity)
 
-pub start-queued : (seats numbers : ℕ) → IsParted {T = QueuedMessage} (empty_arena seats numbers) → IsQueued (empty_arena seats numbers)
-start-queued seats numbers parted = record {
+pub start-queued : (capacity numbers : ℕ) → IsParted {T = QueuedMessage} (empty_arena capacity numbers) → IsQueued (empty_arena capacity numbers)
+start-queued capacity numbers parted = record {
   parted = parted;
-  full = λ i below none. all_numbers 0 seats i (omega arith) (omega (arith, below, length-replicate {A = Option QueuedMessage} seats None));
-  ascends = subst (λ (ts : List QueuedMessage). Ascend ts) (sym (start-waiting seats numbers)) tt;
+  full = λ i below none. all_numbers 0 capacity i (omega arith) (omega (arith, below, length-replicate {A = Option QueuedMessage} capacity None));
+  ascends = subst (λ (ts : List QueuedMessage). Ascend ts) (sym (start-waiting capacity numbers)) tt;
   queued = λ n.
-      ap (λ (is : List ℕ). queued_in (empty_arena seats numbers) is) (no_chain numbers n)
-      ∙ ap (λ (ts : List QueuedMessage). filter (has_number n) ts) (sym (start-waiting seats numbers));
+      ap (λ (is : List ℕ). queued_in (empty_arena capacity numbers) is) (no_chain numbers n)
+      ∙ ap (λ (ts : List QueuedMessage). filter (has_number n) ts) (sym (start-waiting capacity numbers));
 }
 
 -- ---- the first of a queue
@@ -116,7 +116,7 @@ present-append (None ∷ xs) ys = present-append xs ys
 present-append (Some t ∷ xs) ys = ap (λ (ts : List QueuedMessage). t ∷ ts) (present-append xs ys)
 
 waiting-same : {a b c d : ℕ} {ts us : List QueuedMessage} → a ≡ b → c ≡ d → ts ≡ us
-    → ◌≡◌ {A = Waiting} (record { numbers = a; seats = c; messages = ts }) (record { numbers = b; seats = d; messages = us })
+    → ◌≡◌ {A = Waiting} (record { numbers = a; capacity = c; messages = ts }) (record { numbers = b; capacity = d; messages = us })
 waiting-same e f g = rw (e, f, g) refl
 
 -- ---- one more
@@ -168,8 +168,8 @@ module _ (row : ArenaView QueuedMessage) (t : QueuedMessage) (i : ℕ) (rest : L
   pub push-waiting : waiting_in after ≡ waiting_in row ++ t ∷ []
   push-waiting = order-come row.values i t is_slot is_empty later
 
-  pub push-view : ◌≡◌ {A = Waiting} (record { numbers = length after.chains; seats = length after.values; messages = waiting_in after })
-      (record { numbers = length row.chains; seats = length row.values; messages = waiting_in row ++ t ∷ [] })
+  pub push-view : ◌≡◌ {A = Waiting} (record { numbers = length after.chains; capacity = length after.values; messages = waiting_in after })
+      (record { numbers = length row.chains; capacity = length row.values; messages = waiting_in row ++ t ∷ [] })
   push-view = waiting-same (length-moved row.chains i n) (length-set row.values i (Some t)) push-waiting
 
   push-full : (j : ℕ) → j < capacity_of after → value_at after j ≡ None → 0 < times_on j rest
@@ -219,8 +219,8 @@ module _ (row : ArenaView QueuedMessage) (t : QueuedMessage) (i : ℕ) (rest : L
   }
 
 -- where no slot is free, each has one
-pub push-seat : (row : ArenaView QueuedMessage) (t : QueuedMessage) → IsQueued row → length (waiting_in row) < length row.values → (i : ℕ) × (rest : List ℕ) × (row.free ≡ i ∷ rest)
-push-seat row t q less = by row.free refl
+pub push-room : (row : ArenaView QueuedMessage) (t : QueuedMessage) → IsQueued row → length (waiting_in row) < length row.values → (i : ℕ) × (rest : List ℕ) × (row.free ≡ i ∷ rest)
+push-room row t q less = by row.free refl
   where
     by : (free : List ℕ) → row.free ≡ free → (i : ℕ) × (rest : List ℕ) × (row.free ≡ i ∷ rest)
     by [] is = absurd (let all = length-all row.values (λ i below none.
@@ -246,7 +246,7 @@ filters-turned p r (t ∷ ts) = elim (cases_Bool (p t)) [
 ]
 
 -- two queues together have a slot no more often than all
-times-two : (s n m : ℕ) (ts : List QueuedMessage) → n ≢ m → times_seated s (filter (has_number n) ts) + times_seated s (filter (has_number m) ts) ≤ times_seated s ts
+times-two : (s n m : ℕ) (ts : List QueuedMessage) → n ≢ m → times_in_slot s (filter (has_number n) ts) + times_in_slot s (filter (has_number m) ts) ≤ times_in_slot s ts
 times-two s n m [] other = omega arith
 times-two s n m (t ∷ ts) other =
     let rest = times-two s n m ts other in
@@ -269,7 +269,7 @@ times-two s n m (t ∷ ts) other =
     ]
 
 module _ (row : ArenaView QueuedMessage) (n i : ℕ) (t : QueuedMessage) (q : IsQueued row) (first : front_of row n ≡ Some i) (is : value_at row i ≡ Some t)
-    (once : (s : ℕ) → times_seated s (waiting_in row) ≤ 1) where
+    (once : (s : ℕ) → times_in_slot s (waiting_in row) ≤ 1) where
   abbrev later : ArenaView QueuedMessage
   later = popped row i
 
@@ -279,8 +279,8 @@ module _ (row : ArenaView QueuedMessage) (n i : ℕ) (t : QueuedMessage) (q : Is
   pub pop-waiting : waiting_in later ≡ without_slot t.slot (waiting_in row)
   pop-waiting = order-leave row.values i t is (once t.slot) q.ascends
 
-  pub pop-view : ◌≡◌ {A = Waiting} (record { numbers = length later.chains; seats = length later.values; messages = waiting_in later })
-      (record { numbers = length row.chains; seats = length row.values; messages = without_slot t.slot (waiting_in row) })
+  pub pop-view : ◌≡◌ {A = Waiting} (record { numbers = length later.chains; capacity = length later.values; messages = waiting_in later })
+      (record { numbers = length row.chains; capacity = length row.values; messages = without_slot t.slot (waiting_in row) })
   pop-view = waiting-same (length-map row.chains (without i)) (length-set {A = Option QueuedMessage} row.values i None) pop-waiting
 
   pop-full : (j : ℕ) → j < capacity_of later → value_at later j ≡ None → 0 < times_on j (i ∷ row.free)
@@ -313,14 +313,14 @@ module _ (row : ArenaView QueuedMessage) (n i : ℕ) (t : QueuedMessage) (q : Is
         | inr k ↦ rw k.0 (omega (arith, gone is, on-cons_other i j (without i is) k.1))
       ]
 
-  in_queue : 1 ≤ times_seated t.slot (filter (has_number n) (waiting_in row))
-  in_queue = subst (λ (ts : List QueuedMessage). 1 ≤ times_seated t.slot ts) (sym parts)
+  in_queue : 1 ≤ times_in_slot t.slot (filter (has_number n) (waiting_in row))
+  in_queue = subst (λ (ts : List QueuedMessage). 1 ≤ times_in_slot t.slot ts) (sym parts)
       (omega (arith, times-cons_is t.slot t (queued_in row (without i (chain_at row n))) refl))
 
   pop-queued_at : (m : ℕ) → queued_in later (chain_at later m) ≡ filter (has_number m) (without_slot t.slot (waiting_in row))
   pop-queued_at m = elim (cases_eq m n) [
     | inl e ↦ subst (λ k. queued_in later (chain_at later k) ≡ filter (has_number k) (without_slot t.slot (waiting_in row))) (sym e) here
-    | inr other ↦ (let none : times_seated t.slot (filter (has_number m) (waiting_in row)) ≡ 0 =
+    | inr other ↦ (let none : times_in_slot t.slot (filter (has_number m) (waiting_in row)) ≡ 0 =
         omega (arith, times-two t.slot m n (waiting_in row) other, once t.slot, in_queue) in
         let off = chained-apart row i n m q.parted (λ same. other (sym same)) on_chain in
         left_on m
@@ -330,12 +330,12 @@ module _ (row : ArenaView QueuedMessage) (n i : ℕ) (t : QueuedMessage) (q : Is
         ∙ sym (filters-turned (has_number m) (λ u. not (has_slot t.slot u)) (waiting_in row)))
   ]
     where
-      few : times_seated t.slot (filter (has_number n) (waiting_in row)) ≤ 1
+      few : times_in_slot t.slot (filter (has_number n) (waiting_in row)) ≤ 1
       few = omega (arith, times-filter (has_number n) t.slot (waiting_in row), once t.slot)
 
-      rest_without : times_seated t.slot (queued_in row (without i (chain_at row n))) ≡ 0
+      rest_without : times_in_slot t.slot (queued_in row (without i (chain_at row n))) ≡ 0
       rest_without =
-          let all = subst (λ (ts : List QueuedMessage). times_seated t.slot ts ≤ 1) parts few in
+          let all = subst (λ (ts : List QueuedMessage). times_in_slot t.slot ts ≤ 1) parts few in
           omega (arith, all, times-cons_is t.slot t (queued_in row (without i (chain_at row n))) refl)
 
       drops : without_slot t.slot (t ∷ queued_in row (without i (chain_at row n))) ≡ queued_in row (without i (chain_at row n))

@@ -68,7 +68,7 @@ none-least numbers chunks chunk i below =
 
 -- ---- who goes first
 
--- the first one that may go at a number below this one, and at n behind it
+-- the first one that may be dispatched at a number below this one, and at n behind it
 module _ (g : Geometry) (room : Bool) (held waiting : List QueuedMessage) (placed : AllByRecursion (λ d. IsAffinity g d.affinity) waiting) (ascends : Ascend waiting)
     (ready_table : List (Option QueuedMessage)) (right : (n : ℕ) → IsFlagRight held waiting ready_table n) where
   pub below-from : (from n : ℕ) → earliest_from (has_room room) ready_table from n (first_below room held waiting from) ≡ first_below room held waiting (from + n)

@@ -2,7 +2,7 @@
 pub mod ByTicket
 pub mod Passing
 -- ---- this crate's own
-mod Seating
+mod SlotCounts
 mod Examples
 mod Sorting
 mod Chains

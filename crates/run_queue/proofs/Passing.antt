@@ -4,21 +4,21 @@ use Rattle.std.specs.Prelude.{if◌then◌else◌}
 use Rattle.std.specs.List.{list_any}
 use Rattle.std.proofs.lemmas.Bool.{eq-eqb}
 use Rattle.std.proofs.lemmas.Option.{none-some, same_Some}
-use Rattle.run_queue.specs.RunQueue.{RunQueueView, may_go, first_to_go, has_slot, IsNext}
+use Rattle.run_queue.specs.RunQueue.{RunQueueView, can_dispatch, first_dispatchable, has_slot, IsNext}
 use Rattle.run_queue.specs.declared.queued_message.QueuedMessage.{QueuedMessage}
 
 -- the one that goes next waits
-waits_from : (room : Bool) (held earlier later : List QueuedMessage) (t : QueuedMessage) → first_to_go room held earlier later ≡ Some t
+waits_from : (room : Bool) (held earlier later : List QueuedMessage) (t : QueuedMessage) → first_dispatchable room held earlier later ≡ Some t
     → list_any (has_slot t.slot) later ≡ true
 waits_from room held earlier [] t h = absurd (none-some t h)
-waits_from room held earlier (u ∷ later) t h = by (may_go room held earlier u) (waits_from room held (earlier ++ u ∷ []) later t) h
+waits_from room held earlier (u ∷ later) t h = by (can_dispatch room held earlier u) (waits_from room held (earlier ++ u ∷ []) later t) h
   where
     or_true : (b : Bool) → (b || true) ≡ true
     or_true true = refl
     or_true false = refl
 
-    by : (b : Bool) → (first_to_go room held (earlier ++ u ∷ []) later ≡ Some t → list_any (has_slot t.slot) later ≡ true)
-        → (if b then Some u else first_to_go room held (earlier ++ u ∷ []) later) ≡ Some t
+    by : (b : Bool) → (first_dispatchable room held (earlier ++ u ∷ []) later ≡ Some t → list_any (has_slot t.slot) later ≡ true)
+        → (if b then Some u else first_dispatchable room held (earlier ++ u ∷ []) later) ≡ Some t
         → list_any (has_slot t.slot) (u ∷ later) ≡ true
     by true behind h =
         subst (λ (v : QueuedMessage). list_any (has_slot v.slot) (u ∷ later) ≡ true) (same_Some u t h) (rw (eq-eqb u.slot u.slot refl) refl)

@@ -10,13 +10,13 @@ use Rattle.affinity.specs.Path.{Path}
 use Rattle.affinity.specs.Interval.{Interval, IsAffinity, contains, interval, server_size}
 use Rattle.affinity.specs.declared.geometry.Geometry.{Geometry}
 use Rattle.run_queue.specs.RunQueue.{are_related_intervals, is_free_of, has_room, has_slot, has_number, without_slot, without_number, CameBefore}
-use Rattle.run_queue.specs.Slots.{times_seated}
+use Rattle.run_queue.specs.Slots.{times_in_slot}
 use Rattle.run_queue.specs.Order.{Ascend, comes_first, is_conflict_free, may_go_at}
 use Rattle.run_queue.specs.Queues.{IsBetween}
 use Rattle.run_queue.specs.ReadyTable.{if_passes, ready_at, ready_in, IsFlagRight, StayRight, AreNearRight}
 use Rattle.run_queue.specs.declared.queued_message.QueuedMessage.{QueuedMessage}
 use Rattle.run_queue.proofs.Nearby.{number-below, same_path}
-use Rattle.run_queue.proofs.Seating.{times-cons_is, times-cons_other}
+use Rattle.run_queue.proofs.SlotCounts.{times-cons_is, times-cons_other}
 use Rattle.run_queue.proofs.Clearing.{find-cons, find-skip, find-all, find-passes, any-found}
 use Rattle.run_queue.proofs.Earliest.{none_at, some_at, empty_at, false_and_right}
 
@@ -155,14 +155,14 @@ take-past (suc k) (x ∷ xs) h = ap (λ (r : List ℕ). x ∷ r) (take-past k xs
 -- ---- one that goes
 
 -- no other one has its slot
-none-alone : (t : QueuedMessage) (ts : List QueuedMessage) → times_seated t.slot ts ≡ 0 → AllByRecursion (λ u. has_slot t.slot u ≡ true → u ≡ t) ts
+none-alone : (t : QueuedMessage) (ts : List QueuedMessage) → times_in_slot t.slot ts ≡ 0 → AllByRecursion (λ u. has_slot t.slot u ≡ true → u ≡ t) ts
 none-alone t [] none = tt
 none-alone t (d ∷ ts) none = elim (eqb_tells d.slot t.slot) [
   | inl e ↦ absurd (omega (arith, none, times-cons_is t.slot d ts e.1))
   | inr n ↦ (λ k. absurd (true≢false (sym k ∙ n.0)), none-alone t ts (omega (arith, none, times-cons_other t.slot d ts n.1)))
 ]
 
-there-found : (p : QueuedMessage → Bool) (ts : List QueuedMessage) (t : QueuedMessage) → find p ts ≡ Some t → 1 ≤ times_seated t.slot ts
+there-found : (p : QueuedMessage → Bool) (ts : List QueuedMessage) (t : QueuedMessage) → find p ts ≡ Some t → 1 ≤ times_in_slot t.slot ts
 there-found p [] t found = absurd (none-some t found)
 there-found p (d ∷ ts) t found = elim (cases_Bool (p d)) [
   | inl k ↦ (let is = sym (find-cons p d ts k) ∙ found in let same : d ≡ t = cc in
@@ -173,12 +173,12 @@ there-found p (d ∷ ts) t found = elim (cases_Bool (p d)) [
   ])
 ]
 
-alone : (p : QueuedMessage → Bool) (ts : List QueuedMessage) (t : QueuedMessage) → find p ts ≡ Some t → times_seated t.slot ts ≤ 1
+alone : (p : QueuedMessage → Bool) (ts : List QueuedMessage) (t : QueuedMessage) → find p ts ≡ Some t → times_in_slot t.slot ts ≤ 1
     → AllByRecursion (λ u. has_slot t.slot u ≡ true → u ≡ t) ts
 alone p [] t found once = tt
 alone p (d ∷ ts) t found once = elim (cases_Bool (p d)) [
   | inl k ↦ (let is = sym (find-cons p d ts k) ∙ found in let same : d ≡ t = cc in
-      let none : times_seated t.slot ts ≡ 0 = omega (arith, once, times-cons_is t.slot d ts (ap (λ (u : QueuedMessage). u.slot) same)) in
+      let none : times_in_slot t.slot ts ≡ 0 = omega (arith, once, times-cons_is t.slot d ts (ap (λ (u : QueuedMessage). u.slot) same)) in
       (λ _. same, none-alone t ts none))
   | inr k ↦ (let later = sym (find-skip p d ts k) ∙ found in let rest = there-found p ts t later in elim (eqb_tells d.slot t.slot) [
     | inl e ↦ absurd (omega (arith, once, rest, times-cons_is t.slot d ts e.1))
@@ -251,7 +251,7 @@ not_first : (held waiting : List QueuedMessage) (u : QueuedMessage) → list_any
 not_first held waiting u late = ap (λ b. is_free_of held u && not b) late ∙ false_and_right (is_free_of held u)
 
 module _ (held held' waiting : List QueuedMessage) (t : QueuedMessage) (joined : IsBetween t held held') (ascends : Ascend waiting)
-    (once : times_seated t.slot waiting ≤ 1) (first : find (has_number t.affinity.number) waiting ≡ Some t) (clear : is_conflict_free held waiting t ≡ true) where
+    (once : times_in_slot t.slot waiting ≤ 1) (first : find (has_number t.affinity.number) waiting ≡ Some t) (clear : is_conflict_free held waiting t ≡ true) where
   it_alone : AllByRecursion (λ u. has_slot t.slot u ≡ true → u ≡ t) waiting
   it_alone = alone (has_number t.affinity.number) waiting t first once
 

@@ -5,11 +5,11 @@ use Rattle.std.specs.List.{AllByRecursion}
 use Rattle.std.proofs.lemmas.Bool.{eq-eqb, lt-ltb, cases_Bool}
 use Rattle.std.proofs.lemmas.Bool.Decides.{eqb_tells, leb_tells}
 use Rattle.run_queue.specs.RunQueue.{has_slot, without_slot, CameBefore}
-use Rattle.run_queue.specs.Slots.{times_seated}
+use Rattle.run_queue.specs.Slots.{times_in_slot}
 use Rattle.run_queue.specs.Order.{Ascend}
 use Rattle.run_queue.specs.Queues.{present, insert, by_ticket}
 use Rattle.run_queue.specs.declared.queued_message.QueuedMessage.{QueuedMessage}
-use Rattle.run_queue.proofs.Seating.{times-cons_is, times-cons_other}
+use Rattle.run_queue.proofs.SlotCounts.{times-cons_is, times-cons_other}
 
 -- ---- all of a list
 
@@ -73,7 +73,7 @@ pub length-all : (places : List (Option QueuedMessage)) → ((i : ℕ) → i < l
     → length (by_ticket (present places)) ≡ length places
 length-all places full = length-by_ticket (present places) ∙ length-full places full
 
-times-insert : (s : ℕ) (t : QueuedMessage) (ts : List QueuedMessage) → times_seated s (insert t ts) ≡ times_seated s (t ∷ ts)
+times-insert : (s : ℕ) (t : QueuedMessage) (ts : List QueuedMessage) → times_in_slot s (insert t ts) ≡ times_in_slot s (t ∷ ts)
 times-insert s t [] = refl
 times-insert s t (d ∷ ts) = elim (leb_tells (suc t.ticket) d.ticket) [
   | inl e ↦ rw e.0 refl
@@ -117,14 +117,14 @@ order-come (Some x ∷ places) (suc i) t below empty before =
 
 -- ---- one less
 
-pub without-absent : (s : ℕ) (ts : List QueuedMessage) → times_seated s ts ≡ 0 → without_slot s ts ≡ ts
+pub without-absent : (s : ℕ) (ts : List QueuedMessage) → times_in_slot s ts ≡ 0 → without_slot s ts ≡ ts
 without-absent s [] none = refl
 without-absent s (t ∷ ts) none = elim (eqb_tells t.slot s) [
   | inl e ↦ absurd (omega (arith, none, times-cons_is s t ts e.1))
   | inr n ↦ rw n.0 (ap (λ (us : List QueuedMessage). t ∷ us) (without-absent s ts (omega (arith, none, times-cons_other s t ts n.1))))
 ]
 
-without-insert_same : (s : ℕ) (x : QueuedMessage) (ts : List QueuedMessage) → x.slot ≡ s → times_seated s ts ≡ 0 → without_slot s (insert x ts) ≡ ts
+without-insert_same : (s : ℕ) (x : QueuedMessage) (ts : List QueuedMessage) → x.slot ≡ s → times_in_slot s ts ≡ 0 → without_slot s (insert x ts) ≡ ts
 without-insert_same s x [] same none = rw (eq-eqb x.slot s same) refl
 without-insert_same s x (d ∷ ts) same none = elim (eqb_tells d.slot s) [
   | inl e ↦ absurd (omega (arith, none, times-cons_is s d ts e.1))
@@ -157,7 +157,7 @@ filter-insert p x (d ∷ ts) ascends k = elim (leb_tells (suc x.ticket) d.ticket
 ]
 
 there-at : (places : List (Option QueuedMessage)) (i : ℕ) (t : QueuedMessage) → slice_index_or places i None ≡ Some t
-    → 1 ≤ times_seated t.slot (by_ticket (present places))
+    → 1 ≤ times_in_slot t.slot (by_ticket (present places))
 there-at [] i t h = absurd (cc)
 there-at (None ∷ places) zero t h = absurd (cc)
 there-at (Some x ∷ places) zero t h =
@@ -175,7 +175,7 @@ there-at (Some x ∷ places) (suc i) t h =
 
 -- one whose place is emptied is gone, and the others stay
 pub order-leave : (places : List (Option QueuedMessage)) (i : ℕ) (t : QueuedMessage) → slice_index_or places i None ≡ Some t
-    → times_seated t.slot (by_ticket (present places)) ≤ 1 → Ascend (by_ticket (present places))
+    → times_in_slot t.slot (by_ticket (present places)) ≤ 1 → Ascend (by_ticket (present places))
     → by_ticket (present (slice_set places i None)) ≡ without_slot t.slot (by_ticket (present places))
 order-leave [] i t there once ascends = absurd (cc)
 order-leave (None ∷ places) zero t there once ascends = absurd (cc)
@@ -192,7 +192,7 @@ order-leave (Some x ∷ places) (suc i) t there once ascends =
     let rest = there-at places i t there in
     elim (eqb_tells x.slot t.slot) [
       | inl e ↦ absurd (omega (arith, once, count, rest, times-cons_is t.slot x ws e.1))
-      | inr n ↦ (let few : times_seated t.slot ws ≤ 1 = omega (arith, once, count, times-cons_other t.slot x ws n.1) in
+      | inr n ↦ (let few : times_in_slot t.slot ws ≤ 1 = omega (arith, once, count, times-cons_other t.slot x ws n.1) in
           let order = ascend-insert x ws ascends in
           ap (λ (us : List QueuedMessage). insert x us) (order-leave places i t there few order)
           ∙ sym (filter-insert (λ u. not (has_slot t.slot u)) x ws order (rw n.0 refl)))

@@ -9,14 +9,14 @@ use Rattle.std.proofs.lemmas.Nat.{mul-le}
 use Rattle.affinity.specs.Interval.{IsAffinity, server_size}
 use Rattle.affinity.specs.declared.geometry.Geometry.{Geometry}
 use Rattle.run_queue.specs.RunQueue.{IsNext, are_related_intervals, is_free_of, has_room, has_slot, has_number, holds_at, without_slot, without_number, next_queued, CameBefore}
-use Rattle.run_queue.specs.Slots.{times_seated}
+use Rattle.run_queue.specs.Slots.{times_in_slot}
 use Rattle.run_queue.specs.Order.{is_conflict_free}
 use Rattle.run_queue.specs.Queues.{Waiting, HeldMessages, IsBetween, IsFirstGone}
 use Rattle.run_queue.specs.ReadyTable.{IsFlagRight, StayRight, AreNearRight}
 use Rattle.run_queue.specs.Invariant.{AreQueued, AreFlagsRight, QueueInvariant}
 use Rattle.run_queue.specs.declared.queued_message.QueuedMessage.{QueuedMessage}
 use Rattle.run_queue.proofs.ByTicket.{next_is_first}
-use Rattle.run_queue.proofs.Seating.{limit-most, times-append, times-cons_is, times-cons_other, seated-arrived, room-arrived, seated-gone, seated-freed}
+use Rattle.run_queue.proofs.SlotCounts.{limit-most, times-append, times-cons_is, times-cons_other, in_slots-arrived, room-arrived, in_slots-gone, in_slots-freed}
 use Rattle.run_queue.proofs.Sorting.{all-filter, all-last, ascend-filter, ascend-last}
 use Rattle.run_queue.proofs.Clearing.{find-cons, find-skip, find-all, find-passes, any-found}
 use Rattle.run_queue.proofs.Earliest.{own_overlap, clear-first}
@@ -33,13 +33,13 @@ all_below g =
     omega (arith, aggregates)
 
 pub kept-start : (g : Geometry) (slots numbers : ℕ) → 357 ≤ numbers
-    → QueueInvariant g slots (record { numbers = numbers; seats = slots; messages = [] }) (record { numbers = numbers; messages = [] }) (replicate numbers None)
+    → QueueInvariant g slots (record { numbers = numbers; capacity = slots; messages = [] }) (record { numbers = numbers; messages = [] }) (replicate numbers None)
 kept-start g slots numbers most = record {
   rows = record {
     queues = λ any. (let all = all_below any in omega (arith, all, most));
     places = λ any. (let all = all_below any in omega (arith, all, most));
-    seats = refl;
-    seated = λ s. omega arith;
+    capacity = refl;
+    in_slots = λ s. omega arith;
     ascends = tt;
     waiting_placed = tt;
     held_placed = tt;
@@ -54,8 +54,8 @@ pub messages-begun : (g next : Geometry) (slots : ℕ) (w : Waiting) (h : HeldMe
 messages-begun g next slots w h are none_waits none_held = record {
   queues = are.queues;
   places = are.places;
-  seats = are.seats;
-  seated = are.seated;
+  capacity = are.capacity;
+  in_slots = are.in_slots;
   ascends = are.ascends;
   waiting_placed = rw none_waits tt;
   held_placed = rw none_held tt;
@@ -69,18 +69,18 @@ pub messages-arrived : {g : Geometry} {slots : ℕ} {w : Waiting} {h : HeldMessa
 messages-arrived {g} {slots} {w} {h} t are placed later there new = record {
   queues = are.queues;
   places = are.places;
-  seats = are.seats;
-  seated = seated-arrived slots w.messages h.messages t are.seated there new;
+  capacity = are.capacity;
+  in_slots = in_slots-arrived slots w.messages h.messages t are.in_slots there new;
   ascends = ascend-last w.messages t are.ascends later;
   waiting_placed = all-last (λ d. IsAffinity g d.affinity) w.messages t are.waiting_placed placed;
   held_placed = are.held_placed;
 }
 
-pub seat-arrived : {g : Geometry} {slots : ℕ} {w : Waiting} {h : HeldMessages} (t : QueuedMessage) → AreQueued g slots w h → t.slot < slots
-    → list_any (has_slot t.slot) (w.messages ++ h.messages) ≡ false → length w.messages < w.seats
-seat-arrived {g} {slots} {w} {h} t are there new =
-    let room = room-arrived slots w.messages h.messages t are.seated there new in
-    let all = are.seats in
+pub room-for-arrived : {g : Geometry} {slots : ℕ} {w : Waiting} {h : HeldMessages} (t : QueuedMessage) → AreQueued g slots w h → t.slot < slots
+    → list_any (has_slot t.slot) (w.messages ++ h.messages) ≡ false → length w.messages < w.capacity
+room-for-arrived {g} {slots} {w} {h} t are there new =
+    let room = room-arrived slots w.messages h.messages t are.in_slots there new in
+    let all = are.capacity in
     omega (arith, room, all)
 
 pub kept-arrived : {g : Geometry} {slots : ℕ} {w v : Waiting} {h : HeldMessages} (t : QueuedMessage) {before after : List (Option QueuedMessage)}
@@ -108,8 +108,8 @@ pub messages-freed : {g : Geometry} {slots : ℕ} {w : Waiting} {h : HeldMessage
 messages-freed {g} {slots} {w} {h} n are = record {
   queues = are.queues;
   places = are.places;
-  seats = are.seats;
-  seated = seated-freed slots w.messages h.messages (λ t. not (has_number n t)) are.seated;
+  capacity = are.capacity;
+  in_slots = in_slots-freed slots w.messages h.messages (λ t. not (has_number n t)) are.in_slots;
   ascends = are.ascends;
   waiting_placed = are.waiting_placed;
   held_placed = all-filter (λ d. IsAffinity g d.affinity) (λ t. not (has_number n t)) h.messages are.held_placed;
@@ -153,8 +153,8 @@ module _ (g : Geometry) (slots : ℕ) (w : Waiting) (h : HeldMessages) (are : Ar
   next-first = clear-first g h.messages w.messages (λ u. has_room room u && is_conflict_free h.messages w.messages u) are.waiting_placed are.ascends found next-clear
 
   -- no other one that waits has its slot
-  pub next-once : times_seated t.slot w.messages ≤ 1
-  next-once = omega (arith, are.seated t.slot, limit-most t.slot slots)
+  pub next-once : times_in_slot t.slot w.messages ≤ 1
+  next-once = omega (arith, are.in_slots t.slot, limit-most t.slot slots)
 
   not_true : (b : Bool) → not b ≡ true → b ≡ false
   not_true true k = absurd (true≢false (sym k))
@@ -178,7 +178,7 @@ all-between : (P : QueuedMessage → Type 0) (low high : List QueuedMessage) (t 
 all-between P [] high t all here = (here, all)
 all-between P (d ∷ low) high t all here = (all.0, all-between P low high t all.1 here)
 
-times-between : (s : ℕ) (low high : List QueuedMessage) (t : QueuedMessage) → times_seated s (low ++ t ∷ high) ≡ times_seated s ((low ++ high) ++ t ∷ [])
+times-between : (s : ℕ) (low high : List QueuedMessage) (t : QueuedMessage) → times_in_slot s (low ++ t ∷ high) ≡ times_in_slot s ((low ++ high) ++ t ∷ [])
 times-between s low high t = elim (eqb_tells t.slot s) [
   | inl e ↦ omega (
     arith,
@@ -204,11 +204,11 @@ pub messages-gone : {g : Geometry} {slots : ℕ} {w : Waiting} {h k : HeldMessag
 messages-gone {g} {slots} {w} {h} {k} t are placed waits same between = record {
   queues = are.queues;
   places = subst (λ (l : HeldMessages). (any : Geometry) → server_size any ≤ l.numbers) (sym same) are.places;
-  seats = are.seats;
-  seated = λ s.
-      let all = seated-gone slots w.messages h.messages t are.seated waits s in
-      let count = ap (λ (ts : List QueuedMessage). times_seated s ts) between.3 ∙ times-between s between.0 between.1 t
-      ∙ ap (λ (ts : List QueuedMessage). times_seated s (ts ++ t ∷ [])) (sym between.2) in
+  capacity = are.capacity;
+  in_slots = λ s.
+      let all = in_slots-gone slots w.messages h.messages t are.in_slots waits s in
+      let count = ap (λ (ts : List QueuedMessage). times_in_slot s ts) between.3 ∙ times-between s between.0 between.1 t
+      ∙ ap (λ (ts : List QueuedMessage). times_in_slot s (ts ++ t ∷ [])) (sym between.2) in
       omega (arith, all, count);
   ascends = ascend-filter (λ d. not (has_slot t.slot d)) w.messages are.ascends;
   waiting_placed = all-filter (λ d. IsAffinity g d.affinity) (λ d. not (has_slot t.slot d)) w.messages are.waiting_placed;

@@ -5,7 +5,7 @@ use Rattle.affinity.specs.Interval.{IsAffinity, server_size}
 use Rattle.affinity.specs.declared.geometry.Geometry.{Geometry}
 use Rattle.run_queue.specs.Order.{Ascend}
 use Rattle.run_queue.specs.Queues.{Waiting, HeldMessages}
-use Rattle.run_queue.specs.Slots.{AreSeated}
+use Rattle.run_queue.specs.Slots.{AreInSlots}
 use Rattle.run_queue.specs.ReadyTable.{IsFlagRight}
 use Rattle.run_queue.specs.declared.queued_message.QueuedMessage.{QueuedMessage}
 
@@ -13,8 +13,8 @@ use Rattle.run_queue.specs.declared.queued_message.QueuedMessage.{QueuedMessage}
 pub record AreQueued (g : Geometry) (slots : ℕ) (waiting : Waiting) (held : HeldMessages) : Type 0 where
   pub queues : (any : Geometry) → server_size any ≤ waiting.numbers
   pub places : (any : Geometry) → server_size any ≤ held.numbers
-  pub seats : waiting.seats ≡ slots
-  pub seated : AreSeated slots waiting.messages held.messages
+  pub capacity : waiting.capacity ≡ slots
+  pub in_slots : AreInSlots slots waiting.messages held.messages
   pub ascends : Ascend waiting.messages
   pub waiting_placed : AllByRecursion (λ t. IsAffinity g t.affinity) waiting.messages
   pub held_placed : AllByRecursion (λ t. IsAffinity g t.affinity) held.messages

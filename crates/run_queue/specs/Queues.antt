@@ -10,7 +10,7 @@ use Rattle.run_queue.specs.declared.queued_message.QueuedMessage.{QueuedMessage}
 -- what contracts see of the queues: how many there are, how many may wait, and who waits, by tickets
 pub record Waiting : Type 0 where
   pub numbers : ℕ
-  pub seats : ℕ
+  pub capacity : ℕ
   pub messages : List QueuedMessage
 
 -- those that are there

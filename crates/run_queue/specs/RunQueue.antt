@@ -28,19 +28,19 @@ is_free_of others t = not (list_any (λ other. are_related_intervals t.affinity 
 abbrev pub has_room : Bool → QueuedMessage → Bool
 has_room room t = room || not t.changing
 
--- whether it may go while these are held, if these came earlier and still wait
-abbrev pub may_go : Bool → List QueuedMessage → List QueuedMessage → QueuedMessage → Bool
-may_go room held earlier t = has_room room t && (is_free_of held t && is_free_of earlier t)
+-- whether it may be dispatched while these are held, if these came earlier and still wait
+abbrev pub can_dispatch : Bool → List QueuedMessage → List QueuedMessage → QueuedMessage → Bool
+can_dispatch room held earlier t = has_room room t && (is_free_of held t && is_free_of earlier t)
 
--- the first that may go of those that came later than these
-abbrev pub first_to_go : Bool → List QueuedMessage → List QueuedMessage → List QueuedMessage → Option QueuedMessage
-first_to_go room held earlier [] = None
-first_to_go room held earlier (t ∷ later) =
-    if may_go room held earlier t then Some t else first_to_go room held (earlier ++ t ∷ []) later
+-- the first that may be dispatched of those that came later than these
+abbrev pub first_dispatchable : Bool → List QueuedMessage → List QueuedMessage → List QueuedMessage → Option QueuedMessage
+first_dispatchable room held earlier [] = None
+first_dispatchable room held earlier (t ∷ later) =
+    if can_dispatch room held earlier t then Some t else first_dispatchable room held (earlier ++ t ∷ []) later
 
--- the first of those that wait that may go
+-- the first waiting message that may be dispatched
 abbrev pub next_queued : Bool → List QueuedMessage → List QueuedMessage → Option QueuedMessage
-next_queued room held waiting = first_to_go room held [] waiting
+next_queued room held waiting = first_dispatchable room held [] waiting
 
 abbrev pub has_slot : ℕ → QueuedMessage → Bool
 has_slot slot t = t.slot == slot
@@ -66,6 +66,6 @@ CameBefore ticket messages = AllByRecursion (λ t. t.ticket < ticket) messages
 abbrev pub IsNext : RunQueueView → QueuedMessage → Type 0
 IsNext q t = (room : Bool) × (next_queued room q.held q.waiting ≡ Some t)
 
--- These are the ones that were there and this one, in any order: no test tells them apart.
+-- The messages of the second list are those of the first and this one, by membership alone: nothing is said of order or repeats.
 abbrev pub HasJoined : QueuedMessage → List QueuedMessage → List QueuedMessage → Type 0
 HasJoined t before after = (test : QueuedMessage → Bool) → list_any test after ≡ (test t || list_any test before)

@@ -4,10 +4,10 @@ use Rattle.run_queue.specs.RunQueue.{has_slot}
 use Rattle.run_queue.specs.declared.queued_message.QueuedMessage.{QueuedMessage}
 
 -- how many have this slot
-abbrev pub times_seated : ℕ → List QueuedMessage → ℕ
-times_seated slot [] = 0
-times_seated slot (t ∷ messages) = if has_slot slot t then suc (times_seated slot messages) else times_seated slot messages
+abbrev pub times_in_slot : ℕ → List QueuedMessage → ℕ
+times_in_slot slot [] = 0
+times_in_slot slot (t ∷ messages) = if has_slot slot t then suc (times_in_slot slot messages) else times_in_slot slot messages
 
 -- Each slot that there is occurs at most once among those that wait and those that are held, and no other occurs there.
-abbrev pub AreSeated : ℕ → List QueuedMessage → List QueuedMessage → Type 0
-AreSeated slots waiting held = (slot : ℕ) → times_seated slot waiting + times_seated slot held ≤ (if nat_lt slot slots then 1 else 0)
+abbrev pub AreInSlots : ℕ → List QueuedMessage → List QueuedMessage → Type 0
+AreInSlots slots waiting held = (slot : ℕ) → times_in_slot slot waiting + times_in_slot slot held ≤ (if nat_lt slot slots then 1 else 0)

@@ -1,4 +1,4 @@
-//! Which of the conflict-free messages goes first.
+//! Which of the conflict-free messages is dispatched first.
 ghost use Rattle.std.specs.Prelude.{◌≡◌, ◌*◌, ◌≤◌, option_copied};
 ghost use Rattle.run_queue.specs.RunQueue.{has_room};
 ghost use Rattle.run_queue.specs.Order.{is_earlier, earlier};

@@ -54,7 +54,7 @@ fn conflicts_at(held: &Holders, waiting: &Queues, ticket: u64, number: usize) ->
         || matches!(waiting.front(number), Some(front) if front.ticket < ticket)
 }
 
-// Whether a message at this affinity or at one below it does.
+// Whether `conflicts_at` holds at this affinity or at one below it.
 fn conflicts_below(held: &Holders, waiting: &Queues, ticket: u64, a: Affinity) -> bool
     ensures some { result ≡ true → (n : ℕ) × (contains a n ≡ true) × (conflicts_at held.now.messages waiting.now.messages ticket n ≡ true) }
     ensures none { result ≡ false → (n : ℕ) → contains a n ≡ true → conflicts_at held.now.messages waiting.now.messages ticket n ≡ false }
@@ -67,7 +67,7 @@ fn conflicts_below(held: &Holders, waiting: &Queues, ticket: u64, a: Affinity) -
     false
 }
 
-// Whether a message at one of these numbers does.
+// Whether `conflicts_at` holds at one of these numbers.
 fn conflicts_at_any(held: &Holders, waiting: &Queues, ticket: u64, numbers: &[u16]) -> bool
     ensures { result ≡ list_any (conflicts_at held.now.messages waiting.now.messages ticket) numbers.now }
 {

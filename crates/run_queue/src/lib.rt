@@ -2,9 +2,9 @@
 //!
 //! Waiting messages are in a queue for each affinity, held ones at the number of theirs. Only the first one of a queue may go, and a ready
 //! flag at each number shows whether that one is conflict-free: no message at a related affinity is held, or is older and waits. `next`
-//! looks at the least ticket of each chunk of sixteen flags, which are 23 numbers, and into few of the chunks: what it costs grows neither
-//! with the slots nor with how many wait. `arrive` and `dispatch` correct one flag, and `free` those of the affinities related to the freed
-//! one: five for a stripe. `holder` costs the same however many there are.
+//! looks at the least rank of each chunk of sixteen flags, at most 23 chunks, and into few of them: what it costs grows neither with the
+//! slots nor with how many wait. `arrive` and `dispatch` correct one flag, and `free` those of the affinities related to the freed one:
+//! five for a stripe. `holder` costs the same however many messages are held.
 
 #![tactic(auto)]
 

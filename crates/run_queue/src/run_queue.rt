@@ -1,4 +1,4 @@
-//! Waiting and held messages, and which of them goes next.
+//! Waiting and held messages, and which of them is dispatched next.
 ghost use Rattle.std.specs.Prelude.{◌≡◌, ◌+◌, ◌*◌, ◌<◌, ◌≤◌, ◌++◌, ◌∷◌, true, false, [], length, IfOk, IfSome, IfNone};
 ghost use Rattle.std.specs.List.{list_any};
 ghost use Rattle.affinity.specs.Interval.{IsAffinity, server_size};

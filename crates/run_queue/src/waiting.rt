@@ -2,7 +2,7 @@
 ghost use Rattle.std.specs.Prelude.{◌≡◌, ℕ, ◌<◌, ◌≤◌, ◌++◌, ◌∷◌, [], length, IfOk};
 ghost use Rattle.std.specs.List.{find};
 ghost use Rattle.run_queue.specs.RunQueue.{has_number, CameBefore};
-ghost use Rattle.run_queue.specs.Slots.{times_seated};
+ghost use Rattle.run_queue.specs.Slots.{times_in_slot};
 ghost use Rattle.run_queue.specs.Order.{Ascend};
 
 use crate::QueuedMessage;
@@ -26,7 +26,7 @@ impl Model for Queues {
 
     ghost view = { λ q. record {
       numbers = length q.messages.chains;
-      seats = length q.messages.values;
+      capacity = length q.messages.values;
       messages = waiting_in q.messages;
     } };
 
@@ -36,15 +36,15 @@ impl Model for Queues {
 impl Queues {
     ghost use Rattle.run_queue.specs.Queues.{IsFirstGone};
 
-    /// `numbers` empty queues that hold `seats` messages together. `AllocError` where there is no memory.
-    pub(crate) fn new(alloc: Global, numbers: usize, seats: usize) -> Result<Queues, AllocError>
-        ensures { IfOk result (λ q. q ≡ record { numbers = numbers; seats = seats; messages = [] }) }
+    /// `numbers` empty queues that hold `capacity` messages together. `AllocError` where there is no memory.
+    pub(crate) fn new(alloc: Global, numbers: usize, capacity: usize) -> Result<Queues, AllocError>
+        ensures { IfOk result (λ q. q ≡ record { numbers = numbers; capacity = capacity; messages = [] }) }
     {
-        if seats >= usize::MAX - numbers {
+        if capacity >= usize::MAX - numbers {
             return Err(AllocError);
         }
         Ok(Queues {
-            messages: Arena::with_capacity(alloc, seats, numbers)?,
+            messages: Arena::with_capacity(alloc, capacity, numbers)?,
         })
     }
 
@@ -61,7 +61,7 @@ impl Queues {
     pub(crate) fn push(&mut self, queued: QueuedMessage)
         requires number { queued.affinity.number < self.old.numbers }
         requires later { CameBefore queued.ticket self.old.messages }
-        requires seat { length self.old.messages < self.old.seats }
+        requires not_full { length self.old.messages < self.old.capacity }
         ensures { self.new ≡ record self.old { messages = self.old.messages ++ queued ∷ [] } }
     {
         let number = usize::from(queued.affinity.number());
@@ -72,7 +72,7 @@ impl Queues {
 
     /// The first one at a number waits no longer. Waiting messages have slots of their own.
     pub(crate) fn pop(&mut self, number: usize)
-        requires once { (slot : ℕ) → times_seated slot self.old.messages ≤ 1 }
+        requires once { (slot : ℕ) → times_in_slot slot self.old.messages ≤ 1 }
         ensures { IsFirstGone number self.old self.new }
     {
         if let Some(i) = self.messages.front(number) {

@@ -3,7 +3,7 @@ use Rattle.std.proofs.Common.{◌≡◌, ℕ, false, List, [], ◌++◌, ap, sym
 use Rattle.std.proofs.lemmas.List.{drop_all, take_all}
 use Rattle.affinity.specs.declared.geometry.Geometry.{Geometry}
 use Rattle.disk.specs.Device.{IsCrashImage}
-use Rattle.journal.specs.Journal.{HoldsSome}
+use Rattle.journal.specs.Journal.{RecoversWithPrefix}
 use Rattle.legal_runs.proofs.Answering.{answered_left}
 use Rattle.legal_runs.proofs.Idle.{none_logged}
 use Rattle.legal_runs.specs.Crash.{in_doubt}
@@ -28,9 +28,9 @@ module _ (start : MachineView) (new : CoreView) (hands : List Holding) (events :
   abbrev w : MachineState
   w = machine_of start
 
-  base : HoldsSome g (last w events).core.committed (in_doubt (last w events).core []) c
-  base = subst (λ (x : MachineState). HoldsSome g x.core.committed (in_doubt x.core []) c) (sym ends)
-      (subst (λ (y : Geometry). HoldsSome y (core_state_of new).committed (in_doubt (core_state_of new) []) c) same
+  base : RecoversWithPrefix g (last w events).core.committed (in_doubt (last w events).core []) c
+  base = subst (λ (x : MachineState). RecoversWithPrefix g x.core.committed (in_doubt x.core []) c) (sym ends)
+      (subst (λ (y : Geometry). RecoversWithPrefix y (core_state_of new).committed (in_doubt (core_state_of new) []) c) same
       (some_of new.geometry (core_state_of new).committed new.failed new.doubt [] c none (recovers c left)))
 
   since : RecoversSince g w events (length events) c
@@ -38,9 +38,9 @@ module _ (start : MachineView) (new : CoreView) (hands : List Holding) (events :
     at = length events;
     since = omega arith;
     within = omega arith;
-    recovers = subst (λ (es : List Event). HoldsSome g (last w es).core.committed (in_doubt (last w es).core (drop (length events) events)) c)
+    recovers = subst (λ (es : List Event). RecoversWithPrefix g (last w es).core.committed (in_doubt (last w es).core (drop (length events) events)) c)
         (sym (take_all (length events) events (omega arith)))
-        (subst (λ (ds : List Event). HoldsSome g (last w events).core.committed (in_doubt (last w events).core ds) c)
+        (subst (λ (ds : List Event). RecoversWithPrefix g (last w events).core.committed (in_doubt (last w events).core ds) c)
         (sym (drop_all (length events) events (omega arith))) base);
   }
 

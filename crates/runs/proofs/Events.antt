@@ -10,7 +10,7 @@ use Rattle.affinity.specs.declared.geometry.Geometry.{Geometry}
 use Rattle.disk.proofs.Moments.{started}
 use Rattle.disk.specs.Device.{Medium}
 use Rattle.disk.specs.Moments.{CrashImagesAre}
-use Rattle.journal.specs.Journal.{HoldsSome}
+use Rattle.journal.specs.Journal.{RecoversWithPrefix}
 use Rattle.legal_runs.proofs.Elements.{in_contained}
 use Rattle.legal_runs.proofs.Outs.{event_keeps_out, event_sees}
 use Rattle.legal_runs.proofs.Sound.{event_sound}
@@ -51,16 +51,16 @@ take_none (suc n) = refl
 
 -- Where nothing has failed, `doubt` is empty, so the bytes hold the state with none of any messages.
 pub some_of : (g : Geometry) (x : State) (failed : Bool) (doubt ms : List Msg) (c : List ℕ) → (failed ≡ false → doubt ≡ [])
-    → HoldsSome g x doubt c → HoldsSome g x (if failed then doubt else ms) c
+    → RecoversWithPrefix g x doubt c → RecoversWithPrefix g x (if failed then doubt else ms) c
 some_of g x true doubt ms c none h = h
 some_of g x false doubt ms c none h =
-    let k = subst (λ (l : List Msg). HoldsSome g x l c) (none refl) h in
+    let k = subst (λ (l : List Msg). RecoversWithPrefix g x l c) (none refl) h in
     record { added = 0; at_most = omega arith; is = k.is ∙ ap (λ (l : List Msg). Some (fold g x l)) (take_none k.added) }
 
 pub quiet_moments : (old new : CoreView) (ms : List Msg) → (old.failed ≡ false → old.doubt ≡ []) → RecoversNow old
     → new.medium ≡ old.medium → RecoversThroughout ms old new
 quiet_moments old new ms none recovers same =
-    let P : List ℕ → Type 0 = HoldsSome old.geometry (core_state_of old).committed (if old.failed then old.doubt else ms) in
+    let P : List ℕ → Type 0 = RecoversWithPrefix old.geometry (core_state_of old).committed (if old.failed then old.doubt else ms) in
     subst (λ (m : Medium). CrashImagesAre old.medium m P) (sym same)
     (started old.medium P (λ c left. some_of old.geometry (core_state_of old).committed old.failed old.doubt ms c none (recovers c left)))
 

@@ -7,7 +7,7 @@ use Rattle.affinity.specs.declared.geometry.Geometry.{Geometry}
 use Rattle.disk.proofs.Moments.{only_now}
 use Rattle.disk.specs.Device.{IsCrashImage, Medium}
 use Rattle.disk.specs.Moments.{CrashImagesAre, left_since, moment}
-use Rattle.journal.specs.Journal.{HoldsSome}
+use Rattle.journal.specs.Journal.{RecoversWithPrefix}
 use Rattle.legal_runs.proofs.Arrivals.{answered_by_ticket}
 use Rattle.legal_runs.proofs.Crashes.{left_is_committed}
 use Rattle.legal_runs.proofs.Elements.{contains_in, in_contained}
@@ -35,7 +35,7 @@ use Rattle.scheduler.specs.CoreView.{CoreView, RecoversNow, core_state_of}
 
 -- These bytes recover to what was committed after j events, with a prefix of what was to be appended then (`in_doubt`).
 abbrev pub RecoversAt : Geometry → MachineState → List Event → List ℕ → ℕ → Type 0
-RecoversAt g w events c j = HoldsSome g (last w (take j events)).core.committed (in_doubt (last w (take j events)).core (drop j events)) c
+RecoversAt g w events c j = RecoversWithPrefix g (last w (take j events)).core.committed (in_doubt (last w (take j events)).core (drop j events)) c
 
 -- At some such place from event k on.
 pub record RecoversSince (g : Geometry) (w : MachineState) (events : List Event) (k : ℕ) (c : List ℕ) : Type 0 where
@@ -46,9 +46,9 @@ pub record RecoversSince (g : Geometry) (w : MachineState) (events : List Event)
 
 module _ (g : Geometry) where
   -- what a crash leaves when all events have ended
-  abbrev EndsSo : MachineState → Medium → List Stage → Type 0
-  EndsSo w m stages = (c : List ℕ) → IsCrashImage (device_after m stages) c
-      → HoldsSome g (last w (events_of stages)).core.committed (in_doubt (last w (events_of stages)).core []) c
+  abbrev EndsWith : MachineState → Medium → List Stage → Type 0
+  EndsWith w m stages = (c : List ℕ) → IsCrashImage (device_after m stages) c
+      → RecoversWithPrefix g (last w (events_of stages)).core.committed (in_doubt (last w (events_of stages)).core []) c
 
   later : (w : MachineState) (event : Event) (events : List Event) (k : ℕ) (c : List ℕ) → RecoversSince g event.state_after events k c
       → RecoversSince g w (event ∷ events) (suc k) c
@@ -69,7 +69,7 @@ module _ (g : Geometry) where
       inr (earlier w (stage.event ∷ events_of stages) 1 0 c (omega arith) (later w stage.event (events_of stages) 0 c rest)))
       (parted stage.event.state_after stage.medium stages safe.1 t c (omega (arith, early, safe.0.later)) since)
 
-  from_start : (w : MachineState) (m : Medium) (stages : List Stage) → AreSafe g w m stages → EndsSo w m stages → (c : List ℕ)
+  from_start : (w : MachineState) (m : Medium) (stages : List Stage) → AreSafe g w m stages → EndsWith w m stages → (c : List ℕ)
       → left_since (device_after m stages) (moment m) c → RecoversSince g w (events_of stages) 0 c
   from_start w m [] safe ends c since = record { at = 0; since = omega arith; within = omega arith; recovers = ends c (only_now m c since) }
   from_start w m (stage ∷ stages) safe ends c since =
@@ -79,7 +79,7 @@ module _ (g : Geometry) where
       earlier w (stage.event ∷ events_of stages) 1 0 c (omega arith) (later w stage.event (events_of stages) 0 c rest))
       (parted stage.event.state_after stage.medium stages safe.1 (moment m) c safe.0.later since)
 
-  from_event : {w : MachineState} (m : Medium) (stages : List Stage) → AreSafe g w m stages → EndsSo w m stages → (k : ℕ) {c : List ℕ}
+  from_event : {w : MachineState} (m : Medium) (stages : List Stage) → AreSafe g w m stages → EndsWith w m stages → (k : ℕ) {c : List ℕ}
       → k ≤ length stages → left_since (device_after m stages) (moment (device_after m (take k stages))) c
       → RecoversSince g w (events_of stages) k c
   from_event {w} m stages safe ends zero {c} le since = from_start w m stages safe ends c since
@@ -121,9 +121,9 @@ module _ (g : Geometry) where
       → (new.core.failed ≡ false → new.core.doubt ≡ []) → RecoversNow new.core → (k : ℕ) (c : List ℕ) → k ≤ length stages
       → left_since new.core.medium (moment (device_after m (take k stages))) c → RecoversForRun g w (events_of stages) k c
   left_since_event {w} {m} {stages} {new} h sound none recovers k c le since =
-      let ends : EndsSo w m stages = λ b left.
-      subst (λ (x : MachineState). HoldsSome g x.core.committed (in_doubt x.core []) b) (sym h.ends)
-      (subst (λ (y : Geometry). HoldsSome y (core_state_of new.core).committed (in_doubt (core_state_of new.core) []) b) h.geometry
+      let ends : EndsWith w m stages = λ b left.
+      subst (λ (x : MachineState). RecoversWithPrefix g x.core.committed (in_doubt x.core []) b) (sym h.ends)
+      (subst (λ (y : Geometry). RecoversWithPrefix y (core_state_of new.core).committed (in_doubt (core_state_of new.core) []) b) h.geometry
       (some_of new.core.geometry (core_state_of new.core).committed new.core.failed new.core.doubt [] b none
       (recovers b (subst (λ (x : Medium). IsCrashImage x b) h.device left)))) in
       recovers_for_run w (events_of stages) k c h.legal sound (from_event m stages h.safe ends k le
@@ -188,10 +188,10 @@ more_stages {old} {now} {new} {asked} {came} {step} {outcome} h k quiet =
           (λ none. quiet (ap (λ (x : MachineState). touches_device x.core step) (sym here) ∙ none) ∙ sym h.device);
       geometry = k.geometry ∙ h.geometry;
       any_moment = λ kept. safe-append g (machine_of old) old.core.medium h.stages (stage ∷ []) (h.any_moment kept) (
-        subst (λ (x : MachineState). CrashImagesAre device new.core.medium (HoldsSome g x.core.committed (in_doubt x.core (event ∷ [])))) (sym here)
-            (subst (λ (y : Geometry). CrashImagesAre device new.core.medium (HoldsSome y (core_state_of now.core).committed (in_doubt (core_state_of now.core) (event ∷ []))))
+        subst (λ (x : MachineState). CrashImagesAre device new.core.medium (RecoversWithPrefix g x.core.committed (in_doubt x.core (event ∷ [])))) (sym here)
+            (subst (λ (y : Geometry). CrashImagesAre device new.core.medium (RecoversWithPrefix y (core_state_of now.core).committed (in_doubt (core_state_of now.core) (event ∷ []))))
             h.geometry
-            (subst (λ (m : Medium). CrashImagesAre m new.core.medium (HoldsSome now.core.geometry (core_state_of now.core).committed
+            (subst (λ (m : Medium). CrashImagesAre m new.core.medium (RecoversWithPrefix now.core.geometry (core_state_of now.core).committed
             (in_doubt (core_state_of now.core) (event ∷ [])))) (sym h.device) (k.any_moment kept))),
         tt,
       );

@@ -17,8 +17,8 @@ use Rattle.messages.specs.declared.Msg.{Msg}
 use Rattle.meaning.specs.Serial.{fold}
 use Rattle.meaning.specs.State.{empty}
 
--- An incarnation of a device: the device when it was opened, and as the last call left it; since which moment the crash may have come;
--- the geometry of the device that was opened; and the same by its messages alone (`Incarnation`).
+-- An incarnation of a device: the device when it was opened (`began`) and after its last call (`ended`); the first moment at which the
+-- crash may have come; the geometry; and the incarnation without its device.
 pub record DeviceIncarnation : Type 0 where
   pub began : Medium
   pub ended : Medium
@@ -32,8 +32,8 @@ abbrev pub IsPassedOn : Medium → ℕ → Medium → Type 0
 IsPassedOn m t next =
     ((left_since m t next.now) × IsSynced next) ⊎ ((next ≡ m) × (t ≤ moment m) × AreBytes m.now)
 
--- It was opened, with the numbers of its header, as a server in which no message is; a run was made, and the crash came when so
--- many events or more had ended.
+-- It was opened with the geometry of its header, and with no message in its core; a run was made, and the crash came when k events or
+-- more had ended.
 pub record IsRunIncarnation (l : DeviceIncarnation) (start : MachineState) (events : List Event) (k : ℕ) : Type 0 where
   pub header : HasHeader l.geometry l.began.now
   pub recovered_before : recovered_state l.geometry l.began.now ≡ Some start.core.committed
@@ -69,8 +69,8 @@ abbrev pub incarnations_of : List DeviceIncarnation → List Incarnation
 incarnations_of incarnations = map (λ l. l.incarnation) incarnations
 
 -- The bytes recover to what the serial server reaches, from the empty state on, by the logs of all incarnations, one after the other.
--- The log of each incarnation is one that a crash of its run leaves: a beginning of what it logged or was to log. It begins itself with
--- every change that was answered.
+-- The log of each incarnation is one that a crash of its run leaves: a prefix of what it logged or was to log, which begins with every
+-- change that was answered.
 pub record RecoversForIncarnations (g : Geometry) (incarnations : List Incarnation) (c : List ℕ) : Type 0 where
   pub logs : List (List Msg)
   pub are_logs : AreLogsOf g empty incarnations logs

@@ -4,7 +4,7 @@ use Rattle.affinity.specs.declared.geometry.Geometry.{Geometry}
 use Rattle.checkpoint.specs.Recovery.{recovered_state}
 use Rattle.disk.specs.Device.{Medium}
 use Rattle.disk.specs.Moments.{CrashImagesAre}
-use Rattle.journal.specs.Journal.{HoldsSome}
+use Rattle.journal.specs.Journal.{RecoversWithPrefix}
 use Rattle.legal_runs.specs.Crash.{IsLeftSince, in_doubt}
 use Rattle.legal_runs.specs.Events.{Event, MachineState, touches_device}
 use Rattle.meaning.specs.State.{State}
@@ -27,7 +27,7 @@ device_after m (stage ∷ stages) = device_after stage.medium stages
 abbrev pub AreSafe : Geometry → MachineState → Medium → List Stage → Type 0
 AreSafe g w m [] = Unit {0}
 AreSafe g w m (stage ∷ stages) =
-    CrashImagesAre m stage.medium (HoldsSome g w.core.committed (in_doubt w.core (stage.event ∷ [])))
+    CrashImagesAre m stage.medium (RecoversWithPrefix g w.core.committed (in_doubt w.core (stage.event ∷ [])))
     × AreSafe g stage.event.state_after stage.medium stages
 
 -- Each event reports whether the device failed in it, and left the device alone where its step touches none.

@@ -1,7 +1,7 @@
 -- Inner: One step of a machine, and of its core alone.
 use Rattle.std.specs.Prelude.{◌≡◌, Bool, [], ◌∷◌}
 use Rattle.disk.specs.Moments.{CrashImagesAre}
-use Rattle.journal.specs.Journal.{HoldsSome}
+use Rattle.journal.specs.Journal.{RecoversWithPrefix}
 use Rattle.legal_runs.specs.Crash.{in_doubt, to_append}
 use Rattle.legal_runs.specs.Events.{IsAllowed}
 use Rattle.legal_runs.specs.declared.outcomes.Outcome.{Outcome}
@@ -18,7 +18,8 @@ pub record IsMachineStep (keeps : Type 0) (old new : MachineView) (step : Step) 
       (record { step = step; outcome = outcome; device_failed = device_failed; state_after = machine_of new })
   pub geometry : new.core.geometry ≡ old.core.geometry
   pub failures : CountsFailure device_failed old.core.medium.faults new.core.medium.faults
-  pub any_moment : keeps → CrashImagesAre old.core.medium new.core.medium (HoldsSome old.core.geometry (core_state_of old.core).committed
+  pub any_moment : keeps → CrashImagesAre old.core.medium new.core.medium (RecoversWithPrefix old.core.geometry
+      (core_state_of old.core).committed
       (in_doubt (core_state_of old.core)
       (record { step = step; outcome = outcome; device_failed = device_failed; state_after = machine_of new } ∷ [])))
 

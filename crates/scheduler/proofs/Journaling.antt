@@ -7,7 +7,7 @@ use Rattle.checkpoint.specs.Recovery.{recovered_state}
 use Rattle.disk.proofs.Moments.{leaves_now, started, weaker}
 use Rattle.disk.specs.Device.{Medium}
 use Rattle.disk.specs.Moments.{CrashImagesAre}
-use Rattle.journal.specs.Journal.{HoldsSome, committed}
+use Rattle.journal.specs.Journal.{RecoversWithPrefix, committed}
 use Rattle.journal.specs.DirtyPieces.{DirtyPieces}
 use Rattle.legal_runs.proofs.Sound.{event_sound}
 use Rattle.legal_runs.specs.Laws.{IsSoundCoreState}
@@ -22,10 +22,10 @@ use Rattle.scheduler.specs.CoreView.{CoreView, RecoversNow, RecoversThroughout}
 use Rattle.scheduler.specs.Parts.{IsCore, Parts, core_view_of, core_state_in}
 
 -- bytes that recover to a state recover to it with none of these messages
-pub with_none : (g : Geometry) (x : State) (ms : List Msg) (c : List ℕ) → recovered_state g c ≡ Some x → HoldsSome g x ms c
+pub with_none : (g : Geometry) (x : State) (ms : List Msg) (c : List ℕ) → recovered_state g c ≡ Some x → RecoversWithPrefix g x ms c
 with_none g x ms c is = record { added = 0; at_most = omega arith; is = is }
 
-pub from_none : (g : Geometry) (x : State) (ms : List Msg) (c : List ℕ) → HoldsSome g x [] c → HoldsSome g x ms c
+pub from_none : (g : Geometry) (x : State) (ms : List Msg) (c : List ℕ) → RecoversWithPrefix g x [] c → RecoversWithPrefix g x ms c
 from_none g x ms c h = record { added = 0; at_most = omega arith; is = h.is ∙ ap (λ k. Some (fold g x (take k []))) (none h.added h.at_most) }
   where
     none : (k : ℕ) → k ≤ 0 → k ≡ 0
@@ -35,15 +35,15 @@ from_none g x ms c h = record { added = 0; at_most = omega arith; is = h.is ∙ 
 pub still_standing : (keeps : Type 0) (p : Parts) → IsCore keeps p → keeps → (ms : List Msg) (new : CoreView) → new.medium ≡ p.journal.medium
     → RecoversThroughout ms (core_view_of p) new
 still_standing keeps p k keep ms new same =
-    subst (λ (m : Medium). CrashImagesAre p.journal.medium m (HoldsSome p.journal.geometry (core_state_in p).committed (if p.journal.failed then p.batch else ms))) (sym same)
+    subst (λ (m : Medium). CrashImagesAre p.journal.medium m (RecoversWithPrefix p.journal.geometry (core_state_in p).committed (if p.journal.failed then p.batch else ms))) (sym same)
     (started p.journal.medium _ (λ c left. by p.journal.failed refl c (k.recovers keep c left)))
   where
-    by : (b : Bool) → p.journal.failed ≡ b → (c : List ℕ) → HoldsSome p.journal.geometry (core_state_in p).committed p.batch c
-        → HoldsSome p.journal.geometry (core_state_in p).committed (if p.journal.failed then p.batch else ms) c
-    by true e c h = subst (λ ds. HoldsSome p.journal.geometry (core_state_in p).committed ds c) (sym (cond-true p.journal.failed p.batch ms e)) h
-    by false e c h = subst (λ ds. HoldsSome p.journal.geometry (core_state_in p).committed ds c) (sym (cond-false p.journal.failed p.batch ms e))
+    by : (b : Bool) → p.journal.failed ≡ b → (c : List ℕ) → RecoversWithPrefix p.journal.geometry (core_state_in p).committed p.batch c
+        → RecoversWithPrefix p.journal.geometry (core_state_in p).committed (if p.journal.failed then p.batch else ms) c
+    by true e c h = subst (λ ds. RecoversWithPrefix p.journal.geometry (core_state_in p).committed ds c) (sym (cond-true p.journal.failed p.batch ms e)) h
+    by false e c h = subst (λ ds. RecoversWithPrefix p.journal.geometry (core_state_in p).committed ds c) (sym (cond-false p.journal.failed p.batch ms e))
         (from_none p.journal.geometry (core_state_in p).committed ms c
-        (subst (λ ds. HoldsSome p.journal.geometry (core_state_in p).committed ds c) (k.no_doubt e) h))
+        (subst (λ ds. RecoversWithPrefix p.journal.geometry (core_state_in p).committed ds c) (k.no_doubt e) h))
 
 -- an event leads to a sound core state
 pub called_sound : (g : Geometry) (old new : CoreState) (step : Step) (outcome : Outcome) (device_failed : Bool) → IsCalled g old new step outcome device_failed
@@ -61,17 +61,17 @@ module _ (keeps : Type 0) (p : Parts) (k : IsCore keeps p) (works : p.journal.fa
   committed_now keep = k.is_committed keep works
 
   module _ (medium : Medium) (any : keeps → CrashImagesAre p.journal.medium medium (λ c. recovered_state g c ≡ committed p.journal)) where
-    pub step_moments : keeps → CrashImagesAre p.journal.medium medium (HoldsSome g (core_state_in p).committed [])
+    pub step_moments : keeps → CrashImagesAre p.journal.medium medium (RecoversWithPrefix g (core_state_in p).committed [])
     step_moments keep = weaker p.journal.medium medium (λ c. recovered_state g c ≡ committed p.journal) _ (any keep)
         (λ c is. with_none g (core_state_in p).committed [] c (is ∙ committed_now keep))
 
     pub step_throughout : (new : CoreView) → new.medium ≡ medium → keeps → RecoversThroughout [] (core_view_of p) new
     step_throughout new same keep =
-        subst (λ (m : Medium). CrashImagesAre p.journal.medium m (HoldsSome g (core_state_in p).committed (if p.journal.failed then p.batch else []))) (sym same)
-        (subst (λ ds. CrashImagesAre p.journal.medium medium (HoldsSome g (core_state_in p).committed ds)) (sym (cond-false p.journal.failed p.batch [] works)) (step_moments keep))
+        subst (λ (m : Medium). CrashImagesAre p.journal.medium m (RecoversWithPrefix g (core_state_in p).committed (if p.journal.failed then p.batch else []))) (sym same)
+        (subst (λ ds. CrashImagesAre p.journal.medium medium (RecoversWithPrefix g (core_state_in p).committed ds)) (sym (cond-false p.journal.failed p.batch [] works)) (step_moments keep))
 
     pub step_recovers : (room : ℕ) (left : Option ℕ) (failed : Bool) (dirty : DirtyPieces) → keeps → RecoversNow (core_view_of (with_journal p room left failed dirty medium))
-    step_recovers room left failed dirty keep c leaves = subst (λ ds. HoldsSome g (core_state_in p).committed ds c) (sym (k.no_doubt works))
+    step_recovers room left failed dirty keep c leaves = subst (λ ds. RecoversWithPrefix g (core_state_in p).committed ds c) (sym (k.no_doubt works))
         (leaves_now p.journal.medium medium _ (step_moments keep) c leaves)
 
     -- the step was made, or the device failed

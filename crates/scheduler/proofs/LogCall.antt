@@ -10,7 +10,7 @@ use Rattle.arena.specs.ArenaView.{ArenaView, capacity_of, chain_at, value_at}
 use Rattle.checkpoint.specs.Recovery.{recovered_state}
 use Rattle.disk.specs.Device.{IsCrashImage, Medium}
 use Rattle.disk.specs.Moments.{CrashImagesAre, moment}
-use Rattle.journal.specs.Journal.{after_call, AreCarriedOut, JournalView, HoldsSome, IsRecoverable, committed}
+use Rattle.journal.specs.Journal.{after_call, AreCarriedOut, JournalView, RecoversWithPrefix, IsRecoverable, committed}
 use Rattle.legal_runs.proofs.SerialReplies.{fold-joined}
 use Rattle.legal_runs.specs.Eligible.{changes}
 use Rattle.legal_runs.specs.Events.{batch as batch_of, log, loggable, touches_device}
@@ -144,9 +144,9 @@ module _ (keeps : Type 0) (row : ArenaView Slot) (replies : List Reply) (tree : 
           subst (λ (y : State). AreCarriedOut journal.geometry y passed) (same_Some (core_state_in p).committed x (sym (k.is_committed keep works) ∙ at))
           (subst (AreCarriedOut journal.geometry (core_state_in p).committed) (sym passed_at) (batch_carried keeps p k n))
 
-      module _ (new : JournalView) (any : keeps → (x : State) → committed journal ≡ Some x → CrashImagesAre journal.medium new.medium (HoldsSome journal.geometry x passed)) where
-        any_at : keeps → CrashImagesAre journal.medium new.medium (HoldsSome journal.geometry (core_state_in p).committed (batch_at p n))
-        any_at keep = subst (λ (ms : List Msg). CrashImagesAre journal.medium new.medium (HoldsSome journal.geometry (core_state_in p).committed ms)) passed_at
+      module _ (new : JournalView) (any : keeps → (x : State) → committed journal ≡ Some x → CrashImagesAre journal.medium new.medium (RecoversWithPrefix journal.geometry x passed)) where
+        any_at : keeps → CrashImagesAre journal.medium new.medium (RecoversWithPrefix journal.geometry (core_state_in p).committed (batch_at p n))
+        any_at keep = subst (λ (ms : List Msg). CrashImagesAre journal.medium new.medium (RecoversWithPrefix journal.geometry (core_state_in p).committed ms)) passed_at
             (any keep (core_state_in p).committed (k.is_committed keep works))
 
         pub log_call_throughout : (now : CoreView) → now.medium ≡ new.medium → keeps → RecoversThroughout (batch_of (core_state_in p) n) (core_view_of p) now

@@ -11,7 +11,7 @@ use Rattle.checkpoint.specs.Recovery.{recovered_state}
 use Rattle.disk.proofs.Moments.{leaves_now}
 use Rattle.disk.specs.Device.{IsCrashImage, Medium}
 use Rattle.disk.specs.Moments.{CrashImagesAre}
-use Rattle.journal.specs.Journal.{AreCarriedOut, HoldsSome, committed}
+use Rattle.journal.specs.Journal.{AreCarriedOut, RecoversWithPrefix, committed}
 use Rattle.journal.specs.DirtyPieces.{DirtyPieces}
 use Rattle.legal_runs.proofs.Lists.{all_back, all_front, all_join, before_back, before_front}
 use Rattle.legal_runs.proofs.Moves.{Logs}
@@ -170,13 +170,13 @@ module _ (keeps : Type 0) (p : Parts) (k : IsCore keeps p) (works : p.journal.fa
           no_doubt = λ fine. refl;
         }
 
-  module _ (any : keeps → CrashImagesAre p.journal.medium medium (HoldsSome p.journal.geometry (core_state_in p).committed (batch_at p n))) where
+  module _ (any : keeps → CrashImagesAre p.journal.medium medium (RecoversWithPrefix p.journal.geometry (core_state_in p).committed (batch_at p n))) where
     -- at each moment of the call
     pub log_throughout : (new : CoreView) → new.medium ≡ medium → keeps → RecoversThroughout (batch (core_state_in p) n) (core_view_of p) new
     log_throughout new same keep =
-        subst (λ (m : Medium). CrashImagesAre p.journal.medium m (HoldsSome p.journal.geometry (core_state_in p).committed
+        subst (λ (m : Medium). CrashImagesAre p.journal.medium m (RecoversWithPrefix p.journal.geometry (core_state_in p).committed
         (if p.journal.failed then p.batch else batch (core_state_in p) n))) (sym same)
-        (subst (λ ds. CrashImagesAre p.journal.medium medium (HoldsSome p.journal.geometry (core_state_in p).committed ds))
+        (subst (λ ds. CrashImagesAre p.journal.medium medium (RecoversWithPrefix p.journal.geometry (core_state_in p).committed ds))
         (same_batch keeps p k n ∙ sym (cond-false p.journal.failed p.batch (batch (core_state_in p) n) works)) (any keep))
 
     -- the device failed

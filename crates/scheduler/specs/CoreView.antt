@@ -3,7 +3,7 @@ use Rattle.std.specs.Prelude.{◌≡◌, ℕ, Bool, false, List, [], Option, Non
 use Rattle.affinity.specs.declared.geometry.Geometry.{Geometry}
 use Rattle.disk.specs.Device.{Medium, IsCrashImage}
 use Rattle.disk.specs.Moments.{CrashImagesAre}
-use Rattle.journal.specs.Journal.{HoldsSome}
+use Rattle.journal.specs.Journal.{RecoversWithPrefix}
 use Rattle.legal_runs.specs.CoreState.{Entry, Replied, CoreState}
 use Rattle.messages.specs.declared.Msg.{Msg}
 use Rattle.parcel.specs.Tree.{TreeView, state_in}
@@ -47,13 +47,14 @@ core_state_of c = record {
 
 -- A crash now leaves the committed state, with a prefix of the messages in `doubt`.
 abbrev pub RecoversNow : CoreView → Type 0
-RecoversNow c = (bytes : List ℕ) → IsCrashImage c.medium bytes → HoldsSome c.geometry (core_state_of c).committed c.doubt bytes
+RecoversNow c = (bytes : List ℕ) → IsCrashImage c.medium bytes → RecoversWithPrefix c.geometry (core_state_of c).committed c.doubt bytes
 
 -- A crash at any moment of a call leaves the committed state, with a prefix of the messages in `doubt`: where the
 -- device had not failed before, of those that the call is to append.
 abbrev pub RecoversThroughout : List Msg → CoreView → CoreView → Type 0
 RecoversThroughout appended old new =
-    CrashImagesAre old.medium new.medium (HoldsSome old.geometry (core_state_of old).committed (if old.failed then old.doubt else appended))
+    CrashImagesAre old.medium new.medium (RecoversWithPrefix old.geometry (core_state_of old).committed
+        (if old.failed then old.doubt else appended))
 
 -- A core that was just opened: nothing waits or is held, no ticket was given, and the log has all its room.
 pub record IsJustOpened (slots : ℕ) (c : CoreView) : Type 0 where

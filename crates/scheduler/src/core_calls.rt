@@ -31,7 +31,7 @@ use crate::granted::choose;
 use crate::history::History;
 use crate::log_batch::{collect_loggable, move_ran};
 use crate::memory::{Memory, take_memory};
-use crate::slot::{LOGGED, OUT, RAN, Slot, WAITING};
+use crate::slot::{LOGGED, IN_FLIGHT, RAN, Slot, WAITING};
 use affinity::{changing, place_of};
 use arena::Arena;
 use checkpoint::{OpenError, OpenFault};
@@ -105,7 +105,7 @@ fn holds_any(slots: &Arena<Slot>) -> bool
     requires { HasChains slots.now }
     ensures { result ≡ nat_lt 0 (length (chain_at slots.now 3) + (length (chain_at slots.now 2) + length (chain_at slots.now 1))) }
 {
-    slots.front(OUT).is_some() || slots.front(RAN).is_some() || slots.front(LOGGED).is_some()
+    slots.front(IN_FLIGHT).is_some() || slots.front(RAN).is_some() || slots.front(LOGGED).is_some()
 }
 
 impl<D: Disk> Core<D> {
@@ -242,7 +242,7 @@ impl<D: Disk> Core<D> {
         };
         let g = self.journal.geometry();
         self.queue.dispatch(queued);
-        self.slots.move_to(number, OUT);
+        self.slots.move_to(number, IN_FLIGHT);
         self.unlogged += more;
         Granted::Job(Job::new(g, ticket, message, standing, parcels))
     }

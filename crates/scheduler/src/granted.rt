@@ -19,7 +19,7 @@ pub enum Granted {
     Failed,
 }
 
-/// The message that goes next, while the log has `room` or not; or why there is none.
+/// The message that is dispatched next, while the log has `room` or not; or why there is none.
 pub(crate) fn choose(queue: &RunQueue, room: bool) -> Result<QueuedMessage, Granted>
     ensures next { MatchResult result
         (λ queued. next_queued room queue.now.held queue.now.waiting ≡ Some queued)

@@ -10,7 +10,7 @@ pub(crate) const CHAINS: usize = 4;
 pub(crate) const WAITING: usize = 0;
 
 /// The chain of messages in flight.
-pub(crate) const OUT: usize = 1;
+pub(crate) const IN_FLIGHT: usize = 1;
 
 /// The chain of messages that ran.
 pub(crate) const RAN: usize = 2;

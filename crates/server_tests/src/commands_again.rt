@@ -4,7 +4,7 @@ ghost use Rattle.std.specs.Prelude.{◌<◌};
 use crate::commands_calls::System;
 use crate::serving_running::SMALL;
 use affinity::Geometry;
-use commands::{Service, serve_again};
+use commands::{ServeOptions, serve_again};
 use harness::{KINDS, torn};
 use std::alloc::{AllocError, Global};
 use std::test::Fail;
@@ -123,7 +123,7 @@ fn expect_incarnations<T: System>(rt: &T, row: &Row<'_>, n: u64, at: usize) -> R
         geometry,
         n,
         torn(rt.alloc(), at)?,
-        Service::new(1, 4, 0),
+        ServeOptions::new(1, 4, 0),
         &mut input.as_bytes(),
         &mut first,
         &mut questions.as_bytes(),

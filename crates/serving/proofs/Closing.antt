@@ -12,12 +12,12 @@ use Rattle.runs.specs.Machine.{MachineView, hand_of as hand_in, machine_of}
 use Rattle.runs.specs.Stages.{events_of}
 use Rattle.parcel.specs.Run.{JobView}
 use Rattle.scheduler.specs.CoreView.{CoreView, RecoversNow, core_state_of}
-use Rattle.serving.specs.Ends.{EndsSo, IsWoundUp}
+use Rattle.serving.specs.Ends.{EndsWith, IsQuiesced}
 use Rattle.serving.specs.Progress.{ServingProgress}
 use Rattle.serving.specs.Lending.{NoneInFlight}
 use Rattle.serving.specs.Lines.{Line}
 use Rattle.reorder_buffer.specs.ReorderBuffer.{ReorderBufferView, can_retire}
-use Rattle.serving.specs.Serve.{HasEmptyLog, HasRunSo, HasWorkers, RefusesNone, ServesSo}
+use Rattle.serving.specs.Serve.{HasEmptyLog, HasRunWith, HadWorkers, FailsWithoutWorkers, ServePromise}
 use Rattle.serving.specs.Runs.{Holds, lent_hand, with_lent}
 use Rattle.serving.specs.Session.{EndsBy, EndsOrDeclines, HasFinished, SessionProgress, HasHalted, HasEndedReading, CanBegin, IsServed, SessionInvariant, SessionInvariantFrom, SessionView, ReadsOrHasEnded, machine, known_unless, end_of, reported}
 use Rattle.serving.specs.Output.{Start, start_machine}
@@ -41,8 +41,8 @@ so_far_none (Some bytes) = ap (λ (l : List ℕ). Some l) (append-nil bytes)
 -- Of the run that led there, where the core at the end is as it always is, and of its end.
 pub record PromisesAll (keeps : Type 0) (start : MachineView) (new : CoreView) (input remaining before written : Option (List ℕ))
     (result : Result (Unit {0}) ServeFault) : Type 0 where
-  pub run : (new.failed ≡ false → new.doubt ≡ []) → (keeps → RecoversNow new) → HasRunSo keeps start new input before written result
-  pub ends : EndsSo start.core new input remaining before written result
+  pub run : (new.failed ≡ false → new.doubt ≡ []) → (keeps → RecoversNow new) → HasRunWith keeps start new input before written result
+  pub ends : EndsWith start.core new input remaining before written result
 
 -- nothing is in flight once all is collected
 all_empty : (n : ℕ) → full (map hand_in (map lent_hand (replicate n None))) ≡ 0
@@ -97,7 +97,7 @@ module _ {keeps : Type 0} {s : Start} {p : SessionView} (u : SessionInvariant ke
 
   module _ (none_in_flight : NoneInFlight p.dispatch_seat.lent) (answered : p.core.logged ≡ []) where
     wound_up : {unsent : List Line} {unread before torn : Option (List ℕ)} {drained : Bool} → ServingProgress keeps start now unsent s.input unread drained before torn
-        → IsWoundUp p.core
+        → IsQuiesced p.core
     wound_up h =
         let r = h.serving.passes in
         let none : full (machine_of now).hands ≡ 0 =
@@ -234,14 +234,14 @@ module _ (p : SessionView) (P F : Type 0) (r : Result (Result (Unit {0}) ServeFa
 
   pub ends_or_declines : (old : SessionView) → OnErr r (p ≡ old) → (result : Result (Unit {0}) ServeFault) → result ≡ reported r
       → EndsOrDeclines old p result
-  ends_or_declines old undone result is = subst (λ (q : Result (Unit {0}) ServeFault). EndsOrDeclines old p q) (sym is)
-      (reported_so old p F r (both r gives).0 undone)
+  ends_or_declines old not_begun result is = subst (λ (q : Result (Unit {0}) ServeFault). EndsOrDeclines old p q) (sym is)
+      (reported_so old p F r (both r gives).0 not_begun)
 
   pub emptied_at_end : (result : Result (Unit {0}) ServeFault) → result ≡ reported r → OnOk result P
   emptied_at_end result is = subst (λ (q : Result (Unit {0}) ServeFault). OnOk q P) (sym is) (emptied_so P F r (both r gives).1)
 
 -- It is no want of workers.
-pub has_workers : (old p : SessionView) (result : Result (Unit {0}) ServeFault) → EndsOrDeclines old p result → HasWorkers result
+pub has_workers : (old p : SessionView) (result : Result (Unit {0}) ServeFault) → EndsOrDeclines old p result → HadWorkers result
 has_workers old p (Ok tt) e = tt
 has_workers old p (Err faults.OutOfMemory) e = tt
 has_workers old p (Err faults.Read) e = tt
@@ -251,7 +251,7 @@ has_workers old p (Err faults.Write) e = tt
 has_workers old p (Err faults.NoWorkers) e = absurd e
 
 -- Where there are workers, their want is not reported.
-pub refuses_none : (workers : ℕ) → workers ≢ 0 → (result : Result (Unit {0}) ServeFault) → HasWorkers result → RefusesNone workers result
+pub refuses_none : (workers : ℕ) → workers ≢ 0 → (result : Result (Unit {0}) ServeFault) → HadWorkers result → FailsWithoutWorkers workers result
 refuses_none workers some (Ok tt) h = some
 refuses_none workers some (Err faults.NoWorkers) h = absurd h
 refuses_none workers some (Err faults.Read) h = some
@@ -262,10 +262,10 @@ refuses_none workers some (Err faults.Exhausted) h = some
 
 -- The same of as many workers, where as much remains of the input.
 pub serves_as : {keeps : Type 0} {core : CoreView} {back : CoreView × Result (Unit {0}) ServeFault} {input before written remaining rest : Option (List ℕ)}
-    {places workers : ℕ} → places ≡ workers → remaining ≡ rest → ServesSo keeps places core back input remaining before written → ServesSo keeps workers core back input rest before written
+    {places workers : ℕ} → places ≡ workers → remaining ≡ rest → ServePromise keeps places core back input remaining before written → ServePromise keeps workers core back input rest before written
 serves_as {keeps} {core} {back} {input} {before} {written} {rest} {places} as_many same h =
-    subst (λ (n : ℕ). ServesSo keeps n core back input rest before written) as_many
-    (subst (λ (l : Option (List ℕ)). ServesSo keeps places core back input l before written) same h)
+    subst (λ (n : ℕ). ServePromise keeps n core back input rest before written) as_many
+    (subst (λ (l : Option (List ℕ)). ServePromise keeps places core back input l before written) same h)
 
 -- ---- where it begins
 

@@ -13,7 +13,7 @@ use Rattle.serving.specs.Progress.{ServingProgress}
 use Rattle.serving.specs.Lines.{Line}
 use Rattle.reorder_buffer.specs.ReorderBuffer.{can_retire}
 use Rattle.serving.specs.Runs.{with_lent}
-use Rattle.serving.specs.Serve.{AreAll, HasRunSo}
+use Rattle.serving.specs.Serve.{AreAll, HasRunWith}
 use Rattle.serving.specs.declared.server.ServeFault.TheVariants as faults
 use Rattle.serving.proofs.Served.{has_served}
 use Rattle.serving.proofs.Starting.{starts}
@@ -31,7 +31,7 @@ all_taken (Some input) (Some bs) ended taken t at_end =
 module _ {keeps : Type 0} {start now : MachineView} (idle : IsIdle (core_state_of start.core)) {input unread : Option (List ℕ)} {ended : Bool}
     {before written : Option (List ℕ)} (no_doubt : now.core.failed ≡ false → now.core.doubt ≡ []) (recovers : keeps → RecoversNow now.core) where
   pub runs_whole : ServingProgress keeps start now [] input unread ended before written → IsAtEnd unread
-      → HasRunSo keeps start now.core input before written (Ok tt)
+      → HasRunWith keeps start now.core input before written (Ok tt)
   unfolding has_served
   runs_whole h at_end = record {
     served = has_served keeps start now idle no_doubt recovers h;
@@ -39,20 +39,20 @@ module _ {keeps : Type 0} {start now : MachineView} (idle : IsIdle (core_state_o
   }
 
   pub runs_to_read : ServingProgress keeps start now [] input unread ended before written
-      → HasRunSo keeps start now.core input before written (Err faults.Read)
+      → HasRunWith keeps start now.core input before written (Err faults.Read)
   runs_to_read h = has_served keeps start now idle no_doubt recovers h
 
   pub runs_to_last_ticket : ServingProgress keeps start now [] input unread ended before written
-      → HasRunSo keeps start now.core input before written (Err faults.Exhausted)
+      → HasRunWith keeps start now.core input before written (Err faults.Exhausted)
   runs_to_last_ticket h = has_served keeps start now idle no_doubt recovers h
 
   pub runs_to_device : {unsent : List Line} → ServingProgress keeps start now unsent input unread ended before written → can_retire unsent ≡ false
-      → HasRunSo keeps start now.core input before written (Err faults.Device)
+      → HasRunWith keeps start now.core input before written (Err faults.Device)
   runs_to_device {unsent} h last = (unsent, has_served keeps start now idle no_doubt recovers h, last)
 
   -- whatever was written since
   pub runs_to_write : {unsent : List Line} (torn : Option (List ℕ)) → ServingProgress keeps start now unsent input unread ended before written
-      → HasRunSo keeps start now.core input before torn (Err faults.Write)
+      → HasRunWith keeps start now.core input before torn (Err faults.Write)
   runs_to_write torn h = let s = has_served keeps start now idle no_doubt recovers h in (s.taken, s.stages, s.run)
 
 -- ---- a server that was refused
@@ -64,8 +64,8 @@ module _ (keeps : Type 0) (core : CoreView) (places : ℕ) (idle : IsIdle (core_
       let start = with_lent core (replicate places None) in
       has_served keeps start start idle no_doubt recovers (starts keeps start input before)
 
-  pub no_workers_ran : HasRunSo keeps (with_lent core (replicate places None)) core input before before (Err faults.NoWorkers)
+  pub no_workers_ran : HasRunWith keeps (with_lent core (replicate places None)) core input before before (Err faults.NoWorkers)
   no_workers_ran = not_run
 
-  pub no_memory_ran : HasRunSo keeps (with_lent core (replicate places None)) core input before before (Err faults.OutOfMemory)
+  pub no_memory_ran : HasRunWith keeps (with_lent core (replicate places None)) core input before before (Err faults.OutOfMemory)
   no_memory_ran = not_run

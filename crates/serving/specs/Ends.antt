@@ -22,7 +22,7 @@ use Rattle.serving.specs.declared.server.ServeFault.TheVariants as faults
 
 -- ---- the serial server's output and state, for a server that began in one state and committed another
 
--- These lines were answered as the serial server answers them, and lead where they lead there.
+-- These lines were answered as by the serial server, and `now` is the serial server's state after them.
 pub record AreServed (g : Geometry) (start now : State) (ls : List (List ℕ)) (written : List ℕ) : Type 0 where
   pub output : written ≡ joined (output_lines g start ls)
   pub state : now ≡ state_after_lines g start ls
@@ -50,8 +50,8 @@ abbrev pub AreFirst : Option (List ℕ) → List (List ℕ) → Type 0
 AreFirst None taken = Unit {0}
 AreFirst (Some input) taken = (more : List (List ℕ)) × (lines input ≡ taken ++ more)
 
--- From the start there is a legal run to the core at the end, whose tickets go in order to the messages in range of the first
--- lines of the input: its events, each with the device as it left it.
+-- A legal run leads from the start to the core at the end. `stages` are its events, each with the device as it left it. Its tickets go,
+-- in order, to the messages in range among the first lines of the input.
 pub record HasRunLines (keeps : Type 0) (start : MachineView) (new : CoreView)
     (input : Option (List ℕ)) (taken : List (List ℕ)) (stages : List Stage) : Type 0 where
   pub first : AreFirst input taken
@@ -63,7 +63,7 @@ pub record HasRunLines (keeps : Type 0) (start : MachineView) (new : CoreView)
   pub device : device_after start.core.medium stages ≡ new.medium
   -- the device failed as often as the events say
   pub failures : new.medium.faults ≡ start.core.medium.faults + count_by (λ e. e.device_failed) (events_of stages)
-  -- what a crash leaves at each crash point of each event
+  -- what a crash leaves at each moment of each event
   pub any_moment : keeps → AreSafe start.core.geometry (machine_of start) start.core.medium stages
   -- For every k: a crash at any moment since event k ended leaves a device that recovers to a state which the run may leave.
   pub crash : keeps → (k : ℕ) (c : List ℕ) → k ≤ length stages
@@ -82,29 +82,30 @@ pub record HasServed (keeps : Type 0) (start : MachineView) (new : CoreView) (un
   pub are_completed : AllByRecursion (λ line. is_completed line ≡ true) sent_lines
   pub output : Appends before written (joined (map text sent_lines))
 
--- ---- what each answer promises of the core before and after, of the input and what remains of it, and of what was written
+-- ---- what each result promises of the core before and after, of the input and what remains of it, and of what was written
 
 abbrev pub committed_in : CoreView → State
 committed_in core = (core_state_of core).committed
 
 -- No message is in flight with a worker, and each that was logged is answered.
-pub record IsWoundUp (core : CoreView) : Type 0 where
+pub record IsQuiesced (core : CoreView) : Type 0 where
   pub none_out : core.out ≡ []
   pub none_logged : core.logged ≡ []
 
 -- Where each line that was read is answered, nothing waits or is held, and the device works. Where the device or the output has failed,
--- the core is wound up; and where the output alone has, each message that ran is logged.
-abbrev pub EndsSo : CoreView → CoreView → Option (List ℕ) → Option (List ℕ) → Option (List ℕ)
+-- the core is quiesced; and where the output alone has, each message that ran is logged. Without workers or memory nothing has changed,
+-- been read or been written.
+abbrev pub EndsWith : CoreView → CoreView → Option (List ℕ) → Option (List ℕ) → Option (List ℕ)
     → Option (List ℕ) → Result (Unit {0}) ServeFault → Type 0
-EndsSo old new input remaining before written (Ok _) = IsIdle (core_state_of new) × (new.failed ≡ false) × IsAtEnd remaining
+EndsWith old new input remaining before written (Ok _) = IsIdle (core_state_of new) × (new.failed ≡ false) × IsAtEnd remaining
     × WritesOutput input before written (λ bytes w. AreServed old.geometry (committed_in old) (committed_in new) (lines bytes) w)
-EndsSo old new input remaining before written (Err faults.Read) = IsIdle (core_state_of new) × (new.failed ≡ false)
+EndsWith old new input remaining before written (Err faults.Read) = IsIdle (core_state_of new) × (new.failed ≡ false)
     × WritesOutput input before written (ServesWholeLines old.geometry (committed_in old) (committed_in new) remaining)
-EndsSo old new input remaining before written (Err faults.Exhausted) = IsIdle (core_state_of new) × (new.failed ≡ false)
+EndsWith old new input remaining before written (Err faults.Exhausted) = IsIdle (core_state_of new) × (new.failed ≡ false)
     × (new.next ≡ 2 ^ 64 - 1)
     × WritesOutput input before written (ServesLinesBefore old.geometry (committed_in old) (committed_in new))
-EndsSo old new input remaining before written (Err faults.Device) = (new.failed ≡ true) × IsWoundUp new
+EndsWith old new input remaining before written (Err faults.Device) = (new.failed ≡ true) × IsQuiesced new
     × WritesOutput input before written (IsBeginning old.geometry (committed_in old))
-EndsSo old new input remaining before written (Err faults.Write) = IsWoundUp new × (new.failed ≡ false → new.ran ≡ [])
-EndsSo old new input remaining before written (Err faults.NoWorkers) = (new ≡ old) × (remaining ≡ input) × (written ≡ before)
-EndsSo old new input remaining before written (Err faults.OutOfMemory) = (new ≡ old) × (remaining ≡ input) × (written ≡ before)
+EndsWith old new input remaining before written (Err faults.Write) = IsQuiesced new × (new.failed ≡ false → new.ran ≡ [])
+EndsWith old new input remaining before written (Err faults.NoWorkers) = (new ≡ old) × (remaining ≡ input) × (written ≡ before)
+EndsWith old new input remaining before written (Err faults.OutOfMemory) = (new ≡ old) × (remaining ≡ input) × (written ≡ before)

@@ -1,4 +1,4 @@
--- Statement for operators: What a server promises of its whole call, by the answer that it gives.
+-- Statement for operators: What a server promises of its whole call, by its result.
 use Rattle.std.specs.Prelude.{◌≡◌, ◌≢◌, ℕ, false, List, [], Option, Some, None, Result, Ok, Err, OnOk, replicate}
 use Rattle.runs.specs.Machine.{MachineView}
 use Rattle.runs.specs.Stages.{Stage}
@@ -6,7 +6,7 @@ use Rattle.messages.specs.Lines.{lines}
 use Rattle.device_map.specs.Layout.{layout_of}
 use Rattle.oplog.specs.Recovery.{in_force, named_area}
 use Rattle.scheduler.specs.CoreView.{CoreView}
-use Rattle.serving.specs.Ends.{EndsSo, HasRunLines, HasServed}
+use Rattle.serving.specs.Ends.{EndsWith, HasRunLines, HasServed}
 use Rattle.serving.specs.Lines.{Line}
 use Rattle.serving.specs.Runs.{with_lent}
 use Rattle.reorder_buffer.specs.ReorderBuffer.{can_retire}
@@ -26,24 +26,24 @@ pub record HasServedAll (keeps : Type 0) (start : MachineView) (new : CoreView) 
 
 -- A run led to what was written. Each line that was consumed is answered in the output, but for the last ones where the device
 -- failed, the first of which is not completed. Where the output failed it is unknown what was written.
-abbrev pub HasRunSo : Type 0 → MachineView → CoreView → Option (List ℕ) → Option (List ℕ) → Option (List ℕ)
+abbrev pub HasRunWith : Type 0 → MachineView → CoreView → Option (List ℕ) → Option (List ℕ) → Option (List ℕ)
     → Result (Unit {0}) ServeFault → Type 0
-HasRunSo keeps start new input before written (Ok _) = HasServedAll keeps start new input before written
-HasRunSo keeps start new input before written (Err faults.Device) =
+HasRunWith keeps start new input before written (Ok _) = HasServedAll keeps start new input before written
+HasRunWith keeps start new input before written (Err faults.Device) =
     (unsent : List Line) × HasServed keeps start new unsent input before written × (can_retire unsent ≡ false)
-HasRunSo keeps start new input before written (Err faults.Write) =
+HasRunWith keeps start new input before written (Err faults.Write) =
     (taken : List (List ℕ)) × (stages : List Stage) × HasRunLines keeps start new input taken stages
-HasRunSo keeps start new input before written (Err _) = HasServed keeps start new [] input before written
+HasRunWith keeps start new input before written (Err _) = HasServed keeps start new [] input before written
 
--- It is refused for want of workers just where there are none.
-abbrev pub RefusesNone : ℕ → Result (Unit {0}) ServeFault → Type 0
-RefusesNone workers (Err faults.NoWorkers) = workers ≡ 0
-RefusesNone workers _ = workers ≢ 0
+-- It ends with `NoWorkers` exactly where there are none.
+abbrev pub FailsWithoutWorkers : ℕ → Result (Unit {0}) ServeFault → Type 0
+FailsWithoutWorkers workers (Err faults.NoWorkers) = workers ≡ 0
+FailsWithoutWorkers workers _ = workers ≢ 0
 
--- It is no refusal for want of workers.
-abbrev pub HasWorkers : Result (Unit {0}) ServeFault → Type 0
-HasWorkers (Err faults.NoWorkers) = ⊥
-HasWorkers _ = Unit {0}
+-- It didn't end with `NoWorkers`.
+abbrev pub HadWorkers : Result (Unit {0}) ServeFault → Type 0
+HadWorkers (Err faults.NoWorkers) = ⊥
+HadWorkers _ = Unit {0}
 
 -- no record of the log is in force
 abbrev pub HasEmptyLog : CoreView → Type 0
@@ -55,12 +55,12 @@ handed_back (Ok core) = (core, Ok tt)
 handed_back (Err e) = (e.core, Err e.fault)
 
 -- What a server promises of its whole call, from the core that it was given to what it hands back.
-pub record ServesSo (keeps : Type 0) (workers : ℕ) (old : CoreView) (back : CoreView × Result (Unit {0}) ServeFault)
+pub record ServePromise (keeps : Type 0) (workers : ℕ) (old : CoreView) (back : CoreView × Result (Unit {0}) ServeFault)
     (input remaining before written : Option (List ℕ)) : Type 0 where
   -- a run led to what was written, with a place for each worker
-  pub run : HasRunSo keeps (with_lent old (replicate workers None)) back.0 input before written back.1
+  pub run : HasRunWith keeps (with_lent old (replicate workers None)) back.0 input before written back.1
   -- core, input and output are as this end says
-  pub ends : EndsSo old back.0 input remaining before written back.1
-  pub no_workers : RefusesNone workers back.1
+  pub ends : EndsWith old back.0 input remaining before written back.1
+  pub no_workers : FailsWithoutWorkers workers back.1
   -- at the end of the input no record is in force
   pub emptied : OnOk back.1 (keeps → HasEmptyLog back.0)

@@ -41,7 +41,7 @@ pub record SessionView : Type 0 where
   -- whether sending has failed, and why no more is read, if it is so
   pub output_failed : Bool
   pub stop : Option ReadEnd
-  -- what is unread of the input, whether nothing is, whether its end was seen, and what remains in the reader after what is held
+  -- what is unread of the input, whether nothing is, whether its end was seen, and what remains in the reader after what is buffered
   pub unread : Option (List ℕ)
   pub drained : Bool
   pub ended : Bool

@@ -58,7 +58,7 @@ impl CheckpointTrigger {
 impl<'c, R: Read, D: Disk, L: ReplySink<D>> Session<'c, R, D, L> {
     /// Takes the checkpoint in progress a step on, if there is one: to its next piece or, where all are written, to its end. Whether there
     /// was one.
-    pub(crate) fn advance_point(&mut self) -> Result<bool, Halted>
+    pub(crate) fn advance_checkpoint(&mut self) -> Result<bool, Halted>
         ensures moves { IsSessionStep self.old self.new result }
         ensures same { (self.new.reorder_buffer ≡ self.old.reorder_buffer) × (self.new.reply_buffer ≡ self.old.reply_buffer)
             × (self.new.core.logged ≡ self.old.core.logged) }
@@ -81,7 +81,7 @@ impl<'c, R: Read, D: Disk, L: ReplySink<D>> Session<'c, R, D, L> {
     }
 
     /// Begins a checkpoint, where none is in progress: it begins unless a message is held.
-    pub(crate) fn begin_point(&mut self) -> Result<(), Halted>
+    pub(crate) fn begin_checkpoint(&mut self) -> Result<(), Halted>
         requires none { self.old.core.left ≡ None }
         ensures moves { IsSessionStep self.old self.new result }
         ensures begun { OnOk result (held (core_state_of self.new.core) ≡ [] → (n : ℕ) × (self.new.core.left ≡ Some n)) }
@@ -92,14 +92,14 @@ impl<'c, R: Read, D: Disk, L: ReplySink<D>> Session<'c, R, D, L> {
 
     /// Where no job is in flight and no message may be dispatched or read: takes the checkpoint in progress a step on, or begins one where
     /// it is due or a message lacks only room in the log. Whether it did either.
-    pub(crate) fn step_point(&mut self, lacks_room: bool) -> Result<bool, Halted>
+    pub(crate) fn step_checkpoint(&mut self, lacks_room: bool) -> Result<bool, Halted>
         ensures moves { IsSessionStep self.old self.new result }
     {
-        if self.advance_point()? {
+        if self.advance_checkpoint()? {
             return Ok(true);
         }
         if lacks_room || self.trigger.is_due(self.core.left()) {
-            self.begin_point()?;
+            self.begin_checkpoint()?;
             return Ok(true);
         }
         Ok(false)

@@ -17,12 +17,12 @@ use std::io::Read;
 use std::thread::yield_now;
 use workers::{Bench, DispatchSeat};
 
-/// How many messages may be collected before what ran is logged: the log writes as many records with one write of their bodies and
-/// one of their gates.
+/// How many messages may be collected before what ran is logged: the log writes as many records with one write of the records and one of
+/// their gates.
 const BATCH: usize = 64;
 
 /// How many polls of all places in succession may find nothing before the batch is logged as it is: about ten times a thread's wake-up.
-/// Each further message saves a log write, and no reply waits longer than this for a slow job.
+/// The count begins anew with each result, so a reply may wait for this many polls before each further result of its batch.
 const MAX_POLLS: usize = 16384;
 
 /// How many polls there are from one time that the thread yields the processor to the next.
@@ -243,7 +243,7 @@ impl<'c, R: Read, D: Disk, L: ReplySink<D>> Session<'c, R, D, L> {
         ensures logged { OnOk result (self.new.core.ran ≡ []) }
         ensures failed { OnErr result (self.new.core.failed ≡ true) }
     {
-        let count = self.core.slots();
+        let count = self.core.slots(); // no more messages can have run
         or_halt(self.core.log(count))
     }
 
@@ -254,7 +254,7 @@ impl<'c, R: Read, D: Disk, L: ReplySink<D>> Session<'c, R, D, L> {
     {
         self.log_what_ran()?;
         while self.answer_first(rt) {
-            self.advance_point()?;
+            self.advance_checkpoint()?;
         }
         self.retire_ready()?;
         if self.half_waits() {
@@ -270,8 +270,8 @@ impl<'c, R: Read, D: Disk, L: ReplySink<D>> Session<'c, R, D, L> {
         self.outstanding.saturating_sub(self.reorder_buffer.len()) >= slots - slots / 2
     }
 
-    /// Where no message is dispatched or collected: sends what waits. If a buffered line may then be read, this is all; else it waits for a
-    /// result where a job is in flight, or takes a step of a checkpoint.
+    /// Where nothing was read or collected, or the session has caught up: sends what waits. If a buffered line may then be read, this is
+    /// all; else it waits for a result where a job is in flight, or takes a step of a checkpoint.
     fn flush_or_wait<W: GatedRuntime>(
         &mut self,
         rt: &W,
@@ -287,7 +287,7 @@ impl<'c, R: Read, D: Disk, L: ReplySink<D>> Session<'c, R, D, L> {
             self.bench.wait(rt, &mut self.dispatch_seat);
             return Ok(Activity::Busy);
         }
-        let stepped = self.step_point(lacks_room)?;
+        let stepped = self.step_checkpoint(lacks_room)?;
         Ok(if stepped {
             Activity::Busy
         } else {
@@ -300,8 +300,8 @@ impl<'c, R: Read, D: Disk, L: ReplySink<D>> Session<'c, R, D, L> {
         self.stop.is_none() && self.reorder_buffer.len() == 0 && !self.line_reader.holds_line()
     }
 
-    /// One iteration. If lines were just read or results came, and some line is unanswered or buffered, or no more is read, it returns
-    /// without waiting; else it flushes, and may wait.
+    /// One iteration. If lines were just read or results came, it returns without waiting, unless the session has caught up
+    /// (`has_caught_up`). Else it flushes, and may wait.
     pub(crate) fn advance<W: GatedRuntime>(
         &mut self,
         rt: &W,

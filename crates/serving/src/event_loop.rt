@@ -103,9 +103,9 @@ impl<'c, R: Read, D: Disk, L: ReplySink<D>> DispatcherTask<Result<(), ServeFault
 
     ghost gives = { λ old new end. EndsBy new end × OnOk end (D.keeps → HasEmptyLog new.core) };
 
-    /// Serves line after line until the input ends, with a checkpoint where one is due, and one at the end. All that was answered is
-    /// written when it returns, unless the output failed. If several things fail in one call, an output failure is reported rather than a
-    /// device failure, and that rather than any other.
+    /// Serves line after line until the input ends, with a checkpoint where one is due, and one at the end of the input. All that was
+    /// answered is written when it returns, unless the output failed. If several things fail in one call, an output failure is reported
+    /// rather than a device failure, and that rather than any other.
     fn run_task<T: Wait, G: Gate>(&mut self, rt: &T, gate: &G) -> Result<(), ServeFault> {
         let rt = &(rt, gate);
         match self.serve_lines(rt) {

@@ -3,7 +3,7 @@
 ghost use Rattle.std.specs.Prelude.{◌≡◌, ◌≢◌, ◌≤◌, All, false, [], None, IfOk, Some, replicate, vec_len};
 ghost use Rattle.legal_runs.specs.Laws.{IsIdle};
 ghost use Rattle.scheduler.specs.CoreView.{RecoversNow, core_state_of};
-ghost use Rattle.serving.specs.Serve.{ServesSo, handed_back};
+ghost use Rattle.serving.specs.Serve.{ServePromise, handed_back};
 ghost use Rattle.serving.specs.Session.{CanBegin, reported};
 
 use crate::checkpoints::CheckpointTrigger;
@@ -20,8 +20,8 @@ use std::sync::Wait;
 use std::thread::Threads;
 use workers::{Bench, DispatchSeat, Gate, WorkSeat, know_returned};
 
-/// How many bytes are read at a time: some 240 lines with a full block. A line is taken in only where it is held already or nothing
-/// else can be done, so this bounds how many changes a write of the log finds.
+/// How many bytes are read at a time: some 240 lines with a full block. A line is read only if it is in this buffer already or nothing else
+/// can be done, so this bounds how many changes a write of the log takes.
 const READ_SIZE: usize = 262_144;
 
 /// Why a server ended before the end of its input.
@@ -33,7 +33,7 @@ pub enum ServeFault {
     Read,
     /// The output could not be written. What was written of it is unknown.
     Write,
-    /// The device failed. Whole lines were written, of messages that were logged before.
+    /// The device failed. Only whole lines were written, and each reply to a message with a ticket is of one that was logged before.
     Device,
     /// There was no memory, or a thread could not be started. Nothing was read or written.
     OutOfMemory,
@@ -52,7 +52,7 @@ pub struct ServeError<D: Disk> {
 
 // What a server has before it reads: room for what is read, for the lines that are not retired and for the answers that wait, and a
 // bench with its seats. Nothing lies there yet.
-struct Room {
+struct Preallocated {
     input: Vec<u8>,
     reorder_buffer: ReorderBuffer,
     reply_buffer: ReplyBuffer,
@@ -66,9 +66,9 @@ struct Room {
     ghost none_lent: { dispatch_seat.lent ≡ replicate bench.slots None },
 }
 
-// Takes the memory for lines of which at most `slots` are outstanding, and lays a bench with a place for each
+// Takes the memory for lines of which at most `slots` are outstanding, and opens a bench with a place for each
 // worker (contracts call the places `bench.slots`).
-fn take_room(alloc: Global, slots: usize, workers: usize) -> Result<Room, AllocError>
+fn take_memory(alloc: Global, slots: usize, workers: usize) -> Result<Preallocated, AllocError>
     requires { workers ≤ 64 }
     ensures slots { IfOk result (λ room. room.reorder_buffer.slots ≡ slots) }
     ensures places { IfOk result (λ room. room.bench.slots ≡ workers) }
@@ -77,7 +77,7 @@ fn take_room(alloc: Global, slots: usize, workers: usize) -> Result<Room, AllocE
     let reorder_buffer = ReorderBuffer::new(alloc, slots)?;
     let reply_buffer = ReplyBuffer::new(alloc)?;
     let (bench, dispatch_seat, seats) = Bench::open(alloc, workers, workers)?;
-    Ok(Room {
+    Ok(Preallocated {
         input,
         reorder_buffer,
         reply_buffer,
@@ -106,8 +106,8 @@ fn hand_back<D: Disk>(
     Err(ServeError { core, fault })
 }
 
-// Serves the lines of a reader that is lent. It hands back the reader and the sink, too.
-fn serve_lent<
+// Serves the lines of a reader that is borrowed. It hands back the reader and the sink, too.
+fn serve_borrowed<
     'a,
     'c,
     T: Threads + Wait + Sync,
@@ -121,7 +121,7 @@ fn serve_lent<
     core: Core<D>,
     reader: &'a mut R,
     sink: L,
-    room: Room,
+    room: Preallocated,
     trigger: CheckpointTrigger,
     of: PhantomData<N>,
 ) -> (Result<Core<D>, ServeError<D>>, &'a mut R, L)
@@ -129,10 +129,10 @@ fn serve_lent<
     requires can_begin { CanBegin L.start core room.bench.slots (R.remaining reader.now) (L.sent sink) room.reorder_buffer }
     requires workers { room.bench.slots ≢ 0 }
     ensures same { result.1.ghost_name ≡ reader.entry.ghost_name }
-    ensures serves { ServesSo D.keeps room.bench.slots core (handed_back result.0) (R.remaining reader.entry.now)
+    ensures serves { ServePromise D.keeps room.bench.slots core (handed_back result.0) (R.remaining reader.entry.now)
         (R.remaining result.1.now) (L.sent sink) (L.sent result.2) }
 {
-    let Room {
+    let Preallocated {
         input,
         reorder_buffer,
         reply_buffer,
@@ -171,16 +171,15 @@ fn serve_lent<
     (hand_back(core, ended), reader, sink)
 }
 
-/// Answers each line that a reader has left with one line, which it sends, while `workers` threads run the
-/// messages. The lines and the core are as the serial server would leave them, whatever the workers do when. A checkpoint is made after
-/// `every` records, if that isn't 0, where the log has no room, and at the end. All memory is taken before the first read, and the threads
-/// have ended when it returns. Lines are sent under the condition of `ReplySink::send` and in no other way.
+/// Answers each line that a reader has left with one line, which it sends, while `workers` threads run the messages. The lines and the core
+/// are as the serial server would leave them, whatever the workers do when. A checkpoint is made after `every` records, if that isn't 0,
+/// where the log has no room, and at the end of the input. All memory is taken before the first read, and the threads have ended when it
+/// returns. Lines are sent under the condition of `ReplySink::send` and in no other way.
 ///
 /// # Errors
 ///
 /// The core, as it is then, and a fault. `ServeFault::NoWorkers` where there are none, and `ServeFault::OutOfMemory` where there
-/// is no memory or a thread can't be started: nothing was read or sent. Then `ServeFault::Read`, `ServeFault::Exhausted`,
-/// `ServeFault::Device` and `ServeFault::Write`, as they say.
+/// is no memory or a thread can't be started: nothing was read or sent. `ServeFault` describes the others.
 pub fn serve_to<T: Threads + Wait + Sync, R: Read, L: ReplySink<D>, D: Disk + Drop, G: Gate + Sync>(
     rt: &T,
     alloc: Global,
@@ -195,7 +194,7 @@ pub fn serve_to<T: Threads + Wait + Sync, R: Read, L: ReplySink<D>, D: Disk + Dr
     requires idle { IsIdle (core_state_of core) }
     requires works { core.failed ≡ false }
     requires few { workers ≤ 64 }
-    ensures { ServesSo D.keeps workers core (handed_back result.0) (R.remaining r.old) (R.remaining r.new) (L.sent sink)
+    ensures { ServePromise D.keeps workers core (handed_back result.0) (R.remaining r.old) (R.remaining r.new) (L.sent sink)
         (L.sent result.1) }
 {
     core.know_recovery();
@@ -203,11 +202,11 @@ pub fn serve_to<T: Threads + Wait + Sync, R: Read, L: ReplySink<D>, D: Disk + Dr
         let fault = ServeFault::NoWorkers;
         return (Err(ServeError { core, fault }), sink);
     }
-    let Ok(room) = take_room(alloc, core.slots(), workers) else {
+    let Ok(room) = take_memory(alloc, core.slots(), workers) else {
         let fault = ServeFault::OutOfMemory;
         return (Err(ServeError { core, fault }), sink);
     };
-    let (ended, reader, sink) = serve_lent::<T, R, L, D, G, Brand>(
+    let (ended, reader, sink) = serve_borrowed::<T, R, L, D, G, Brand>(
         (rt, gate),
         core,
         r,
@@ -242,7 +241,7 @@ impl Beginning for Brand {
     ghost name = { 0 };
 }
 
-// A writer that is lent, to which lines are sent. Its type names the loan, so that no other writer can be put in its place.
+// A writer that is borrowed, to which lines are sent. Its type names the loan, so that no other writer can be put in its place.
 struct Output<'w, W, B: Beginning> {
     w: &'w mut W,
     of: PhantomData<B>,
@@ -271,7 +270,7 @@ struct Setting<'c, T, G> {
     gate: &'c G,
 }
 
-// Serves for a writer that is lent, and gives it back.
+// Serves for a writer that is borrowed, and gives it back.
 fn serve_writer<
     'c,
     'w,
@@ -299,7 +298,7 @@ fn serve_writer<
     requires works { core.failed ≡ false }
     requires few { setting.workers ≤ 64 }
     ensures same { result.1.ghost_name ≡ w.entry.ghost_name }
-    ensures serves { ServesSo D.keeps setting.entry.workers core (handed_back result.0) (R.remaining r.old) (R.remaining r.new)
+    ensures serves { ServePromise D.keeps setting.entry.workers core (handed_back result.0) (R.remaining r.old) (R.remaining r.new)
         (W.contents w.entry.now) (W.contents result.1.now) }
 {
     let Setting {
@@ -315,16 +314,15 @@ fn serve_writer<
     (ended, w)
 }
 
-/// Answers each line that a reader has left with one line of the output, while `workers` threads of their own run the messages.
-/// The lines and the core are as the serial server would leave them, whatever the workers do when. A checkpoint is made after `every`
-/// records, if that isn't 0, where the log has no room, and at the end. All memory is taken before the first read, and the threads have
+/// Answers each line that a reader has left with one line of the output, while `workers` threads of their own run the messages. The lines
+/// and the core are as the serial server would leave them, whatever the workers do when. A checkpoint is made after `every` records, if
+/// that isn't 0, where the log has no room, and at the end of the input. All memory is taken before the first read, and the threads have
 /// ended when it returns.
 ///
 /// # Errors
 ///
 /// The core, as it is then, and a fault. `ServeFault::NoWorkers` where there are none, and `ServeFault::OutOfMemory` where there
-/// is no memory or a thread can't be started: nothing was read or written. Then `ServeFault::Read`, `ServeFault::Exhausted`,
-/// `ServeFault::Device` and `ServeFault::Write`, as they say.
+/// is no memory or a thread can't be started: nothing was read or written. `ServeFault` describes the others.
 pub fn serve<T: Threads + Wait + Sync, R: Read, W: Write, D: Disk + Drop, G: Gate + Sync>(
     rt: &T,
     alloc: Global,
@@ -338,7 +336,7 @@ pub fn serve<T: Threads + Wait + Sync, R: Read, W: Write, D: Disk + Drop, G: Gat
     requires idle { IsIdle (core_state_of core) }
     requires works { core.failed ≡ false }
     requires few { workers ≤ 64 }
-    ensures { ServesSo D.keeps workers core (handed_back result) (R.remaining r.old) (R.remaining r.new) (W.contents w.old)
+    ensures { ServePromise D.keeps workers core (handed_back result) (R.remaining r.old) (R.remaining r.new) (W.contents w.old)
         (W.contents w.new) }
 {
     let setting = Setting {

@@ -9,7 +9,7 @@ ghost use Rattle.workers.specs.declared.seats.View.TheVariants.{Dispatcher};
 
 use crate::event_counts::wake_worker;
 use crate::job_cell::JobCell;
-use crate::seats::{DispatchSeat, Seat, View, WorkSeat, turn_to};
+use crate::seats::{DispatchSeat, Seat, View, WorkSeat, rotate_to};
 use crate::steps::{self, Handoff, Words};
 use crate::words::{DELIVERED, FIRST_PLACE, MOST_PLACES, OFFER_EVENT};
 use atomic_table::Table;
@@ -187,11 +187,11 @@ fn put_offer(words: &Words, seat: &mut Seat, lent: &mut [bool], k: usize, job: J
     ensures dispatch_seat { IsDispatchSeat words.now.table_id seat.new.me lent.new }
     ensures lent { lent_of seat.new.me.0 ≡ slice_set (lent_of seat.old.me.0) k (Some job) }
 {
-    turn_to(seat, lent, 0, k);
+    rotate_to(seat, lent, 0, k);
     steps::lay_job(words, seat, k, job);
     steps::offer(words, seat, k);
     lent[k] = true;
-    turn_to(seat, lent, k + 1, lent.len());
+    rotate_to(seat, lent, k + 1, lent.len());
 }
 
 // Takes the slot of a place that isn't free, if the result of its job was delivered. Else nothing changes.
@@ -202,11 +202,11 @@ fn try_collect(words: &Words, seat: &mut Seat, lent: &[bool], k: usize) -> bool
     ensures won { IsTrue result → HasCollected k (lent_of seat.old.me.0) seat.new.me }
     ensures lost { IsFalse result → seat.new.me ≡ seat.old.me }
 {
-    turn_to(seat, lent, 0, k);
+    rotate_to(seat, lent, 0, k);
     if steps::collect(words, seat, k) {
         return true;
     }
-    turn_to(seat, lent, k, lent.len());
+    rotate_to(seat, lent, k, lent.len());
     false
 }
 
@@ -222,6 +222,6 @@ fn take_delivered(words: &Words, seat: &mut Seat, lent: &mut [bool], k: usize) -
 {
     lent[k] = false;
     let done = steps::take_result(words, seat, k);
-    turn_to(seat, lent, k, lent.len());
+    rotate_to(seat, lent, k, lent.len());
     done
 }

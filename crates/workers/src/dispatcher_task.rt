@@ -47,7 +47,7 @@ fn run_borrowed_task<'s, 'm, T: Threads + Wait + Sync, G: Gate + Sync, E, S: Dis
     requires seats { All (λ w. w ≡ bench.now) seats.items }
     ensures same { result.1.ghost_name ≡ task.entry.ghost_name }
     ensures gives { IfOk result.0 (λ end. S.gives task.entry.now result.1.now end) }
-    ensures undone { OnErr result.0 (result.1.now ≡ task.entry.now) }
+    ensures not_begun { OnErr result.0 (result.1.now ≡ task.entry.now) }
 {
     let (rt, gate) = with;
     let ended = match bench.start_all(rt, scope, seats, gate) {
@@ -63,7 +63,7 @@ impl Bench {
     ///
     /// # Errors
     ///
-    /// `AllocError` where a thread can't be started. The task is left undone then.
+    /// `AllocError` where a thread can't be started. The task was not begun then.
     pub fn with_workers<'c, T: Threads + Wait + Sync, G: Gate + Sync, E, S: DispatcherTask<E>>(
         &'c self,
         rt: &'c T,
@@ -74,7 +74,7 @@ impl Bench {
         requires can_begin { S.can_begin task.old }
         requires seats { All (λ w. w ≡ self.now) seats.items }
         ensures gives { IfOk result (λ end. S.gives task.old task.new end) }
-        ensures undone { OnErr result (task.new ≡ task.old) }
+        ensures not_begun { OnErr result (task.new ≡ task.old) }
     {
         let (ended, task) = thread::scope(
             thread::scope_env(),
@@ -84,7 +84,7 @@ impl Bench {
                 requires seats { All (λ w. w ≡ self.now) seats.items }
                 ensures same { result.1.ghost_name ≡ task.entry.ghost_name }
                 ensures gives { IfOk result.0 (λ end. S.gives task.entry.now result.1.now end) }
-                ensures undone { OnErr result.0 (result.1.now ≡ task.entry.now) }
+                ensures not_begun { OnErr result.0 (result.1.now ≡ task.entry.now) }
             { run_borrowed_task(scope, self, (rt, gate), seats, task) },
         );
         know_returned(task);

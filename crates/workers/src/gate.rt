@@ -1,6 +1,6 @@
-//! Where a test may hold up the workers.
+//! Hooks in which a test may hold up the workers.
 
-/// What is called at two moments of a job's way. A server's gate lets all pass at once.
+/// Two hooks: one before a job runs, one after its message is answered. A server's own do nothing.
 pub trait Gate {
     /// A worker calls this just before it runs the job of this ticket.
     fn before(&self, ticket: u64);

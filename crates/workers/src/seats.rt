@@ -128,9 +128,9 @@ impl WorkSeat {
     }
 }
 
-// Rotates the slots of a dispatcher's seat: those of the places from `to` on come first, and no longer those from
-// `from` on. A seat reaches its first slot alone.
-pub fn turn_to(seat: &mut Seat, lent: &[bool], from: usize, to: usize)
+// Rotates the dispatcher's list of slots: it began with those of the places from `from` on, and then begins with
+// those from `to` on. A seat reaches its first slot alone.
+pub fn rotate_to(seat: &mut Seat, lent: &[bool], from: usize, to: usize)
     requires places { (from ≤ to) × (to ≤ length lent.now) }
     requires flags { lent.now ≡ map is_some (lent_of seat.old.me.0) }
     requires slots { seat.old.me.1 ≡ spare_from from (lent_of seat.old.me.0) }
@@ -138,12 +138,12 @@ pub fn turn_to(seat: &mut Seat, lent: &[bool], from: usize, to: usize)
     ensures slots { seat.new.me ≡ (seat.old.me.0, spare_from to (lent_of seat.old.me.0)) }
 {
     for k in from..to {
-        turn_past(seat, lent[k], k);
+        rotate_past(seat, lent[k], k);
     }
 }
 
 // Moves the slot of place k behind the others, if the seat has it.
-fn turn_past(seat: &mut Seat, is_lent: bool, k: usize)
+fn rotate_past(seat: &mut Seat, is_lent: bool, k: usize)
     requires place { k < length (lent_of seat.old.me.0) }
     requires flag { is_lent ≡ is_some (lent_at (lent_of seat.old.me.0) k) }
     requires slots { seat.old.me.1 ≡ spare_from k (lent_of seat.old.me.0) }

@@ -1,5 +1,5 @@
-//! The kinds of atomic step on the table, each one try: eight that hand jobs and results over, and three by which a thread records
-//! that it waits. Nothing else changes a word. A slot is filled between them.
+//! The kinds of atomic step on the table, each one try: six that move seats and slots (split, ready, offer, claim, deliver, collect), the
+//! signal, the stop, and three by which a thread records that it waits. Nothing else changes a word. A slot is filled between them.
 ghost use Rattle.std.specs.Prelude.{◌≡◌, ◌+◌, ◌<◌, [], ◌∷◌, replicate, slice_set, None, Some, IsTrue, IsFalse};
 ghost use Rattle.atomic_table.specs.Table.{rest};
 ghost use Rattle.parcel.specs.Run.{JobView, IsJobRun};
@@ -29,7 +29,7 @@ impl TableRule<JobCell, View, usize> for Handoff {
 }
 
 // What each kind of step makes of its seat's view, and the view of a worker's seat split off the dispatcher's.
-struct Joining;
+struct Splitting;
 
 struct Readying;
 
@@ -43,7 +43,7 @@ struct Collecting;
 
 struct Aside;
 
-impl Split<View> for Joining {
+impl Split<View> for Splitting {
     ghost left = { λ v. v };
 
     ghost right = { λ _. Idle };
@@ -79,7 +79,7 @@ pub fn split(words: &Words, seat: &mut Seat) -> Seat
     ensures dispatcher { (seat.new.table_id ≡ seat.old.table_id) × (seat.new.me ≡ seat.old.me) }
     ensures worker { (result.table_id ≡ seat.old.table_id) × (result.me ≡ idle) }
 {
-    words.split_seat::<Joining>(seat)
+    words.split_seat::<Splitting>(seat)
 }
 
 /// Takes the slot of place k, the last place whose slot was not taken yet.

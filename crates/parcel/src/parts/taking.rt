@@ -4,7 +4,7 @@ ghost use Rattle.std.specs.Prelude.{[], ◌∷◌, zero, suc, ℕ, IfNone, IfSom
 ghost use Rattle.affinity.specs.Interval.{IsPath};
 ghost use Rattle.affinity.specs.Place.{path};
 ghost use Rattle.parcel.specs.Fits.{Fits, FitsStripe, FitsLogical, FitsVolume, FitsAggregate, FitsRoot};
-ghost use Rattle.parcel.specs.Levels.{IsLeafPath, IsLogicalPath, IsVolumePath, IsAggregatePath, IsRootPath, Refuses, TakesParcels};
+ghost use Rattle.parcel.specs.Levels.{IsLeafPath, IsLogicalPath, IsVolumePath, IsAggregatePath, IsRootPath, TakesNothing, TakesParcels};
 ghost use Rattle.parcel.specs.Nodes.{in_child, in_stripe, in_label, in_logical, in_volume, in_aggregate, in_root};
 
 use super::paths::path_of;
@@ -14,7 +14,7 @@ use crate::StripeParcel;
 use affinity::{Geometry, Place};
 
 fn take_stripe(place: &mut Option<StripeParcel>) -> Option<Parcels>
-    ensures none { IfNone result (Refuses IsLeafPath [] (in_child in_stripe place.old) (in_child in_stripe place.new)) }
+    ensures none { IfNone result (TakesNothing IsLeafPath [] (in_child in_stripe place.old) (in_child in_stripe place.new)) }
     ensures some { IfSome result (λ r. TakesParcels IsLeafPath [] r (in_child in_stripe place.old) (in_child in_stripe place.new)) }
     ensures fits { (g : Geometry) (s : ℕ) → IfSome place.old (FitsStripe g s) → IfSome place.new (FitsStripe g s) }
     ensures lent { IfSome result (λ r. (g : Geometry) (a v s : ℕ) → IfSome place.old (FitsStripe g s) → Fits g (a ∷ v ∷ zero ∷ s ∷ []) r) }
@@ -26,7 +26,7 @@ fn take_stripe(place: &mut Option<StripeParcel>) -> Option<Parcels>
 }
 
 fn take_label(place: &mut Option<Label>) -> Option<Parcels>
-    ensures none { IfNone result (Refuses IsLeafPath [] (in_child in_label place.old) (in_child in_label place.new)) }
+    ensures none { IfNone result (TakesNothing IsLeafPath [] (in_child in_label place.old) (in_child in_label place.new)) }
     ensures some { IfSome result (λ r. TakesParcels IsLeafPath [] r (in_child in_label place.old) (in_child in_label place.new)) }
     ensures lent { IfSome result (λ r. (g : Geometry) (a v : ℕ) → Fits g (a ∷ v ∷ suc zero ∷ []) r) }
 {
@@ -39,7 +39,8 @@ fn take_label(place: &mut Option<Label>) -> Option<Parcels>
 fn take_logical(place: &mut Option<Logical>, g: &Geometry, path: &[usize]) -> Option<Parcels>
     requires path { IsLogicalPath g.now path.now }
     requires fits { IfSome place.old (FitsLogical g.now) }
-    ensures none { IfNone result (Refuses (IsLogicalPath g.now) path.now (in_child in_logical place.old) (in_child in_logical place.new)) }
+    ensures none { IfNone result
+        (TakesNothing (IsLogicalPath g.now) path.now (in_child in_logical place.old) (in_child in_logical place.new)) }
     ensures some { IfSome result (λ r. TakesParcels (IsLogicalPath g.now) path.now r (in_child in_logical place.old)
         (in_child in_logical place.new)) }
     ensures fits { IfSome place.new (FitsLogical g.now) }
@@ -59,7 +60,7 @@ fn take_logical(place: &mut Option<Logical>, g: &Geometry, path: &[usize]) -> Op
 
 fn take_logical_itself(place: &mut Option<Logical>, g: &Geometry) -> Option<Parcels>
     requires fits { IfSome place.old (FitsLogical g.now) }
-    ensures none { IfNone result (Refuses (IsLogicalPath g.now) [] (in_child in_logical place.old) (in_child in_logical place.new)) }
+    ensures none { IfNone result (TakesNothing (IsLogicalPath g.now) [] (in_child in_logical place.old) (in_child in_logical place.new)) }
     ensures some { IfSome result (λ r. TakesParcels (IsLogicalPath g.now) [] r (in_child in_logical place.old)
         (in_child in_logical place.new)) }
     ensures fits { IfSome place.new (FitsLogical g.now) }
@@ -77,7 +78,8 @@ fn take_logical_itself(place: &mut Option<Logical>, g: &Geometry) -> Option<Parc
 fn take_volume(place: &mut Option<Vol>, g: &Geometry, path: &[usize]) -> Option<Parcels>
     requires path { IsVolumePath g.now path.now }
     requires fits { IfSome place.old (FitsVolume g.now) }
-    ensures none { IfNone result (Refuses (IsVolumePath g.now) path.now (in_child in_volume place.old) (in_child in_volume place.new)) }
+    ensures none { IfNone result
+        (TakesNothing (IsVolumePath g.now) path.now (in_child in_volume place.old) (in_child in_volume place.new)) }
     ensures some { IfSome result (λ r. TakesParcels (IsVolumePath g.now) path.now r (in_child in_volume place.old)
         (in_child in_volume place.new)) }
     ensures fits { IfSome place.new (FitsVolume g.now) }
@@ -103,7 +105,7 @@ fn take_volume(place: &mut Option<Vol>, g: &Geometry, path: &[usize]) -> Option<
 
 fn take_volume_itself(place: &mut Option<Vol>, g: &Geometry) -> Option<Parcels>
     requires fits { IfSome place.old (FitsVolume g.now) }
-    ensures none { IfNone result (Refuses (IsVolumePath g.now) [] (in_child in_volume place.old) (in_child in_volume place.new)) }
+    ensures none { IfNone result (TakesNothing (IsVolumePath g.now) [] (in_child in_volume place.old) (in_child in_volume place.new)) }
     ensures some { IfSome result (λ r. TakesParcels (IsVolumePath g.now) [] r (in_child in_volume place.old)
         (in_child in_volume place.new)) }
     ensures fits { IfSome place.new (FitsVolume g.now) }
@@ -121,7 +123,7 @@ fn take_volume_itself(place: &mut Option<Vol>, g: &Geometry) -> Option<Parcels>
 fn take_aggregate(place: &mut Option<Aggr>, g: &Geometry, path: &[usize]) -> Option<Parcels>
     requires path { IsAggregatePath g.now path.now }
     requires fits { IfSome place.old (FitsAggregate g.now) }
-    ensures none { IfNone result (Refuses (IsAggregatePath g.now) path.now (in_child in_aggregate place.old)
+    ensures none { IfNone result (TakesNothing (IsAggregatePath g.now) path.now (in_child in_aggregate place.old)
         (in_child in_aggregate place.new)) }
     ensures some { IfSome result (λ r. TakesParcels (IsAggregatePath g.now) path.now r (in_child in_aggregate place.old)
         (in_child in_aggregate place.new)) }
@@ -142,7 +144,8 @@ fn take_aggregate(place: &mut Option<Aggr>, g: &Geometry, path: &[usize]) -> Opt
 
 fn take_aggregate_itself(place: &mut Option<Aggr>, g: &Geometry) -> Option<Parcels>
     requires fits { IfSome place.old (FitsAggregate g.now) }
-    ensures none { IfNone result (Refuses (IsAggregatePath g.now) [] (in_child in_aggregate place.old) (in_child in_aggregate place.new)) }
+    ensures none { IfNone result
+        (TakesNothing (IsAggregatePath g.now) [] (in_child in_aggregate place.old) (in_child in_aggregate place.new)) }
     ensures some { IfSome result (λ r. TakesParcels (IsAggregatePath g.now) [] r (in_child in_aggregate place.old)
         (in_child in_aggregate place.new)) }
     ensures fits { IfSome place.new (FitsAggregate g.now) }
@@ -160,7 +163,7 @@ fn take_aggregate_itself(place: &mut Option<Aggr>, g: &Geometry) -> Option<Parce
 fn take_root(place: &mut Option<Root>, g: &Geometry, path: &[usize]) -> Option<Parcels>
     requires path { IsRootPath g.now path.now }
     requires fits { IfSome place.old (FitsRoot g.now) }
-    ensures none { IfNone result (Refuses (IsRootPath g.now) path.now (in_child in_root place.old) (in_child in_root place.new)) }
+    ensures none { IfNone result (TakesNothing (IsRootPath g.now) path.now (in_child in_root place.old) (in_child in_root place.new)) }
     ensures some { IfSome result (λ r. TakesParcels (IsRootPath g.now) path.now r (in_child in_root place.old)
         (in_child in_root place.new)) }
     ensures fits { IfSome place.new (FitsRoot g.now) }
@@ -180,7 +183,7 @@ fn take_root(place: &mut Option<Root>, g: &Geometry, path: &[usize]) -> Option<P
 
 fn take_root_itself(place: &mut Option<Root>, g: &Geometry) -> Option<Parcels>
     requires fits { IfSome place.old (FitsRoot g.now) }
-    ensures none { IfNone result (Refuses (IsRootPath g.now) [] (in_child in_root place.old) (in_child in_root place.new)) }
+    ensures none { IfNone result (TakesNothing (IsRootPath g.now) [] (in_child in_root place.old) (in_child in_root place.new)) }
     ensures some { IfSome result (λ r. TakesParcels (IsRootPath g.now) [] r (in_child in_root place.old) (in_child in_root place.new)) }
     ensures fits { IfSome place.new (FitsRoot g.now) }
     ensures lent { IfSome result (λ r. Fits g.now [] r) }
@@ -198,7 +201,7 @@ fn take_root_itself(place: &mut Option<Root>, g: &Geometry) -> Option<Parcels>
 pub(crate) fn take_at(root: &mut Option<Root>, g: &Geometry, place: Place) -> Option<Parcels>
     requires path { IsPath g.now (path place) }
     requires fits { IfSome root.old (FitsRoot g.now) }
-    ensures none { IfNone result (Refuses (IsRootPath g.now) (path place) (in_child in_root root.old) (in_child in_root root.new)) }
+    ensures none { IfNone result (TakesNothing (IsRootPath g.now) (path place) (in_child in_root root.old) (in_child in_root root.new)) }
     ensures some { IfSome result (λ r. TakesParcels (IsRootPath g.now) (path place) r (in_child in_root root.old)
         (in_child in_root root.new)) }
     ensures fits { IfSome root.new (FitsRoot g.now) }

@@ -1,16 +1,16 @@
 -- What is promised is that of `serve`, with as many workers.
 use Rattle.std.proofs.Common.{ℕ, Ok, Err, subst}
-use Rattle.serving.specs.Serve.{ServesSo}
+use Rattle.serving.specs.Serve.{ServePromise}
 use Rattle.commands.proofs.serve.serve_core.Goals as goal
 
 pub returns-in-Ok : goal.returns-in-Ok
 returns-in-Ok g c =
-    subst (λ (workers : ℕ). ServesSo g.D.Disk.keeps workers c.args.core (c.in-Ok.core, Ok tt) (g.R.Read.remaining c.args.r.now)
+    subst (λ (workers : ℕ). ServePromise g.D.Disk.keeps workers c.args.core (c.in-Ok.core, Ok tt) (g.R.Read.remaining c.args.r.now)
     (g.R.Read.remaining c.serve.new.r) (g.W.Write.contents c.args.w.now) (g.W.Write.contents c.serve.new.w)) c.from-workers.ensures
     c.in-Ok.ensures
 
 pub returns-in-Err : goal.returns-in-Err
 returns-in-Err g c =
-    subst (λ (workers : ℕ). ServesSo g.D.Disk.keeps workers c.args.core (c.in-Err.field-0.core, Err c.in-Err.field-0.fault)
+    subst (λ (workers : ℕ). ServePromise g.D.Disk.keeps workers c.args.core (c.in-Err.field-0.core, Err c.in-Err.field-0.fault)
     (g.R.Read.remaining c.args.r.now) (g.R.Read.remaining c.serve.new.r) (g.W.Write.contents c.args.w.now)
     (g.W.Write.contents c.serve.new.w)) c.from-workers.ensures c.in-Err.ensures

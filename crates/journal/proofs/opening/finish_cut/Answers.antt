@@ -47,5 +47,5 @@ returns-clause-room g c =
       snapshot = ap length snapshot ∙ c.update_snapshot.ensures.size ∙ ap length c.deref_mut.ensures.value;
       named_dirty = refl;
       other_dirty = refl;
-      due = refl;
+      pending = refl;
     }

@@ -127,7 +127,7 @@ pub replay_behind-requires-clause-loaded : goal.replay_behind-requires-clause-lo
 replay_behind-requires-clause-loaded g c =
     let taken = c.requires.taken in
     are_loaded {p = c.args.parts.now} c.in_ok-named.ensures.log refl refl c.in_ok-named.ensures.whole c.in_ok-named.ensures.geometry
-    (record { snapshot = refl; named_dirty = refl; other_dirty = refl; due = refl })
+    (record { snapshot = refl; named_dirty = refl; other_dirty = refl; pending = refl })
     (record { snapshot = taken.snapshot; named_dirty = taken.named_dirty; other_dirty = taken.other_dirty; all = taken.all })
     (omega (arith, c.requires.long_enough, c.load_named.ensures.call.1))
 
@@ -135,17 +135,17 @@ pub returns-then-not-named-clause-loaded : goal.returns-then-not-named-clause-lo
 returns-then-not-named-clause-loaded g c =
     let taken = c.requires.taken in
     are_loaded {p = c.args.parts.now} c.in_ok-named.ensures.log refl refl c.in_ok-named.ensures.whole c.in_ok-named.ensures.geometry
-    (record { snapshot = refl; named_dirty = refl; other_dirty = refl; due = refl })
+    (record { snapshot = refl; named_dirty = refl; other_dirty = refl; pending = refl })
     (record { snapshot = taken.snapshot; named_dirty = taken.named_dirty; other_dirty = taken.other_dirty; all = taken.all })
     (omega (arith, c.requires.long_enough, c.load_named.ensures.call.1))
 
 pub returns-then-not-named-clause-room : goal.returns-then-not-named-clause-room
-returns-then-not-named-clause-room g c = record { snapshot = refl; named_dirty = refl; other_dirty = refl; due = refl }
+returns-then-not-named-clause-room g c = record { snapshot = refl; named_dirty = refl; other_dirty = refl; pending = refl }
 
 pub returns-clause-room : goal.returns-clause-room
 returns-clause-room g c =
     let room = c.in_ok-replay_behind.ensures.room in
-    record { snapshot = room.snapshot; named_dirty = room.named_dirty; other_dirty = room.other_dirty; due = room.due }
+    record { snapshot = room.snapshot; named_dirty = room.named_dirty; other_dirty = room.other_dirty; pending = room.pending }
 
 pub returns-in_err-named-clause-synced : goal.returns-in_err-named-clause-synced
 returns-in_err-named-clause-synced g c =

@@ -130,14 +130,14 @@ returns-clause-loaded g c =
     let geometry = c.in_ok-replay.ensures.geometry ∙ (λ i. (c.finish_cut.ensures.tree i).geometry) ∙ before.geometry in
     let room = c.finish_cut.ensures.room in
     are_loaded {p = c.args.parts.now} log before.not_failed refl c.in_ok-replay.ensures.whole geometry
-    (record { snapshot = room.snapshot; named_dirty = room.named_dirty; other_dirty = room.other_dirty; due = room.due })
+    (record { snapshot = room.snapshot; named_dirty = room.named_dirty; other_dirty = room.other_dirty; pending = room.pending })
     (record { snapshot = before.snapshot; named_dirty = before.named_dirty; other_dirty = before.other_dirty; all = before.all })
     (omega (arith, before.long_enough, c.finish_cut.ensures.call.1, c.replay.ensures.call.1))
 
 pub returns-clause-room : goal.returns-clause-room
 returns-clause-room g c =
     let room = c.finish_cut.ensures.room in
-    record { snapshot = room.snapshot; named_dirty = room.named_dirty; other_dirty = room.other_dirty; due = room.due }
+    record { snapshot = room.snapshot; named_dirty = room.named_dirty; other_dirty = room.other_dirty; pending = room.pending }
 
 pub returns-clause-geometry : goal.returns-clause-geometry
 returns-clause-geometry g c = ap (λ (l : Log). l.geometry) (c.in_ok-replay.ensures.log ∙ c.in_ok-finish_cut.ensures.log)

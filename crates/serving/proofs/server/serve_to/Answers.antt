@@ -23,4 +23,4 @@ returns-in_default g c = record {
 }
 
 pub returns : goal.returns
-returns g c = serves_as c.in-Ok.ensures.places (search rules) c.serve_lent-ended.ensures.serves
+returns g c = serves_as c.in-Ok.ensures.places (search rules) c.serve_borrowed-ended.ensures.serves

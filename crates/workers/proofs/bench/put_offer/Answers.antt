@@ -9,28 +9,28 @@ use Rattle.workers.proofs.bench.put_offer.Goals as goal
 pub offer-requires-clause-job : goal.offer-requires-clause-job
 offer-requires-clause-job c = let m = c.args.seat.now.me in let k = c.args.k in let ls = lent_of m.0 in let d = c.requires.dispatch_seat in
     let near = within k d c.requires.bench.1 in
-    let full = filled (turned_to d.seat c.turn_to.ensures.slots) c.lay_job.ensures.slot near c.requires.empty in
+    let full = filled (turned_to d.seat c.rotate_to.ensures.slots) c.lay_job.ensures.slot near c.requires.empty in
     (ls, c.args.job, others k ls, full, c.requires.empty)
 
-pub turn_to-requires-2-clause-flags : goal.turn_to-requires-2-clause-flags
-turn_to-requires-2-clause-flags c = let m = c.args.seat.now.me in let k = c.args.k in let ls = lent_of m.0 in let d = c.requires.dispatch_seat in
+pub rotate_to-requires-2-clause-flags : goal.rotate_to-requires-2-clause-flags
+rotate_to-requires-2-clause-flags c = let m = c.args.seat.now.me in let k = c.args.k in let ls = lent_of m.0 in let d = c.requires.dispatch_seat in
     let near = within k d c.requires.bench.1 in
-    let full = filled (turned_to d.seat c.turn_to.ensures.slots) c.lay_job.ensures.slot near c.requires.empty in
+    let full = filled (turned_to d.seat c.rotate_to.ensures.slots) c.lay_job.ensures.slot near c.requires.empty in
     let lent = lends full c.offer.ensures.lent near in
     flags_of (flag_set c.args.lent.now k ls (Some c.args.job) d.flagged) lent
 
-pub turn_to-requires-2-clause-slots : goal.turn_to-requires-2-clause-slots
-turn_to-requires-2-clause-slots c = let m = c.args.seat.now.me in let k = c.args.k in let ls = lent_of m.0 in let d = c.requires.dispatch_seat in
+pub rotate_to-requires-2-clause-slots : goal.rotate_to-requires-2-clause-slots
+rotate_to-requires-2-clause-slots c = let m = c.args.seat.now.me in let k = c.args.k in let ls = lent_of m.0 in let d = c.requires.dispatch_seat in
     let near = within k d c.requires.bench.1 in
-    let full = filled (turned_to d.seat c.turn_to.ensures.slots) c.lay_job.ensures.slot near c.requires.empty in
+    let full = filled (turned_to d.seat c.rotate_to.ensures.slots) c.lay_job.ensures.slot near c.requires.empty in
     let lent = lends full c.offer.ensures.lent near in
     held_at (k + 1) lent
 
 pub returns-clause-dispatch_seat : goal.returns-clause-dispatch_seat
 returns-clause-dispatch_seat c = let m = c.args.seat.now.me in let k = c.args.k in let ls = lent_of m.0 in let d = c.requires.dispatch_seat in
     let near = within k d c.requires.bench.1 in
-    let full = filled (turned_to d.seat c.turn_to.ensures.slots) c.lay_job.ensures.slot near c.requires.empty in
+    let full = filled (turned_to d.seat c.rotate_to.ensures.slots) c.lay_job.ensures.slot near c.requires.empty in
     let lent = lends full c.offer.ensures.lent near in
     let flags = flag_set c.args.lent.now k ls (Some c.args.job) d.flagged in
     let long = counted c.args.lent.now ls d.flagged in let wide = length-set ls k (Some c.args.job) in let flags_long = length-set c.args.lent.now k true in
-    dispatch_seat_of d.bench (settles (k + 1) lent c.turn_to-2.ensures.slots (omega arith)) flags (flags_long ∙ d.places)
+    dispatch_seat_of d.bench (settles (k + 1) lent c.rotate_to-2.ensures.slots (omega arith)) flags (flags_long ∙ d.places)

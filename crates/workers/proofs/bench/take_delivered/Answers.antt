@@ -10,14 +10,14 @@ pub take_result-done-requires : goal.take_result-done-requires
 take_result-done-requires c = let won = c.requires.won.1 in
     (c.requires.bench.0, (won.done, headed (ap (λ (m : Sat). m.1) won.seat)))
 
-pub turn_to-requires-clause-flags : goal.turn_to-requires-clause-flags
-turn_to-requires-clause-flags c = let row = c.requires.won.0 in let won = c.requires.won.1 in let k = c.args.k in
+pub rotate_to-requires-clause-flags : goal.rotate_to-requires-clause-flags
+rotate_to-requires-clause-flags c = let row = c.requires.won.0 in let won = c.requires.won.1 in let k = c.args.k in
     let long = c.requires.won.3 in let wide = counted _ row c.requires.won.2 in let inside = c.requires.bench.1 in
     let back = comes_back row won.seat c.take_result-done.ensures.slot (omega arith) won.asked in
     flags_of (flag_set c.args.lent.now k row None c.requires.won.2) back
 
-pub turn_to-requires-clause-slots : goal.turn_to-requires-clause-slots
-turn_to-requires-clause-slots c = let row = c.requires.won.0 in let won = c.requires.won.1 in let k = c.args.k in
+pub rotate_to-requires-clause-slots : goal.rotate_to-requires-clause-slots
+rotate_to-requires-clause-slots c = let row = c.requires.won.0 in let won = c.requires.won.1 in let k = c.args.k in
     let long = c.requires.won.3 in let wide = counted _ row c.requires.won.2 in let inside = c.requires.bench.1 in
     let back = comes_back row won.seat c.take_result-done.ensures.slot (omega arith) won.asked in
     held_at k back
@@ -27,7 +27,7 @@ returns-clause-dispatch_seat c = let row = c.requires.won.0 in let won = c.requi
     let long = c.requires.won.3 in let wide = counted _ row c.requires.won.2 in let inside = c.requires.bench.1 in
     let back = comes_back row won.seat c.take_result-done.ensures.slot (omega arith) won.asked in
     let set_wide = length-set row k None in let flags_long = length-set c.args.lent.now k false in
-    let rests = settles k back c.turn_to.ensures.slots (omega arith) in
+    let rests = settles k back c.rotate_to.ensures.slots (omega arith) in
     dispatch_seat_of c.requires.bench.2 rests (flag_set c.args.lent.now k row None c.requires.won.2) (flags_long ∙ long)
 
 pub returns-clause-lent : goal.returns-clause-lent
@@ -35,5 +35,5 @@ returns-clause-lent c = let row = c.requires.won.0 in let won = c.requires.won.1
     let long = c.requires.won.3 in let wide = counted _ row c.requires.won.2 in let inside = c.requires.bench.1 in
     let back = comes_back row won.seat c.take_result-done.ensures.slot (omega arith) won.asked in
     let set_wide = length-set row k None in let flags_long = length-set c.args.lent.now k false in
-    let rests = settles k back c.turn_to.ensures.slots (omega arith) in
+    let rests = settles k back c.rotate_to.ensures.slots (omega arith) in
     ap (λ (n : Sat). lent_of n.0) rests ∙ sym (ap (λ (n : Sat). lent_of n.0) won.seat)

@@ -10,7 +10,7 @@ use Rattle.workers.proofs.bench.try_collect.Goals as goal
 
 pub returns-then-collect-clause-won : goal.returns-then-collect-clause-won
 returns-then-collect-clause-won c = λ _. let m = c.args.seat.now.me in let k = c.args.k in let ls = lent_of m.0 in let d = c.requires.dispatch_seat in
-    let at = turned_to d.seat c.turn_to.ensures.slots in
+    let at = turned_to d.seat c.rotate_to.ensures.slots in
     let won = c.collect.ensures.won c.if-collect.true in
     record {
       job = won.0;
@@ -22,6 +22,6 @@ returns-then-collect-clause-won c = λ _. let m = c.args.seat.now.me in let k = 
 
 pub returns-clause-lost : goal.returns-clause-lost
 returns-clause-lost c = λ _. let m = c.args.seat.now.me in let k = c.args.k in let ls = lent_of m.0 in let d = c.requires.dispatch_seat in
-    let at = turned_to d.seat c.turn_to.ensures.slots in
+    let at = turned_to d.seat c.rotate_to.ensures.slots in
     let still = c.collect.ensures.lost c.if-collect.false ∙ at in
-    settles k still c.turn_to-2.ensures.slots (counted _ ls d.flagged) ∙ sym d.seat
+    settles k still c.rotate_to-2.ensures.slots (counted _ ls d.flagged) ∙ sym d.seat

@@ -120,7 +120,7 @@ invariant_of-self-2 g c =
           ∙ ap (λ v. length v.items) c.swap.ensures.y_after ∙ c.self.invariant.5 ∙ sym (ap piece_count same),
       ap (λ v. length v.items) c.swap.ensures.x_after ∙ c.self.invariant.4 ∙ sym (ap piece_count same),
       (λ fine.
-          let placed = subst (λ (o : Option ℕ). IsCutState c.self.inside.halves c.self.inside.due.items o) no_cut (c.self.invariant.6 fine).1 in (
+          let placed = subst (λ (o : Option ℕ). IsCutState c.self.inside.halves c.self.inside.pending.items o) no_cut (c.self.invariant.6 fine).1 in (
             ap (λ (l : Log). l.failed) log ∙ (c.self.invariant.6 fine).0,
             (ap (λ (l : Log). l.current) log ∙ sym (ap (λ (l : Log). other l.named) log), sym (c.count_dirty.ensures ∙ ap count_dirty c.deref-2.ensures.value)),
           )),

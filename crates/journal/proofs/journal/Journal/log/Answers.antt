@@ -4,7 +4,7 @@ use Rattle.affinity.specs.declared.geometry.Geometry.{Geometry}
 use Rattle.checkpoint.specs.Recovery.{recovered_state}
 use Rattle.disk.specs.Moments.{CrashImagesAre}
 use Rattle.image.specs.Pieces.{piece_count}
-use Rattle.journal.specs.Journal.{AreCarriedOut, JournalView, HoldsSome, records, records_in, committed}
+use Rattle.journal.specs.Journal.{AreCarriedOut, JournalView, RecoversWithPrefix, records, records_in, committed}
 use Rattle.journal.specs.Keeping.{IsCutState, journal_view_of}
 use Rattle.journal.specs.DirtyPieces.{AreBothTouched}
 use Rattle.journal.proofs.Logging.{log_kept, log_moments, log_records, log_told, placed_used, recoverable_of, sound_along, touched_along}
@@ -22,7 +22,7 @@ pub returns-in-Err-clause-any_moment : goal.returns-in-Err-clause-any_moment
 returns-in-Err-clause-any_moment g c = λ k x is.
     let fine : c.self.inside.failed ≡ false = ap (λ (h : JournalView). h.failed) c.self.view_is ∙ c.requires.not_failed in
     let out = subst (λ (h : JournalView). AreCarriedOut h.geometry x c.args.messages.now) (sym c.self.view_is) (c.requires.carried_out k x is) in
-    subst (λ (h : JournalView). CrashImagesAre h.medium (g.D.Disk.medium c.append.new.disk) (HoldsSome h.geometry x c.args.messages.now)) c.self.view_is
+    subst (λ (h : JournalView). CrashImagesAre h.medium (g.D.Disk.medium c.append.new.disk) (RecoversWithPrefix h.geometry x c.args.messages.now)) c.self.view_is
     (log_moments c.args.messages.now (g.D.Disk.medium c.append.new.disk) (g.met.D.Disk.bytes c.self.inside.disk) (c.self.invariant.7 fine k)
     (c.append.ensures.any_moment k) x (ap committed c.self.view_is ∙ is) out)
 
@@ -30,7 +30,7 @@ pub returns-clause-any_moment : goal.returns-clause-any_moment
 returns-clause-any_moment g c = λ k x is.
     let fine : c.self.inside.failed ≡ false = ap (λ (h : JournalView). h.failed) c.self.view_is ∙ c.requires.not_failed in
     let out = subst (λ (h : JournalView). AreCarriedOut h.geometry x c.args.messages.now) (sym c.self.view_is) (c.requires.carried_out k x is) in
-    subst (λ (h : JournalView). CrashImagesAre h.medium (g.D.Disk.medium c.append.new.disk) (HoldsSome h.geometry x c.args.messages.now)) c.self.view_is
+    subst (λ (h : JournalView). CrashImagesAre h.medium (g.D.Disk.medium c.append.new.disk) (RecoversWithPrefix h.geometry x c.args.messages.now)) c.self.view_is
     (log_moments c.args.messages.now (g.D.Disk.medium c.append.new.disk) (g.met.D.Disk.bytes c.self.inside.disk) (c.self.invariant.7 fine k)
     (c.append.ensures.any_moment k) x (ap committed c.self.view_is ∙ is) out)
 
@@ -118,8 +118,8 @@ invariant_of-self-2 g c =
       c.self.invariant.5 ∙ sym (ap piece_count geometry),
       (λ fine. (
         ap (λ (l : Log). l.failed) log ∙ (c.self.invariant.6 fine).0,
-        subst (λ (l : Log). IsCutState l c.self.inside.due.items c.self.inside.left) (sym log)
-            (placed_used c.self.inside.halves (c.self.inside.halves.used + length c.args.messages.now) c.self.inside.due.items c.self.inside.left
+        subst (λ (l : Log). IsCutState l c.self.inside.pending.items c.self.inside.left) (sym log)
+            (placed_used c.self.inside.halves (c.self.inside.halves.used + length c.args.messages.now) c.self.inside.pending.items c.self.inside.left
             (c.self.invariant.6 fine).1),
       )),
       (λ fine k.

@@ -47,13 +47,13 @@ pub returns-then-is_err-clause-none : goal.returns-then-is_err-clause-none
 returns-then-is_err-clause-none g c = λ none.
     let fine : c.self.inside.failed ≡ false = ap (λ (h : JournalView). h.failed) c.self.view_is ∙ c.requires.not_failed in
     let dirty_at = subst (λ (l : List Bool). get_or l c.in-Some.n false ≡ true) c.deref.ensures.value c.in-Some.ensures.dirty_at in
-    absurd (piece_some c.self.inside.halves c.self.inside.due.items c.self.inside.left c.in-Some.n (c.self.invariant.6 fine).1 dirty_at (ap (λ (h : JournalView). h.left) c.self.view_is ∙ none))
+    absurd (piece_some c.self.inside.halves c.self.inside.pending.items c.self.inside.left c.in-Some.n (c.self.invariant.6 fine).1 dirty_at (ap (λ (h : JournalView). h.left) c.self.view_is ∙ none))
 
 pub returns-clause-none : goal.returns-clause-none
 returns-clause-none g c = λ none.
     let fine : c.self.inside.failed ≡ false = ap (λ (h : JournalView). h.failed) c.self.view_is ∙ c.requires.not_failed in
     let dirty_at = subst (λ (l : List Bool). get_or l c.in-Some.n false ≡ true) c.deref.ensures.value c.in-Some.ensures.dirty_at in
-    absurd (piece_some c.self.inside.halves c.self.inside.due.items c.self.inside.left c.in-Some.n (c.self.invariant.6 fine).1 dirty_at (ap (λ (h : JournalView). h.left) c.self.view_is ∙ none))
+    absurd (piece_some c.self.inside.halves c.self.inside.pending.items c.self.inside.left c.in-Some.n (c.self.invariant.6 fine).1 dirty_at (ap (λ (h : JournalView). h.left) c.self.view_is ∙ none))
 
 pub returns-clause-any_moment : goal.returns-clause-any_moment
 returns-clause-any_moment g c = λ k.
@@ -93,8 +93,8 @@ returns-clause-left g c =
     let dirty_at = subst (λ (l : List Bool). get_or l c.in-Some.n false ≡ true) c.deref.ensures.value c.in-Some.ensures.dirty_at in
     let running = ap (λ (h : JournalView). is_some h.left) c.self.view_is ∙ c.requires.running in
     sym (ap (λ (h : JournalView). option_map (λ (l : ℕ). l - 1) h.left) c.self.view_is)
-    ∙ piece_left c.self.inside.halves c.self.inside.due.items c.self.inside.left c.in-Some.n running (c.self.invariant.6 fine).1 dirty_at
-    (piece_counted c.self.inside.halves c.self.inside.due.items c.self.inside.left c.in-Some.n running (c.self.invariant.6 fine).1 dirty_at
+    ∙ piece_left c.self.inside.halves c.self.inside.pending.items c.self.inside.left c.in-Some.n running (c.self.invariant.6 fine).1 dirty_at
+    (piece_counted c.self.inside.halves c.self.inside.pending.items c.self.inside.left c.in-Some.n running (c.self.invariant.6 fine).1 dirty_at
     (c.saturating_sub-left.ensures ∙ ap (λ (n : ℕ). n - 1) c.unwrap_or.ensures))
 
 pub returns-clause-after : goal.returns-clause-after
@@ -102,8 +102,8 @@ returns-clause-after g c =
     let fine : c.self.inside.failed ≡ false = ap (λ (h : JournalView). h.failed) c.self.view_is ∙ c.requires.not_failed in
     let dirty_at = subst (λ (l : List Bool). get_or l c.in-Some.n false ≡ true) c.deref.ensures.value c.in-Some.ensures.dirty_at in
     let running = ap (λ (h : JournalView). is_some h.left) c.self.view_is ∙ c.requires.running in
-    let left = piece_left c.self.inside.halves c.self.inside.due.items c.self.inside.left c.in-Some.n running (c.self.invariant.6 fine).1 dirty_at
-    (piece_counted c.self.inside.halves c.self.inside.due.items c.self.inside.left c.in-Some.n running (c.self.invariant.6 fine).1 dirty_at
+    let left = piece_left c.self.inside.halves c.self.inside.pending.items c.self.inside.left c.in-Some.n running (c.self.invariant.6 fine).1 dirty_at
+    (piece_counted c.self.inside.halves c.self.inside.pending.items c.self.inside.left c.in-Some.n running (c.self.invariant.6 fine).1 dirty_at
     (c.saturating_sub-left.ensures ∙ ap (λ (n : ℕ). n - 1) c.unwrap_or.ensures)) in
     ap (λ (h : JournalView). record h { left = Some c.saturating_sub-left.result; medium = g.D.Disk.medium c.write_extent.new.disk }) c.self.view_is
     ∙ ap (λ (l : Option ℕ). record c.args.self.now { left = l; medium = g.D.Disk.medium c.write_extent.new.disk })
@@ -121,16 +121,16 @@ returns-clause-records g c = λ k.
 pub returns-in_default-clause-one : goal.returns-in_default-clause-one
 returns-in_default-clause-one g c = λ some.
     let fine : c.self.inside.failed ≡ false = ap (λ (h : JournalView). h.failed) c.self.view_is ∙ c.requires.not_failed in
-    let none : count_dirty c.self.inside.due.items ≡ 0 = sym (ap count_dirty c.deref.ensures.value) ∙ c.in_default.ensures.none refl in
+    let none : count_dirty c.self.inside.pending.items ≡ 0 = sym (ap count_dirty c.deref.ensures.value) ∙ c.in_default.ensures.none refl in
     absurd (some (sym (ap (λ (h : JournalView). h.left) c.self.view_is)
-    ∙ none_due c.self.inside.halves c.self.inside.due.items c.self.inside.left (ap (λ (h : JournalView). is_some h.left) c.self.view_is ∙ c.requires.running) (c.self.invariant.6 fine).1 none))
+    ∙ none_due c.self.inside.halves c.self.inside.pending.items c.self.inside.left (ap (λ (h : JournalView). is_some h.left) c.self.view_is ∙ c.requires.running) (c.self.invariant.6 fine).1 none))
 
 pub returns-in_default-clause-costs : goal.returns-in_default-clause-costs
 returns-in_default-clause-costs g c = λ some.
     let fine : c.self.inside.failed ≡ false = ap (λ (h : JournalView). h.failed) c.self.view_is ∙ c.requires.not_failed in
-    let none : count_dirty c.self.inside.due.items ≡ 0 = sym (ap count_dirty c.deref.ensures.value) ∙ c.in_default.ensures.none refl in
+    let none : count_dirty c.self.inside.pending.items ≡ 0 = sym (ap count_dirty c.deref.ensures.value) ∙ c.in_default.ensures.none refl in
     absurd (some (sym (ap (λ (h : JournalView). h.left) c.self.view_is)
-    ∙ none_due c.self.inside.halves c.self.inside.due.items c.self.inside.left (ap (λ (h : JournalView). is_some h.left) c.self.view_is ∙ c.requires.running) (c.self.invariant.6 fine).1 none))
+    ∙ none_due c.self.inside.halves c.self.inside.pending.items c.self.inside.left (ap (λ (h : JournalView). is_some h.left) c.self.view_is ∙ c.requires.running) (c.self.invariant.6 fine).1 none))
 
 pub returns-clause-one : goal.returns-clause-one
 returns-clause-one g c = λ some k.
@@ -153,14 +153,14 @@ invariant_of-self-2 g c =
       c.self.invariant.2,
       c.self.invariant.3,
       c.self.invariant.4,
-      length-set c.self.inside.due.items c.in-Some.n false ∙ c.self.invariant.5,
+      length-set c.self.inside.pending.items c.in-Some.n false ∙ c.self.invariant.5,
       (λ fine.
           let left = some_left c.self.inside.left (ap (λ (h : JournalView). is_some h.left) c.self.view_is ∙ c.requires.running) in
-          let placed = subst (λ (l : Option ℕ). IsCutState c.self.inside.halves c.self.inside.due.items l) left.1 (c.self.invariant.6 fine).1 in (
+          let placed = subst (λ (l : Option ℕ). IsCutState c.self.inside.halves c.self.inside.pending.items l) left.1 (c.self.invariant.6 fine).1 in (
             (c.self.invariant.6 fine).0,
             (
               placed.0,
-              sym (piece_counted c.self.inside.halves c.self.inside.due.items c.self.inside.left c.in-Some.n (ap (λ (h : JournalView). is_some h.left) c.self.view_is ∙ c.requires.running)
+              sym (piece_counted c.self.inside.halves c.self.inside.pending.items c.self.inside.left c.in-Some.n (ap (λ (h : JournalView). is_some h.left) c.self.view_is ∙ c.requires.running)
                   (c.self.invariant.6 fine).1 dirty_at (c.saturating_sub-left.ensures ∙ ap (λ (n : ℕ). n - 1) c.unwrap_or.ensures)),
             ),
           )),
@@ -172,8 +172,8 @@ invariant_of-self-2 g c =
           (record { moments = c.write_extent.ensures.any_moment k; same = c.write_extent.ensures.same k; is = written; ready = c.write_extent.ensures.ready k }) in
           piece_sound w1 (g.met.D.Disk.bytes c.self.inside.disk) (c.self.invariant.7 fine k) (g.met.D.Disk.bytes c.write_extent.new.disk)
           c.in-Some.n left.0 c.saturating_sub-left.result left.1 few pieced),
-      let long = length-set c.self.inside.due.items c.in-Some.n false in omega (arith, few, long),
-      clear_set c.in-Some.n c.self.inside.due.items few (subst (λ (l : List Bool). AreCleanBefore c.in-Some.n l) c.deref.ensures.value c.in-Some.ensures.clear),
+      let long = length-set c.self.inside.pending.items c.in-Some.n false in omega (arith, few, long),
+      clear_set c.in-Some.n c.self.inside.pending.items few (subst (λ (l : List Bool). AreCleanBefore c.in-Some.n l) c.deref.ensures.value c.in-Some.ensures.clear),
     )
 
 pub returns-in_default-clause-beyond : goal.returns-in_default-clause-beyond

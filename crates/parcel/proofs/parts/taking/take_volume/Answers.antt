@@ -2,7 +2,7 @@
 use Rattle.std.proofs.Common.{◌≡◌, ℕ, ◌∷◌, sym, subst}
 use Rattle.std.specs.Prelude.{Some, IfSome}
 use Rattle.parcel.specs.Fits.{Fits}
-use Rattle.parcel.specs.Levels.{IsVolumePath, Refuses}
+use Rattle.parcel.specs.Levels.{IsVolumePath, TakesNothing}
 use Rattle.parcel.specs.Nodes.{in_child, in_volume}
 use Rattle.parcel.specs.declared.parts.Vol.{Vol}
 use Rattle.parcel.proofs.ChildRows.{rest_of}
@@ -21,8 +21,8 @@ returns-then-child-eq0-clause-none c =
     let at : p ≡ 0 ∷ rest_of p = path_from p 0 c.in-len1-up.len_at_least c.if-child-eq0.true in
     let after : Vol = record { made = c.in-Some.volume.made; sealed = c.in-Some.volume.sealed; logical = c.take_logical.new.place; label = c.in-Some.volume.label } in
     map_none c.take_logical.result
-    (λ h. subst (λ q. Refuses (IsVolumePath g) q (in_child in_volume c.args.place.now) (in_volume after)) (sym at)
-    (subst (λ x. Refuses (IsVolumePath g) (0 ∷ rest_of p) (in_child in_volume x) (in_volume after)) (sym was) (logical_refused g c.in-Some.volume c.take_logical.new.place (rest_of p) h)))
+    (λ h. subst (λ q. TakesNothing (IsVolumePath g) q (in_child in_volume c.args.place.now) (in_volume after)) (sym at)
+    (subst (λ x. TakesNothing (IsVolumePath g) (0 ∷ rest_of p) (in_child in_volume x) (in_volume after)) (sym was) (logical_refused g c.in-Some.volume c.take_logical.new.place (rest_of p) h)))
     c.take_logical.ensures.none
 
 pub returns-then-child-eq0-clause-lent : goal.returns-then-child-eq0-clause-lent

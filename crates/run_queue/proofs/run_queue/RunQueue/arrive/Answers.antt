@@ -8,7 +8,7 @@ use Rattle.run_queue.specs.Queues.{Waiting}
 use Rattle.run_queue.specs.ReadyTable.{IsFlagRight}
 use Rattle.run_queue.specs.Invariant.{AreQueued}
 use Rattle.run_queue.proofs.Nearby.{number-below}
-use Rattle.run_queue.proofs.Turning.{messages-arrived, seat-arrived, kept-arrived}
+use Rattle.run_queue.proofs.Turning.{messages-arrived, room-for-arrived, kept-arrived}
 use Rattle.run_queue.proofs.run_queue.RunQueue.arrive.Goals as goal
 
 pub push-requires-clause-number : goal.push-requires-clause-number
@@ -18,12 +18,12 @@ push-requires-clause-number c =
     let all = c.self.invariant.rows.queues c.self.inside.geometry in
     omega (arith, below, all)
 
-pub push-requires-clause-seat : goal.push-requires-clause-seat
-push-requires-clause-seat c =
+pub push-requires-clause-not_full : goal.push-requires-clause-not_full
+push-requires-clause-not_full c =
     let t = c.args.queued in
     let there = subst (λ (q : RunQueueView). t.slot < q.slots) (sym c.self.view_is) c.requires.slot in
     let new = subst (λ (q : RunQueueView). list_any (has_slot t.slot) (q.waiting ++ q.held) ≡ false) (sym c.self.view_is) c.requires.new_slot in
-    seat-arrived t c.self.invariant.rows there new
+    room-for-arrived t c.self.invariant.rows there new
 
 pub update_ready-requires-clause-ascends : goal.update_ready-requires-clause-ascends
 update_ready-requires-clause-ascends c =

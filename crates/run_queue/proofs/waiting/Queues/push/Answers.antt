@@ -4,7 +4,7 @@ use Rattle.arena.specs.ArenaView.{ArenaView, IsParted, slot_from, after_move}
 use Rattle.run_queue.specs.RunQueue.{CameBefore}
 use Rattle.run_queue.specs.Queues.{Waiting, IsQueued}
 use Rattle.run_queue.specs.declared.queued_message.QueuedMessage.{QueuedMessage}
-use Rattle.run_queue.proofs.Chains.{push-row, push-view, push-queued, push-seat, free-from_put}
+use Rattle.run_queue.proofs.Chains.{push-row, push-view, push-queued, push-room, free-from_put}
 use Rattle.run_queue.proofs.waiting.Queues.push.Goals as goal
 
 pub invariant_of-self : goal.invariant_of-self
@@ -41,7 +41,7 @@ returns-in-Ok c =
 pub returns-in_default : goal.returns-in_default
 returns-in_default c =
     let row = c.self.inside.messages in
-    let seat = push-seat row c.args.queued c.self.invariant
-    (subst (λ (q : Waiting). length q.messages < q.seats) (sym c.self.view_is) c.requires.seat) in
+    let seat = push-room row c.args.queued c.self.invariant
+    (subst (λ (q : Waiting). length q.messages < q.capacity) (sym c.self.view_is) c.requires.not_full) in
     let taken = ap (λ (free : List ℕ). slot_from free c.args.queued) seat.2 in
     absurd (let answer = sym c.in_default.is ∙ c.put.ensures.answer ∙ taken in cc)

@@ -3,7 +3,7 @@ use Rattle.std.proofs.Common.{◌≡◌, ℕ, ◌+◌, ◌*◌, ◌-◌, ◌≤�
 use Rattle.std.specs.Prelude.{if◌then◌else◌, vec_capacity}
 use Rattle.arena.specs.ArenaView.{capacity_of, chain_at}
 use Rattle.disk.specs.Moments.{CrashImagesAre, moment}
-use Rattle.journal.specs.Journal.{HoldsSome}
+use Rattle.journal.specs.Journal.{RecoversWithPrefix}
 use Rattle.legal_runs.specs.Events.{batch, log, touches_device}
 use Rattle.legal_runs.specs.declared.outcomes.Step.TheVariants as steps
 use Rattle.messages.specs.declared.Reply.{Reply}
@@ -96,7 +96,7 @@ returns-then-is_err-clause-state_after g c =
 pub returns-then-is_err-clause-any_moment : goal.returns-then-is_err-clause-any_moment
 returns-then-is_err-clause-any_moment g c = λ keep.
     subst (λ (o : CoreView). CrashImagesAre o.medium c.log.new.self.medium
-    (HoldsSome o.geometry (core_state_of o).committed (if o.failed then o.doubt else batch (core_state_of o) c.args.n))) c.self.view_is
+    (RecoversWithPrefix o.geometry (core_state_of o).committed (if o.failed then o.doubt else batch (core_state_of o) c.args.n))) c.self.view_is
     (log_call_throughout g.D.Disk.keeps c.self.inside.slots c.self.inside.replies.items c.self.inside.tree c.self.inside.journal c.self.inside.queue
     c.self.inside.batch.items c.self.inside.next c.self.inside.unlogged c.self.inside.history.opened c.self.inside.history.since
     c.self.invariant.0 c.self.invariant.1 (sym c.failed.ensures ∙ c.if-failed.false) c.args.n c.min-count.result c.self.inside.ran
@@ -210,7 +210,7 @@ returns-clause-state_after g c =
 pub returns-clause-any_moment : goal.returns-clause-any_moment
 returns-clause-any_moment g c = λ keep.
     subst (λ (o : CoreView). CrashImagesAre o.medium c.log.new.self.medium
-    (HoldsSome o.geometry (core_state_of o).committed (if o.failed then o.doubt else batch (core_state_of o) c.args.n))) c.self.view_is
+    (RecoversWithPrefix o.geometry (core_state_of o).committed (if o.failed then o.doubt else batch (core_state_of o) c.args.n))) c.self.view_is
     (log_call_throughout g.D.Disk.keeps c.self.inside.slots c.self.inside.replies.items c.self.inside.tree c.self.inside.journal c.self.inside.queue
     c.self.inside.batch.items c.self.inside.next c.self.inside.unlogged c.self.inside.history.opened c.self.inside.history.since
     c.self.invariant.0 c.self.invariant.1 (sym c.failed.ensures ∙ c.if-failed.false) c.args.n c.min-count.result c.self.inside.ran

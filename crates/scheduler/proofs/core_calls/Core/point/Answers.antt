@@ -3,7 +3,7 @@ use Rattle.std.proofs.Common.{◌≤◌, ◌+◌, [], arith, refl, sym, ap, subs
 use Rattle.std.specs.Prelude.{if◌then◌else◌}
 use Rattle.disk.specs.Moments.{CrashImagesAre, moment}
 use Rattle.journal.specs.Costs.{longest_point}
-use Rattle.journal.specs.Journal.{HoldsSome}
+use Rattle.journal.specs.Journal.{RecoversWithPrefix}
 use Rattle.legal_runs.specs.Events.{point_refusal}
 use Rattle.oplog.proofs.Beyond.{beyond_none}
 use Rattle.oplog.specs.Beyond.{KeepsBeyond}
@@ -50,7 +50,7 @@ invariant_of-self g c = (
 
 pub returns-then-is_err-clause-any_moment : goal.returns-then-is_err-clause-any_moment
 returns-then-is_err-clause-any_moment g c = λ keep.
-    subst (λ (o : CoreView). CrashImagesAre o.medium c.point.new.self.medium (HoldsSome o.geometry (core_state_of o).committed (if o.failed then o.doubt else []))) c.self.view_is
+    subst (λ (o : CoreView). CrashImagesAre o.medium c.point.new.self.medium (RecoversWithPrefix o.geometry (core_state_of o).committed (if o.failed then o.doubt else []))) c.self.view_is
     (step_moment g.D.Disk.keeps (parts c.self.inside.slots c.self.inside.replies.items c.self.inside.tree c.self.inside.journal c.self.inside.queue
     c.self.inside.batch.items c.self.inside.next c.self.inside.unlogged c.self.inside.history.opened c.self.inside.history.since)
     c.self.invariant.1 (point_works g.D.Disk.keeps (parts c.self.inside.slots c.self.inside.replies.items c.self.inside.tree
@@ -72,7 +72,7 @@ invariant_of-self-2 g c = (
 
 pub returns-clause-any_moment : goal.returns-clause-any_moment
 returns-clause-any_moment g c = λ keep.
-    subst (λ (o : CoreView). CrashImagesAre o.medium c.point.new.self.medium (HoldsSome o.geometry (core_state_of o).committed (if o.failed then o.doubt else []))) c.self.view_is
+    subst (λ (o : CoreView). CrashImagesAre o.medium c.point.new.self.medium (RecoversWithPrefix o.geometry (core_state_of o).committed (if o.failed then o.doubt else []))) c.self.view_is
     (step_moment g.D.Disk.keeps (parts c.self.inside.slots c.self.inside.replies.items c.self.inside.tree c.self.inside.journal c.self.inside.queue
     c.self.inside.batch.items c.self.inside.next c.self.inside.unlogged c.self.inside.history.opened c.self.inside.history.since)
     c.self.invariant.1 (point_works g.D.Disk.keeps (parts c.self.inside.slots c.self.inside.replies.items c.self.inside.tree

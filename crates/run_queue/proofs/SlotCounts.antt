@@ -6,39 +6,39 @@ use Rattle.std.proofs.lemmas.Bool.{eq-eqb, ne_eqb, lt-ltb, cases_eq, cases_Bool,
 use Rattle.std.proofs.lemmas.Bool.Decides.{eqb_tells, leb_tells}
 use Rattle.std.proofs.lemmas.List.{length-append}
 use Rattle.run_queue.specs.RunQueue.{has_slot, without_slot}
-use Rattle.run_queue.specs.Slots.{times_seated, AreSeated}
+use Rattle.run_queue.specs.Slots.{times_in_slot, AreInSlots}
 use Rattle.run_queue.specs.declared.queued_message.QueuedMessage.{QueuedMessage}
 
 -- ---- how often a slot occurs in a list
 
-pub times-cons_is : (s : ℕ) (t : QueuedMessage) (ts : List QueuedMessage) → t.slot ≡ s → times_seated s (t ∷ ts) ≡ suc (times_seated s ts)
+pub times-cons_is : (s : ℕ) (t : QueuedMessage) (ts : List QueuedMessage) → t.slot ≡ s → times_in_slot s (t ∷ ts) ≡ suc (times_in_slot s ts)
 times-cons_is s t ts same = rw (eq-eqb t.slot s same) refl
 
-pub times-cons_other : (s : ℕ) (t : QueuedMessage) (ts : List QueuedMessage) → t.slot ≢ s → times_seated s (t ∷ ts) ≡ times_seated s ts
+pub times-cons_other : (s : ℕ) (t : QueuedMessage) (ts : List QueuedMessage) → t.slot ≢ s → times_in_slot s (t ∷ ts) ≡ times_in_slot s ts
 times-cons_other s t ts other = rw (ne_eqb t.slot s other) refl
 
-pub times-append : (s : ℕ) (ts us : List QueuedMessage) → times_seated s (ts ++ us) ≡ times_seated s ts + times_seated s us
+pub times-append : (s : ℕ) (ts us : List QueuedMessage) → times_in_slot s (ts ++ us) ≡ times_in_slot s ts + times_in_slot s us
 times-append s [] us = omega arith
 times-append s (t ∷ ts) us = elim (eqb_tells t.slot s) [
   | inl e ↦ rw e.0 (omega (arith, times-append s ts us))
   | inr n ↦ rw n.0 (omega (arith, times-append s ts us))
 ]
 
-pub times-without_same : (s : ℕ) (ts : List QueuedMessage) → times_seated s (without_slot s ts) ≡ 0
+pub times-without_same : (s : ℕ) (ts : List QueuedMessage) → times_in_slot s (without_slot s ts) ≡ 0
 times-without_same s [] = refl
 times-without_same s (t ∷ ts) = elim (eqb_tells t.slot s) [
   | inl e ↦ rw e.0 (times-without_same s ts)
   | inr n ↦ rw n.0 (times-cons_other s t (without_slot s ts) n.1 ∙ times-without_same s ts)
 ]
 
-pub times-without_other : (s r : ℕ) (ts : List QueuedMessage) → s ≢ r → times_seated s (without_slot r ts) ≡ times_seated s ts
+pub times-without_other : (s r : ℕ) (ts : List QueuedMessage) → s ≢ r → times_in_slot s (without_slot r ts) ≡ times_in_slot s ts
 times-without_other s r [] other = refl
 times-without_other s r (t ∷ ts) other = elim (eqb_tells t.slot r) [
   | inl e ↦ rw e.0 (times-without_other s r ts other ∙ sym (times-cons_other s t ts (λ same. other (sym same ∙ e.1))))
   | inr n ↦ rw (n.0, times-without_other s r ts other) refl
 ]
 
-pub times-filter : (p : QueuedMessage → Bool) (s : ℕ) (ts : List QueuedMessage) → times_seated s (filter p ts) ≤ times_seated s ts
+pub times-filter : (p : QueuedMessage → Bool) (s : ℕ) (ts : List QueuedMessage) → times_in_slot s (filter p ts) ≤ times_in_slot s ts
 times-filter p s [] = omega arith
 times-filter p s (t ∷ ts) = elim (cases_eq t.slot s) [
   | inl e ↦ elim (cases_Bool (p t)) [
@@ -51,11 +51,11 @@ times-filter p s (t ∷ ts) = elim (cases_eq t.slot s) [
   ]
 ]
 
-pub times-absent : (s : ℕ) (ts : List QueuedMessage) → list_any (has_slot s) ts ≡ false → times_seated s ts ≡ 0
+pub times-absent : (s : ℕ) (ts : List QueuedMessage) → list_any (has_slot s) ts ≡ false → times_in_slot s ts ≡ 0
 times-absent s [] none = refl
 times-absent s (t ∷ ts) none = let k = or_parts (has_slot s t) (list_any (has_slot s) ts) none in rw k.0 (times-absent s ts k.1)
 
-pub times-there : (s : ℕ) (ts : List QueuedMessage) → list_any (has_slot s) ts ≡ true → 1 ≤ times_seated s ts
+pub times-there : (s : ℕ) (ts : List QueuedMessage) → list_any (has_slot s) ts ≡ true → 1 ≤ times_in_slot s ts
 times-there s [] some = absurd (true≢false (sym some))
 times-there s (t ∷ ts) some = elim (eqb_tells t.slot s) [
   | inl e ↦ rw e.0 (omega arith)
@@ -64,7 +64,7 @@ times-there s (t ∷ ts) some = elim (eqb_tells t.slot s) [
 
 -- ---- how long lists are
 
-length-without : (s : ℕ) (ts : List QueuedMessage) → length ts ≡ length (without_slot s ts) + times_seated s ts
+length-without : (s : ℕ) (ts : List QueuedMessage) → length ts ≡ length (without_slot s ts) + times_in_slot s ts
 length-without s [] = refl
 length-without s (t ∷ ts) = elim (eqb_tells t.slot s) [
   | inl e ↦ rw e.0 (omega (arith, length-without s ts))
@@ -88,7 +88,7 @@ limit-most s n = elim (leb_tells (suc s) n) [
 ]
 
 -- slots below n that occur once at most are at most n
-few : (n : ℕ) (ts : List QueuedMessage) → ((s : ℕ) → times_seated s ts ≤ (if nat_lt s n then 1 else 0)) → length ts ≤ n
+few : (n : ℕ) (ts : List QueuedMessage) → ((s : ℕ) → times_in_slot s ts ≤ (if nat_lt s n then 1 else 0)) → length ts ≤ n
 few zero [] once = omega arith
 few zero (t ∷ ts) once =
     absurd (omega (arith, limit-out t.slot 0 (omega arith), once t.slot, times-cons_is t.slot t ts refl))
@@ -100,54 +100,54 @@ few (suc n) ts once =
     ]) in
     omega (arith, rest, length-without n ts, once n, limit-most n (suc n))
   where
-    gone : (s : ℕ) → n ≤ s → times_seated s (without_slot n ts) ≤ (if nat_lt s n then 1 else 0)
+    gone : (s : ℕ) → n ≤ s → times_in_slot s (without_slot n ts) ≤ (if nat_lt s n then 1 else 0)
     gone s above = elim (cases_eq s n) [
-      | inl e ↦ subst (λ k. times_seated k (without_slot n ts) ≤ (if nat_lt k n then 1 else 0)) (sym e)
+      | inl e ↦ subst (λ k. times_in_slot k (without_slot n ts) ≤ (if nat_lt k n then 1 else 0)) (sym e)
           (rw (times-without_same n ts) (omega arith))
       | inr other ↦ (let behind : suc n ≤ s = omega (arith, above, other) in
           omega (arith, times-without_other s n ts other, once s, limit-out s (suc n) behind))
     ]
 
 -- those that wait and those that are held are no more than there are slots
-pub fits : (n : ℕ) (ws hs : List QueuedMessage) → AreSeated n ws hs → length ws + length hs ≤ n
-fits n ws hs seated =
-    let k = few n (ws ++ hs) (λ s. rw (times-append s ws hs) (seated s)) in
+pub fits : (n : ℕ) (ws hs : List QueuedMessage) → AreInSlots n ws hs → length ws + length hs ≤ n
+fits n ws hs in_slots =
+    let k = few n (ws ++ hs) (λ s. rw (times-append s ws hs) (in_slots s)) in
     omega (arith, k, length-append ws hs)
 
 -- ---- what each call does to them
 
-pub seated-arrived : (n : ℕ) (ws hs : List QueuedMessage) (t : QueuedMessage) → AreSeated n ws hs → t.slot < n
-    → list_any (has_slot t.slot) (ws ++ hs) ≡ false → AreSeated n (ws ++ t ∷ []) hs
-seated-arrived n ws hs t seated there new s = elim (cases_eq t.slot s) [
-  | inl e ↦ subst (λ k. times_seated k (ws ++ t ∷ []) + times_seated k hs ≤ (if nat_lt k n then 1 else 0)) e here
-  | inr k ↦ omega (arith, seated s, times-append s ws (t ∷ []), times-cons_other s t [] k)
+pub in_slots-arrived : (n : ℕ) (ws hs : List QueuedMessage) (t : QueuedMessage) → AreInSlots n ws hs → t.slot < n
+    → list_any (has_slot t.slot) (ws ++ hs) ≡ false → AreInSlots n (ws ++ t ∷ []) hs
+in_slots-arrived n ws hs t in_slots there new s = elim (cases_eq t.slot s) [
+  | inl e ↦ subst (λ k. times_in_slot k (ws ++ t ∷ []) + times_in_slot k hs ≤ (if nat_lt k n then 1 else 0)) e here
+  | inr k ↦ omega (arith, in_slots s, times-append s ws (t ∷ []), times-cons_other s t [] k)
 ]
   where
-    none : times_seated t.slot ws + times_seated t.slot hs ≡ 0
+    none : times_in_slot t.slot ws + times_in_slot t.slot hs ≡ 0
     none = sym (times-append t.slot ws hs) ∙ times-absent t.slot (ws ++ hs) new
 
-    here : times_seated t.slot (ws ++ t ∷ []) + times_seated t.slot hs ≤ (if nat_lt t.slot n then 1 else 0)
+    here : times_in_slot t.slot (ws ++ t ∷ []) + times_in_slot t.slot hs ≤ (if nat_lt t.slot n then 1 else 0)
     here = omega (arith, none, times-append t.slot ws (t ∷ []), times-cons_is t.slot t [] refl, limit-in t.slot n there)
 
 -- so there is a seat for it
-pub room-arrived : (n : ℕ) (ws hs : List QueuedMessage) (t : QueuedMessage) → AreSeated n ws hs → t.slot < n
+pub room-arrived : (n : ℕ) (ws hs : List QueuedMessage) (t : QueuedMessage) → AreInSlots n ws hs → t.slot < n
     → list_any (has_slot t.slot) (ws ++ hs) ≡ false → length ws < n
-room-arrived n ws hs t seated there new =
-    omega (arith, fits n (ws ++ t ∷ []) hs (seated-arrived n ws hs t seated there new), length-append ws (t ∷ []))
+room-arrived n ws hs t in_slots there new =
+    omega (arith, fits n (ws ++ t ∷ []) hs (in_slots-arrived n ws hs t in_slots there new), length-append ws (t ∷ []))
 
-pub seated-gone : (n : ℕ) (ws hs : List QueuedMessage) (t : QueuedMessage) → AreSeated n ws hs → list_any (has_slot t.slot) ws ≡ true
-    → AreSeated n (without_slot t.slot ws) (hs ++ t ∷ [])
-seated-gone n ws hs t seated waits s = elim (cases_eq t.slot s) [
-  | inl e ↦ subst (λ k. times_seated k (without_slot t.slot ws) + times_seated k (hs ++ t ∷ []) ≤ (if nat_lt k n then 1 else 0)) e here
+pub in_slots-gone : (n : ℕ) (ws hs : List QueuedMessage) (t : QueuedMessage) → AreInSlots n ws hs → list_any (has_slot t.slot) ws ≡ true
+    → AreInSlots n (without_slot t.slot ws) (hs ++ t ∷ [])
+in_slots-gone n ws hs t in_slots waits s = elim (cases_eq t.slot s) [
+  | inl e ↦ subst (λ k. times_in_slot k (without_slot t.slot ws) + times_in_slot k (hs ++ t ∷ []) ≤ (if nat_lt k n then 1 else 0)) e here
   | inr k ↦ (let other = times-without_other s t.slot ws (λ same. k (sym same)) in
-      omega (arith, seated s, other, times-append s hs (t ∷ []), times-cons_other s t [] k))
+      omega (arith, in_slots s, other, times-append s hs (t ∷ []), times-cons_other s t [] k))
 ]
   where
-    here : times_seated t.slot (without_slot t.slot ws) + times_seated t.slot (hs ++ t ∷ []) ≤ (if nat_lt t.slot n then 1 else 0)
+    here : times_in_slot t.slot (without_slot t.slot ws) + times_in_slot t.slot (hs ++ t ∷ []) ≤ (if nat_lt t.slot n then 1 else 0)
     here =
         let one = times-append t.slot hs (t ∷ []) in
         let last = times-cons_is t.slot t [] refl in
-        omega (arith, seated t.slot, times-there t.slot ws waits, times-without_same t.slot ws, one, last)
+        omega (arith, in_slots t.slot, times-there t.slot ws waits, times-without_same t.slot ws, one, last)
 
-pub seated-freed : (n : ℕ) (ws hs : List QueuedMessage) (p : QueuedMessage → Bool) → AreSeated n ws hs → AreSeated n ws (filter p hs)
-seated-freed n ws hs p seated s = omega (arith, seated s, times-filter p s hs)
+pub in_slots-freed : (n : ℕ) (ws hs : List QueuedMessage) (p : QueuedMessage → Bool) → AreInSlots n ws hs → AreInSlots n ws (filter p hs)
+in_slots-freed n ws hs p in_slots s = omega (arith, in_slots s, times-filter p s hs)

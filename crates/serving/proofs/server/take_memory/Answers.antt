@@ -1,5 +1,5 @@
 -- As many places as were asked for.
-use Rattle.serving.proofs.server.take_room.Goals as goal
+use Rattle.serving.proofs.server.take_memory.Goals as goal
 
 pub returns-clause-slots : goal.returns-clause-slots
 returns-clause-slots c = c.in_ok-reorder_buffer.ensures.slots

@@ -2,13 +2,13 @@
 use Rattle.std.proofs.Common.{List, Option, ap, refl, sym, subst, ℕ, ◌∙◌}
 use Rattle.std.specs.Prelude.{OnOk, Result}
 use Rattle.scheduler.specs.CoreView.{CoreView}
-use Rattle.serving.specs.Serve.{HasEmptyLog, ServesSo}
+use Rattle.serving.specs.Serve.{HasEmptyLog, ServePromise}
 use Rattle.serving.specs.Session.{SessionView, reported}
 use Rattle.serving.specs.Output.{Start, start_machine}
 use Rattle.serving.specs.declared.server.ServeFault.{ServeFault}
 use Rattle.serving.proofs.Closing.{PromisesAll, emptied_at_end, ends_or_declines, first_at, has_workers, not_drained, promises_from, refuses_none}
 use Rattle.serving.proofs.Invariant.{begun}
-use Rattle.serving.proofs.server.serve_lent.Goals as goal
+use Rattle.serving.proofs.server.serve_borrowed.Goals as goal
 
 pub invariant_of-session : goal.invariant_of-session
 invariant_of-session g c =
@@ -37,14 +37,14 @@ returns g c =
     let last = c.session.inside in
     let gives = c.with_workers-ended.ensures in
     let end = reported c.with_workers-ended.result in
-    let ends = ends_or_declines now (g.D.Disk.keeps → HasEmptyLog now.core) _ c.with_workers-ended.result gives.gives _ gives.undone end refl in
+    let ends = ends_or_declines now (g.D.Disk.keeps → HasEmptyLog now.core) _ c.with_workers-ended.result gives.gives _ gives.not_begun end refl in
     let all = subst (λ (b : Option (List ℕ)). PromisesAll g.D.Disk.keeps (start_machine s) last.core s.input b s.before (g.L.ReplySink.sent last.sink) end)
     (sym (ap (λ (l : _). g.R.Read.remaining l.reader.now) c.into_inner-reader.ensures))
     (promises_from (begun c.requires.can_begin.is c.session.invariant.0) c.session.view_is
     (record { core = refl; input = ap (λ (l : _). g.R.Read.remaining l.reader.now) c.new.ensures.source; before = refl }) end ends) in
     record {
       same = c.into_inner-reader.result.same ∙ sym c.requires.reader;
-      serves = subst (λ (back : CoreView × Result (Unit {0}) ServeFault). ServesSo g.D.Disk.keeps c.args.room.bench.slots c.args.core back
+      serves = subst (λ (back : CoreView × Result (Unit {0}) ServeFault). ServePromise g.D.Disk.keeps c.args.room.bench.slots c.args.core back
           (g.R.Read.remaining c.args.reader.now) (g.R.Read.remaining c.into_inner-reader.result.reader.now) (g.L.ReplySink.sent c.args.sink)
           (g.L.ReplySink.sent last.sink)) (sym c.hand_back.ensures.ended) (record {
             run = all.run c.hand_back.ensures.no_doubt c.hand_back.ensures.recovers;

@@ -1,7 +1,7 @@
 -- The slots of the places so far were moved behind the others, and the seat is else as it was.
 use Rattle.std.proofs.Common.{◌≡◌}
 use Rattle.workers.specs.Seats.{lent_of, spare_from}
-use Rattle.workers.proofs.seats.turn_to.Given as goal
+use Rattle.workers.proofs.seats.rotate_to.Given as goal
 
 abbrev pub invariant-loop-k : goal.invariant-loop-k
 invariant-loop-k l =

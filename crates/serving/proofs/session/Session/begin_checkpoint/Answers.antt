@@ -7,7 +7,7 @@ use Rattle.serving.specs.Session.{SessionView}
 use Rattle.serving.proofs.Pointing.{begins, halts}
 use Rattle.serving.proofs.Segments.{cut_is_quiet}
 use Rattle.serving.proofs.Invariant.{holds_of, on_machine}
-use Rattle.serving.proofs.session.Session.begin_point.Goals as goal
+use Rattle.serving.proofs.session.Session.begin_checkpoint.Goals as goal
 
 pub invariant_of-self : goal.invariant_of-self
 invariant_of-self g c =

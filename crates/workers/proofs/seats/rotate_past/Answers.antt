@@ -3,7 +3,7 @@ use Rattle.std.proofs.Common.{ap, ◌∙◌}
 use Rattle.atomic_table.specs.Table.{turned}
 use Rattle.workers.specs.Seats.{lent_of}
 use Rattle.workers.proofs.Turning.{passes, turns_empty}
-use Rattle.workers.proofs.seats.turn_past.Goals as goal
+use Rattle.workers.proofs.seats.rotate_past.Goals as goal
 
 pub returns-then-is_lent-clause-slots : goal.returns-then-is_lent-clause-slots
 returns-then-is_lent-clause-slots c = let seat = c.args.seat.now in

@@ -4,7 +4,7 @@ use Rattle.affinity.specs.declared.geometry.Geometry.{Geometry}
 use Rattle.parcel.specs.Tree.{IsIn, in_tree}
 use Rattle.meaning.specs.State.{IsState, State}
 use Rattle.meaning.proofs.Kept.{empty_is_state}
-use Rattle.checkpoint.proofs.loading.take_room.Goals as goal
+use Rattle.checkpoint.proofs.loading.take_loading_memory.Goals as goal
 
 pub returns-clause-whole : goal.returns-clause-whole
 returns-clause-whole c = record {

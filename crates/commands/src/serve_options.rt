@@ -1,0 +1,36 @@
+//! The options of a server on a device.
+ghost use Rattle.std.specs.Prelude.{◌≤◌};
+
+/// How many workers a server has at most.
+const MOST_WORKERS: u16 = 64;
+
+/// The options of a server on a device.
+#[derive(Clone, Copy, Debug)]
+pub struct ServeOptions {
+    /// Threads that run messages, 0 to 64. With none of them nothing is served.
+    pub workers: u16,
+
+    /// How many lines may be outstanding: read, and not yet answered in the output. With 0 no line is read.
+    pub slots: u16,
+
+    /// How many records are logged before a checkpoint is made. With 0 a checkpoint is made only where the log has no room, and at the end
+    /// of the input.
+    pub every: u16,
+    pub ghost few: { workers ≤ 64 },
+}
+
+impl ServeOptions {
+    ghost use Rattle.std.specs.Prelude.{◌≡◌, ◌∷◌, [], min};
+    ghost use Rattle.commands.specs.Serving.{options_in_order};
+
+    /// These options, with at most 64 workers.
+    pub fn new(workers: u16, slots: u16, every: u16) -> ServeOptions
+        ensures { options_in_order result ≡ min workers 64 ∷ slots ∷ every ∷ [] }
+    {
+        ServeOptions {
+            workers: workers.min(MOST_WORKERS),
+            slots,
+            every,
+        }
+    }
+}
