@@ -67,6 +67,13 @@ module _ (old new : StripeKey → Option ℕ) (a v s count : ℕ) (updates : (k 
       split true = refl
       split false = refl
 
+  -- the number that was noted at the key is noted there
+  pub noted_again : count ≡ unwrap_or (old (a, v, s)) 0 → (k : StripeKey) → unwrap_or (new k) 0 ≡ unwrap_or (old k) 0
+  noted_again same k = at_key k ∙ elim (is_stripe a v s k) as (λ t. is_stripe a v s k ≡ t → cond t count (unwrap_or (old k) 0) ≡ unwrap_or (old k) 0) [
+    | false ↦ λ e. refl
+    | true ↦ λ e. same ∙ ap (λ k. unwrap_or (old k) 0) (the_file a v s k e)
+  ] refl
+
   -- one more is noted at the key
   pub noted_one_more : count ≡ unwrap_or (old (a, v, s)) 0 + 1 → (k : StripeKey) → unwrap_or (new k) 0 ≡ unwrap_or (old k) 0 + one_if (is_stripe a v s k)
   noted_one_more more k = at_key k ∙ elim (is_stripe a v s k) as (λ t. is_stripe a v s k ≡ t → cond t count (unwrap_or (old k) 0) ≡ unwrap_or (old k) 0 + one_if t) [

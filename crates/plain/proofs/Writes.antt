@@ -1,10 +1,10 @@
 -- A block that is put into a file, and what the stripes have after it.
 use Rattle.std.proofs.Common.{◌≡◌, ℕ, ◌+◌, ◌<◌, true, false, Some, refl, ap, sym, ◌∙◌}
-use Rattle.std.specs.Prelude.{None, is_some, if◌then◌else◌}
+use Rattle.std.specs.Prelude.{is_some, if◌then◌else◌}
 use Rattle.affinity.specs.declared.geometry.Geometry.{Geometry}
 use Rattle.affinity.specs.Geometry.{group}
 use Rattle.messages.specs.declared.Block.{Block}
-use Rattle.messages.specs.declared.Msg.TheVariants.{Write, Punch}
+use Rattle.messages.specs.declared.Msg.TheVariants.{Write}
 use Rattle.meaning.specs.State.{State, BlockKey, one_if, group_count, is_block}
 use Rattle.meaning.specs.Serial.{effect}
 use Rattle.plain.specs.Server.{StripeKey, is_stripe}
@@ -32,21 +32,11 @@ module _ (x : State) (a v f b : ℕ) (content : Block) where
     | false ↦ λ e. refl
   ] refl
 
-  -- a new block that is taken out again leaves what was
-  pub taken_back : x.blocks (a, v, f, b) ≡ None → effect written (Punch a v f b) ≡ x
-  taken_back none = λ i. record x { blocks = λ k. at k i }
-    where
-      at : (k : BlockKey) → (effect written (Punch a v f b)).blocks k ≡ x.blocks k
-      at k = elim (is_block a v f b k) as (λ t. is_block a v f b k ≡ t → (if t then None else if t then Some content else x.blocks k) ≡ x.blocks k) [
-        | true ↦ λ is. sym none ∙ ap x.blocks (the_block a v f b k is)
-        | false ↦ λ e. refl
-      ] refl
+  module _ (g : Geometry) (noted : StripeKey → ℕ) (counts : AreCounts g noted x) where
+    pub replaced_counts : is_some (x.blocks (a, v, f, b)) ≡ true → AreCounts g noted written
+    replaced_counts was k = counts k ∙ sym (same_counts g x written (replaced was) k.0 k.1 k.2)
 
-  module _ (g : Geometry) (old new : StripeKey → ℕ) (counts : AreCounts g old x) where
-    pub replaced_counts : is_some (x.blocks (a, v, f, b)) ≡ true → ((k : StripeKey) → new k ≡ old k) → AreCounts g new written
-    replaced_counts was same k = same k ∙ counts k ∙ sym (same_counts g x written (replaced was) k.0 k.1 k.2)
-
-    pub added_counts : f < g.files → b < g.blocks → is_some (x.blocks (a, v, f, b)) ≡ false
-        → ((k : StripeKey) → new k ≡ old k + one_if (is_stripe a v (group g f b) k)) → AreCounts g new written
-    added_counts in_files in_blocks absent more k = more k ∙ ap (λ n. n + one_if (is_stripe a v (group g f b) k)) (counts k)
-        ∙ sym (one_more g x written a v f b others in_files in_blocks absent there k)
+    pub added_counts : (s : ℕ) → s ≡ group g f b → f < g.files → b < g.blocks → is_some (x.blocks (a, v, f, b)) ≡ false
+        → AreCounts g (λ k. noted k + one_if (is_stripe a v s k)) written
+    added_counts s is in_files in_blocks absent k = ap (λ n. n + one_if (is_stripe a v s k)) (counts k)
+        ∙ ap (λ s. group_count g x k.0 k.1 k.2 + one_if (is_stripe a v s k)) is ∙ sym (one_more g x written a v f b others in_files in_blocks absent there k)

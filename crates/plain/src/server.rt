@@ -9,7 +9,7 @@ ghost use Rattle.meaning.specs.State.{empty};
 ghost use Rattle.meaning.specs.Serial.{reply_to, next_state};
 ghost use Rattle.plain.specs.Server.{server_state, IsConsistent};
 
-use affinity::{Geometry, Kind};
+use affinity::{Geometry, Kind, is_in_range};
 use message::{know_block, know_message};
 use messages::{Block, Msg, Refusal, Reply};
 use std::alloc::{AllocError, Global};
@@ -102,8 +102,7 @@ impl Server {
     }
 
     /// Writes a block, and gives why that is refused, if it is. Where there is no memory, nothing
-    /// changes. Where a block is there already, its file and its volume are too, and its stripe has
-    /// room, so one look-up answers all tests but the seal's.
+    /// changes.
     pub(crate) fn write(
         &mut self,
         g: &Geometry,
@@ -116,36 +115,13 @@ impl Server {
         ensures sound { IsConsistent g.now self.new }
     {
         let [a, v, f, b] = numbers;
-        if self.is_sealed(a, v) {
-            return self.write_tested(g, numbers, content);
+        if !is_in_range(g, Kind::Write, numbers) {
+            return Ok(Some(Refusal::Range));
+        }
+        if let Some(why) = self.refusal_to_change_file(a, v, f) {
+            return Ok(Some(why));
         }
         know_block(content);
-        if self.overwrite(a, v, f, b, content) {
-            return Ok(None);
-        }
-        self.write_tested(g, numbers, content)
-    }
-
-    /// The same, by one test after another.
-    fn write_tested(
-        &mut self,
-        g: &Geometry,
-        numbers: [u16; 4],
-        content: &Block,
-    ) -> Result<Option<Refusal>, AllocError>
-        requires sound { IsConsistent g.now self.old }
-        ensures reply { IfOk result (λ why. reply_to g.now (server_state self.old) (writing numbers content.now) ≡ reply_when why) }
-        ensures state { OnOk result (server_state self.new ≡ next_state g.now (server_state self.old) (writing numbers content.now)) }
-        ensures sound { IsConsistent g.now self.new }
-    {
-        let [a, v, f, b] = numbers;
-        match self.refusal_by(g, Kind::Write, [a, v, f, b]) {
-            Some(why) => Ok(Some(why)),
-            None => {
-                know_block(content);
-                self.put_block(g, a, v, f, b, content)?;
-                Ok(None)
-            }
-        }
+        self.put_block(g, a, v, f, b, content)
     }
 }

@@ -89,7 +89,9 @@ impl Server {
             Msg::Delete(a, v, f) => self.remove_file(g, *a, *v, *f),
             Msg::Seal(a, v) => self.seal_volume(*a, *v),
             Msg::Unseal(a, v) => self.unseal_volume(*a, *v),
-            Msg::Write(a, v, f, b, content) => self.put_block(g, *a, *v, *f, *b, content)?,
+            Msg::Write(a, v, f, b, content) => {
+                let _ = self.put_block(g, *a, *v, *f, *b, content)?;
+            }
             Msg::Punch(a, v, f, b) => self.remove_block(g, *a, *v, *f, *b),
             Msg::SetLabel(a, v, bytes) => self.set_label(*a, *v, bytes),
             Msg::Read(..) | Msg::List(..) | Msg::Usage(..) | Msg::Summary | Msg::Label(..) => {}

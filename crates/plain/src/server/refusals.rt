@@ -49,7 +49,7 @@ impl Server {
     }
 
     /// Why a change of a file is refused, if it is.
-    fn refusal_to_change_file(&self, a: u16, v: u16, f: u16) -> Option<Refusal>
+    pub(super) fn refusal_to_change_file(&self, a: u16, v: u16, f: u16) -> Option<Refusal>
         ensures { result ≡ (if (server_state self.now).made (a, v)
             then (if (server_state self.now).sealed (a, v) then Some Sealed
             else (if (server_state self.now).files (a, v, f) then None else Some File)) else Some Volume) }

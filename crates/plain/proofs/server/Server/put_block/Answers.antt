@@ -1,51 +1,73 @@
--- A block in another's place leaves the counts; a new one adds one to its stripe, or goes again for want of memory.
-use Rattle.std.proofs.Common.{◌≡◌, ◌+◌, Bool, true, false, ap, sym, ◌∙◌, subst}
-use Rattle.std.specs.Prelude.{not, is_some, unwrap_or}
+-- A block in another's place leaves the counts; a new one adds one to its stripe, unless that is full.
+use Rattle.std.proofs.Common.{rules, ◌≡◌, ℕ, ◌+◌, cond, true, false, Some, List, ap, sym, ◌∙◌, subst}
+use Rattle.std.specs.Prelude.{is_some, unwrap_or}
 use Rattle.std.specs.BTreeMap as map
-use Rattle.meaning.specs.State.{one_if}
-use Rattle.messages.specs.declared.Msg.TheVariants.{Punch}
-use Rattle.meaning.specs.Serial.{effect}
-use Rattle.meaning.specs.KeyOrders.{by_file}
-use Rattle.plain.specs.Server.{is_stripe, server_state, noted}
-use Rattle.plain.proofs.Removals.{is_none}
-use Rattle.plain.proofs.Writes.{AreCounts, replaced_counts, added_counts, taken_back}
+use Rattle.std.specs.BTreeMap.{is_at}
+use Rattle.std.specs.Map.{lookup}
+use Rattle.affinity.specs.declared.geometry.Geometry.{Geometry}
+use Rattle.messages.specs.declared.Block.{Block}
+use Rattle.meaning.specs.State.{State, BlockKey, one_if}
+use Rattle.meaning.specs.KeyOrders.{by_file, by_block}
+use Rattle.meaning.proofs.Keys.{one_block}
+use Rattle.plain.specs.Server.{StripeKey, is_stripe, server_state, noted}
+use Rattle.plain.proofs.ServerCounts.{noted_again, noted_one_more}
+use Rattle.plain.proofs.Writes.{AreCounts, replaced_counts, added_counts}
 use Rattle.plain.proofs.server.Server.put_block.Goals as goal
 
-not_swap : (a b : Bool) → a ≡ not b → b ≡ not a
-not_swap a true e = ap not (sym e)
-not_swap a false e = ap not (sym e)
+-- the counts of entries with the same blocks
+same_counted : (g : Geometry) (x : State) (es : List (BlockKey × Block)) (notes : StripeKey → ℕ) → ((k : BlockKey) → lookup (is_at (by_block k)) es ≡ x.blocks k)
+    → AreCounts g notes x → AreCounts g notes (record x { blocks = λ k. lookup (is_at (by_block k)) es })
+same_counted g x es notes h counts = subst (AreCounts g notes) (λ i. record x { blocks = λ k. sym (h k) i }) counts
 
-pub returns-then-not-is_new-clause-counted : goal.returns-then-not-is_new-clause-counted
-returns-then-not-is_new-clause-counted c =
+-- what is noted in a map is what is noted in its entries
+as_noted : (es fs : List (StripeKey × ℕ)) (wanted : StripeKey → ℕ) → es ≡ fs
+    → ((k : StripeKey) → unwrap_or (lookup (is_at (by_file k)) fs) 0 ≡ wanted k) → (k : StripeKey) → unwrap_or (lookup (is_at (by_file k)) es) 0
+    ≡ wanted k
+as_noted es fs wanted e h k = ap (λ es. unwrap_or (lookup (is_at (by_file k)) es) 0) e ∙ h k
+
+pub returns-in-Some-clause-state : goal.returns-in-Some-clause-state
+returns-in-Some-clause-state c = λ i. record (server_state c.args.self.now) {
+  blocks = one_block (map.get by_block c.args.self.now.blocks) (map.get by_block (c.get_mut.follows.lender c.args.content.now)) c.args.a c.args.v
+      c.args.f c.args.b c.args.content.now ((c.get_mut.follows.holds c.args.content.now).3 (search rules)).0 i;
+}
+
+pub returns-in-Some-clause-counted : goal.returns-in-Some-clause-counted
+returns-in-Some-clause-counted c =
     let x = server_state c.args.self.now in
-    let was : is_some (x.blocks (c.args.a, c.args.v, c.args.f, c.args.b)) ≡ true = not_swap _ _ c.in_ok-is_new.ensures.new ∙ ap not c.if-not-is_new.true in
-    subst (AreCounts c.args.g.now (noted c.set_block.new.self)) (sym c.in_ok-is_new.ensures.state)
-    (replaced_counts x c.args.a c.args.v c.args.f c.args.b c.args.content.now c.args.g.now (noted c.args.self.now) (noted c.set_block.new.self) c.requires.counted was
-    (λ k. ap (λ used. unwrap_or (map.get by_file used k) 0) c.set_block.ensures.used))
+    let was : is_some (x.blocks (c.args.a, c.args.v, c.args.f, c.args.b)) ≡ true = search rules in
+    subst (AreCounts c.args.g.now (noted c.args.self.now)) (sym (returns-in-Some-clause-state c))
+    (replaced_counts x c.args.a c.args.v c.args.f c.args.b c.args.content.now c.args.g.now (noted c.args.self.now) c.requires.counted was)
 
-pub returns-in-Ok-clause-counted : goal.returns-in-Ok-clause-counted
-returns-in-Ok-clause-counted c =
+pub returns-then-count-g-clause-counted : goal.returns-then-count-g-clause-counted
+returns-then-count-g-clause-counted c =
+    same_counted c.args.g.now (server_state c.args.self.now) _ _ (λ k. search rules)
+    (as_noted _ _ _ (search rules) (λ k. noted_again (map.get by_file c.args.self.now.used) (λ k. lookup (is_at (by_file k)) _) c.args.a c.args.v c.group_of.result c.or_insert-count.result.now
+    (λ k. (c.in_ok-self.ensures.update.0 c.or_insert-count.result.now).0 k)
+    (c.or_insert-count.ensures.value ∙ ap (λ o. unwrap_or o 0) c.in_ok-self.ensures.value) k ∙ c.requires.counted k))
+
+pub returns-in_err-insert-clause-counted : goal.returns-in_err-insert-clause-counted
+returns-in_err-insert-clause-counted c =
+    same_counted c.args.g.now (server_state c.args.self.now) _ _ (λ k. search rules)
+    (as_noted _ _ _ (search rules) (λ k. noted_again (map.get by_file c.args.self.now.used) (λ k. lookup (is_at (by_file k)) _) c.args.a c.args.v c.group_of.result c.or_insert-count.result.now
+    (λ k. (c.in_ok-self.ensures.update.0 c.or_insert-count.result.now).0 k)
+    (c.or_insert-count.ensures.value ∙ ap (λ o. unwrap_or o 0) c.in_ok-self.ensures.value) k ∙ c.requires.counted k))
+
+pub returns-clause-state : goal.returns-clause-state
+returns-clause-state c = λ i. record (server_state c.args.self.now) {
+  blocks = one_block (map.get by_block c.args.self.now.blocks) (map.get by_block c.insert.new.self) c.args.a c.args.v c.args.f c.args.b c.args.content.now
+      (λ k. c.in_ok-insert.ensures.updates.0 k ∙ ap (cond (is_at (by_block (c.args.a, c.args.v, c.args.f, c.args.b)) k) (Some c.args.content.now)) (search rules)) i;
+}
+
+pub returns-clause-counted : goal.returns-clause-counted
+returns-clause-counted c =
     let x = server_state c.args.self.now in
-    let absent : is_some (x.blocks (c.args.a, c.args.v, c.args.f, c.args.b)) ≡ false = not_swap _ _ c.in_ok-is_new.ensures.new ∙ ap not c.if-not-is_new.false in
-    subst (AreCounts c.args.g.now (noted c.note_one_more.new.self)) (sym (c.note_one_more.ensures.state ∙ c.in_ok-is_new.ensures.state))
-    (added_counts x c.args.a c.args.v c.args.f c.args.b c.args.content.now c.args.g.now (noted c.args.self.now) (noted c.note_one_more.new.self)
-    c.requires.counted c.requires.file c.requires.place absent
-    (λ k. c.in-Ok.ensures.noted k
-    ∙ ap (λ used. unwrap_or (map.get by_file used k) 0 + one_if (is_stripe c.args.a c.args.v c.group_of.result k)) c.set_block.ensures.used
-    ∙ ap (λ s. noted c.args.self.now k + one_if (is_stripe c.args.a c.args.v s k)) c.group_of.ensures.value))
-
-pub returns-in-Err-clause-unchanged : goal.returns-in-Err-clause-unchanged
-returns-in-Err-clause-unchanged c =
-    let x = server_state c.args.self.now in
-    let absent : is_some (x.blocks (c.args.a, c.args.v, c.args.f, c.args.b)) ≡ false = not_swap _ _ c.in_ok-is_new.ensures.new ∙ ap not c.if-not-is_new.false in
-    c.clear_block.ensures.state
-    ∙ ap (λ y. effect y (Punch c.args.a c.args.v c.args.f c.args.b)) (c.note_one_more.ensures.state ∙ c.in_ok-is_new.ensures.state)
-    ∙ taken_back x c.args.a c.args.v c.args.f c.args.b c.args.content.now (sym (is_none _ absent))
-
-pub returns-in-Err-clause-counted : goal.returns-in-Err-clause-counted
-returns-in-Err-clause-counted c =
-    subst (AreCounts c.args.g.now (noted c.clear_block.new.self)) (sym (returns-in-Err-clause-unchanged c))
-    (λ k. ap (λ used. unwrap_or (map.get by_file used k) 0) c.clear_block.ensures.used
-    ∙ c.in-Err.ensures.unchanged k
-    ∙ ap (λ used. unwrap_or (map.get by_file used k) 0) c.set_block.ensures.used
-    ∙ c.requires.counted k)
+    let absent : is_some (x.blocks (c.args.a, c.args.v, c.args.f, c.args.b)) ≡ false = search rules in
+    let count = c.or_insert-count.result.now + 1 in
+    let more : StripeKey → ℕ = λ k. noted c.args.self.now k + one_if (is_stripe c.args.a c.args.v c.group_of.result k) in
+    λ k. as_noted _ _ more (search rules)
+    (noted_one_more (map.get by_file c.args.self.now.used) (λ k. lookup (is_at (by_file k)) _) c.args.a c.args.v c.group_of.result count
+    (λ k. (c.in_ok-self.ensures.update.0 count).0 k)
+    (ap (λ n. n + 1) c.or_insert-count.ensures.value ∙ ap (λ o. unwrap_or o 0 + 1) c.in_ok-self.ensures.value)) k
+    ∙ subst (AreCounts c.args.g.now more) (sym (returns-clause-state c))
+    (added_counts x c.args.a c.args.v c.args.f c.args.b c.args.content.now c.args.g.now (noted c.args.self.now) c.requires.counted c.group_of.result
+    c.group_of.ensures.value c.requires.file c.requires.place absent) k

@@ -1,43 +1,26 @@
--- Where the volume isn't sealed and the block is there, the write passes all its tests and leaves the counts.
-use Rattle.std.proofs.Common.{◌≡◌, None, ap, sym, ◌∙◌, subst}
-use Rattle.std.specs.Prelude.{unwrap_or}
-use Rattle.std.specs.BTreeMap as map
+-- What was written is the next state, again one in range; without memory the state is as it was.
+use Rattle.std.proofs.Common.{rules, ◌≡◌, Ok, Err, sym, subst, OnOk, OnErr}
+use Rattle.std.specs.declared.result.Result.{Result}
+use Rattle.affinity.specs.declared.geometry.Geometry.{Geometry}
 use Rattle.message.specs.Heads.{writing}
-use Rattle.meaning.specs.State.{IsState}
-use Rattle.meaning.specs.Serial.{refusal, accepted_reply, effect, outcome}
-use Rattle.meaning.specs.KeyOrders.{by_file}
-use Rattle.plain.specs.Server.{server_state, noted}
-use Rattle.meaning.proofs.ByKind.{write_passes}
+use Rattle.messages.specs.declared.Msg.{Msg}
+use Rattle.messages.specs.Messages.{IsMessage}
+use Rattle.meaning.specs.State.{State, IsState}
+use Rattle.meaning.specs.Serial.{next_state}
+use Rattle.plain.specs.Server.{server_state}
 use Rattle.meaning.proofs.Kept.{step_kept}
-use Rattle.plain.proofs.Writes.{AreCounts, replaced_counts}
 use Rattle.plain.proofs.server.Server.write.Goals as goal
 
-passed : (c : goal.Then-overwrite) → refusal c.args.g.now (server_state c.args.self.now) (writing c.args.numbers c.args.content.now) ≡ None
-passed c = write_passes c.requires.sound.state _ _ _ _ c.args.content.now
-    (sym c.is_sealed.ensures ∙ c.if-is_sealed.false) (sym c.overwrite.ensures.there ∙ c.if-overwrite.true)
+module _ (g : Geometry) (x y : State) (m : Msg) where
+  written_kept : {X E : Type 0} (r : Result X E) → OnOk r (y ≡ next_state g x m) → OnErr r (y ≡ x) → IsState g x → IsMessage m → IsState g y
+  written_kept (Ok _) next same s w = subst (IsState g) (sym next) (step_kept g x m s w)
+  written_kept (Err _) next same s w = subst (IsState g) (sym same) s
 
-pub returns-then-overwrite-clause-reply : goal.returns-then-overwrite-clause-reply
-returns-then-overwrite-clause-reply c =
-    let g = c.args.g.now in
+pub returns-clause-sound : goal.returns-clause-sound
+returns-clause-sound c =
     let m = writing c.args.numbers c.args.content.now in
-    let x = server_state c.args.self.now in
-    ap (λ r. (outcome r (accepted_reply g x m) (effect x m) x).0) (passed c)
-
-pub returns-then-overwrite-clause-state : goal.returns-then-overwrite-clause-state
-returns-then-overwrite-clause-state c =
-    let g = c.args.g.now in
-    let m = writing c.args.numbers c.args.content.now in
-    let x = server_state c.args.self.now in
-    c.overwrite.ensures.state c.if-overwrite.true ∙ ap (λ r. (outcome r (accepted_reply g x m) (effect x m) x).1) (sym (passed c))
-
-pub returns-then-overwrite-clause-sound : goal.returns-then-overwrite-clause-sound
-returns-then-overwrite-clause-sound c =
-    let g = c.args.g.now in
-    let m = writing c.args.numbers c.args.content.now in
-    let x = server_state c.args.self.now in
     record {
-      state = subst (IsState g) (sym (returns-then-overwrite-clause-state c)) (step_kept g x m c.requires.sound.state c.know_block.ensures);
-      counted = subst (AreCounts g (noted c.overwrite.new.self)) (sym (c.overwrite.ensures.state c.if-overwrite.true))
-          (replaced_counts x _ _ _ _ c.args.content.now g (noted c.args.self.now) (noted c.overwrite.new.self) c.requires.sound.counted (sym c.overwrite.ensures.there ∙ c.if-overwrite.true)
-          (λ k. ap (λ used. unwrap_or (map.get by_file used k) 0) c.overwrite.ensures.used));
+      state = written_kept c.args.g.now (server_state c.args.self.now) (server_state c.put_block.new.self) m c.put_block.result (search rules) c.put_block.ensures.unchanged
+          c.requires.sound.state c.know_block.ensures;
+      counted = c.put_block.ensures.counted;
     }
