@@ -69,4 +69,4 @@ module _ (g : Geometry) (w0 : Medium) (whole : device_size (layout_of g) ≤ len
         (weaker w2 w3 _ _ third
         (λ c either.
         ⊎_elim (λ (still : HasNoFormatByte (length w0.now) c). inr (inl (shut_unformatted (length w0.now) c (omega (arith, whole)) still)))
-            (λ (is : recovered_state g c ≡ Some empty). inr (inr is)) either))
+        (λ (is : recovered_state g c ≡ Some empty). inr (inr is)) either))

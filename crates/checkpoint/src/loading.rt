@@ -46,7 +46,10 @@ pub(crate) struct Loaded {
 
 /// All memory that loading a device of this geometry takes: an empty tree, a log of which nothing is known, and a
 /// buffer for the largest piece of an image. `OutOfMemory` where there isn't so much.
-pub fn take_loading_memory(alloc: Global, g: &Geometry) -> Result<(Tree, Halves, Vec<u8>), OpenFault>
+pub fn take_loading_memory(
+    alloc: Global,
+    g: &Geometry,
+) -> Result<(Tree, Halves, Vec<u8>), OpenFault>
     ensures whole { IfOk result (λ r. IsWholeTree r.0) }
     ensures empty { IfOk result (λ r. state_in r.0 ≡ empty) }
     ensures geometry { IfOk result (λ r. r.0.geometry ≡ g.now) }

@@ -133,7 +133,7 @@ module _ {log : Log} {snapshot : List ℕ} {named others pending : List Bool} {l
   pub log_moments : Grows log ms w0 w1 → (x : State) → recovered_state log.geometry w0.now ≡ Some x → AreCarriedOut log.geometry x ms → CrashImagesAre w0 w1 (RecoversWithPrefix log.geometry x ms)
   log_moments grows x is out =
       weaker w0 w1 _ _ (append_recovers (means log.geometry) (layout_of log.geometry) log.named log.current (recovered_state log.geometry w0.now)
-          (records_of ms) w0 w1 is_area is_half sound.recovers grows)
+      (records_of ms) w0 w1 is_area is_half sound.recovers grows)
       (λ c some. record {
         added = some.added;
         at_most = let most = some.at_most in omega (arith, most, length-map ms record_of);

@@ -112,7 +112,7 @@ module _ {log : Log} {snapshot : List ℕ} {named others pending : List Bool} {l
           named_fresh =
               subst (λ (o : Option State). IsFresh log.geometry o named (image_in log.geometry log.named w1)) (sym same)
               (subst (λ (l : List ℕ). IsFresh log.geometry (recovered_state log.geometry w0.now) named l)
-                  (sym (pieced.same.others (image log.named) (λ is. omega (arith, is, is_area)))) sound.named_fresh);
+              (sym (pieced.same.others (image log.named) (λ is. omega (arith, is, is_area)))) sound.named_fresh);
           snapshot_fresh = λ none. absurd (true≢false (ap is_some none));
           others_fresh = subst (λ (o : Option State). IsFresh log.geometry o others snapshot) (sym same) sound'.others_fresh;
           by_cut = record {

@@ -102,7 +102,7 @@ module _ {log : Log} {snapshot snapshot' : List ℕ} {named others pending : Lis
               (snapshot_fresh log.geometry (recovered_state log.geometry w0.now) y snapshot' is is_state spelled named'));
           snapshot_fresh = λ none.
               subst (λ (o : Option State). IsFresh log.geometry o named' snapshot') (sym same)
-                  (snapshot_fresh log.geometry (recovered_state log.geometry w0.now) y snapshot' is is_state spelled named');
+              (snapshot_fresh log.geometry (recovered_state log.geometry w0.now) y snapshot' is is_state spelled named');
           others_fresh =
               subst (λ (o : Option State). IsFresh log.geometry o others' (image_in log.geometry (other (other log.named)) w1)) (sym same)
               (subst (λ (n : ℕ). IsFresh log.geometry (recovered_state log.geometry w0.now) others' (image_in log.geometry n w1)) (sym back)
@@ -172,7 +172,7 @@ opened_sound {log} {snapshot} {named} {w0} {w1} {y} held spelled all are made =
           (snapshot_fresh log.geometry (recovered_state log.geometry w0.now) y snapshot held.is held.state spelled named));
       snapshot_fresh = λ none.
           subst (λ (o : Option State). IsFresh log.geometry o named snapshot) (sym same)
-              (snapshot_fresh log.geometry (recovered_state log.geometry w0.now) y snapshot held.is held.state spelled named);
+          (snapshot_fresh log.geometry (recovered_state log.geometry w0.now) y snapshot held.is held.state spelled named);
       others_fresh = λ z is' n few clean. absurd (true≢false (sym (all n few) ∙ clean));
       by_cut = tt;
     }

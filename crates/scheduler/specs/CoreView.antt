@@ -54,7 +54,7 @@ RecoversNow c = (bytes : List ℕ) → IsCrashImage c.medium bytes → RecoversW
 abbrev pub RecoversThroughout : List Msg → CoreView → CoreView → Type 0
 RecoversThroughout appended old new =
     CrashImagesAre old.medium new.medium (RecoversWithPrefix old.geometry (core_state_of old).committed
-        (if old.failed then old.doubt else appended))
+    (if old.failed then old.doubt else appended))
 
 -- A core that was just opened: nothing waits or is held, no ticket was given, and the log has all its room.
 pub record IsJustOpened (slots : ℕ) (c : CoreView) : Type 0 where

@@ -31,7 +31,7 @@ use crate::granted::choose;
 use crate::history::History;
 use crate::log_batch::{collect_loggable, move_ran};
 use crate::memory::{Memory, take_memory};
-use crate::slot::{LOGGED, IN_FLIGHT, RAN, Slot, WAITING};
+use crate::slot::{IN_FLIGHT, LOGGED, RAN, Slot, WAITING};
 use affinity::{changing, place_of};
 use arena::Arena;
 use checkpoint::{OpenError, OpenFault};

@@ -91,7 +91,7 @@ returns-in_err-last_point-clause-any_moment g c = λ k.
     let fine = sym (ap (λ (l : List ℕ). refused t l) (same_bytes w0 w1 only)) ∙ c.in_ok-load_in_order.ensures.sound k in
     let later = subst (λ (h : Geometry). RecoversStill h w2 w3) c.in_ok-load_in_order.ensures.geometry (c.last_point.ensures.any_moment k) in
     as_still t w0 w3 head fits fine (still_after t w0 w1 w3 (c.requires.synced k) only
-        (still_then t w1 w2 w3 (g.met.D.Disk.bytes c.load_in_order.new.disk) (c.load_in_order.ensures.any_moment k) later))
+    (still_then t w1 w2 w3 (g.met.D.Disk.bytes c.load_in_order.new.disk) (c.load_in_order.ensures.any_moment k) later))
 
 pub returns-clause-any_moment : goal.returns-clause-any_moment
 returns-clause-any_moment g c = λ k.
@@ -106,7 +106,7 @@ returns-clause-any_moment g c = λ k.
     let fine = sym (ap (λ (l : List ℕ). refused t l) (same_bytes w0 w1 only)) ∙ c.in_ok-load_in_order.ensures.sound k in
     let later = subst (λ (h : Geometry). RecoversStill h w2 w3) c.in_ok-load_in_order.ensures.geometry (c.last_point.ensures.any_moment k) in
     as_still t w0 w3 head fits fine (still_after t w0 w1 w3 (c.requires.synced k) only
-        (still_then t w1 w2 w3 (g.met.D.Disk.bytes c.load_in_order.new.disk) (c.load_in_order.ensures.any_moment k) later))
+    (still_then t w1 w2 w3 (g.met.D.Disk.bytes c.load_in_order.new.disk) (c.load_in_order.ensures.any_moment k) later))
 
 pub returns-clause-made : goal.returns-clause-made
 returns-clause-made g c =

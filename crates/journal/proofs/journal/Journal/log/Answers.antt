@@ -40,7 +40,7 @@ returns-clause-committed g c = λ k.
     let out : (x : State) → recovered_state c.self.inside.halves.geometry (g.D.Disk.medium c.self.inside.disk).now ≡ Some x → AreCarriedOut c.self.inside.halves.geometry x c.args.messages.now =
     λ x is. subst (λ (h : JournalView). AreCarriedOut h.geometry x c.args.messages.now) (sym c.self.view_is) (c.requires.carried_out k x (sym (ap committed c.self.view_is) ∙ is)) in
     subst (λ (h : JournalView). recovered_state c.append.new.self.geometry (g.D.Disk.medium c.append.new.disk).now ≡ option_map
-        (λ x. fold h.geometry x c.args.messages.now) (committed h)) c.self.view_is
+    (λ x. fold h.geometry x c.args.messages.now) (committed h)) c.self.view_is
     (ap (λ (l : Log). recovered_state l.geometry (g.D.Disk.medium c.append.new.disk).now) c.in_default.ensures.log
     ∙ log_told c.args.messages.now (g.met.D.Disk.bytes c.self.inside.disk)
     (g.met.D.Disk.bytes c.append.new.disk) (c.self.invariant.7 fine k) out (c.in_default.ensures.added k))
