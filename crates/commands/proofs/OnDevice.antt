@@ -23,7 +23,7 @@ use Rattle.commands.specs.declared.serve_options.ServeOptions.{ServeOptions}
 
 -- no message is in a core that was just opened
 pub is_idle : (slots : ℕ) (c : CoreView) → IsJustOpened slots c → IsIdle (core_state_of c)
-is_idle slots c just = record { none_waits = just.none_waits; none_held = rw (just.none_logged, just.none_ran, just.none_out) refl }
+is_idle slots c just = record { none_waits = just.none_waits; none_held = rw (just.none_logged, just.none_ran, just.none_in_flight) refl }
 
 -- ---- the run
 

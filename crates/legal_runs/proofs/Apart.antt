@@ -1,4 +1,4 @@
--- No two held messages are at related places: what a grant, a return and a log do to them.
+-- No two held messages are at related places: what a dispatch, a return and a log do to them.
 use Rattle.std.proofs.Common.{◌≡◌, ℕ, ◌+◌, false, List, [], ◌∷◌, ◌++◌, Some, refl, ap, sym, ◌∙◌, subst, append_assoc, length, take, drop}
 use Rattle.std.specs.Prelude.{◌&&◌, ◌==◌, not, nat_lt}
 use Rattle.std.specs.List.{AllByRecursion, list_any}
@@ -21,9 +21,9 @@ pub entries-append : (as' bs : List Replied) → entries (as' ++ bs) ≡ entries
 entries-append [] bs = refl
 entries-append (a ∷ as') bs = ap (λ l. entry a ∷ l) (entries-append as' bs)
 
-pub length_held : (w : CoreState) → length (held w) ≡ length w.logged + (length w.ran + length w.out)
-length_held w = length-append (entries w.logged) (entries w.ran ++ w.out)
-    ∙ (λ i. length-map w.logged entry i + (length-append (entries w.ran) w.out ∙ ap (λ n. n + length w.out) (length-map w.ran entry)) i)
+pub length_held : (w : CoreState) → length (held w) ≡ length w.logged + (length w.ran + length w.in_flight)
+length_held w = length-append (entries w.logged) (entries w.ran ++ w.in_flight)
+    ∙ (λ i. length-map w.logged entry i + (length-append (entries w.ran) w.in_flight ∙ ap (λ n. n + length w.in_flight) (length-map w.ran entry)) i)
 
 -- what is dispatched is at a place unrelated to those of all that are held
 pub granted_is_free : (g : Geometry) (w : CoreState) (found : Entry × List Entry) → next_eligible g w ≡ Some found
@@ -37,8 +37,8 @@ granted_is_free g w found h =
     all_none (are_related_entries g e) (held w) (not-true _ free)
 
 pub held_grant : (w : CoreState) (found : Entry × List Entry) → held (grant w found) ≡ held w ++ found.0 ∷ []
-held_grant w found = ap (λ l. entries w.logged ++ l) (sym (append_assoc (entries w.ran) w.out (found.0 ∷ [])))
-    ∙ sym (append_assoc (entries w.logged) (entries w.ran ++ w.out) (found.0 ∷ []))
+held_grant w found = ap (λ l. entries w.logged ++ l) (sym (append_assoc (entries w.ran) w.in_flight (found.0 ∷ [])))
+    ∙ sym (append_assoc (entries w.logged) (entries w.ran ++ w.in_flight) (found.0 ∷ []))
 
 pub grant_apart : (g : Geometry) (w : CoreState) (found : Entry × List Entry) → next_eligible g w ≡ Some found → AreApart g (held w)
     → AreApart g (held (grant w found))
@@ -51,7 +51,7 @@ grant_apart g w found h apart =
 pub back_apart : (g : Geometry) (w : CoreState) (ticket : ℕ) (found : Entry × List Entry) → out_with w ticket ≡ Some found
     → AreApart g (held w) → AreApart g (held (give_back g w found))
 back_apart g w ticket found h apart =
-    let k = picked (λ d. d.0 == ticket) w.out found h in
+    let k = picked (λ d. d.0 == ticket) w.in_flight found h in
     let e = found.0 in
     let L = entries w.logged in
     let R = entries w.ran in
@@ -66,7 +66,7 @@ back_apart g w ticket found h apart =
 -- A log moves nothing in the row of the held messages.
 pub log_held : (g : Geometry) (w : CoreState) (n : ℕ) → held (log g w n) ≡ held w
 log_held g w n =
-    ap (λ l. l ++ (entries (drop n w.ran) ++ w.out)) (entries-append w.logged (take n w.ran))
+    ap (λ l. l ++ (entries (drop n w.ran) ++ w.in_flight)) (entries-append w.logged (take n w.ran))
     ∙ append_assoc (entries w.logged) (entries (take n w.ran)) _
-    ∙ ap (λ l. entries w.logged ++ l) (sym (append_assoc (entries (take n w.ran)) (entries (drop n w.ran)) w.out)
-    ∙ ap (λ l. l ++ w.out) (sym (entries-append (take n w.ran) (drop n w.ran)) ∙ ap entries (take-append-drop n w.ran)))
+    ∙ ap (λ l. entries w.logged ++ l) (sym (append_assoc (entries (take n w.ran)) (entries (drop n w.ran)) w.in_flight)
+    ∙ ap (λ l. l ++ w.in_flight) (sym (entries-append (take n w.ran) (drop n w.ran)) ∙ ap entries (take-append-drop n w.ran)))

@@ -21,14 +21,14 @@ use Rattle.legal_runs.proofs.Apart.{apart_turned, entries-append}
 use Rattle.legal_runs.proofs.Moves.{Passed, Move, Stays, Arrives, Grants, Backs, Logs, Answers, moves, passed}
 use Rattle.legal_runs.proofs.SerialReplies.{serial_replies-append, IsIn, in_left, IsAsGood, good_itself, good_on, good_push, good_moved}
 use Rattle.legal_runs.proofs.Sound.{move_sound}
-use Rattle.legal_runs.proofs.Idle.{idle_sound, none_out, none_ran, none_logged}
+use Rattle.legal_runs.proofs.Idle.{idle_sound, none_in_flight, none_ran, none_logged}
 use Rattle.legal_runs.proofs.Runs.{run_follows, run_answers}
 
 -- ---- a run leaves its messages in a row that is as good as that of their arrivals
 
 -- all that arrived: what was logged so far, then what ran, is dispatched and waits
 abbrev pub row : CoreState → List Replied → List Entry
-row w past = entries past ++ (entries w.ran ++ (w.out ++ w.waiting))
+row w past = entries past ++ (entries w.ran ++ (w.in_flight ++ w.waiting))
 
 or_false : (a b : Bool) → a ≡ false → b ≡ false → (a || b) ≡ false
 or_false a b h j = ap (λ a. a || b) h ∙ j
@@ -58,11 +58,11 @@ module _ (g : Geometry) (AreInStep : List Entry → List Entry → Type 0) (keep
       (subst (λ l. AreInStep all (row new l)) (sym (append-nil past)) good)))
 
   one_more : (w : CoreState) (past : List Replied) (e : Entry)
-      → row w past ++ e ∷ [] ≡ entries past ++ (entries w.ran ++ (w.out ++ (w.waiting ++ e ∷ [])))
+      → row w past ++ e ∷ [] ≡ entries past ++ (entries w.ran ++ (w.in_flight ++ (w.waiting ++ e ∷ [])))
   one_more w past e =
       append_assoc (entries past) _ (e ∷ [])
       ∙ ap (λ l. entries past ++ l) (append_assoc (entries w.ran) _ (e ∷ []) ∙ ap
-      (λ l. entries w.ran ++ l) (append_assoc w.out w.waiting (e ∷ [])))
+      (λ l. entries w.ran ++ l) (append_assoc w.in_flight w.waiting (e ∷ [])))
 
   -- a related one with a smaller ticket doesn't wait
   clear_of : (w : CoreState) (e : Entry) (us : List Entry) → list_any (λ d. nat_lt d.0 e.0 && are_related_entries g e d) us ≡ false
@@ -79,7 +79,7 @@ module _ (g : Geometry) (AreInStep : List Entry → List Entry → Type 0) (keep
       → Move g old new p → IsSoundCoreState g old → AreInStep all (row old past) → AreInStep (all ++ p.come) (row new (past ++ p.gone))
   move_in_step old new p past all (Stays s e) h good =
       quiet new past all p.gone p.come (ap (λ p. p.gone) e) (ap (λ p. p.come) e)
-      (subst (AreInStep all) (λ i. entries past ++ (entries (sym s.ran i) ++ (sym s.out i ++ sym s.waiting i))) good)
+      (subst (AreInStep all) (λ i. entries past ++ (entries (sym s.ran i) ++ (sym s.in_flight i ++ sym s.waiting i))) good)
   move_in_step old new p past all (Arrives m fits is e) h good =
       let one : Entry = (old.next, m) in
       subst (λ p. AreInStep (all ++ p.come) (row new (past ++ p.gone))) (sym e)
@@ -98,18 +98,18 @@ module _ (g : Geometry) (AreInStep : List Entry → List Entry → Type 0) (keep
       let none = any_front waits_before k.before (one ∷ k.behind) (ap (list_any waits_before) (sym k.whole) ∙ not-true _ early) in
       let free = clear_of old one k.before none (before_one (λ e d. e.0 < d.0) k.before one k.behind
       (subst AreAscending k.whole h.ascending)) in
-      let F = P ++ (R ++ old.out) in
-      let joined : (l : List Entry) → P ++ (R ++ (old.out ++ l)) ≡ F ++ l = λ l. ap (λ m. P ++ m) (sym (append_assoc R old.out l))
-      ∙ sym (append_assoc P (R ++ old.out) l) in
-      let from : row old past ≡ F ++ (k.before ++ one ∷ k.behind) = ap (λ l. P ++ (R ++ (old.out ++ l))) k.whole ∙ joined _ in
+      let F = P ++ (R ++ old.in_flight) in
+      let joined : (l : List Entry) → P ++ (R ++ (old.in_flight ++ l)) ≡ F ++ l = λ l. ap (λ m. P ++ m) (sym (append_assoc R old.in_flight l))
+      ∙ sym (append_assoc P (R ++ old.in_flight) l) in
+      let from : row old past ≡ F ++ (k.before ++ one ∷ k.behind) = ap (λ l. P ++ (R ++ (old.in_flight ++ l))) k.whole ∙ joined _ in
       let to : F ++ one ∷ (k.before ++ k.behind) ≡ row (grant old found) past =
-      sym (joined _) ∙ ap (λ l. P ++ (R ++ l)) (sym (append_assoc old.out (one ∷ []) _) ∙ ap
-      (λ l. (old.out ++ one ∷ []) ++ l) (sym k.rest)) in
+      sym (joined _) ∙ ap (λ l. P ++ (R ++ l)) (sym (append_assoc old.in_flight (one ∷ []) _) ∙ ap
+      (λ l. (old.in_flight ++ one ∷ []) ++ l) (sym k.rest)) in
       quiet new past all p.gone p.come (ap (λ p. p.gone) e) (ap (λ p. p.come) e) (subst (λ w. AreInStep all (row w past)) (sym is)
       (subst (AreInStep all) to (keeps.moved all F k.before one k.behind free
       (subst (AreInStep all) from good))))
   move_in_step old new p past all (Backs ticket found one_out is e) h good =
-      let k = picked (λ d. d.0 == ticket) old.out found one_out in
+      let k = picked (λ d. d.0 == ticket) old.in_flight found one_out in
       let one = found.0 in
       let P = entries past in
       let R = entries old.ran in
@@ -131,7 +131,7 @@ module _ (g : Geometry) (AreInStep : List Entry → List Entry → Type 0) (keep
       (subst (AreInStep all) to (keeps.moved all (P ++ R) k.before one (k.behind ++ old.waiting) free
       (subst (AreInStep all) from good))))
   move_in_step old new p past all (Logs n is e) h good =
-      let rest = old.out ++ old.waiting in
+      let rest = old.in_flight ++ old.waiting in
       let same : row old past ≡ row (log g old n) (past ++ take n old.ran) =
       ap (λ l. entries past ++ (entries l ++ rest)) (sym (take-append-drop n old.ran))
       ∙ ap (λ l. entries past ++ l) (ap (λ l. l ++ rest) (entries-append (take n old.ran) (drop n old.ran))
@@ -164,7 +164,7 @@ module _ (g : Geometry) (AreInStep : List Entry → List Entry → Type 0) (keep
   pub arrivals_in_step : (old : MachineState) (events : List Event) → IsLegal g old events → IsIdle old.core → AreInStep [] []
       → AreInStep (arrived events) (row (last old events).core (logged_messages old events))
   arrivals_in_step old events legal idle start =
-      let none : row old.core [] ≡ [] = λ i. entries (none_ran old.core idle i) ++ (none_out old.core idle i ++ idle.none_waits i) in
+      let none : row old.core [] ≡ [] = λ i. entries (none_ran old.core idle i) ++ (none_in_flight old.core idle i ++ idle.none_waits i) in
       run_in_step old events [] [] legal (idle_sound old.core idle g) (subst (AreInStep []) (sym none) start)
 
 -- ---- each has the same replies
@@ -293,6 +293,6 @@ module _ (g : Geometry) (old : MachineState) (events : List Event) (legal : IsLe
   committed_by_ticket ends =
       let new = (last old events).core in
       let none : row new (logged_messages old events) ≡ entries (logged_messages old events) =
-      (λ i. entries (logged_messages old events) ++ (entries (none_ran new ends i) ++ (none_out new ends i ++ ends.none_waits i)))
+      (λ i. entries (logged_messages old events) ++ (entries (none_ran new ends i) ++ (none_in_flight new ends i ++ ends.none_waits i)))
       ∙ append-nil (entries (logged_messages old events)) in
       (run_follows g old events legal h).committed ∙ ap (λ l. fold g old.core.committed (messages l)) (sym none) ∙ sym good.state

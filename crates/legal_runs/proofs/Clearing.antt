@@ -49,7 +49,7 @@ module _ (g : Geometry) (e : Entry) where
   arrive_clears : (w : CoreState) (d : Entry) → IsSoundCoreState g w → IsIn e w.waiting → d.0 ≡ w.next
       → free (held w) (w.waiting ++ d ∷ []) ≡ free (held w) w.waiting
   arrive_clears w d h is next =
-      let given = all_at (λ e. e.0 < w.next) w.waiting e (all_back (λ e. e.0 < w.next) w.out w.waiting h.given) is in
+      let given = all_at (λ e. e.0 < w.next) w.waiting e (all_back (λ e. e.0 < w.next) w.in_flight w.waiting h.given) is in
       ap (λ b. not (list_any (are_related_entries g e) (held w)) && not b)
       (list_any-append comes_before w.waiting (d ∷ []) ∙ ap
       (λ b. list_any comes_before w.waiting || (b || false)) (later d (omega (arith, given, next)))
@@ -105,7 +105,7 @@ module _ (g : Geometry) (e : Entry) where
   back_clears : (w : CoreState) (ticket : ℕ) (found : Entry × List Entry) → out_with w ticket ≡ Some found
       → list_any (are_related_entries g e) (held (give_back g w found)) ≡ list_any (are_related_entries g e) (held w)
   back_clears w ticket found one_out =
-      let k = picked (λ d. d.0 == ticket) w.out found one_out in
+      let k = picked (λ d. d.0 == ticket) w.in_flight found one_out in
       let one = found.0 in
       let p = are_related_entries g e in
       let L = entries w.logged in
@@ -124,7 +124,7 @@ module _ (g : Geometry) (e : Entry) where
 
   move_clears : (old new : CoreState) (p : Passed) → Move g old new p → IsSoundCoreState g old → IsIn e old.waiting → IsIn e new.waiting
       → ((a : Replied) → IsAnswered old new a → are_related_entries g e (entry a) ≡ false) → is_conflict_free g new e ≡ is_conflict_free g old e
-  move_clears old new p (Stays s passes) h was is off = λ i. free (entries (s.logged i) ++ (entries (s.ran i) ++ s.out i)) (s.waiting i)
+  move_clears old new p (Stays s passes) h was is off = λ i. free (entries (s.logged i) ++ (entries (s.ran i) ++ s.in_flight i)) (s.waiting i)
   move_clears old new p (Arrives m fits same passes) h was is off = ap (λ w. is_conflict_free g w e) same
       ∙ arrive_clears old (old.next, m) h was refl
   move_clears old new p (Grants found first same passes) h was is off =
@@ -136,8 +136,8 @@ module _ (g : Geometry) (e : Entry) where
       let gone = off a (front ∙ ap (λ w. a ∷ w.logged) (sym same)) in
       ap (λ w. is_conflict_free g w e) same
       ∙ ap (λ b. not (b || list_any (are_related_entries g e) (entries rest
-      ++ (entries old.ran ++ old.out))) && not (list_any comes_before old.waiting)) (sym gone)
-      ∙ ap (λ l. free (entries l ++ (entries old.ran ++ old.out)) old.waiting) (sym front)
+      ++ (entries old.ran ++ old.in_flight))) && not (list_any comes_before old.waiting)) (sym gone)
+      ∙ ap (λ l. free (entries l ++ (entries old.ran ++ old.in_flight)) old.waiting) (sym front)
 
 pub event_clears : {g : Geometry} (old : MachineState) (event : Event) (e : Entry) → IsAllowed g old event → IsSoundCoreState g old.core
     → IsIn e old.core.waiting → IsIn e event.state_after.core.waiting

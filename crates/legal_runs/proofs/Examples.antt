@@ -32,7 +32,7 @@ use Rattle.legal_runs.proofs.Elements.{contains_in, holds_of, in_contained}
 abbrev opened : ℕ → State → CoreState
 opened slots x = record {
   waiting = [];
-  out = [];
+  in_flight = [];
   ran = [];
   logged = [];
   committed = x;

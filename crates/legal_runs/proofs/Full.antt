@@ -40,10 +40,10 @@ length-picked p xs found e =
 
 -- As many more or fewer are dispatched as hands are full.
 abbrev pub Tallies : MachineState → MachineState → Type 0
-Tallies old new = length new.core.out + full old.hands ≡ length old.core.out + full new.hands
+Tallies old new = length new.core.in_flight + full old.hands ≡ length old.core.in_flight + full new.hands
 
 module _ (g : Geometry) (w : MachineState) where
-  kept : (new : MachineState) → new.core.out ≡ w.core.out → new.hands ≡ w.hands → Tallies w new
+  kept : (new : MachineState) → new.core.in_flight ≡ w.core.in_flight → new.hands ≡ w.hands → Tallies w new
   kept new out hands = let o = ap length out in let h = ap full hands in omega (arith, o, h)
 
   either : (b : Bool) (x y : Outcome × MachineState) → Tallies w x.1 → Tallies w y.1 → Tallies w (if b then x else y).1
@@ -58,7 +58,7 @@ module _ (g : Geometry) (w : MachineState) where
       let first = position-Some is_empty w.hands i Empty e in
       let counted = sum_by-set weight w.hands i (Job found.0.0) Empty first.0 in
       let was : weight (get_or w.hands i Empty) ≡ 0 = ap (λ b. cond (not b) 1 0) first.1 in
-      let more = length-append w.core.out (found.0 ∷ []) in
+      let more = length-append w.core.in_flight (found.0 ∷ []) in
       omega (arith, counted, was, more)
 
   run_tallies : (i : ℕ) (hand : Option Hand) → slice_get w.hands i ≡ hand → Tallies w (run_hand w i hand).1
@@ -72,7 +72,7 @@ module _ (g : Geometry) (w : MachineState) where
   found_tallies i ticket None e is = refl
   found_tallies i ticket (Some found) e is =
       let k = full-set w.hands i (Result ticket) Empty e in
-      let fewer = length-picked _ w.core.out found is in
+      let fewer = length-picked _ w.core.in_flight found is in
       omega (arith, k, fewer)
 
   back_tallies : (i : ℕ) (hand : Option Hand) → slice_get w.hands i ≡ hand → Tallies w (back_from g w i (result_in w.core hand)).1
@@ -93,7 +93,7 @@ pub event_tallies : (g : Geometry) (old : MachineState) (event : Event) → IsAl
 event_tallies g old event allowed = by event.device_failed allowed
   where
     by : (b : Bool) → MatchBool b (IsFault old event) (IsWithoutFault g old event) → Tallies old event.state_after
-    by true f = kept g old event.state_after (ap (λ (x : Outcome × CoreState). x.1.out) (sym f.core) ∙ fault_keeps_out old.core event.step) f.hands
+    by true f = kept g old event.state_after (ap (λ (x : Outcome × CoreState). x.1.in_flight) (sym f.core) ∙ fault_keeps_out old.core event.step) f.hands
     by false d = subst (λ (x : Outcome × MachineState). Tallies old x.1) d.does (happens_tallies g old d.to_write event.step)
 
 pub last_tallies : (g : Geometry) (old : MachineState) (events : List Event) → IsLegal g old events → Tallies old (last old events)
@@ -104,8 +104,8 @@ last_tallies g old (event ∷ events) legal =
     omega (arith, first, rest)
 
 -- Where no hand is full, nothing is dispatched, if nothing was.
-pub last_none_out : (g : Geometry) (old : MachineState) (events : List Event) → IsLegal g old events → old.core.out ≡ []
-    → full (last old events).hands ≡ 0 → (last old events).core.out ≡ []
+pub last_none_out : (g : Geometry) (old : MachineState) (events : List Event) → IsLegal g old events → old.core.in_flight ≡ []
+    → full (last old events).hands ≡ 0 → (last old events).core.in_flight ≡ []
 last_none_out g old events legal before after =
     let tallies = last_tallies g old events legal in
     let none = ap length before in

@@ -20,20 +20,20 @@ none_replied [] e = refl
 none_replied (a ∷ as') e = cc
 
 module _ (w : CoreState) (h : IsIdle w) where
-  pub none_out : w.out ≡ []
-  none_out = none_behind (entries w.ran) w.out (none_behind (entries w.logged) _ h.none_held)
+  pub none_in_flight : w.in_flight ≡ []
+  none_in_flight = none_behind (entries w.ran) w.in_flight (none_behind (entries w.logged) _ h.none_held)
 
   pub none_ran : w.ran ≡ []
-  none_ran = none_replied w.ran (none_before (entries w.ran) w.out (none_behind (entries w.logged) _ h.none_held))
+  none_ran = none_replied w.ran (none_before (entries w.ran) w.in_flight (none_behind (entries w.logged) _ h.none_held))
 
   pub none_logged : w.logged ≡ []
-  none_logged = none_replied w.logged (none_before (entries w.logged) (entries w.ran ++ w.out) h.none_held)
+  none_logged = none_replied w.logged (none_before (entries w.logged) (entries w.ran ++ w.in_flight) h.none_held)
 
-  none_to_come : w.out ++ w.waiting ≡ []
-  none_to_come = λ i. none_out i ++ h.none_waits i
+  none_to_come : w.in_flight ++ w.waiting ≡ []
+  none_to_come = λ i. none_in_flight i ++ h.none_waits i
 
   few : unlogged_changes w ≡ 0
-  few = λ i. unlogged_changes (record w { out = none_out i; ran = none_ran i })
+  few = λ i. unlogged_changes (record w { in_flight = none_in_flight i; ran = none_ran i })
 
   pub idle_sound : (g : Geometry) → IsSoundCoreState g w
   idle_sound g =

@@ -25,7 +25,7 @@ use Rattle.legal_runs.proofs.Lists.{first_few}
 -- nothing of this has changed
 pub record Same (old new : CoreState) : Type 0 where
   pub waiting : new.waiting ≡ old.waiting
-  pub out : new.out ≡ old.out
+  pub in_flight : new.in_flight ≡ old.in_flight
   pub ran : new.ran ≡ old.ran
   pub logged : new.logged ≡ old.logged
   pub committed : new.committed ≡ old.committed
@@ -73,7 +73,7 @@ module _ (g : Geometry) (w : CoreState) where
       kept : Same w (record w { room = room; left = left })
       kept = record {
         waiting = refl;
-        out = refl;
+        in_flight = refl;
         ran = refl;
         logged = refl;
         committed = refl;
@@ -124,7 +124,7 @@ module _ (g : Geometry) (w : CoreState) where
       let b = past (is_some w.left) points.Running _ a in
       let c : length (held w) ≤ 0 = ltb-false 0 (length (held w)) (late (nat_lt 0 (length (held w))) points.Held b) in
       let l = length_held w in
-      omega (arith, c, l, count_by-le-length (λ e. changes e.1) w.out, count_by-le-length (λ a. changes a.1) w.ran)
+      omega (arith, c, l, count_by-le-length (λ e. changes e.1) w.in_flight, count_by-le-length (λ a. changes a.1) w.ran)
     where
       past : (b : Bool) (why : PointRefusal) (o : Option PointRefusal) → (if b then Some why else o) ≡ None → o ≡ None
       past true why o e = absurd (true≢false (ap is_some e))
@@ -165,7 +165,7 @@ module _ (g : Geometry) (w : CoreState) where
       kept : Same w (record w { failed = true; doubt = doubt })
       kept = record {
         waiting = refl;
-        out = refl;
+        in_flight = refl;
         ran = refl;
         logged = refl;
         committed = refl;

@@ -65,10 +65,10 @@ module _ (g : Geometry) where
           | false ↦ k
         ]
 
-    batch_elsewhere : (w : CoreState) (n : ℕ) → IsSoundCoreState g w → IsIn e w.out → AllByRecursion Elsewhere (batch w n)
+    batch_elsewhere : (w : CoreState) (n : ℕ) → IsSoundCoreState g w → IsIn e w.in_flight → AllByRecursion Elsewhere (batch w n)
     batch_elsewhere w n sound is =
         let R : Entry → Entry → Type 0 = λ c d. are_related_entries g c d ≡ false in
-        let ran = before_in R (entries w.ran) w.out e (before_back R (entries w.logged) _ sound.apart) is in
+        let ran = before_in R (entries w.ran) w.in_flight e (before_back R (entries w.logged) _ sound.apart) is in
         let split = ap entries (sym (take-append-drop n w.ran)) ∙ entries-append (take n w.ran) (drop n w.ran) in
         logged_elsewhere (take n w.ran)
         (all_front (λ d. are_related_entries g d e ≡ false) (entries (take n w.ran)) (entries (drop n w.ran))
@@ -80,7 +80,7 @@ module _ (g : Geometry) where
     same_committed : (old new : CoreState) → new.committed ≡ old.committed → SeesSame old new
     same_committed old new same = subst (λ x. AgreeOn g (are_related (place g e.1)) x old.committed) (sym same) (agree-refl old.committed)
 
-    move_sees : (old new : CoreState) (p : Passed) → Move g old new p → IsSoundCoreState g old → IsIn e old.out → SeesSame old new
+    move_sees : (old new : CoreState) (p : Passed) → Move g old new p → IsSoundCoreState g old → IsIn e old.in_flight → SeesSame old new
     move_sees old new p (Stays s k) sound is = same_committed old new s.committed
     move_sees old new p (Arrives m fits moved k) sound is = same_committed old new (ap (λ w. w.committed) moved)
     move_sees old new p (Grants found first moved k) sound is = same_committed old new (ap (λ w. w.committed) moved)
@@ -89,7 +89,7 @@ module _ (g : Geometry) where
         subst (λ (w : CoreState). SeesSame old w) (sym moved) (fold_leaves old.committed e.1 (batch old n) (batch_elsewhere old n sound is))
     move_sees old new p (Answers a rest front moved k) sound is = same_committed old new (ap (λ w. w.committed) moved)
 
-  pub event_sees : (old : MachineState) (event : Event) (e : Entry) → IsAllowed g old event → IsSoundCoreState g old.core → IsIn e old.core.out
+  pub event_sees : (old : MachineState) (event : Event) (e : Entry) → IsAllowed g old event → IsSoundCoreState g old.core → IsIn e old.core.in_flight
       → AgreeOn g (are_related (place g e.1)) event.state_after.core.committed old.core.committed
   event_sees old event e allowed sound is = move_sees e old.core event.state_after.core _ (moves g old event allowed) sound is
 
@@ -101,7 +101,7 @@ either P false x y h j = j
 
 module _ (w : CoreState) where
   abbrev KeepsOut : Outcome × CoreState → Type 0
-  KeepsOut x = x.1.out ≡ w.out
+  KeepsOut x = x.1.in_flight ≡ w.in_flight
 
   refused_keeps_out : (why : Option PointRefusal) (made : Outcome × CoreState) → KeepsOut made → KeepsOut (unless_refused w why made)
   refused_keeps_out None made h = h
@@ -120,7 +120,7 @@ module _ (w : CoreState) where
 
 module _ (g : Geometry) (n : ℕ) (w : MachineState) where
   abbrev KeepsIn : Outcome × MachineState → Type 0
-  KeepsIn x = x.1.core.out ≡ w.core.out
+  KeepsIn x = x.1.core.in_flight ≡ w.core.in_flight
 
   run_keeps_out : (i : ℕ) (hand : Option Hand) → KeepsIn (run_hand w i hand)
   run_keeps_out i None = refl
@@ -140,14 +140,14 @@ module _ (g : Geometry) (n : ℕ) (w : MachineState) where
   happens_keeps_out steps.Piece e = refused_keeps_out w.core (piece_refusal w.core) _ refl
   happens_keeps_out steps.Flip e = refused_keeps_out w.core (flip_refusal w.core) _ refl
 
-pub fault_keeps_out : (w : CoreState) (s : Step) → (fault w s).1.out ≡ w.out
+pub fault_keeps_out : (w : CoreState) (s : Step) → (fault w s).1.in_flight ≡ w.in_flight
 fault_keeps_out w (steps.Log k) = refl
 fault_keeps_out w _ = refl
 
 pub event_keeps_out : (g : Geometry) (old : MachineState) (event : Event) → IsAllowed g old event → moves_what_is_out event.step ≡ false
-    → event.state_after.core.out ≡ old.core.out
+    → event.state_after.core.in_flight ≡ old.core.in_flight
 event_keeps_out g old event allowed still = by event.device_failed allowed
   where
-    by : (b : Bool) → MatchBool b (IsFault old event) (IsWithoutFault g old event) → event.state_after.core.out ≡ old.core.out
-    by true f = ap (λ (x : Outcome × CoreState). x.1.out) (sym f.core) ∙ fault_keeps_out old.core event.step
-    by false d = ap (λ (x : Outcome × MachineState). x.1.core.out) (sym d.does) ∙ happens_keeps_out g d.to_write old event.step still
+    by : (b : Bool) → MatchBool b (IsFault old event) (IsWithoutFault g old event) → event.state_after.core.in_flight ≡ old.core.in_flight
+    by true f = ap (λ (x : Outcome × CoreState). x.1.in_flight) (sym f.core) ∙ fault_keeps_out old.core event.step
+    by false d = ap (λ (x : Outcome × MachineState). x.1.core.in_flight) (sym d.does) ∙ happens_keeps_out g d.to_write old event.step still

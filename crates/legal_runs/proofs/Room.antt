@@ -53,13 +53,13 @@ log_has_room w n h = omega (arith, h, batch_few w n, ran_split w n)
 pub move_room : (g : Geometry) (old new : CoreState) (p : Passed) → Move g old new p → unlogged_changes old ≤ old.room → unlogged_changes new ≤ new.room
 move_room g old new p (Stays s e) h =
     let k = s.room h in
-    let same : unlogged_changes new ≡ unlogged_changes old = λ i. out_count (s.out i) + ran_count (s.ran i) in
+    let same : unlogged_changes new ≡ unlogged_changes old = λ i. out_count (s.in_flight i) + ran_count (s.ran i) in
     omega (arith, k, same)
 move_room g old new p (Arrives m fits is e) h = subst (λ w. unlogged_changes w ≤ w.room) (sym is) h
 move_room g old new p (Grants found first is e) h =
     let k = picked (is_eligible g old) old.waiting found first in
     let roomy = (and_parts (is_conflict_free g old found.0) (has_room old found.0) k.passes).1 in
-    let now : out_count (old.out ++ found.0 ∷ []) ≡ out_count old.out + out_count (found.0 ∷ []) = sum_by-append _ old.out (found.0 ∷ []) in
+    let now : out_count (old.in_flight ++ found.0 ∷ []) ≡ out_count old.in_flight + out_count (found.0 ∷ []) = sum_by-append _ old.in_flight (found.0 ∷ []) in
     let single = sum_by-cons (λ (e : Entry). cond (changes e.1) 1 0) found.0 [] in
     let fits : unlogged_changes old + one found.0.1 ≤ old.room = enough (changes found.0.1) (unlogged_changes old) old.room h roomy in
     subst (λ w. unlogged_changes w ≤ w.room) (sym is) (omega (arith, now, single, fits))
@@ -68,8 +68,8 @@ move_room g old new p (Grants found first is e) h =
     enough true n room h r = let lt = ltb-true n room r in omega (arith, lt)
     enough false n room h r = omega arith
 move_room g old new p (Backs ticket found one_out is e) h =
-    let k = picked (λ d. d.0 == ticket) old.out found one_out in
-    let was : out_count old.out ≡ out_count k.before + out_count (found.0 ∷ k.behind) = ap out_count k.whole
+    let k = picked (λ d. d.0 == ticket) old.in_flight found one_out in
+    let was : out_count old.in_flight ≡ out_count k.before + out_count (found.0 ∷ k.behind) = ap out_count k.whole
     ∙ sum_by-append _ k.before (found.0 ∷ k.behind) in
     let one_was = sum_by-cons (λ (e : Entry). cond (changes e.1) 1 0) found.0 k.behind in
     let now : out_count found.1 ≡ out_count k.before + out_count k.behind = ap out_count k.rest ∙ sum_by-append _ k.before k.behind in

@@ -135,15 +135,15 @@ module _ (g : Geometry) (old : MachineState) (events : List Event) (legal : IsLe
   pub none_lost : IsPermutation (arrived events) (row now (logged_messages old events))
   none_lost = (arrivals_reordered g old events legal idle).same
 
-  first_in_row : (j : ℕ) → row now (logged_messages old events) ≡ entries (log j) ++ (entries (drop j now.ran) ++ (now.out ++ now.waiting))
+  first_in_row : (j : ℕ) → row now (logged_messages old events) ≡ entries (log j) ++ (entries (drop j now.ran) ++ (now.in_flight ++ now.waiting))
   first_in_row j =
       let W = entries (logged_messages old events) in
       let first = entries (take j now.ran) in
-      let rest = entries (drop j now.ran) ++ (now.out ++ now.waiting) in
-      let split : entries now.ran ++ (now.out ++ now.waiting) ≡ first ++ rest =
-      ap (λ l. entries l ++ (now.out ++ now.waiting)) (sym (take-append-drop j now.ran))
-      ∙ ap (λ l. l ++ (now.out ++ now.waiting)) (entries-append (take j now.ran) (drop j now.ran))
-      ∙ append_assoc first (entries (drop j now.ran)) (now.out ++ now.waiting) in
+      let rest = entries (drop j now.ran) ++ (now.in_flight ++ now.waiting) in
+      let split : entries now.ran ++ (now.in_flight ++ now.waiting) ≡ first ++ rest =
+      ap (λ l. entries l ++ (now.in_flight ++ now.waiting)) (sym (take-append-drop j now.ran))
+      ∙ ap (λ l. l ++ (now.in_flight ++ now.waiting)) (entries-append (take j now.ran) (drop j now.ran))
+      ∙ append_assoc first (entries (drop j now.ran)) (now.in_flight ++ now.waiting) in
       ap (λ l. W ++ l) split ∙ sym (append_assoc W first rest)
       ∙ ap (λ l. l ++ rest) (sym (entries-append (logged_messages old events) (take j now.ran)))
 
@@ -160,7 +160,7 @@ module _ (g : Geometry) (old : MachineState) (events : List Event) (legal : IsLe
 
   pub serial_log : (j : ℕ) → IsSerialLog g old.core.committed (arrived events) (log j)
   serial_log j = record {
-    rest = entries (drop j now.ran) ++ (now.out ++ now.waiting);
+    rest = entries (drop j now.ran) ++ (now.in_flight ++ now.waiting);
     each_once = subst (IsPermutation (arrived events)) (first_in_row j) none_lost;
     by_ticket = keeps_order g _ (subst (EachBefore (IsBefore g)) (first_in_row j)
         ((arrivals_reordered g old events legal idle).ordered (before_ascending g (arrived events) (run_ascending g old events legal))));

@@ -29,19 +29,19 @@ module _ (g : Geometry) where
   row_of w n h =
       let whole : take n w.ran ++ drop n w.ran ≡ w.ran = take-append-drop n w.ran in
       in_a_row g w.committed (take n w.ran) (drop n w.ran)
-      (subst (λ r. AreApart g (entries r)) (sym whole) (before_front _ (entries w.ran) w.out (before_back _ (entries w.logged) _ h.apart)))
+      (subst (λ r. AreApart g (entries r)) (sym whole) (before_front _ (entries w.ran) w.in_flight (before_back _ (entries w.logged) _ h.apart)))
       (subst (AreReplied g w.committed) (sym whole) h.replied)
 
   pub move_sound : (old new : CoreState) (p : Passed) → Move g old new p → IsSoundCoreState g old → IsSoundCoreState g new
   move_sound old new p (Stays s e) h =
-      let all : new.out ++ new.waiting ≡ old.out ++ old.waiting = λ i. s.out i ++ s.waiting i in
-      let holds : held new ≡ held old = λ i. entries (s.logged i) ++ (entries (s.ran i) ++ s.out i) in
+      let all : new.in_flight ++ new.waiting ≡ old.in_flight ++ old.waiting = λ i. s.in_flight i ++ s.waiting i in
+      let holds : held new ≡ held old = λ i. entries (s.logged i) ++ (entries (s.ran i) ++ s.in_flight i) in
       record {
         apart = subst (AreApart g) (sym holds) h.apart;
         replied = subst (AreReplied g new.committed) (sym s.ran) (subst (λ x. AreReplied g x old.ran) (sym s.committed) h.replied);
         ascending = subst AreAscending (sym s.waiting) h.ascending;
         once = subst AreOnce (sym all) h.once;
-        given = subst (λ n. AllByRecursion (IsGiven n) (new.out ++ new.waiting)) (sym s.next)
+        given = subst (λ n. AllByRecursion (IsGiven n) (new.in_flight ++ new.waiting)) (sym s.next)
             (subst (AllByRecursion (IsGiven old.next)) (sym all) h.given);
         room = move_room g old new p (Stays s e) h.room;
         fits = subst (λ n. length new.waiting + length (held new) ≤ n) (sym s.slots)
@@ -50,7 +50,7 @@ module _ (g : Geometry) where
       }
   move_sound old new p (Arrives m fits is e) h =
       let one : Entry = (old.next, m) in
-      let same = sym (append_assoc old.out old.waiting (one ∷ [])) in
+      let same = sym (append_assoc old.in_flight old.waiting (one ∷ [])) in
       let l = length-append old.waiting (one ∷ []) in
       let room = move_room g old new p (Arrives m fits is e) h.room in
       subst (IsSoundCoreState g) (sym is) (record {
@@ -58,23 +58,23 @@ module _ (g : Geometry) where
         replied = h.replied;
         ascending = before_push (λ e d. e.0 < d.0) old.waiting one h.ascending (waits_given old h);
         once = subst AreOnce (sym same) (before_push
-            (λ e d. e.0 ≡ d.0 → ⊥) (old.out ++ old.waiting) one h.once (all_weaker (IsGiven old.next) (λ e. e.0 ≡ old.next → ⊥)
+            (λ e d. e.0 ≡ d.0 → ⊥) (old.in_flight ++ old.waiting) one h.once (all_weaker (IsGiven old.next) (λ e. e.0 ≡ old.next → ⊥)
             (λ e lt is. omega (arith, lt, is)) _ h.given));
         given = subst (AllByRecursion (IsGiven (old.next + 1))) (sym same)
-            (all_join (IsGiven (old.next + 1)) (old.out ++ old.waiting) (one
+            (all_join (IsGiven (old.next + 1)) (old.in_flight ++ old.waiting) (one
             ∷ []) (all_weaker (IsGiven old.next) (IsGiven (old.next + 1)) (λ e lt. omega (arith, lt)) _ h.given) (omega arith, tt));
         room = h.room;
         fits = omega (arith, l, fits);
       })
     where
       waits_given : (w : CoreState) → IsSoundCoreState g w → AllByRecursion (IsGiven w.next) w.waiting
-      waits_given w h = all_back (IsGiven w.next) w.out w.waiting h.given
+      waits_given w h = all_back (IsGiven w.next) w.in_flight w.waiting h.given
   move_sound old new p (Grants found first is e) h =
       let k = picked (is_eligible g old) old.waiting found first in
       let one = found.0 in
-      let from : old.out ++ old.waiting ≡ old.out ++ (k.before ++ one ∷ k.behind) = ap (λ l. old.out ++ l) k.whole in
-      let to : old.out ++ one ∷ (k.before ++ k.behind) ≡ (old.out ++ one ∷ []) ++ found.1 = sym (append_assoc old.out (one ∷ []) _) ∙ ap
-      (λ l. (old.out ++ one ∷ []) ++ l) (sym k.rest) in
+      let from : old.in_flight ++ old.waiting ≡ old.in_flight ++ (k.before ++ one ∷ k.behind) = ap (λ l. old.in_flight ++ l) k.whole in
+      let to : old.in_flight ++ one ∷ (k.before ++ k.behind) ≡ (old.in_flight ++ one ∷ []) ++ found.1 = sym (append_assoc old.in_flight (one ∷ []) _) ∙ ap
+      (λ l. (old.in_flight ++ one ∷ []) ++ l) (sym k.rest) in
       let room = move_room g old (grant old found) p (Grants found first refl e) h.room in
       let was = ap length k.whole ∙ length-append k.before (one ∷ k.behind) in
       let now = ap length k.rest ∙ length-append k.before k.behind in
@@ -84,8 +84,8 @@ module _ (g : Geometry) where
         apart = grant_apart g old found first h.apart;
         replied = h.replied;
         ascending = subst AreAscending (sym k.rest) (before_without _ k.before one k.behind (subst AreAscending k.whole h.ascending));
-        once = subst AreOnce to (before_moved _ once_turned old.out k.before one k.behind (subst AreOnce from h.once));
-        given = subst (AllByRecursion (IsGiven old.next)) to (moved old.next old.out k.before one k.behind
+        once = subst AreOnce to (before_moved _ once_turned old.in_flight k.before one k.behind (subst AreOnce from h.once));
+        given = subst (AllByRecursion (IsGiven old.next)) to (moved old.next old.in_flight k.before one k.behind
             (subst (AllByRecursion (IsGiven old.next)) from h.given));
         room = room;
         fits = omega (arith, was, now, holds, fits);
@@ -96,10 +96,10 @@ module _ (g : Geometry) where
       moved n xs us e vs h = all_join (IsGiven n) xs (e
           ∷ (us ++ vs)) (all_front (IsGiven n) xs _ h) (all_moved (IsGiven n) us e vs (all_back (IsGiven n) xs _ h))
   move_sound old new p (Backs ticket found one_out is e) h =
-      let k = picked (λ d. d.0 == ticket) old.out found one_out in
+      let k = picked (λ d. d.0 == ticket) old.in_flight found one_out in
       let one = found.0 in
       let a : Replied = (one.0, one.1, reply_to g old.committed one.1) in
-      let from : old.out ++ old.waiting ≡ k.before ++ one ∷ (k.behind ++ old.waiting) = ap (λ l. l ++ old.waiting) k.whole
+      let from : old.in_flight ++ old.waiting ≡ k.before ++ one ∷ (k.behind ++ old.waiting) = ap (λ l. l ++ old.waiting) k.whole
       ∙ append_assoc k.before (one ∷ k.behind) old.waiting in
       let to : k.before ++ (k.behind ++ old.waiting) ≡ found.1 ++ old.waiting = sym (append_assoc k.before k.behind old.waiting) ∙ ap
       (λ l. l ++ old.waiting) (sym k.rest) in
@@ -132,9 +132,9 @@ module _ (g : Geometry) where
         fits = subst (λ l. length old.waiting + length l ≤ old.slots) (sym (log_held g old n)) h.fits;
       })
   move_sound old new p (Answers a rest front is e) h =
-      let fits = subst (λ l. length old.waiting + length (entries l ++ (entries old.ran ++ old.out)) ≤ old.slots) front h.fits in
+      let fits = subst (λ l. length old.waiting + length (entries l ++ (entries old.ran ++ old.in_flight)) ≤ old.slots) front h.fits in
       subst (IsSoundCoreState g) (sym is) (record {
-        apart = (subst (λ l. AreApart g (entries l ++ (entries old.ran ++ old.out))) front h.apart).1;
+        apart = (subst (λ l. AreApart g (entries l ++ (entries old.ran ++ old.in_flight))) front h.apart).1;
         replied = h.replied;
         ascending = h.ascending;
         once = h.once;

@@ -17,8 +17,8 @@ Replied = ℕ × Msg × Reply
 pub record CoreState : Type 0 where
   -- those that wait, by ticket
   pub waiting : List Entry
-  -- those that are in flight: dispatched, and not given back; in the order of their grants
-  pub out : List Entry
+  -- those that are in flight: dispatched, and not given back; in the order of dispatch
+  pub in_flight : List Entry
   -- those that ran, with their replies, in the order in which they were given back
   pub ran : List Replied
   -- those that are logged and not answered yet, in log order
@@ -46,7 +46,7 @@ entries as' = map entry as'
 
 -- the messages that are held: logged, ran or dispatched
 abbrev pub held : CoreState → List Entry
-held w = entries w.logged ++ (entries w.ran ++ w.out)
+held w = entries w.logged ++ (entries w.ran ++ w.in_flight)
 
 -- whether the places of two messages are related
 abbrev pub are_related_entries : Geometry → Entry → Entry → Bool

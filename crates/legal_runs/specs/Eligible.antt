@@ -17,7 +17,7 @@ changes m = is_changing (kind m)
 
 -- how many of the messages in flight and of those that ran may come to need a record
 abbrev pub unlogged_changes : CoreState → ℕ
-unlogged_changes w = count_by (λ e. changes e.1) w.out + count_by (λ a. changes a.1) w.ran
+unlogged_changes w = count_by (λ e. changes e.1) w.in_flight + count_by (λ a. changes a.1) w.ran
 
 abbrev pub has_room : CoreState → Entry → Bool
 has_room w e = not (changes e.1) || nat_lt (unlogged_changes w) w.room

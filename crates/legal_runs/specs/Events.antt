@@ -30,7 +30,7 @@ arrive g w m =
 
 -- The message is dispatched, and the others wait on.
 abbrev pub grant : CoreState → Entry × List Entry → CoreState
-grant w found = record w { waiting = found.1; out = w.out ++ found.0 ∷ [] }
+grant w found = record w { waiting = found.1; in_flight = w.in_flight ++ found.0 ∷ [] }
 
 -- why none is granted
 abbrev pub no_grant : Geometry → CoreState → Outcome
@@ -38,11 +38,11 @@ no_grant g w = if list_any (lacks_room_alone g w) w.waiting then outcomes.NoRoom
 
 -- the dispatched message with this ticket, and the other dispatched ones
 abbrev pub out_with : CoreState → ℕ → Option (Entry × List Entry)
-out_with w ticket = pick (λ e. e.0 == ticket) w.out
+out_with w ticket = pick (λ e. e.0 == ticket) w.in_flight
 
 -- The message is given back, with the reply at the committed state.
 abbrev pub give_back : Geometry → CoreState → Entry × List Entry → CoreState
-give_back g w found = record w { out = found.1; ran = w.ran ++ (found.0.0, found.0.1, reply_to g w.committed found.0.1) ∷ [] }
+give_back g w found = record w { in_flight = found.1; ran = w.ran ++ (found.0.0, found.0.1, reply_to g w.committed found.0.1) ∷ [] }
 
 -- those of the messages that the log keeps: the changes that were carried out
 abbrev pub loggable : List Replied → List Msg

@@ -61,8 +61,8 @@ pub record IsSoundCoreState (g : Geometry) (w : CoreState) : Type 0 where
   -- they wait by ticket
   pub ascending : AreAscending w.waiting
   -- no ticket was given twice, and each is below the next one
-  pub once : AreOnce (w.out ++ w.waiting)
-  pub given : AllByRecursion (λ e. e.0 < w.next) (w.out ++ w.waiting)
+  pub once : AreOnce (w.in_flight ++ w.waiting)
+  pub given : AllByRecursion (λ e. e.0 < w.next) (w.in_flight ++ w.waiting)
   -- what is dispatched and what ran has room in the log
   pub room : unlogged_changes w ≤ w.room
   -- there is a slot for each message

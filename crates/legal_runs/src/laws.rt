@@ -94,7 +94,7 @@ pub fn replies_are_by_ticket()
 pub fn messages_are_neither_lost_nor_doubled()
     ensures all { (g : Geometry) (old : MachineState) (events : List Event) → IsLegal g old events → IsIdle old.core
         → IsPermutation (arrived events) (entries (logged_messages old events) ++ (entries (last old events).core.ran
-        ++ ((last old events).core.out ++ (last old events).core.waiting))) }
+        ++ ((last old events).core.in_flight ++ (last old events).core.waiting))) }
     ensures answered { (g : Geometry) (old : MachineState) (events : List Event) → IsLegal g old events → IsIdle old.core
         → AllByRecursion (λ a. Contains (arrived events) (entry a)) (answered_messages old events) }
     ensures ticket { (g : Geometry) (old : MachineState) (events : List Event) (e d : Entry) → IsLegal g old events
@@ -211,22 +211,22 @@ pub fn a_crash_leaves_a_serial_log()
 /// above it.
 pub fn what_is_out_sees_no_change()
     ensures { (g : Geometry) (old : MachineState) (event : Event) (e : Entry) → IsAllowed g old event → IsSoundCoreState g old.core
-        → Contains old.core.out e → AgreeOn g (are_related (place g e.1)) event.state_after.core.committed old.core.committed }
+        → Contains old.core.in_flight e → AgreeOn g (are_related (place g e.1)) event.state_after.core.committed old.core.committed }
 {}
 
 /// Only a grant dispatches a message, and only a return gives one back.
 pub fn only_grants_and_returns_change_what_is_out()
     ensures { (g : Geometry) (old : MachineState) (event : Event) → IsAllowed g old event → moves_what_is_out event.step ≡ false
-        → event.state_after.core.out ≡ old.core.out }
+        → event.state_after.core.in_flight ≡ old.core.in_flight }
 {}
 
 /// The number of dispatched messages grows and falls with that of full hands. So nothing is dispatched in the end where nothing was
 /// in the beginning and every hand is empty in the end.
 pub fn what_is_out_is_in_hands()
     ensures number { (g : Geometry) (old : MachineState) (events : List Event) → IsLegal g old events
-        → length (last old events).core.out + full old.hands ≡ length old.core.out + full (last old events).hands }
-    ensures none { (g : Geometry) (old : MachineState) (events : List Event) → IsLegal g old events → old.core.out ≡ []
-        → full (last old events).hands ≡ 0 → (last old events).core.out ≡ [] }
+        → length (last old events).core.in_flight + full old.hands ≡ length old.core.in_flight + full (last old events).hands }
+    ensures none { (g : Geometry) (old : MachineState) (events : List Event) → IsLegal g old events → old.core.in_flight ≡ []
+        → full (last old events).hands ≡ 0 → (last old events).core.in_flight ≡ [] }
 {}
 
 /// A further incarnation goes on from each state that the incarnations before it may have left. In whatever they leave, the log of

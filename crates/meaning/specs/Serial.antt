@@ -123,6 +123,7 @@ next_state g x m = (step g x m).1
 
 -- ---- messages one after the other
 
+-- the state after all of these messages, from x on
 abbrev pub fold : Geometry → State → List Msg → State
 fold g x [] = x
 fold g x (m ∷ ms) = fold g (next_state g x m) ms

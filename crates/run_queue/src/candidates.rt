@@ -8,10 +8,10 @@ use crate::QueuedMessage;
 use crate::ready_table::{CHUNK, ReadyTable};
 
 // Whether there is room for it.
-fn has_room(room: bool, queued: &QueuedMessage) -> bool
-    ensures { result ≡ has_room room queued.now }
+fn has_room(log_has_room: bool, queued: &QueuedMessage) -> bool
+    ensures { result ≡ has_room log_has_room queued.now }
 {
-    room || !queued.changing
+    log_has_room || !queued.changing
 }
 
 // Whether it came before the best so far.
@@ -26,14 +26,14 @@ fn is_earlier(best: Option<&QueuedMessage>, queued: &QueuedMessage) -> bool
 
 // The number of the earlier of two ready messages: the best so far, and the one at a number, if there
 // is room for that.
-fn better(room: bool, ready_table: &ReadyTable, best: usize, number: usize) -> usize
+fn better(log_has_room: bool, ready_table: &ReadyTable, best: usize, number: usize) -> usize
     ensures { ready_in ready_table.now result
-        ≡ earlier (ready_in ready_table.now best) (if_passes (has_room room) (ready_in ready_table.now number)) }
+        ≡ earlier (ready_in ready_table.now best) (if_passes (has_room log_has_room) (ready_in ready_table.now number)) }
 {
     let Some(queued) = ready_table.at(number) else {
         return best;
     };
-    if is_earlier(ready_table.at(best), queued) && has_room(room, queued) {
+    if is_earlier(ready_table.at(best), queued) && has_room(log_has_room, queued) {
         number
     } else {
         best
@@ -41,15 +41,15 @@ fn better(room: bool, ready_table: &ReadyTable, best: usize, number: usize) -> u
 }
 
 /// The number of the earliest of these ready messages: the best so far, and those in a chunk for which there is room.
-pub(crate) fn best_in(room: bool, ready_table: &ReadyTable, best: usize, chunk: usize) -> usize
+pub(crate) fn best_in(log_has_room: bool, ready_table: &ReadyTable, best: usize, chunk: usize) -> usize
     requires { chunk ≤ 4096 }
     ensures { ready_in ready_table.now result
-        ≡ earliest_from (has_room room) ready_table.now (16 * chunk) 16 (ready_in ready_table.now best) }
+        ≡ earliest_from (has_room log_has_room) ready_table.now (16 * chunk) 16 (ready_in ready_table.now best) }
 {
     let mut found = best;
     for number in chunk * CHUNK..(chunk + 1) * CHUNK {
         if ready_table.rank(number) <= ready_table.bound(found) {
-            found = better(room, ready_table, found, number);
+            found = better(log_has_room, ready_table, found, number);
         }
     }
     found

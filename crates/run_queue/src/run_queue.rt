@@ -85,15 +85,15 @@ impl RunQueue {
     }
 
     /// The waiting message with the least ticket that may be dispatched: no message at a related affinity is held, or is older and waits;
-    /// and if it may change something, there is `room`. None if there is no such message.
-    pub fn next(&self, room: bool) -> Option<QueuedMessage>
-        ensures { result ≡ next_queued room self.now.held self.now.waiting }
+    /// and if it may change something, `log_has_room`. None if there is no such message.
+    pub fn next(&self, log_has_room: bool) -> Option<QueuedMessage>
+        ensures { result ≡ next_queued log_has_room self.now.held self.now.waiting }
     {
         let mut best = self.ready_table.len(); // none is ready there
         for chunk in 0..chunks_of(&self.geometry) {
             // Most are passed by their least ranks alone.
             if self.ready_table.least(chunk) <= self.ready_table.bound(best) {
-                best = best_in(room, &self.ready_table, best, chunk);
+                best = best_in(log_has_room, &self.ready_table, best, chunk);
             }
         }
         self.ready_table.at(best).copied()

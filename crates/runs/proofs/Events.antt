@@ -244,7 +244,7 @@ module _ (keeps : Type 0) (old new : CoreView) (hands : List Holding)
         let moved : HoldsJobs g (core_state_of new) hands = hands_stay g (core_state_of old) (core_state_of new) hands h
         (event_sound g w event allowed h.sound)
         (λ e out. event_sees g w event e allowed h.sound (in_contained _ e out))
-        (λ i ticket m is out. subst (λ (x : CoreState). Contains x.out (ticket, m)) (sym k.state_after)
+        (λ i ticket m is out. subst (λ (x : CoreState). Contains x.in_flight (ticket, m)) (sym k.state_after)
         (granted_stays g (core_state_of old) k.found (ticket, m) out)) in
         subst (λ (y : Geometry). HoldsJobs y (core_state_of new) (set hands hand (has.Job job))) (sym geometry)
         (holds_set g (core_state_of new) hands moved hand within (has.Job job) k.is_job
@@ -253,10 +253,10 @@ module _ (keeps : Type 0) (old new : CoreView) (hands : List Holding)
         some_same : {a b : ℕ} → ◌≡◌ {A = Option ℕ} (Some a) (Some b) → a ≡ b
         some_same e = cc
 
-        of : (x : Holding) (ticket : ℕ) → IsHandOf old.geometry (core_state_of old) x → ticket_in x ≡ Some ticket → (m : Msg) × Contains old.out (ticket, m)
+        of : (x : Holding) (ticket : ℕ) → IsHandOf old.geometry (core_state_of old) x → ticket_in x ≡ Some ticket → (m : Msg) × Contains old.in_flight (ticket, m)
         of has.Empty ticket is e = cc
-        of (has.Job j) ticket is e = (j.message, subst (λ (t : ℕ). Contains old.out (t, j.message)) (some_same e) is.is_out)
-        of (has.Result d) ticket is e = (d.message, subst (λ (t : ℕ). Contains old.out (t, d.message)) (some_same e) is.is_out)
+        of (has.Job j) ticket is e = (j.message, subst (λ (t : ℕ). Contains old.in_flight (t, j.message)) (some_same e) is.is_out)
+        of (has.Result d) ticket is e = (d.message, subst (λ (t : ℕ). Contains old.in_flight (t, d.message)) (some_same e) is.is_out)
 
         fresh : HoldsJobs old.geometry (core_state_of old) hands → (i ticket : ℕ) → IsHandOf old.geometry (core_state_of old) (hand_at hands i)
             → ticket_in (hand_at hands i) ≡ Some ticket → job.ticket ≡ ticket → ⊥
@@ -428,5 +428,5 @@ module _ (keeps : Type 0) (core : CoreView) (hands : List Holding) (none : core.
       back_holds = subst (λ (y : Geometry). HoldsJobs y (core_state_of new) emptied) (sym geometry)
           (hands_stay g (core_state_of core) (core_state_of new) emptied without (event_sound g held_now back_event allowed h.sound)
           (λ e out. event_sees g held_now back_event e allowed h.sound (in_contained _ e out))
-          (λ k ticket m k_has out. subst (λ (x : CoreState). Contains x.out (ticket, m)) (sym is)
+          (λ k ticket m k_has out. subst (λ (x : CoreState). Contains x.in_flight (ticket, m)) (sym is)
           (returned_stays g (core_state_of core) done.ticket found one_out (ticket, m) (others k ticket m k_has) out)))

@@ -30,10 +30,10 @@ one_or_other i k = elim (i == k) as (λ b. (i == k) ≡ b → (i ≡ k) ⊎ (i �
 module _ (g : Geometry) where
   -- The message of a ticket that the hand has stays dispatched.
   abbrev StaysOut : CoreState → CoreState → Holding → Type 0
-  StaysOut old new h = (ticket : ℕ) (m : Msg) → ticket_in h ≡ Some ticket → Contains old.out (ticket, m) → Contains new.out (ticket, m)
+  StaysOut old new h = (ticket : ℕ) (m : Msg) → ticket_in h ≡ Some ticket → Contains old.in_flight (ticket, m) → Contains new.in_flight (ticket, m)
 
   hand_stays : (old new : CoreState) (h : Holding) → IsHandOf g old h → StaysOut old new h
-      → ((e : Entry) → Contains old.out e → SeesSame g old new e.1) → IsHandOf g new h
+      → ((e : Entry) → Contains old.in_flight e → SeesSame g old new e.1) → IsHandOf g new h
   hand_stays old new has.Empty is stays sees = tt
   hand_stays old new (has.Job job) is stays sees = job_stays g old new job is (sees (job.ticket, job.message) is.is_out)
       (stays job.ticket job.message refl is.is_out)
@@ -42,7 +42,7 @@ module _ (g : Geometry) where
 
   -- The hands are as they were, and the messages that they have stay dispatched.
   pub hands_stay : (old new : CoreState) (hands : List Holding) → HoldsJobs g old hands → IsSoundCoreState g new
-      → ((e : Entry) → Contains old.out e → SeesSame g old new e.1) → ((i : ℕ) → StaysOut old new (hand_at hands i))
+      → ((e : Entry) → Contains old.in_flight e → SeesSame g old new e.1) → ((i : ℕ) → StaysOut old new (hand_at hands i))
       → HoldsJobs g new hands
   hands_stay old new hands h sound sees stays = record {
     sound = sound;
@@ -84,22 +84,22 @@ module _ (g : Geometry) where
 
   -- ---- what is dispatched after a grant and after a return
 
-  pub granted_stays : (w : CoreState) (found : Entry × List Entry) (e : Entry) → Contains w.out e → Contains (grant w found).out e
-  granted_stays w found e out = contains_in _ e (in_left e w.out (found.0 ∷ []) (in_contained _ e out))
+  pub granted_stays : (w : CoreState) (found : Entry × List Entry) (e : Entry) → Contains w.in_flight e → Contains (grant w found).in_flight e
+  granted_stays w found e out = contains_in _ e (in_left e w.in_flight (found.0 ∷ []) (in_contained _ e out))
 
   -- The ticket of what is granted is that of no dispatched message.
   pub granted_is_fresh : (w : CoreState) (found : Entry × List Entry) → IsSoundCoreState g w → next_eligible g w ≡ Some found → (e : Entry)
-      → Contains w.out e → e.0 ≡ found.0.0 → ⊥
+      → Contains w.in_flight e → e.0 ≡ found.0.0 → ⊥
   granted_is_fresh w found sound first e out =
       let R : Entry → Entry → Type 0 = λ c d. c.0 ≡ d.0 → ⊥ in
       let k = picked (is_eligible g w) w.waiting found first in
       let waits : IsIn found.0 w.waiting = subst (IsIn found.0) (sym k.whole) (in_right found.0 k.before (found.0 ∷ k.behind) (inl refl)) in
-      all_at (λ c. R c found.0) w.out e (before_in R w.out w.waiting found.0 sound.once waits) (in_contained _ e out)
+      all_at (λ c. R c found.0) w.in_flight e (before_in R w.in_flight w.waiting found.0 sound.once waits) (in_contained _ e out)
 
   pub returned_stays : (w : CoreState) (ticket : ℕ) (found : Entry × List Entry) → out_with w ticket ≡ Some found → (e : Entry)
-      → e.0 ≢ ticket → Contains w.out e → Contains (give_back g w found).out e
+      → e.0 ≢ ticket → Contains w.in_flight e → Contains (give_back g w found).in_flight e
   returned_stays w ticket found one_out e other out =
-      let k = picked (λ d. d.0 == ticket) w.out found one_out in
+      let k = picked (λ d. d.0 == ticket) w.in_flight found one_out in
       let was : IsIn e (k.before ++ found.0 ∷ k.behind) = subst (IsIn e) k.whole (in_contained _ e out) in
       let same : found.0.0 ≡ ticket = eqb-true found.0.0 ticket k.passes in
       contains_in found.1 e (subst (IsIn e) (sym k.rest)

@@ -23,7 +23,7 @@ module _ (g : Geometry) where
       let k = serial_run job done w.committed run h.lent in
       let same : ◌≡◌ {A = Geometry × Msg} (job.geometry, job.message) (g, done.message) = λ i. (h.geometry i, sym run.message i) in
       record {
-        is_out = subst (λ (e : Entry). Contains w.out e) (λ i. (sym run.ticket i, sym run.message i)) h.is_out;
+        is_out = subst (λ (e : Entry). Contains w.in_flight e) (λ i. (sym run.ticket i, sym run.message i)) h.is_out;
         suits = subst (λ (p : Geometry × Msg). Suits p.0 p.1 done.parcels) same run.suits;
         reply = k.reply ∙ ap (λ (p : Geometry × Msg). reply_to p.0 w.committed p.1) same;
         standing = job.standing;
@@ -35,13 +35,13 @@ module _ (g : Geometry) where
   SeesSame old new m = AgreeOn g (are_related (place g m)) new.committed old.committed
 
   pub job_stays : (old new : CoreState) (job : JobView) → IsJobOf g old job → SeesSame old new job.message
-      → Contains new.out (job.ticket, job.message) → IsJobOf g new job
+      → Contains new.in_flight (job.ticket, job.message) → IsJobOf g new job
   job_stays old new job h same out =
       let there = subst (λ (y : Geometry). AgreeOn y (are_related (place y job.message)) new.committed old.committed) (sym h.geometry) same in
       record { geometry = h.geometry; is_out = out; lent = agree-trans h.lent (agree-sym there) }
 
   pub result_stays : (old new : CoreState) (done : Done) → IsResultOf g old done → SeesSame old new done.message
-      → Contains new.out (done.ticket, done.message) → IsResultOf g new done
+      → Contains new.in_flight (done.ticket, done.message) → IsResultOf g new done
   result_stays old new done h same out =
       let k = reads_only g (are_related (place g done.message)) new.committed old.committed done.message same (λ q r. r) in
       record {

@@ -57,7 +57,7 @@ module _ (keeps : Type 0) (row : ArenaView Slot) (replies : List Reply) (tree : 
   after_is = λ i. record (with_answer p behind (suc p.free) taken.affinity.number) {
     phases = record {
       waiting = taken_slot.stays 0 (λ same. omega (arith, same)) i;
-      out = taken_slot.stays 1 (λ same. omega (arith, same)) i;
+      in_flight = taken_slot.stays 1 (λ same. omega (arith, same)) i;
       ran = taken_slot.stays 2 (λ same. omega (arith, same)) i;
       logged = taken_slot.left i;
     };

@@ -71,8 +71,8 @@ module _ (keeps : Type 0) (p : Parts) (k : IsCore keeps p) (x : SlotView) (behin
   pub answer_front : (core_state_in p).logged ≡ replied_of x ∷ (core_state_in after).logged
   answer_front = ap (map replied_of) whole
 
-  apart_rest : AllByRecursion (λ d. are_related_entries g (entry_of x) d ≡ false) (entries (map replied_of behind) ++ (entries (map replied_of p.phases.ran) ++ map entry_of p.phases.out))
-  apart_rest = (subst (λ l. AreApart g (entries l ++ (entries (map replied_of p.phases.ran) ++ map entry_of p.phases.out))) answer_front k.sound.apart).0
+  apart_rest : AllByRecursion (λ d. are_related_entries g (entry_of x) d ≡ false) (entries (map replied_of behind) ++ (entries (map replied_of p.phases.ran) ++ map entry_of p.phases.in_flight))
+  apart_rest = (subst (λ l. AreApart g (entries l ++ (entries (map replied_of p.phases.ran) ++ map entry_of p.phases.in_flight))) answer_front k.sound.apart).0
 
   T : Entry → Type 0
   T d = are_related_entries g (entry_of x) d ≡ false
@@ -89,7 +89,7 @@ module _ (keeps : Type 0) (p : Parts) (k : IsCore keeps p) (x : SlotView) (behin
       let outs = all_back (λ d. are_related_entries g (entry_of x) d ≡ false) (entries (map replied_of p.phases.ran)) _ rest in
       record {
         claimed = omega (arith, count, claimed, is_free);
-        placed = record { waiting = k.placed.waiting; out = k.placed.out; ran = k.placed.ran; logged = all_logged.1 };
+        placed = record { waiting = k.placed.waiting; in_flight = k.placed.in_flight; ran = k.placed.ran; logged = all_logged.1 };
         queue_geometry = k.queue_geometry;
         seats = k.seats;
         waits = k.waits;
@@ -98,7 +98,7 @@ module _ (keeps : Type 0) (p : Parts) (k : IsCore keeps p) (x : SlotView) (behin
             ∙ any_answered test (λ t. not (has_number x.1.affinity.number t)) p.phases whole (ap not (eq-eqb x.1.affinity.number x.1.affinity.number refl))
             (other_numbers g x all_logged.0 behind all_logged.1 behinds)
             (other_numbers g x all_logged.0 p.phases.ran k.placed.ran rans)
-            (other_numbers g x all_logged.0 p.phases.out k.placed.out outs);
+            (other_numbers g x all_logged.0 p.phases.in_flight k.placed.in_flight outs);
         unlogged_is = k.unlogged_is;
         sound = move_sound g (core_state_in p) (core_state_in after) _ (Answers (replied_of x) (map replied_of behind) answer_front refl refl) k.sound;
         geometry = k.geometry;

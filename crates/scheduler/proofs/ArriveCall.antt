@@ -96,7 +96,7 @@ module _ (keeps : Type 0) (row : ArenaView Slot) (replies : List Reply) (tree : 
 
     pub arrive_later : CameBefore next queue.waiting
     arrive_later = subst (CameBefore next) (sym k.waits)
-        (came_before next p.phases.waiting (all_back (λ (e : Entry). e.0 < next) (core_state_in p).out (core_state_in p).waiting k.sound.given))
+        (came_before next p.phases.waiting (all_back (λ (e : Entry). e.0 < next) (core_state_in p).in_flight (core_state_in p).waiting k.sound.given))
 
     pub arrive_slot : slot < queue.slots
     arrive_slot = let low = joined_slot.low in let seats = k.seats in omega (arith, low, seats)
@@ -126,7 +126,7 @@ module _ (keeps : Type 0) (row : ArenaView Slot) (replies : List Reply) (tree : 
     after_is = λ i. record (with_arrival p x new_free) {
       phases = record {
         waiting = joined_slot.joined i;
-        out = joined_slot.stays 1 (λ same. omega (arith, same)) i;
+        in_flight = joined_slot.stays 1 (λ same. omega (arith, same)) i;
         ran = joined_slot.stays 2 (λ same. omega (arith, same)) i;
         logged = joined_slot.stays 3 (λ same. omega (arith, same)) i;
       };

@@ -37,7 +37,7 @@ module _ (keeps : Type 0) (p : Parts) (k : IsCore keeps p) (x : SlotView) (free 
         claimed = omega (arith, more, claimed, was_free);
         placed = record {
           waiting = all_join (IsPlaced p.journal.geometry) p.phases.waiting (x ∷ []) k.placed.waiting (placed, tt);
-          out = k.placed.out;
+          in_flight = k.placed.in_flight;
           ran = k.placed.ran;
           logged = k.placed.logged;
         };

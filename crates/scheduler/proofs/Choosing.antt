@@ -53,14 +53,14 @@ module _ (g : Geometry) where
 
   pub held_touch : (l : Phases) → ArePlaced g l → (x : SlotView) → IsPlaced g x
       → held_any (λ o. are_related_intervals (queued_of x).affinity o.affinity) l
-      ≡ list_any (are_related_entries g (entry_of x)) (entries (map replied_of l.logged) ++ (entries (map replied_of l.ran) ++ map entry_of l.out))
+      ≡ list_any (are_related_entries g (entry_of x)) (entries (map replied_of l.logged) ++ (entries (map replied_of l.ran) ++ map entry_of l.in_flight))
   held_touch l placed x a =
       let e = entry_of x in
-      (λ i. slots_touch x a l.logged placed.logged i || (slots_touch x a l.ran placed.ran i || slots_touch x a l.out placed.out i))
-      ∙ (λ i. sym (entries_touch e l.logged) i || (sym (entries_touch e l.ran) i || sym (any_map entry_of (are_related_entries g e) l.out) i))
+      (λ i. slots_touch x a l.logged placed.logged i || (slots_touch x a l.ran placed.ran i || slots_touch x a l.in_flight placed.in_flight i))
+      ∙ (λ i. sym (entries_touch e l.logged) i || (sym (entries_touch e l.ran) i || sym (any_map entry_of (are_related_entries g e) l.in_flight) i))
       ∙ ap (λ b. list_any (are_related_entries g e) (entries (map replied_of l.logged)) || b)
-      (sym (list_any-append (are_related_entries g e) (entries (map replied_of l.ran)) (map entry_of l.out)))
-      ∙ sym (list_any-append (are_related_entries g e) (entries (map replied_of l.logged)) (entries (map replied_of l.ran) ++ map entry_of l.out))
+      (sym (list_any-append (are_related_entries g e) (entries (map replied_of l.ran)) (map entry_of l.in_flight)))
+      ∙ sym (list_any-append (are_related_entries g e) (entries (map replied_of l.logged)) (entries (map replied_of l.ran) ++ map entry_of l.in_flight))
 
   pub waits_touch : (ys : List SlotView) → AllByRecursion (IsPlaced g) ys → (x : SlotView) → IsPlaced g x
       → list_any (comes_first (queued_of x)) (map queued_of ys) ≡ list_any (λ d. nat_lt d.0 (entry_of x).0 && are_related_entries g (entry_of x) d) (map entry_of ys)

@@ -32,15 +32,15 @@ ran_changing [] = refl
 ran_changing (x ∷ xs) = sum_by-cons (λ (a : Replied). cond (changes a.1) 1 0) (replied_of x) (map replied_of xs)
     ∙ ap (λ n. one_for x + n) (ran_changing xs) ∙ sym (changing-cons x xs)
 
-pub unlogged_of : (p : Parts) → unlogged_changes (core_state_in p) ≡ changing p.phases.out + changing p.phases.ran
-unlogged_of p = λ i. out_changing p.phases.out i + ran_changing p.phases.ran i
+pub unlogged_of : (p : Parts) → unlogged_changes (core_state_in p) ≡ changing p.phases.in_flight + changing p.phases.ran
+unlogged_of p = λ i. out_changing p.phases.in_flight i + ran_changing p.phases.ran i
 
 -- how many messages wait or are held
 pub count_of : (p : Parts) → length (core_state_in p).waiting + length (held (core_state_in p))
-    ≡ length p.phases.waiting + (length p.phases.logged + (length p.phases.ran + length p.phases.out))
+    ≡ length p.phases.waiting + (length p.phases.logged + (length p.phases.ran + length p.phases.in_flight))
 count_of p = λ i. length-map p.phases.waiting entry_of i + (length_held (core_state_in p)
-    ∙ (λ j. length-map p.phases.logged replied_of j + (length-map p.phases.ran replied_of j + length-map p.phases.out entry_of j))) i
+    ∙ (λ j. length-map p.phases.logged replied_of j + (length-map p.phases.ran replied_of j + length-map p.phases.in_flight entry_of j))) i
 
-pub held_count : (p : Parts) → length (held (core_state_in p)) ≡ length p.phases.logged + (length p.phases.ran + length p.phases.out)
+pub held_count : (p : Parts) → length (held (core_state_in p)) ≡ length p.phases.logged + (length p.phases.ran + length p.phases.in_flight)
 held_count p = length_held (core_state_in p)
-    ∙ (λ j. length-map p.phases.logged replied_of j + (length-map p.phases.ran replied_of j + length-map p.phases.out entry_of j))
+    ∙ (λ j. length-map p.phases.logged replied_of j + (length-map p.phases.ran replied_of j + length-map p.phases.in_flight entry_of j))

@@ -156,7 +156,7 @@ module _ (keeps : Type 0) (row : ArenaView Slot) (replies : List Reply) (tree : 
       after_is = λ i. record (with_grant p (chosen.before ++ chosen.behind) x lent went.held) {
         phases = record {
           waiting = granted_slot.left i;
-          out = (granted_slot.joined ∙ (λ j. p.phases.out ++ (x.0, x.1, reply_there j) ∷ [])) i;
+          in_flight = (granted_slot.joined ∙ (λ j. p.phases.in_flight ++ (x.0, x.1, reply_there j) ∷ [])) i;
           ran = granted_slot.stays 2 (λ same. omega (arith, same)) (λ same. omega (arith, same)) i;
           logged = granted_slot.stays 3 (λ same. omega (arith, same)) (λ same. omega (arith, same)) i;
         };
@@ -192,8 +192,8 @@ module _ (keeps : Type 0) (row : ArenaView Slot) (replies : List Reply) (tree : 
         state_after = grant_call_state;
         is_job = record {
           geometry = refl;
-          is_out = subst (λ (w : CoreState). Contains w.out (slot.ticket, slot.message)) (sym grant_call_state)
-              (Contains-append_right (core_state_in p).out (entry_of x ∷ []) (slot.ticket, slot.message) (0, omega arith, job_told));
+          is_out = subst (λ (w : CoreState). Contains w.in_flight (slot.ticket, slot.message)) (sym grant_call_state)
+              (Contains-append_right (core_state_in p).in_flight (entry_of x ∷ []) (slot.ticket, slot.message) (0, omega arith, job_told));
           lent = subst (λ (m : Msg). Shows journal.geometry (place journal.geometry m) standing parcels (core_state_in p).committed) (ap (λ (s : Slot). s.message) (grant_slot slot value))
               (grant_shows journal.geometry (core_state_in p) k.sound found chosen.picked (in_tree tree) k.tree standing parcels (in_tree lent) lends_place);
         };

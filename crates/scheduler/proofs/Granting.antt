@@ -43,7 +43,7 @@ waits_without before x behind all =
 
 abbrev pub with_grant : Parts → List SlotView → SlotView → TreeView → List QueuedMessage → Parts
 with_grant p waiting x tree held = record p {
-  phases = record p.phases { waiting = waiting; out = p.phases.out ++ x ∷ [] };
+  phases = record p.phases { waiting = waiting; in_flight = p.phases.in_flight ++ x ∷ [] };
   tree = tree;
   queue = record p.queue { waiting = map queued_of waiting; held = held };
   unlogged = p.unlogged + one_for x;
@@ -61,7 +61,7 @@ module _ (keeps : Type 0) (p : Parts) (k : IsCore keeps p) (before : List SlotVi
   found = (entry_of x, map entry_of (before ++ behind))
 
   pub grant_state : core_state_in after ≡ grant (core_state_in p) found
-  grant_state = λ i. record (core_state_in after) { out = map-append entry_of p.phases.out (x ∷ []) i }
+  grant_state = λ i. record (core_state_in after) { in_flight = map-append entry_of p.phases.in_flight (x ∷ []) i }
 
   all_waiting : AllByRecursion (IsPlaced p.journal.geometry) (before ++ x ∷ behind)
   all_waiting = subst (AllByRecursion (IsPlaced p.journal.geometry)) whole k.placed.waiting
@@ -73,17 +73,17 @@ module _ (keeps : Type 0) (p : Parts) (k : IsCore keeps p) (before : List SlotVi
   grant_core =
       let was = ap length whole ∙ length-append before (x ∷ behind) in
       let now = length-append before behind in
-      let more = length-append p.phases.out (x ∷ []) in
+      let more = length-append p.phases.in_flight (x ∷ []) in
       let claimed = k.claimed in
       let unlogged_was = k.unlogged_is ∙ unlogged_of p in
       let unlogged_is = unlogged_of after in
-      let out = changing-append p.phases.out (x ∷ []) ∙ ap (λ n. changing p.phases.out + n) (changing-cons x []) in
+      let out = changing-append p.phases.in_flight (x ∷ []) ∙ ap (λ n. changing p.phases.in_flight + n) (changing-cons x []) in
       record {
         claimed = omega (arith, was, now, more, claimed);
         placed = record {
           waiting = all_join (IsPlaced p.journal.geometry) before behind (all_front (IsPlaced p.journal.geometry) before (x ∷ behind) all_waiting)
               (all_back (IsPlaced p.journal.geometry) before (x ∷ behind) all_waiting).1;
-          out = all_join (IsPlaced p.journal.geometry) p.phases.out (x ∷ []) k.placed.out (it_is_placed, tt);
+          in_flight = all_join (IsPlaced p.journal.geometry) p.phases.in_flight (x ∷ []) k.placed.in_flight (it_is_placed, tt);
           ran = k.placed.ran;
           logged = k.placed.logged;
         };
@@ -96,7 +96,7 @@ module _ (keeps : Type 0) (p : Parts) (k : IsCore keeps p) (before : List SlotVi
             (move_sound p.journal.geometry (core_state_in p) _ _ (Grants found first refl refl) k.sound);
         geometry = geometry;
         tree = subst (λ es. TreeHolds p.journal.geometry (is_below p.journal.geometry es) (in_tree tree) (reached p.journal.geometry (core_state_in p)))
-            (sym (map-append entry_of p.phases.out (x ∷ [])))
+            (sym (map-append entry_of p.phases.in_flight (x ∷ [])))
             (grant_tree p.journal.geometry (core_state_in p) k.sound found first (in_tree p.tree) k.tree t l (in_tree tree) lent);
         is_committed = k.is_committed;
         recovers = k.recovers;

@@ -222,7 +222,7 @@ module _ (keeps : Type 0) (row : ArenaView Slot) (replies : List Reply) (tree : 
           after_is = λ i. record (with_log p n (unlogged - logged_changes) room new.dirty new.medium) {
             phases = record {
               waiting = same_slots row moved replies 0 has.values has.waiting i;
-              out = same_slots row moved replies 1 has.values has.out i;
+              in_flight = same_slots row moved replies 1 has.values has.in_flight i;
               ran = ran_now i;
               logged = logged_now i;
             };

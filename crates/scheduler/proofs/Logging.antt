@@ -97,7 +97,7 @@ module _ (keeps : Type 0) (p : Parts) (k : IsCore keeps p) (n : ℕ) where
   batch_carried =
       let whole : take n w.ran ++ drop n w.ran ≡ w.ran = take-append-drop n w.ran in
       subst (AreCarriedOut g w.committed) (sym same_batch) (carried_out g w.committed (take n w.ran) (drop n w.ran)
-      (subst (λ r. AreApart g (entries r)) (sym whole) (before_front _ (entries w.ran) w.out (before_back _ (entries w.logged) _ k.sound.apart)))
+      (subst (λ r. AreApart g (entries r)) (sym whole) (before_front _ (entries w.ran) w.in_flight (before_back _ (entries w.logged) _ k.sound.apart)))
       (subst (AreReplied g w.committed) (sym whole) k.sound.replied) known)
 
   pub batch_fits : length (batch_at p n) ≤ p.journal.room
@@ -150,7 +150,7 @@ module _ (keeps : Type 0) (p : Parts) (k : IsCore keeps p) (works : p.journal.fa
           claimed = omega (arith, counts, more, claimed);
           placed = record {
             waiting = k.placed.waiting;
-            out = k.placed.out;
+            in_flight = k.placed.in_flight;
             ran = all_back (IsPlaced p.journal.geometry) (take n p.phases.ran) (drop n p.phases.ran) placed;
             logged = all_join (IsPlaced p.journal.geometry) p.phases.logged (take n p.phases.ran) k.placed.logged
                 (all_front (IsPlaced p.journal.geometry) (take n p.phases.ran) (drop n p.phases.ran) placed);
@@ -163,7 +163,7 @@ module _ (keeps : Type 0) (p : Parts) (k : IsCore keeps p) (works : p.journal.fa
           sound = subst (IsSoundCoreState p.journal.geometry) (sym log_state)
               (move_sound p.journal.geometry (core_state_in p) _ _ (Logs n refl refl) k.sound);
           geometry = k.geometry;
-          tree = subst (λ s. TreeHolds p.journal.geometry (is_below p.journal.geometry (map entry_of p.phases.out)) (in_tree p.tree) s)
+          tree = subst (λ s. TreeHolds p.journal.geometry (is_below p.journal.geometry (map entry_of p.phases.in_flight)) (in_tree p.tree) s)
               (sym (log_reaches p.journal.geometry (core_state_in p) n k.sound) ∙ ap (reached p.journal.geometry) (sym log_state)) k.tree;
           is_committed = λ keep fine. is_committed keep;
           recovers = λ keep c leaves. with_none p.journal.geometry (core_state_in after).committed [] c (recovers keep c leaves ∙ is_committed keep);

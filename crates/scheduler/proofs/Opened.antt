@@ -38,7 +38,7 @@ module _ (keeps : Type 0) (slots : ℕ) (replies : List Reply) (tree : TreeView)
     pub opened_core : IsCore keeps opened
     opened_core = record {
       claimed = let all = length-numbers 0 slots in let there = size in omega (arith, all, there);
-      placed = record { waiting = tt; out = tt; ran = tt; logged = tt };
+      placed = record { waiting = tt; in_flight = tt; ran = tt; logged = tt };
       queue_geometry = refl;
       seats = sym size;
       waits = refl;

@@ -44,23 +44,23 @@ module _ (keeps : Type 0) (p : Parts) (k : IsCore keeps p) (why : point_refusal 
   running : (if is_some p.journal.left then Some points.Running else (if nat_lt 0 (length (held (core_state_in p))) then Some points.Held else None)) ≡ None
   running = (past p.journal.failed points.Failed _ why).1
 
-  none_held : length p.phases.logged + (length p.phases.ran + length p.phases.out) ≡ 0
+  none_held : length p.phases.logged + (length p.phases.ran + length p.phases.in_flight) ≡ 0
   none_held =
       let none = (past (nat_lt 0 (length (held (core_state_in p)))) points.Held None (past (is_some p.journal.left) points.Running _ running).1).0 in
       let few = ltb-false 0 (length (held (core_state_in p))) none in
       let count = held_count p in
       omega (arith, few, count)
 
-  none_out : p.phases.out ≡ []
-  none_out = no_items p.phases.out (let none = none_held in omega (arith, none))
+  none_in_flight : p.phases.in_flight ≡ []
+  none_in_flight = no_items p.phases.in_flight (let none = none_held in omega (arith, none))
 
   none_ran : p.phases.ran ≡ []
   none_ran = no_items p.phases.ran (let none = none_held in omega (arith, none))
 
   whole_tree : TreeHolds p.journal.geometry nowhere (in_tree p.tree) (core_state_in p).committed
   whole_tree =
-      subst (λ os. TreeHolds p.journal.geometry (is_below p.journal.geometry (map entry_of os)) (in_tree p.tree) (core_state_in p).committed) none_out
-      (subst (λ rs. TreeHolds p.journal.geometry (is_below p.journal.geometry (map entry_of p.phases.out)) (in_tree p.tree)
+      subst (λ os. TreeHolds p.journal.geometry (is_below p.journal.geometry (map entry_of os)) (in_tree p.tree) (core_state_in p).committed) none_in_flight
+      (subst (λ rs. TreeHolds p.journal.geometry (is_below p.journal.geometry (map entry_of p.phases.in_flight)) (in_tree p.tree)
       (reached p.journal.geometry (core_state_in (record p { phases = record p.phases { ran = rs } })))) none_ran k.tree)
 
   pub point_whole : IsWholeTree p.tree

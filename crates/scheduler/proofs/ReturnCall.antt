@@ -91,7 +91,7 @@ or_none true = refl
 or_none false = refl
 
 module _ (keeps : Type 0) (p : Parts) (k : IsCore keeps p) (before : List SlotView) (x : SlotView) (behind : List SlotView)
-    (whole : p.phases.out ≡ before ++ x ∷ behind) where
+    (whole : p.phases.in_flight ≡ before ++ x ∷ behind) where
   abbrev g : Geometry
   g = p.journal.geometry
 
@@ -115,7 +115,7 @@ module _ (keeps : Type 0) (p : Parts) (k : IsCore keeps p) (before : List SlotVi
   alone = (before_first (λ (e d : Entry). are_related_entries g e d ≡ false) (apart_turned g) us (entry_of x) (map entry_of behind) (subst (AreApart g) held_is k.sound.apart)).0
 
   all_out : AllByRecursion (IsPlaced g) (before ++ x ∷ behind)
-  all_out = subst (AllByRecursion (IsPlaced g)) whole k.placed.out
+  all_out = subst (AllByRecursion (IsPlaced g)) whole k.placed.in_flight
 
   abbrev n : ℕ
   n = x.1.affinity.number
@@ -158,8 +158,8 @@ module _ (keeps : Type 0) (p : Parts) (k : IsCore keeps p) (before : List SlotVi
       ∙ sym (or_false (list_any t before) (list_any t (x ∷ behind)) (none_at n slot before others_before))
       ∙ sym (list_any-append t before (x ∷ behind))
       ∙ ap (list_any t) (sym whole)
-      ∙ sym (or_false (list_any t p.phases.ran) (list_any t p.phases.out) (none_at n slot p.phases.ran others_ran))
-      ∙ sym (or_false (list_any t p.phases.logged) (list_any t p.phases.ran || list_any t p.phases.out) (none_at n slot p.phases.logged others_logged))
+      ∙ sym (or_false (list_any t p.phases.ran) (list_any t p.phases.in_flight) (none_at n slot p.phases.ran others_ran))
+      ∙ sym (or_false (list_any t p.phases.logged) (list_any t p.phases.ran || list_any t p.phases.in_flight) (none_at n slot p.phases.logged others_logged))
       ∙ sym (k.holds (holds_at n slot)) ∙ has in
       elim (eqb_tells x.0 slot) [
         | inl e ↦ sym e.1
@@ -189,8 +189,8 @@ module _ (keeps : Type 0) (row : ArenaView Slot) (replies : List Reply) (tree : 
   abbrev p : Parts
   p = parts row replies tree journal queue batch next unlogged opened since
 
-  recovers : Recovers (done.ticket, done.message) p.phases.out
-  recovers = recovers_in (done.ticket, done.message) p.phases.out result.is_out
+  recovers : Recovers (done.ticket, done.message) p.phases.in_flight
+  recovers = recovers_in (done.ticket, done.message) p.phases.in_flight result.is_out
 
   abbrev x : SlotView
   x = recovers.at
@@ -279,7 +279,7 @@ module _ (keeps : Type 0) (row : ArenaView Slot) (replies : List Reply) (tree : 
         after_is = λ i. record (with_return p (recovers.before ++ recovers.behind) y now) {
           phases = record {
             waiting = moved_slot.stays 0 (λ same. omega (arith, same)) (λ same. omega (arith, same)) i;
-            out = moved_slot.left i;
+            in_flight = moved_slot.left i;
             ran = joined i;
             logged = moved_slot.stays 3 (λ same. omega (arith, same)) (λ same. omega (arith, same)) i;
           };

@@ -42,15 +42,15 @@ picked_at (d ∷ before) e behind others =
     differs a b other = elim (eqb_tells a b) [ inl e ↦ absurd (other e.1) | inr n ↦ n.0 ]
 
 abbrev pub with_return : Parts → List SlotView → SlotView → TreeView → Parts
-with_return p out y tree = record p { phases = record p.phases { out = out; ran = p.phases.ran ++ y ∷ [] }; tree = tree }
+with_return p out y tree = record p { phases = record p.phases { in_flight = out; ran = p.phases.ran ++ y ∷ [] }; tree = tree }
 
 module _ (keeps : Type 0) (p : Parts) (k : IsCore keeps p) (before : List SlotView) (x : SlotView) (behind : List SlotView)
-    (whole : p.phases.out ≡ before ++ x ∷ behind) where
-  pub out_is : (core_state_in p).out ≡ map entry_of before ++ entry_of x ∷ map entry_of behind
+    (whole : p.phases.in_flight ≡ before ++ x ∷ behind) where
+  pub out_is : (core_state_in p).in_flight ≡ map entry_of before ++ entry_of x ∷ map entry_of behind
   out_is = ap (map entry_of) whole ∙ map-append entry_of before (x ∷ behind)
 
   all_out : AllByRecursion (IsPlaced p.journal.geometry) (before ++ x ∷ behind)
-  all_out = subst (AllByRecursion (IsPlaced p.journal.geometry)) whole k.placed.out
+  all_out = subst (AllByRecursion (IsPlaced p.journal.geometry)) whole k.placed.in_flight
 
   pub returned_is_placed : IsPlaced p.journal.geometry x
   returned_is_placed = (all_back (IsPlaced p.journal.geometry) before (x ∷ behind) all_out).0
@@ -60,7 +60,7 @@ module _ (keeps : Type 0) (p : Parts) (k : IsCore keeps p) (before : List SlotVi
       ap (pick (λ (e : Entry). e.0 == x.1.ticket)) out_is
       ∙ picked_at (map entry_of before) (entry_of x) (map entry_of behind)
       (before_one (λ (e d : Entry). e.0 ≡ d.0 → ⊥) (map entry_of before) (entry_of x) (map entry_of behind)
-      (subst AreOnce out_is (before_front (λ (e d : Entry). e.0 ≡ d.0 → ⊥) (core_state_in p).out (core_state_in p).waiting k.sound.once)))
+      (subst AreOnce out_is (before_front (λ (e d : Entry). e.0 ≡ d.0 → ⊥) (core_state_in p).in_flight (core_state_in p).waiting k.sound.once)))
       ∙ ap (λ es. Some (entry_of x, es)) (sym (map-append entry_of before behind))
 
   module _ (reply : Reply) (told : reply ≡ reply_to p.journal.geometry (core_state_in p).committed x.1.message) (tree : TreeView) (geometry : tree.geometry ≡ p.journal.geometry)
@@ -96,7 +96,7 @@ module _ (keeps : Type 0) (p : Parts) (k : IsCore keeps p) (before : List SlotVi
           claimed = omega (arith, was, now, more, claimed);
           placed = record {
             waiting = k.placed.waiting;
-            out = all_join (IsPlaced p.journal.geometry) before behind (all_front (IsPlaced p.journal.geometry) before (x ∷ behind) all_out)
+            in_flight = all_join (IsPlaced p.journal.geometry) before behind (all_front (IsPlaced p.journal.geometry) before (x ∷ behind) all_out)
                 (all_back (IsPlaced p.journal.geometry) before (x ∷ behind) all_out).1;
             ran = all_join (IsPlaced p.journal.geometry) p.phases.ran (y ∷ []) k.placed.ran
                 (record { affinity = returned_is_placed.affinity; range = returned_is_placed.range; message = returned_is_placed.message }, tt);

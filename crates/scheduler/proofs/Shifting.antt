@@ -36,7 +36,7 @@ none_logged row is = record {
   ran = refl;
   logged = sym (append_none (chain_at row 3));
   waiting = refl;
-  out = refl;
+  in_flight = refl;
   values = refl;
   free = refl;
   chains = is;
@@ -64,7 +64,7 @@ module _ (row : ArenaView Slot) (is : HasChains row) (i : ℕ) (first : front_of
     ran = chain_left row is.parted i 2 3 there other [] (without i (chain_at row 2)) whole ∙ sym (ap (λ (l : List ℕ). drop 1 l) whole);
     logged = chain_joined row is.parted i 2 3 there other [] (without i (chain_at row 2)) whole ∙ sym (ap (λ (l : List ℕ). chain_at row 3 ++ take 1 l) whole);
     waiting = chain_stays row is.parted i 2 3 there other [] (without i (chain_at row 2)) whole 0 (λ same. omega (arith, same)) (λ same. omega (arith, same));
-    out = chain_stays row is.parted i 2 3 there other [] (without i (chain_at row 2)) whole 1 (λ same. omega (arith, same)) (λ same. omega (arith, same));
+    in_flight = chain_stays row is.parted i 2 3 there other [] (without i (chain_at row 2)) whole 1 (λ same. omega (arith, same)) (λ same. omega (arith, same));
     values = ap (λ (r : ArenaView Slot). r.values) (row_moved row is.parted i 2 3 there other [] (without i (chain_at row 2)) whole);
     free = ap (λ (r : ArenaView Slot). r.free) (row_moved row is.parted i 2 3 there other [] (without i (chain_at row 2)) whole);
     chains = record { parted = parted; four = four_moved row is.parted i 2 3 there other [] (without i (chain_at row 2)) whole ∙ is.four };
@@ -78,7 +78,7 @@ one_more_logged n a b c h k =
       logged = k.logged ∙ (λ i. h.logged i ++ take 1 (h.ran i)) ∙ append_assoc (chain_at a 3) (take n (chain_at a 2)) (take 1 (drop n (chain_at a 2)))
           ∙ ap (λ (l : List ℕ). chain_at a 3 ++ l) (take_more n (chain_at a 2));
       waiting = k.waiting ∙ h.waiting;
-      out = k.out ∙ h.out;
+      in_flight = k.in_flight ∙ h.in_flight;
       values = k.values ∙ h.values;
       free = k.free ∙ h.free;
       chains = k.chains;

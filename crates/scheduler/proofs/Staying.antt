@@ -22,12 +22,12 @@ use Rattle.scheduler.specs.Jobs.{IsJobOf, IsResultOf}
 
 -- what a message in flight can read of the committed state stays
 event_leaves : (g : Geometry) (e : Entry) (old : MachineState) (event : Event) → IsAllowed g old event → IsSoundCoreState g old.core
-    → Contains old.core.out e → AgreeOn g (are_related (place g e.1)) event.state_after.core.committed old.core.committed
-event_leaves g e old event allowed sound there = event_sees g old event e allowed sound (in_contained old.core.out e there)
+    → Contains old.core.in_flight e → AgreeOn g (are_related (place g e.1)) event.state_after.core.committed old.core.committed
+event_leaves g e old event allowed sound there = event_sees g old event e allowed sound (in_contained old.core.in_flight e there)
 
 pub ran_gives : (g : Geometry) (w : CoreState) (job : JobView) (done : Done) → IsJobOf g w job → IsJobRun job done → IsResultOf g w done
 ran_gives g w job done is ran = subst (λ (h : Geometry). IsResultOf h w done) is.geometry (record {
-  is_out = subst (λ e. Contains w.out e) (λ i. (sym ran.ticket i, sym ran.message i)) is.is_out;
+  is_out = subst (λ e. Contains w.in_flight e) (λ i. (sym ran.ticket i, sym ran.message i)) is.is_out;
   suits = subst (λ m. Suits job.geometry m done.parcels) (sym ran.message) ran.suits;
   reply = serial.reply ∙ ap (reply_to job.geometry w.committed) (sym ran.message);
   standing = job.standing;
@@ -38,7 +38,7 @@ ran_gives g w job done is ran = subst (λ (h : Geometry). IsResultOf h w done) i
     serial = serial_run job done w.committed ran is.lent
 
 pub job_stays : (g : Geometry) (old : MachineState) (event : Event) (job : JobView) → IsAllowed g old event → IsSoundCoreState g old.core → IsJobOf g old.core job
-    → Contains event.state_after.core.out (job.ticket, job.message) → IsJobOf g event.state_after.core job
+    → Contains event.state_after.core.in_flight (job.ticket, job.message) → IsJobOf g event.state_after.core job
 job_stays g old event job allowed sound is there = record {
   geometry = is.geometry;
   is_out = there;
@@ -48,7 +48,7 @@ job_stays g old event job allowed sound is there = record {
 }
 
 pub result_stays : (g : Geometry) (old : MachineState) (event : Event) (done : Done) → IsAllowed g old event → IsSoundCoreState g old.core → IsResultOf g old.core done
-    → Contains event.state_after.core.out (done.ticket, done.message) → IsResultOf g event.state_after.core done
+    → Contains event.state_after.core.in_flight (done.ticket, done.message) → IsResultOf g event.state_after.core done
 result_stays g old event done allowed sound is there = record {
   is_out = there;
   suits = is.suits;

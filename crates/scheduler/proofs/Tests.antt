@@ -35,13 +35,13 @@ module _ (test : QueuedMessage → Bool) where
   t x = test (queued_of x)
 
   pub any_granted : (l : Phases) (waiting : List SlotView) (x : SlotView)
-      → (test (queued_of x) || held_any test l) ≡ held_any test (record l { waiting = waiting; out = l.out ++ x ∷ [] })
+      → (test (queued_of x) || held_any test l) ≡ held_any test (record l { waiting = waiting; in_flight = l.in_flight ++ x ∷ [] })
   any_granted l waiting x =
-      or_last (t x) (list_any t l.logged) (list_any t l.ran) (list_any t l.out)
-      ∙ ap (λ b. list_any t l.logged || (list_any t l.ran || b)) (sym (list_any-append t l.out (x ∷ [])))
+      or_last (t x) (list_any t l.logged) (list_any t l.ran) (list_any t l.in_flight)
+      ∙ ap (λ b. list_any t l.logged || (list_any t l.ran || b)) (sym (list_any-append t l.in_flight (x ∷ [])))
 
-  pub any_back : (l : Phases) (before : List SlotView) (x y : SlotView) (behind : List SlotView) → l.out ≡ before ++ x ∷ behind → queued_of y ≡ queued_of x
-      → held_any test l ≡ held_any test (record l { out = before ++ behind; ran = l.ran ++ y ∷ [] })
+  pub any_back : (l : Phases) (before : List SlotView) (x y : SlotView) (behind : List SlotView) → l.in_flight ≡ before ++ x ∷ behind → queued_of y ≡ queued_of x
+      → held_any test l ≡ held_any test (record l { in_flight = before ++ behind; ran = l.ran ++ y ∷ [] })
   any_back l before x y behind out same =
       ap (λ b. list_any t l.logged || (list_any t l.ran || b)) (ap (list_any t) out ∙ list_any-append t before (x ∷ behind))
       ∙ or_back (list_any t l.logged) (list_any t l.ran) (list_any t before) (t x) (list_any t behind)
@@ -51,9 +51,9 @@ module _ (test : QueuedMessage → Bool) where
   pub any_logged : (l : Phases) (first rest : List SlotView) → l.ran ≡ first ++ rest
       → held_any test l ≡ held_any test (record l { ran = rest; logged = l.logged ++ first })
   any_logged l first rest ran =
-      ap (λ b. list_any t l.logged || (b || list_any t l.out)) (ap (list_any t) ran ∙ list_any-append t first rest)
-      ∙ or_logged (list_any t l.logged) (list_any t first) (list_any t rest) (list_any t l.out)
-      ∙ ap (λ b. b || (list_any t rest || list_any t l.out)) (sym (list_any-append t l.logged first))
+      ap (λ b. list_any t l.logged || (b || list_any t l.in_flight)) (ap (list_any t) ran ∙ list_any-append t first rest)
+      ∙ or_logged (list_any t l.logged) (list_any t first) (list_any t rest) (list_any t l.in_flight)
+      ∙ ap (λ b. b || (list_any t rest || list_any t l.in_flight)) (sym (list_any-append t l.logged first))
 
 -- ---- those that are left of a list
 
@@ -74,8 +74,8 @@ any_passing test q (x ∷ xs) all = λ i. (all.0 i && test (queued_of x)) || any
 
 -- the first of those that are logged is gone
 pub any_answered : (test q : QueuedMessage → Bool) (l : Phases) {x : SlotView} {behind : List SlotView} → l.logged ≡ x ∷ behind → q (queued_of x) ≡ false
-    → AllByRecursion (λ x. q (queued_of x) ≡ true) behind → AllByRecursion (λ x. q (queued_of x) ≡ true) l.ran → AllByRecursion (λ x. q (queued_of x) ≡ true) l.out
+    → AllByRecursion (λ x. q (queued_of x) ≡ true) behind → AllByRecursion (λ x. q (queued_of x) ≡ true) l.ran → AllByRecursion (λ x. q (queued_of x) ≡ true) l.in_flight
     → held_any (λ t. q t && test t) l ≡ held_any test (record l { logged = behind })
 any_answered test q l {x} {behind} logged first behinds rans outs =
-    (λ i. list_any (λ x. q (queued_of x) && test (queued_of x)) (logged i) || (any_passing test q l.ran rans i || any_passing test q l.out outs i))
-    ∙ (λ i. ((first i && test (queued_of x)) || any_passing test q behind behinds i) || (list_any (λ x. test (queued_of x)) l.ran || list_any (λ x. test (queued_of x)) l.out))
+    (λ i. list_any (λ x. q (queued_of x) && test (queued_of x)) (logged i) || (any_passing test q l.ran rans i || any_passing test q l.in_flight outs i))
+    ∙ (λ i. ((first i && test (queued_of x)) || any_passing test q behind behinds i) || (list_any (λ x. test (queued_of x)) l.ran || list_any (λ x. test (queued_of x)) l.in_flight))

@@ -80,33 +80,33 @@ module _ (g : Geometry) (w : CoreState) (sound : IsSoundCoreState g w) (found : 
   free : AllByRecursion (λ d. are_related_entries g found.0 d ≡ false) (held w)
   free = granted_is_free g w found first
 
-  pub free_of_out : AllByRecursion (λ d. are_related_entries g found.0 d ≡ false) w.out
-  free_of_out = all_back _ (entries w.ran) w.out (all_back _ (entries w.logged) _ free)
+  pub free_of_out : AllByRecursion (λ d. are_related_entries g found.0 d ≡ false) w.in_flight
+  free_of_out = all_back _ (entries w.ran) w.in_flight (all_back _ (entries w.logged) _ free)
 
   pub free_of_ran : AllByRecursion (λ d. are_related_entries g found.0 d ≡ false) (entries w.ran)
-  free_of_ran = all_front _ (entries w.ran) w.out (all_back _ (entries w.logged) _ free)
+  free_of_ran = all_front _ (entries w.ran) w.in_flight (all_back _ (entries w.logged) _ free)
 
-  module _ (n : Nodes) (tree : TreeHolds g (is_below g w.out) n (reached g w)) where
+  module _ (n : Nodes) (tree : TreeHolds g (is_below g w.in_flight) n (reached g w)) where
     pub grant_lends : HasGap g (place g found.0.1) n → ⊥
-    grant_lends gap = can_be_lent g (is_below g w.out) (place g found.0.1) (apart_below g found.0 w.out free_of_out) n (reached g w) tree gap
+    grant_lends gap = can_be_lent g (is_below g w.in_flight) (place g found.0.1) (apart_below g found.0 w.in_flight free_of_out) n (reached g w) tree gap
 
     module _ (t : Standing) (l : Parcels) (lent : Nodes) (taken : LendsAt g (place g found.0.1) t l n lent) where
       pub grant_shows : Shows g (place g found.0.1) t l w.committed
       grant_shows = agree-trans
-          (lent_shows g (is_below g w.out) (place g found.0.1) (apart_below g found.0 w.out free_of_out) t l n lent (reached g w) tree taken)
+          (lent_shows g (is_below g w.in_flight) (place g found.0.1) (apart_below g found.0 w.in_flight free_of_out) t l n lent (reached g w) tree taken)
           (entries_leave g w.committed found.0 (entries w.ran) free_of_ran)
 
-      pub grant_tree : TreeHolds g (is_below g (w.out ++ found.0 ∷ [])) lent (reached g w)
-      grant_tree = holds_alike g (with_place (place g found.0.1) (is_below g w.out)) (is_below g (w.out ++ found.0 ∷ [])) lent (reached g w)
-          (λ q. below_push g w.out found.0 q)
-          (lent_holds g (is_below g w.out) (place g found.0.1) (apart_below g found.0 w.out free_of_out) t l n lent (reached g w) tree taken)
+      pub grant_tree : TreeHolds g (is_below g (w.in_flight ++ found.0 ∷ [])) lent (reached g w)
+      grant_tree = holds_alike g (with_place (place g found.0.1) (is_below g w.in_flight)) (is_below g (w.in_flight ++ found.0 ∷ [])) lent (reached g w)
+          (λ q. below_push g w.in_flight found.0 q)
+          (lent_holds g (is_below g w.in_flight) (place g found.0.1) (apart_below g found.0 w.in_flight free_of_out) t l n lent (reached g w) tree taken)
 
 -- ---- a message that is given back
 
-module _ (g : Geometry) (w : CoreState) (sound : IsSoundCoreState g w) (before : List Entry) (e : Entry) (behind : List Entry) (out : w.out ≡ before ++ e ∷ behind)
-    (n : Nodes) (tree : TreeHolds g (is_below g w.out) n (reached g w)) where
+module _ (g : Geometry) (w : CoreState) (sound : IsSoundCoreState g w) (before : List Entry) (e : Entry) (behind : List Entry) (out : w.in_flight ≡ before ++ e ∷ behind)
+    (n : Nodes) (tree : TreeHolds g (is_below g w.in_flight) n (reached g w)) where
   apart_out : AreApart g (before ++ e ∷ behind)
-  apart_out = subst (AreApart g) out (before_back _ (entries w.ran) w.out (before_back _ (entries w.logged) _ sound.apart))
+  apart_out = subst (AreApart g) out (before_back _ (entries w.ran) w.in_flight (before_back _ (entries w.logged) _ sound.apart))
 
   pub apart_others : AllByRecursion (λ d. are_related_entries g e d ≡ false) (before ++ behind)
   apart_others = (go before apart_out)
@@ -122,7 +122,7 @@ module _ (g : Geometry) (w : CoreState) (sound : IsSoundCoreState g w) (before :
       (before_one (λ e d. are_related_entries g e d ≡ false) (entries w.ran ++ before) e behind (subst (AreApart g) (sym (append_assoc (entries w.ran) before (e ∷ behind))) whole)))
 
   held_out : TreeHolds g (with_place (place g e.1) (is_below g (before ++ behind))) n (reached g w)
-  held_out = holds_alike g (is_below g w.out) (with_place (place g e.1) (is_below g (before ++ behind))) n (reached g w)
+  held_out = holds_alike g (is_below g w.in_flight) (with_place (place g e.1) (is_below g (before ++ behind))) n (reached g w)
       (λ q. ap (λ es. is_below g es q) out ∙ below_cut g before e behind q) tree
 
   pub back_is_out : IsPath g (place g e.1) → IsOut (place g e.1) n

@@ -13,7 +13,7 @@ pub record CoreView : Type 0 where
   pub geometry : Geometry
   -- the messages, by how far each has come: as in its core state
   pub waiting : List Entry
-  pub out : List Entry
+  pub in_flight : List Entry
   pub ran : List Replied
   pub logged : List Replied
   -- the tree when the core was opened, and the messages appended to the log since: they lead to what is committed
@@ -33,7 +33,7 @@ pub record CoreView : Type 0 where
 abbrev pub core_state_of : CoreView → CoreState
 core_state_of c = record {
   waiting = c.waiting;
-  out = c.out;
+  in_flight = c.in_flight;
   ran = c.ran;
   logged = c.logged;
   committed = fold c.geometry (state_in c.opened) c.since;
@@ -59,7 +59,7 @@ RecoversThroughout appended old new =
 -- A core that was just opened: nothing waits or is held, no ticket was given, and the log has all its room.
 pub record IsJustOpened (slots : ℕ) (c : CoreView) : Type 0 where
   pub none_waits : c.waiting ≡ []
-  pub none_out : c.out ≡ []
+  pub none_in_flight : c.in_flight ≡ []
   pub none_ran : c.ran ≡ []
   pub none_logged : c.logged ≡ []
   pub room : c.room ≡ c.geometry.half

@@ -22,7 +22,7 @@ pub record HasLogged (n : ℕ) (old new : ArenaView Slot) : Type 0 where
   pub ran : chain_at new 2 ≡ drop n (chain_at old 2)
   pub logged : chain_at new 3 ≡ chain_at old 3 ++ take n (chain_at old 2)
   pub waiting : chain_at new 0 ≡ chain_at old 0
-  pub out : chain_at new 1 ≡ chain_at old 1
+  pub in_flight : chain_at new 1 ≡ chain_at old 1
   pub values : new.values ≡ old.values
   pub free : new.free ≡ old.free
   pub chains : HasChains new

@@ -35,7 +35,8 @@ queued_of x = record { slot = x.0; affinity = x.1.affinity; changing = changes x
 -- whether one of the held ones passes a test
 abbrev pub held_any : (QueuedMessage → Bool) → Phases → Bool
 held_any test l =
-    list_any (λ x. test (queued_of x)) l.logged || (list_any (λ x. test (queued_of x)) l.ran || list_any (λ x. test (queued_of x)) l.out)
+    list_any (λ x. test (queued_of x)) l.logged
+    || (list_any (λ x. test (queued_of x)) l.ran || list_any (λ x. test (queued_of x)) l.in_flight)
 
 pub record Parts : Type 0 where
   pub phases : Phases
@@ -73,7 +74,7 @@ abbrev pub core_view_of : Parts → CoreView
 core_view_of p = record {
   geometry = p.journal.geometry;
   waiting = map entry_of p.phases.waiting;
-  out = map entry_of p.phases.out;
+  in_flight = map entry_of p.phases.in_flight;
   ran = map replied_of p.phases.ran;
   logged = map replied_of p.phases.logged;
   opened = p.opened;
@@ -98,7 +99,7 @@ pub record IsPlaced (g : Geometry) (x : SlotView) : Type 0 where
 
 pub record ArePlaced (g : Geometry) (l : Phases) : Type 0 where
   pub waiting : AllByRecursion (IsPlaced g) l.waiting
-  pub out : AllByRecursion (IsPlaced g) l.out
+  pub in_flight : AllByRecursion (IsPlaced g) l.in_flight
   pub ran : AllByRecursion (IsPlaced g) l.ran
   pub logged : AllByRecursion (IsPlaced g) l.logged
 
@@ -112,7 +113,8 @@ reached g w = fold g w.committed (messages (entries w.ran))
 
 pub record IsCore (keeps : Type 0) (p : Parts) : Type 0 where
   -- each slot is free or on a chain
-  pub claimed : p.free + (length p.phases.waiting + (length p.phases.logged + (length p.phases.ran + length p.phases.out))) ≡ p.capacity
+  pub claimed : p.free
+      + (length p.phases.waiting + (length p.phases.logged + (length p.phases.ran + length p.phases.in_flight))) ≡ p.capacity
   pub placed : ArePlaced p.journal.geometry p.phases
   -- the run queue
   pub queue_geometry : p.queue.geometry ≡ p.journal.geometry
@@ -123,7 +125,7 @@ pub record IsCore (keeps : Type 0) (p : Parts) : Type 0 where
   pub sound : IsSoundCoreState p.journal.geometry (core_state_in p)
   -- the tree holds what was reached, but for the places of messages in flight
   pub geometry : p.tree.geometry ≡ p.journal.geometry
-  pub tree : TreeHolds p.journal.geometry (is_below p.journal.geometry (map entry_of p.phases.out)) (in_tree p.tree)
+  pub tree : TreeHolds p.journal.geometry (is_below p.journal.geometry (map entry_of p.phases.in_flight)) (in_tree p.tree)
       (reached p.journal.geometry (core_state_in p))
   -- the device
   pub is_committed : keeps → p.journal.failed ≡ false → committed p.journal ≡ Some (core_state_in p).committed

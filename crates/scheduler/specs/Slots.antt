@@ -23,14 +23,19 @@ slots_on row replies c = map (place_at row replies) (chain_at row c)
 -- the slots of the messages in each phase
 pub record Phases : Type 0 where
   pub waiting : List SlotView
-  pub out : List SlotView
+  pub in_flight : List SlotView
   pub ran : List SlotView
   pub logged : List SlotView
 
 -- Chain 0 has those that wait, chain 1 those in flight, chain 2 those that ran, and chain 3 those that are logged.
 abbrev pub phases_of : ArenaView Slot → List Reply → Phases
 phases_of row replies =
-    record { waiting = slots_on row replies 0; out = slots_on row replies 1; ran = slots_on row replies 2; logged = slots_on row replies 3 }
+    record {
+      waiting = slots_on row replies 0;
+      in_flight = slots_on row replies 1;
+      ran = slots_on row replies 2;
+      logged = slots_on row replies 3;
+    }
 
 -- The slots have these four chains.
 pub record HasChains (row : ArenaView Slot) : Type 0 where

@@ -20,17 +20,17 @@ pub enum Granted {
 }
 
 /// The message that is dispatched next, while the log has `room` or not; or why there is none.
-pub(crate) fn choose(queue: &RunQueue, room: bool) -> Result<QueuedMessage, Granted>
+pub(crate) fn choose(queue: &RunQueue, log_has_room: bool) -> Result<QueuedMessage, Granted>
     ensures next { MatchResult result
-        (λ queued. next_queued room queue.now.held queue.now.waiting ≡ Some queued)
-        (λ why. next_queued room queue.now.held queue.now.waiting ≡ None) }
+        (λ queued. next_queued log_has_room queue.now.held queue.now.waiting ≡ Some queued)
+        (λ why. next_queued log_has_room queue.now.held queue.now.waiting ≡ None) }
     ensures why { IfErr result (λ why.
         why ≡ cond (is_some (next_queued true queue.now.held queue.now.waiting)) granted.NoRoom granted.NoneEligible) }
 {
-    if let Some(queued) = queue.next(room) {
+    if let Some(queued) = queue.next(log_has_room) {
         return Ok(queued);
     }
-    if !room && queue.next(true).is_some() {
+    if !log_has_room && queue.next(true).is_some() {
         Err(Granted::NoRoom)
     } else {
         Err(Granted::NoneEligible)

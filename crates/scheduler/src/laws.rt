@@ -14,8 +14,9 @@ ghost use Rattle.scheduler.specs.Jobs.{IsJobOf, IsResultOf};
 pub fn jobs_stay()
     ensures ran { (g : Geometry) (w : CoreState) (job : JobView) (done : Done) → IsJobOf g w job → IsJobRun job done → IsResultOf g w done }
     ensures job { (g : Geometry) (old : MachineState) (event : Event) (job : JobView) → IsAllowed g old event → IsSoundCoreState g old.core
-        → IsJobOf g old.core job → Contains event.state_after.core.out (job.ticket, job.message) → IsJobOf g event.state_after.core job }
+        → IsJobOf g old.core job → Contains event.state_after.core.in_flight (job.ticket, job.message)
+        → IsJobOf g event.state_after.core job }
     ensures result { (g : Geometry) (old : MachineState) (event : Event) (done : Done) → IsAllowed g old event → IsSoundCoreState g old.core
-        → IsResultOf g old.core done → Contains event.state_after.core.out (done.ticket, done.message)
+        → IsResultOf g old.core done → Contains event.state_after.core.in_flight (done.ticket, done.message)
         → IsResultOf g event.state_after.core done }
 {}

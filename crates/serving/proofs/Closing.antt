@@ -5,7 +5,7 @@ use Rattle.message.specs.Waiting.{so_far}
 use Rattle.std.proofs.lemmas.Bool.{true≢false}
 use Rattle.std.proofs.lemmas.List.{length-replicate}
 use Rattle.legal_runs.proofs.Full.{last_none_out}
-use Rattle.legal_runs.proofs.Idle.{idle_sound, none_out}
+use Rattle.legal_runs.proofs.Idle.{idle_sound, none_in_flight}
 use Rattle.legal_runs.specs.Events.{MachineState}
 use Rattle.legal_runs.specs.Laws.{IsIdle, full}
 use Rattle.runs.specs.Machine.{MachineView, hand_of as hand_in, machine_of}
@@ -103,8 +103,8 @@ module _ {keeps : Type 0} {s : Start} {p : SessionView} (u : SessionInvariant ke
         let none : full (machine_of now).hands ≡ 0 =
         ap (λ (l : List (Option JobView)). full (map hand_in (map lent_hand l))) none_in_flight ∙ all_empty (length p.dispatch_seat.lent) in
         record {
-          none_out = ap (λ (w : MachineState). w.core.out) (sym r.ends)
-              ∙ last_none_out start.core.geometry (machine_of start) (events_of r.stages) r.legal (none_out (core_state_of start.core) u.idle)
+          none_in_flight = ap (λ (w : MachineState). w.core.in_flight) (sym r.ends)
+              ∙ last_none_out start.core.geometry (machine_of start) (events_of r.stages) r.legal (none_in_flight (core_state_of start.core) u.idle)
               (ap (λ (w : MachineState). full w.hands) r.ends ∙ none);
           none_logged = answered;
         }

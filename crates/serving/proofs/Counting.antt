@@ -18,7 +18,7 @@ Counts old new p = inside new + length p.told ≡ inside old + length p.come
 
 move_counts : (g : Geometry) (old new : CoreState) (p : Passed) → Move g old new p → Counts old new p
 move_counts g old new p (Stays s e) =
-    let same : inside new ≡ inside old = λ i. length (s.waiting i) + length (entries (s.logged i) ++ (entries (s.ran i) ++ s.out i)) in
+    let same : inside new ≡ inside old = λ i. length (s.waiting i) + length (entries (s.logged i) ++ (entries (s.ran i) ++ s.in_flight i)) in
     subst (Counts old new) (sym e) (omega (arith, same))
 move_counts g old new p (Arrives m fits is e) =
     let l = length-append old.waiting ((old.next, m) ∷ []) in
@@ -30,7 +30,7 @@ move_counts g old new p (Grants found first is e) =
     let holds = ap length (held_grant old found) ∙ length-append (held old) (found.0 ∷ []) in
     subst (Counts old new) (sym e) (subst (λ w. inside w + 0 ≡ inside old + 0) (sym is) (omega (arith, was, now, holds)))
 move_counts g old new p (Backs ticket found one_out is e) =
-    let k = picked (λ d. d.0 == ticket) old.out found one_out in
+    let k = picked (λ d. d.0 == ticket) old.in_flight found one_out in
     let a : Replied = (found.0.0, found.0.1, reply_to g old.committed found.0.1) in
     let was = ap length k.whole ∙ length-append k.before (found.0 ∷ k.behind) in
     let now = ap length k.rest ∙ length-append k.before k.behind in

@@ -89,7 +89,7 @@ committed_in core = (core_state_of core).committed
 
 -- No message is in flight with a worker, and each that was logged is answered.
 pub record IsQuiesced (core : CoreView) : Type 0 where
-  pub none_out : core.out ≡ []
+  pub none_in_flight : core.in_flight ≡ []
   pub none_logged : core.logged ≡ []
 
 -- Where each line that was read is answered, nothing waits or is held, and the device works. Where the device or the output has failed,

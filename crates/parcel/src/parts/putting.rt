@@ -11,32 +11,32 @@ use super::{Aggr, Label, Logical, Parcels, Root, Vol};
 use crate::StripeParcel;
 use affinity::{Geometry, Place};
 
-fn put_stripe(place: &mut Option<StripeParcel>, p: Parcels) -> Result<(), Parcels>
-    ensures ok { OnOk result (Puts [] p (in_child in_stripe place.old) (in_child in_stripe place.new)) }
+fn put_stripe(node: &mut Option<StripeParcel>, p: Parcels) -> Result<(), Parcels>
+    ensures ok { OnOk result (Puts [] p (in_child in_stripe node.old) (in_child in_stripe node.new)) }
     ensures kind { OnOk result ((a v s : ℕ) → IsKindOf (a ∷ v ∷ zero ∷ s ∷ []) p) }
-    ensures fits { OnOk result ((g : Geometry) (a v s : ℕ) → Fits g (a ∷ v ∷ zero ∷ s ∷ []) p → IfSome place.new (FitsStripe g s)) }
+    ensures fits { OnOk result ((g : Geometry) (a v s : ℕ) → Fits g (a ∷ v ∷ zero ∷ s ∷ []) p → IfSome node.new (FitsStripe g s)) }
     ensures err { IfErr result (λ back. (a v s : ℕ)
-        → HandsBack (IsKindOf (a ∷ v ∷ zero ∷ s ∷ []) p) [] p back (in_child in_stripe place.old) (in_child in_stripe place.new)) }
-    ensures stays { IfErr result (λ back. place.new ≡ place.old) }
+        → HandsBack (IsKindOf (a ∷ v ∷ zero ∷ s ∷ []) p) [] p back (in_child in_stripe node.old) (in_child in_stripe node.new)) }
+    ensures stays { IfErr result (λ back. node.new ≡ node.old) }
 {
     match p {
-        Parcels::Stripe(stripe) if place.is_none() => {
-            *place = Some(stripe);
+        Parcels::Stripe(stripe) if node.is_none() => {
+            *node = Some(stripe);
             Ok(())
         }
         other => Err(other),
     }
 }
 
-fn put_label(place: &mut Option<Label>, p: Parcels) -> Result<(), Parcels>
-    ensures ok { OnOk result (Puts [] p (in_child in_label place.old) (in_child in_label place.new)) }
+fn put_label(node: &mut Option<Label>, p: Parcels) -> Result<(), Parcels>
+    ensures ok { OnOk result (Puts [] p (in_child in_label node.old) (in_child in_label node.new)) }
     ensures kind { OnOk result ((a v : ℕ) → IsKindOf (a ∷ v ∷ suc zero ∷ []) p) }
     ensures err { IfErr result (λ back. (a v : ℕ)
-        → HandsBack (IsKindOf (a ∷ v ∷ suc zero ∷ []) p) [] p back (in_child in_label place.old) (in_child in_label place.new)) }
+        → HandsBack (IsKindOf (a ∷ v ∷ suc zero ∷ []) p) [] p back (in_child in_label node.old) (in_child in_label node.new)) }
 {
     match p {
-        Parcels::Label(label) if place.is_none() => {
-            *place = Some(label);
+        Parcels::Label(label) if node.is_none() => {
+            *node = Some(label);
             Ok(())
         }
         other => Err(other),
@@ -44,26 +44,26 @@ fn put_label(place: &mut Option<Label>, p: Parcels) -> Result<(), Parcels>
 }
 
 fn put_logical(
-    place: &mut Option<Logical>,
+    node: &mut Option<Logical>,
     g: &Geometry,
     path: &[usize],
     p: Parcels,
 ) -> Result<(), Parcels>
     requires path { IsLogicalPath g.now path.now }
-    requires fits { IfSome place.old (FitsLogical g.now) }
+    requires fits { IfSome node.old (FitsLogical g.now) }
     requires parcels { (a v : ℕ) → IsKindOf (a ∷ v ∷ zero ∷ path.now) p → Fits g.now (a ∷ v ∷ zero ∷ path.now) p }
-    ensures ok { OnOk result (Puts path.now p (in_child in_logical place.old) (in_child in_logical place.new)) }
+    ensures ok { OnOk result (Puts path.now p (in_child in_logical node.old) (in_child in_logical node.new)) }
     ensures kind { OnOk result ((a v : ℕ) → IsKindOf (a ∷ v ∷ zero ∷ path.now) p) }
     ensures err { IfErr result (λ back. (a v : ℕ)
-        → HandsBack (IsKindOf (a ∷ v ∷ zero ∷ path.now) p) path.now p back (in_child in_logical place.old)
-        (in_child in_logical place.new)) }
-    ensures fits { IfSome place.new (FitsLogical g.now) }
+        → HandsBack (IsKindOf (a ∷ v ∷ zero ∷ path.now) p) path.now p back (in_child in_logical node.old)
+        (in_child in_logical node.new)) }
+    ensures fits { IfSome node.new (FitsLogical g.now) }
 {
     match path {
-        [] => put_logical_itself(place, g, p),
+        [] => put_logical_itself(node, g, p),
         [s, ..] => {
             let s = *s;
-            match place {
+            match node {
                 None => Err(p),
                 Some(logical) => put_stripe(&mut logical.stripes[s], p),
             }
@@ -71,18 +71,18 @@ fn put_logical(
     }
 }
 
-fn put_logical_itself(place: &mut Option<Logical>, g: &Geometry, p: Parcels) -> Result<(), Parcels>
-    requires fits { IfSome place.old (FitsLogical g.now) }
+fn put_logical_itself(node: &mut Option<Logical>, g: &Geometry, p: Parcels) -> Result<(), Parcels>
+    requires fits { IfSome node.old (FitsLogical g.now) }
     requires parcels { (a v : ℕ) → IsKindOf (a ∷ v ∷ zero ∷ []) p → Fits g.now (a ∷ v ∷ zero ∷ []) p }
-    ensures ok { OnOk result (Puts [] p (in_child in_logical place.old) (in_child in_logical place.new)) }
+    ensures ok { OnOk result (Puts [] p (in_child in_logical node.old) (in_child in_logical node.new)) }
     ensures kind { OnOk result ((a v : ℕ) → IsKindOf (a ∷ v ∷ zero ∷ []) p) }
     ensures err { IfErr result (λ back. (a v : ℕ)
-        → HandsBack (IsKindOf (a ∷ v ∷ zero ∷ []) p) [] p back (in_child in_logical place.old) (in_child in_logical place.new)) }
-    ensures fits { IfSome place.new (FitsLogical g.now) }
+        → HandsBack (IsKindOf (a ∷ v ∷ zero ∷ []) p) [] p back (in_child in_logical node.old) (in_child in_logical node.new)) }
+    ensures fits { IfSome node.new (FitsLogical g.now) }
 {
     match p {
-        Parcels::Logical(logical) if place.is_none() => {
-            *place = Some(logical);
+        Parcels::Logical(logical) if node.is_none() => {
+            *node = Some(logical);
             Ok(())
         }
         other => Err(other),
@@ -90,25 +90,25 @@ fn put_logical_itself(place: &mut Option<Logical>, g: &Geometry, p: Parcels) -> 
 }
 
 fn put_volume(
-    place: &mut Option<Vol>,
+    node: &mut Option<Vol>,
     g: &Geometry,
     path: &[usize],
     p: Parcels,
 ) -> Result<(), Parcels>
     requires path { IsVolumePath g.now path.now }
-    requires fits { IfSome place.old (FitsVolume g.now) }
+    requires fits { IfSome node.old (FitsVolume g.now) }
     requires parcels { (a v : ℕ) → IsKindOf (a ∷ v ∷ path.now) p → Fits g.now (a ∷ v ∷ path.now) p }
-    ensures ok { OnOk result (Puts path.now p (in_child in_volume place.old) (in_child in_volume place.new)) }
+    ensures ok { OnOk result (Puts path.now p (in_child in_volume node.old) (in_child in_volume node.new)) }
     ensures kind { OnOk result ((a v : ℕ) → IsKindOf (a ∷ v ∷ path.now) p) }
     ensures err { IfErr result (λ back. (a v : ℕ)
-        → HandsBack (IsKindOf (a ∷ v ∷ path.now) p) path.now p back (in_child in_volume place.old) (in_child in_volume place.new)) }
-    ensures fits { IfSome place.new (FitsVolume g.now) }
+        → HandsBack (IsKindOf (a ∷ v ∷ path.now) p) path.now p back (in_child in_volume node.old) (in_child in_volume node.new)) }
+    ensures fits { IfSome node.new (FitsVolume g.now) }
 {
     match path {
-        [] => put_volume_itself(place, g, p),
+        [] => put_volume_itself(node, g, p),
         [child, rest @ ..] => {
             let child = *child;
-            match place {
+            match node {
                 None => Err(p),
                 Some(volume) => {
                     if child == 0 {
@@ -122,18 +122,18 @@ fn put_volume(
     }
 }
 
-fn put_volume_itself(place: &mut Option<Vol>, g: &Geometry, p: Parcels) -> Result<(), Parcels>
-    requires fits { IfSome place.old (FitsVolume g.now) }
+fn put_volume_itself(node: &mut Option<Vol>, g: &Geometry, p: Parcels) -> Result<(), Parcels>
+    requires fits { IfSome node.old (FitsVolume g.now) }
     requires parcels { (a v : ℕ) → IsKindOf (a ∷ v ∷ []) p → Fits g.now (a ∷ v ∷ []) p }
-    ensures ok { OnOk result (Puts [] p (in_child in_volume place.old) (in_child in_volume place.new)) }
+    ensures ok { OnOk result (Puts [] p (in_child in_volume node.old) (in_child in_volume node.new)) }
     ensures kind { OnOk result ((a v : ℕ) → IsKindOf (a ∷ v ∷ []) p) }
     ensures err { IfErr result (λ back. (a v : ℕ)
-        → HandsBack (IsKindOf (a ∷ v ∷ []) p) [] p back (in_child in_volume place.old) (in_child in_volume place.new)) }
-    ensures fits { IfSome place.new (FitsVolume g.now) }
+        → HandsBack (IsKindOf (a ∷ v ∷ []) p) [] p back (in_child in_volume node.old) (in_child in_volume node.new)) }
+    ensures fits { IfSome node.new (FitsVolume g.now) }
 {
     match p {
-        Parcels::Vol(volume) if place.is_none() => {
-            *place = Some(volume);
+        Parcels::Vol(volume) if node.is_none() => {
+            *node = Some(volume);
             Ok(())
         }
         other => Err(other),
@@ -141,25 +141,25 @@ fn put_volume_itself(place: &mut Option<Vol>, g: &Geometry, p: Parcels) -> Resul
 }
 
 fn put_aggregate(
-    place: &mut Option<Aggr>,
+    node: &mut Option<Aggr>,
     g: &Geometry,
     path: &[usize],
     p: Parcels,
 ) -> Result<(), Parcels>
     requires path { IsAggregatePath g.now path.now }
-    requires fits { IfSome place.old (FitsAggregate g.now) }
+    requires fits { IfSome node.old (FitsAggregate g.now) }
     requires parcels { (a : ℕ) → IsKindOf (a ∷ path.now) p → Fits g.now (a ∷ path.now) p }
-    ensures ok { OnOk result (Puts path.now p (in_child in_aggregate place.old) (in_child in_aggregate place.new)) }
+    ensures ok { OnOk result (Puts path.now p (in_child in_aggregate node.old) (in_child in_aggregate node.new)) }
     ensures kind { OnOk result ((a : ℕ) → IsKindOf (a ∷ path.now) p) }
     ensures err { IfErr result (λ back. (a : ℕ)
-        → HandsBack (IsKindOf (a ∷ path.now) p) path.now p back (in_child in_aggregate place.old) (in_child in_aggregate place.new)) }
-    ensures fits { IfSome place.new (FitsAggregate g.now) }
+        → HandsBack (IsKindOf (a ∷ path.now) p) path.now p back (in_child in_aggregate node.old) (in_child in_aggregate node.new)) }
+    ensures fits { IfSome node.new (FitsAggregate g.now) }
 {
     match path {
-        [] => put_aggregate_itself(place, g, p),
+        [] => put_aggregate_itself(node, g, p),
         [v, rest @ ..] => {
             let v = *v;
-            match place {
+            match node {
                 None => Err(p),
                 Some(aggregate) => put_volume(&mut aggregate.volumes[v], g, rest, p),
             }
@@ -167,18 +167,18 @@ fn put_aggregate(
     }
 }
 
-fn put_aggregate_itself(place: &mut Option<Aggr>, g: &Geometry, p: Parcels) -> Result<(), Parcels>
-    requires fits { IfSome place.old (FitsAggregate g.now) }
+fn put_aggregate_itself(node: &mut Option<Aggr>, g: &Geometry, p: Parcels) -> Result<(), Parcels>
+    requires fits { IfSome node.old (FitsAggregate g.now) }
     requires parcels { (a : ℕ) → IsKindOf (a ∷ []) p → Fits g.now (a ∷ []) p }
-    ensures ok { OnOk result (Puts [] p (in_child in_aggregate place.old) (in_child in_aggregate place.new)) }
+    ensures ok { OnOk result (Puts [] p (in_child in_aggregate node.old) (in_child in_aggregate node.new)) }
     ensures kind { OnOk result ((a : ℕ) → IsKindOf (a ∷ []) p) }
     ensures err { IfErr result (λ back. (a : ℕ)
-        → HandsBack (IsKindOf (a ∷ []) p) [] p back (in_child in_aggregate place.old) (in_child in_aggregate place.new)) }
-    ensures fits { IfSome place.new (FitsAggregate g.now) }
+        → HandsBack (IsKindOf (a ∷ []) p) [] p back (in_child in_aggregate node.old) (in_child in_aggregate node.new)) }
+    ensures fits { IfSome node.new (FitsAggregate g.now) }
 {
     match p {
-        Parcels::Aggr(aggregate) if place.is_none() => {
-            *place = Some(aggregate);
+        Parcels::Aggr(aggregate) if node.is_none() => {
+            *node = Some(aggregate);
             Ok(())
         }
         other => Err(other),
@@ -186,25 +186,25 @@ fn put_aggregate_itself(place: &mut Option<Aggr>, g: &Geometry, p: Parcels) -> R
 }
 
 fn put_root(
-    place: &mut Option<Root>,
+    node: &mut Option<Root>,
     g: &Geometry,
     path: &[usize],
     p: Parcels,
 ) -> Result<(), Parcels>
     requires path { IsRootPath g.now path.now }
-    requires fits { IfSome place.old (FitsRoot g.now) }
+    requires fits { IfSome node.old (FitsRoot g.now) }
     requires parcels { IsKindOf path.now p → Fits g.now path.now p }
-    ensures ok { OnOk result (Puts path.now p (in_child in_root place.old) (in_child in_root place.new)) }
+    ensures ok { OnOk result (Puts path.now p (in_child in_root node.old) (in_child in_root node.new)) }
     ensures kind { OnOk result (IsKindOf path.now p) }
-    ensures err { IfErr result (λ back. HandsBack (IsKindOf path.now p) path.now p back (in_child in_root place.old)
-        (in_child in_root place.new)) }
-    ensures fits { IfSome place.new (FitsRoot g.now) }
+    ensures err { IfErr result (λ back. HandsBack (IsKindOf path.now p) path.now p back (in_child in_root node.old)
+        (in_child in_root node.new)) }
+    ensures fits { IfSome node.new (FitsRoot g.now) }
 {
     match path {
-        [] => put_root_itself(place, g, p),
+        [] => put_root_itself(node, g, p),
         [a, rest @ ..] => {
             let a = *a;
-            match place {
+            match node {
                 None => Err(p),
                 Some(root) => put_aggregate(&mut root.aggregates[a], g, rest, p),
             }
@@ -212,17 +212,17 @@ fn put_root(
     }
 }
 
-fn put_root_itself(place: &mut Option<Root>, g: &Geometry, p: Parcels) -> Result<(), Parcels>
-    requires fits { IfSome place.old (FitsRoot g.now) }
+fn put_root_itself(node: &mut Option<Root>, g: &Geometry, p: Parcels) -> Result<(), Parcels>
+    requires fits { IfSome node.old (FitsRoot g.now) }
     requires parcels { IsKindOf [] p → Fits g.now [] p }
-    ensures ok { OnOk result (Puts [] p (in_child in_root place.old) (in_child in_root place.new)) }
+    ensures ok { OnOk result (Puts [] p (in_child in_root node.old) (in_child in_root node.new)) }
     ensures kind { OnOk result (IsKindOf [] p) }
-    ensures err { IfErr result (λ back. HandsBack (IsKindOf [] p) [] p back (in_child in_root place.old) (in_child in_root place.new)) }
-    ensures fits { IfSome place.new (FitsRoot g.now) }
+    ensures err { IfErr result (λ back. HandsBack (IsKindOf [] p) [] p back (in_child in_root node.old) (in_child in_root node.new)) }
+    ensures fits { IfSome node.new (FitsRoot g.now) }
 {
     match p {
-        Parcels::Root(root) if place.is_none() => {
-            *place = Some(root);
+        Parcels::Root(root) if node.is_none() => {
+            *node = Some(root);
             Ok(())
         }
         other => Err(other),

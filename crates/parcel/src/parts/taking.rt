@@ -13,44 +13,44 @@ use super::{Aggr, Label, Logical, Parcels, Root, Vol};
 use crate::StripeParcel;
 use affinity::{Geometry, Place};
 
-fn take_stripe(place: &mut Option<StripeParcel>) -> Option<Parcels>
-    ensures none { IfNone result (TakesNothing IsLeafPath [] (in_child in_stripe place.old) (in_child in_stripe place.new)) }
-    ensures some { IfSome result (λ r. TakesParcels IsLeafPath [] r (in_child in_stripe place.old) (in_child in_stripe place.new)) }
-    ensures fits { (g : Geometry) (s : ℕ) → IfSome place.old (FitsStripe g s) → IfSome place.new (FitsStripe g s) }
-    ensures lent { IfSome result (λ r. (g : Geometry) (a v s : ℕ) → IfSome place.old (FitsStripe g s) → Fits g (a ∷ v ∷ zero ∷ s ∷ []) r) }
+fn take_stripe(node: &mut Option<StripeParcel>) -> Option<Parcels>
+    ensures none { IfNone result (TakesNothing IsLeafPath [] (in_child in_stripe node.old) (in_child in_stripe node.new)) }
+    ensures some { IfSome result (λ r. TakesParcels IsLeafPath [] r (in_child in_stripe node.old) (in_child in_stripe node.new)) }
+    ensures fits { (g : Geometry) (s : ℕ) → IfSome node.old (FitsStripe g s) → IfSome node.new (FitsStripe g s) }
+    ensures lent { IfSome result (λ r. (g : Geometry) (a v s : ℕ) → IfSome node.old (FitsStripe g s) → Fits g (a ∷ v ∷ zero ∷ s ∷ []) r) }
 {
-    match place.take() {
+    match node.take() {
         None => None,
         Some(stripe) => Some(Parcels::Stripe(stripe)),
     }
 }
 
-fn take_label(place: &mut Option<Label>) -> Option<Parcels>
-    ensures none { IfNone result (TakesNothing IsLeafPath [] (in_child in_label place.old) (in_child in_label place.new)) }
-    ensures some { IfSome result (λ r. TakesParcels IsLeafPath [] r (in_child in_label place.old) (in_child in_label place.new)) }
+fn take_label(node: &mut Option<Label>) -> Option<Parcels>
+    ensures none { IfNone result (TakesNothing IsLeafPath [] (in_child in_label node.old) (in_child in_label node.new)) }
+    ensures some { IfSome result (λ r. TakesParcels IsLeafPath [] r (in_child in_label node.old) (in_child in_label node.new)) }
     ensures lent { IfSome result (λ r. (g : Geometry) (a v : ℕ) → Fits g (a ∷ v ∷ suc zero ∷ []) r) }
 {
-    match place.take() {
+    match node.take() {
         None => None,
         Some(label) => Some(Parcels::Label(label)),
     }
 }
 
-fn take_logical(place: &mut Option<Logical>, g: &Geometry, path: &[usize]) -> Option<Parcels>
+fn take_logical(node: &mut Option<Logical>, g: &Geometry, path: &[usize]) -> Option<Parcels>
     requires path { IsLogicalPath g.now path.now }
-    requires fits { IfSome place.old (FitsLogical g.now) }
+    requires fits { IfSome node.old (FitsLogical g.now) }
     ensures none { IfNone result
-        (TakesNothing (IsLogicalPath g.now) path.now (in_child in_logical place.old) (in_child in_logical place.new)) }
-    ensures some { IfSome result (λ r. TakesParcels (IsLogicalPath g.now) path.now r (in_child in_logical place.old)
-        (in_child in_logical place.new)) }
-    ensures fits { IfSome place.new (FitsLogical g.now) }
+        (TakesNothing (IsLogicalPath g.now) path.now (in_child in_logical node.old) (in_child in_logical node.new)) }
+    ensures some { IfSome result (λ r. TakesParcels (IsLogicalPath g.now) path.now r (in_child in_logical node.old)
+        (in_child in_logical node.new)) }
+    ensures fits { IfSome node.new (FitsLogical g.now) }
     ensures lent { IfSome result (λ r. (a v : ℕ) → Fits g.now (a ∷ v ∷ zero ∷ path.now) r) }
 {
     match path {
-        [] => take_logical_itself(place, g),
+        [] => take_logical_itself(node, g),
         [s, ..] => {
             let s = *s;
-            match place {
+            match node {
                 None => None,
                 Some(logical) => take_stripe(&mut logical.stripes[s]),
             }
@@ -58,38 +58,38 @@ fn take_logical(place: &mut Option<Logical>, g: &Geometry, path: &[usize]) -> Op
     }
 }
 
-fn take_logical_itself(place: &mut Option<Logical>, g: &Geometry) -> Option<Parcels>
-    requires fits { IfSome place.old (FitsLogical g.now) }
-    ensures none { IfNone result (TakesNothing (IsLogicalPath g.now) [] (in_child in_logical place.old) (in_child in_logical place.new)) }
-    ensures some { IfSome result (λ r. TakesParcels (IsLogicalPath g.now) [] r (in_child in_logical place.old)
-        (in_child in_logical place.new)) }
-    ensures fits { IfSome place.new (FitsLogical g.now) }
+fn take_logical_itself(node: &mut Option<Logical>, g: &Geometry) -> Option<Parcels>
+    requires fits { IfSome node.old (FitsLogical g.now) }
+    ensures none { IfNone result (TakesNothing (IsLogicalPath g.now) [] (in_child in_logical node.old) (in_child in_logical node.new)) }
+    ensures some { IfSome result (λ r. TakesParcels (IsLogicalPath g.now) [] r (in_child in_logical node.old)
+        (in_child in_logical node.new)) }
+    ensures fits { IfSome node.new (FitsLogical g.now) }
     ensures lent { IfSome result (λ r. (a v : ℕ) → Fits g.now (a ∷ v ∷ zero ∷ []) r) }
 {
-    if !is_whole_logical(place) {
+    if !is_whole_logical(node) {
         return None;
     }
-    match place.take() {
+    match node.take() {
         None => None,
         Some(logical) => Some(Parcels::Logical(logical)),
     }
 }
 
-fn take_volume(place: &mut Option<Vol>, g: &Geometry, path: &[usize]) -> Option<Parcels>
+fn take_volume(node: &mut Option<Vol>, g: &Geometry, path: &[usize]) -> Option<Parcels>
     requires path { IsVolumePath g.now path.now }
-    requires fits { IfSome place.old (FitsVolume g.now) }
+    requires fits { IfSome node.old (FitsVolume g.now) }
     ensures none { IfNone result
-        (TakesNothing (IsVolumePath g.now) path.now (in_child in_volume place.old) (in_child in_volume place.new)) }
-    ensures some { IfSome result (λ r. TakesParcels (IsVolumePath g.now) path.now r (in_child in_volume place.old)
-        (in_child in_volume place.new)) }
-    ensures fits { IfSome place.new (FitsVolume g.now) }
+        (TakesNothing (IsVolumePath g.now) path.now (in_child in_volume node.old) (in_child in_volume node.new)) }
+    ensures some { IfSome result (λ r. TakesParcels (IsVolumePath g.now) path.now r (in_child in_volume node.old)
+        (in_child in_volume node.new)) }
+    ensures fits { IfSome node.new (FitsVolume g.now) }
     ensures lent { IfSome result (λ r. (a v : ℕ) → Fits g.now (a ∷ v ∷ path.now) r) }
 {
     match path {
-        [] => take_volume_itself(place, g),
+        [] => take_volume_itself(node, g),
         [child, rest @ ..] => {
             let child = *child;
-            match place {
+            match node {
                 None => None,
                 Some(volume) => {
                     if child == 0 {
@@ -103,38 +103,38 @@ fn take_volume(place: &mut Option<Vol>, g: &Geometry, path: &[usize]) -> Option<
     }
 }
 
-fn take_volume_itself(place: &mut Option<Vol>, g: &Geometry) -> Option<Parcels>
-    requires fits { IfSome place.old (FitsVolume g.now) }
-    ensures none { IfNone result (TakesNothing (IsVolumePath g.now) [] (in_child in_volume place.old) (in_child in_volume place.new)) }
-    ensures some { IfSome result (λ r. TakesParcels (IsVolumePath g.now) [] r (in_child in_volume place.old)
-        (in_child in_volume place.new)) }
-    ensures fits { IfSome place.new (FitsVolume g.now) }
+fn take_volume_itself(node: &mut Option<Vol>, g: &Geometry) -> Option<Parcels>
+    requires fits { IfSome node.old (FitsVolume g.now) }
+    ensures none { IfNone result (TakesNothing (IsVolumePath g.now) [] (in_child in_volume node.old) (in_child in_volume node.new)) }
+    ensures some { IfSome result (λ r. TakesParcels (IsVolumePath g.now) [] r (in_child in_volume node.old)
+        (in_child in_volume node.new)) }
+    ensures fits { IfSome node.new (FitsVolume g.now) }
     ensures lent { IfSome result (λ r. (a v : ℕ) → Fits g.now (a ∷ v ∷ []) r) }
 {
-    if !is_whole_volume(place) {
+    if !is_whole_volume(node) {
         return None;
     }
-    match place.take() {
+    match node.take() {
         None => None,
         Some(volume) => Some(Parcels::Vol(volume)),
     }
 }
 
-fn take_aggregate(place: &mut Option<Aggr>, g: &Geometry, path: &[usize]) -> Option<Parcels>
+fn take_aggregate(node: &mut Option<Aggr>, g: &Geometry, path: &[usize]) -> Option<Parcels>
     requires path { IsAggregatePath g.now path.now }
-    requires fits { IfSome place.old (FitsAggregate g.now) }
-    ensures none { IfNone result (TakesNothing (IsAggregatePath g.now) path.now (in_child in_aggregate place.old)
-        (in_child in_aggregate place.new)) }
-    ensures some { IfSome result (λ r. TakesParcels (IsAggregatePath g.now) path.now r (in_child in_aggregate place.old)
-        (in_child in_aggregate place.new)) }
-    ensures fits { IfSome place.new (FitsAggregate g.now) }
+    requires fits { IfSome node.old (FitsAggregate g.now) }
+    ensures none { IfNone result (TakesNothing (IsAggregatePath g.now) path.now (in_child in_aggregate node.old)
+        (in_child in_aggregate node.new)) }
+    ensures some { IfSome result (λ r. TakesParcels (IsAggregatePath g.now) path.now r (in_child in_aggregate node.old)
+        (in_child in_aggregate node.new)) }
+    ensures fits { IfSome node.new (FitsAggregate g.now) }
     ensures lent { IfSome result (λ r. (a : ℕ) → Fits g.now (a ∷ path.now) r) }
 {
     match path {
-        [] => take_aggregate_itself(place, g),
+        [] => take_aggregate_itself(node, g),
         [v, rest @ ..] => {
             let v = *v;
-            match place {
+            match node {
                 None => None,
                 Some(aggregate) => take_volume(&mut aggregate.volumes[v], g, rest),
             }
@@ -142,38 +142,38 @@ fn take_aggregate(place: &mut Option<Aggr>, g: &Geometry, path: &[usize]) -> Opt
     }
 }
 
-fn take_aggregate_itself(place: &mut Option<Aggr>, g: &Geometry) -> Option<Parcels>
-    requires fits { IfSome place.old (FitsAggregate g.now) }
+fn take_aggregate_itself(node: &mut Option<Aggr>, g: &Geometry) -> Option<Parcels>
+    requires fits { IfSome node.old (FitsAggregate g.now) }
     ensures none { IfNone result
-        (TakesNothing (IsAggregatePath g.now) [] (in_child in_aggregate place.old) (in_child in_aggregate place.new)) }
-    ensures some { IfSome result (λ r. TakesParcels (IsAggregatePath g.now) [] r (in_child in_aggregate place.old)
-        (in_child in_aggregate place.new)) }
-    ensures fits { IfSome place.new (FitsAggregate g.now) }
+        (TakesNothing (IsAggregatePath g.now) [] (in_child in_aggregate node.old) (in_child in_aggregate node.new)) }
+    ensures some { IfSome result (λ r. TakesParcels (IsAggregatePath g.now) [] r (in_child in_aggregate node.old)
+        (in_child in_aggregate node.new)) }
+    ensures fits { IfSome node.new (FitsAggregate g.now) }
     ensures lent { IfSome result (λ r. (a : ℕ) → Fits g.now (a ∷ []) r) }
 {
-    if !is_whole_aggregate(place) {
+    if !is_whole_aggregate(node) {
         return None;
     }
-    match place.take() {
+    match node.take() {
         None => None,
         Some(aggregate) => Some(Parcels::Aggr(aggregate)),
     }
 }
 
-fn take_root(place: &mut Option<Root>, g: &Geometry, path: &[usize]) -> Option<Parcels>
+fn take_root(node: &mut Option<Root>, g: &Geometry, path: &[usize]) -> Option<Parcels>
     requires path { IsRootPath g.now path.now }
-    requires fits { IfSome place.old (FitsRoot g.now) }
-    ensures none { IfNone result (TakesNothing (IsRootPath g.now) path.now (in_child in_root place.old) (in_child in_root place.new)) }
-    ensures some { IfSome result (λ r. TakesParcels (IsRootPath g.now) path.now r (in_child in_root place.old)
-        (in_child in_root place.new)) }
-    ensures fits { IfSome place.new (FitsRoot g.now) }
+    requires fits { IfSome node.old (FitsRoot g.now) }
+    ensures none { IfNone result (TakesNothing (IsRootPath g.now) path.now (in_child in_root node.old) (in_child in_root node.new)) }
+    ensures some { IfSome result (λ r. TakesParcels (IsRootPath g.now) path.now r (in_child in_root node.old)
+        (in_child in_root node.new)) }
+    ensures fits { IfSome node.new (FitsRoot g.now) }
     ensures lent { IfSome result (λ r. Fits g.now path.now r) }
 {
     match path {
-        [] => take_root_itself(place, g),
+        [] => take_root_itself(node, g),
         [a, rest @ ..] => {
             let a = *a;
-            match place {
+            match node {
                 None => None,
                 Some(root) => take_aggregate(&mut root.aggregates[a], g, rest),
             }
@@ -181,17 +181,17 @@ fn take_root(place: &mut Option<Root>, g: &Geometry, path: &[usize]) -> Option<P
     }
 }
 
-fn take_root_itself(place: &mut Option<Root>, g: &Geometry) -> Option<Parcels>
-    requires fits { IfSome place.old (FitsRoot g.now) }
-    ensures none { IfNone result (TakesNothing (IsRootPath g.now) [] (in_child in_root place.old) (in_child in_root place.new)) }
-    ensures some { IfSome result (λ r. TakesParcels (IsRootPath g.now) [] r (in_child in_root place.old) (in_child in_root place.new)) }
-    ensures fits { IfSome place.new (FitsRoot g.now) }
+fn take_root_itself(node: &mut Option<Root>, g: &Geometry) -> Option<Parcels>
+    requires fits { IfSome node.old (FitsRoot g.now) }
+    ensures none { IfNone result (TakesNothing (IsRootPath g.now) [] (in_child in_root node.old) (in_child in_root node.new)) }
+    ensures some { IfSome result (λ r. TakesParcels (IsRootPath g.now) [] r (in_child in_root node.old) (in_child in_root node.new)) }
+    ensures fits { IfSome node.new (FitsRoot g.now) }
     ensures lent { IfSome result (λ r. Fits g.now [] r) }
 {
-    if !is_whole_root(place) {
+    if !is_whole_root(node) {
         return None;
     }
-    match place.take() {
+    match node.take() {
         None => None,
         Some(root) => Some(Parcels::Root(root)),
     }

@@ -4,28 +4,28 @@ ghost use Rattle.parcel.specs.Levels.{is_whole_logical, is_whole_volume, is_whol
 
 use super::{Aggr, Logical, Root, Vol};
 
-pub(super) fn is_whole_logical(place: &Option<Logical>) -> bool
-    ensures { result ≡ is_whole_logical place.now }
+pub(super) fn is_whole_logical(node: &Option<Logical>) -> bool
+    ensures { result ≡ is_whole_logical node.now }
 {
-    match place {
+    match node {
         None => false,
         Some(logical) => logical.stripes.iter().all(|stripe| stripe.is_some()),
     }
 }
 
-pub(super) fn is_whole_volume(place: &Option<Vol>) -> bool
-    ensures { result ≡ is_whole_volume place.now }
+pub(super) fn is_whole_volume(node: &Option<Vol>) -> bool
+    ensures { result ≡ is_whole_volume node.now }
 {
-    match place {
+    match node {
         None => false,
         Some(volume) => is_whole_logical(&volume.logical) && volume.label.is_some(),
     }
 }
 
-pub(super) fn is_whole_aggregate(place: &Option<Aggr>) -> bool
-    ensures { result ≡ is_whole_aggregate place.now }
+pub(super) fn is_whole_aggregate(node: &Option<Aggr>) -> bool
+    ensures { result ≡ is_whole_aggregate node.now }
 {
-    match place {
+    match node {
         None => false,
         Some(aggregate) => aggregate
             .volumes
@@ -34,10 +34,10 @@ pub(super) fn is_whole_aggregate(place: &Option<Aggr>) -> bool
     }
 }
 
-pub(super) fn is_whole_root(place: &Option<Root>) -> bool
-    ensures { result ≡ is_whole_root place.now }
+pub(super) fn is_whole_root(node: &Option<Root>) -> bool
+    ensures { result ≡ is_whole_root node.now }
 {
-    match place {
+    match node {
         None => false,
         Some(root) => root
             .aggregates

@@ -48,14 +48,14 @@ pub(super) fn read_stripe(logical: &mut Logical, g: &Geometry, s: usize, bytes: 
 }
 
 // Takes in the piece of the stripe at one place.
-fn read_at(place: &mut Option<StripeParcel>, g: &Geometry, files: u64, s: u16, bytes: &[u8]) -> bool
-    requires fits { IfSome place.old (FitsStripe g.now s) }
-    requires whole { IsWholeChild (λ (p : StripePart). Unit {0}) place.old }
+fn read_at(node: &mut Option<StripeParcel>, g: &Geometry, files: u64, s: u16, bytes: &[u8]) -> bool
+    requires fits { IfSome node.old (FitsStripe g.now s) }
+    requires whole { IsWholeChild (λ (p : StripePart). Unit {0}) node.old }
     requires files { files < 2 ^ g.now.files }
     requires size { length bytes.now ≡ g.now.quota * 520 }
-    ensures { IsStripeRead g.now files s bytes.now result place.new }
+    ensures { IsStripeRead g.now files s bytes.now result node.new }
 {
-    let Some(stripe) = place else { unreachable!() };
+    let Some(stripe) = node else { unreachable!() };
     stripe.drop_all();
     if stripe.read_piece(g, files, s, bytes) {
         return true;

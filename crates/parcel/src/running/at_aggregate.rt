@@ -21,24 +21,24 @@ use affinity::Geometry;
 use messages::{Msg, Reply};
 
 // Whether the volume at one place is made, and whether it is sealed.
-fn marks(place: &Option<Vol>) -> (bool, bool)
-    ensures made { (g : Geometry) → result.0 ≡ (by_child (volume_facts g) place.now).made }
-    ensures sealed { (g : Geometry) → result.1 ≡ (by_child (volume_facts g) place.now).sealed }
+fn marks(node: &Option<Vol>) -> (bool, bool)
+    ensures made { (g : Geometry) → result.0 ≡ (by_child (volume_facts g) node.now).made }
+    ensures sealed { (g : Geometry) → result.1 ≡ (by_child (volume_facts g) node.now).sealed }
 {
-    match place {
+    match node {
         Some(volume) => (volume.made, volume.sealed),
         None => (false, false),
     }
 }
 
 // Makes the volume at one place, with a label of zeros.
-fn make(place: &mut Option<Vol>)
-    requires { IsWholeChild IsWholeVolume place.old }
-    ensures facts { (g : Geometry) → by_child (volume_facts g) place.new ≡ with_made (by_child (volume_facts g) place.old) }
-    ensures whole { IsWholeChild IsWholeVolume place.new }
-    ensures fits { (g : Geometry) → IfSome place.old (FitsVolume g) → IfSome place.new (FitsVolume g) }
+fn make(node: &mut Option<Vol>)
+    requires { IsWholeChild IsWholeVolume node.old }
+    ensures facts { (g : Geometry) → by_child (volume_facts g) node.new ≡ with_made (by_child (volume_facts g) node.old) }
+    ensures whole { IsWholeChild IsWholeVolume node.new }
+    ensures fits { (g : Geometry) → IfSome node.old (FitsVolume g) → IfSome node.new (FitsVolume g) }
 {
-    if let Some(volume) = place {
+    if let Some(volume) = node {
         volume.made = true;
         volume.label = Some(Label {
             bytes: Some([0; 32]),
@@ -47,10 +47,10 @@ fn make(place: &mut Option<Vol>)
 }
 
 // Removes all blocks from the stripe at one place, where it is in.
-fn clear_in(place: &mut Option<StripeParcel>)
-    ensures { Empties place.old place.new }
+fn clear_in(node: &mut Option<StripeParcel>)
+    ensures { Empties node.old node.new }
 {
-    if let Some(stripe) = place {
+    if let Some(stripe) = node {
         stripe.drop_all();
     }
 }
@@ -78,13 +78,13 @@ fn clear_files(logical: &mut Logical)
 }
 
 // Removes the volume at one place, with all that it has.
-fn clear(place: &mut Option<Vol>)
-    requires { IsWholeChild IsWholeVolume place.old }
-    ensures facts { (g : Geometry) → by_child (volume_facts g) place.new ≡ nothing }
-    ensures whole { IsWholeChild IsWholeVolume place.new }
-    ensures fits { (g : Geometry) → IfSome place.old (FitsVolume g) → IfSome place.new (FitsVolume g) }
+fn clear(node: &mut Option<Vol>)
+    requires { IsWholeChild IsWholeVolume node.old }
+    ensures facts { (g : Geometry) → by_child (volume_facts g) node.new ≡ nothing }
+    ensures whole { IsWholeChild IsWholeVolume node.new }
+    ensures fits { (g : Geometry) → IfSome node.old (FitsVolume g) → IfSome node.new (FitsVolume g) }
 {
-    if let Some(volume) = place {
+    if let Some(volume) = node {
         volume.made = false;
         volume.sealed = false;
         if let Some(logical) = &mut volume.logical {

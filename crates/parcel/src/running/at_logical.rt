@@ -35,10 +35,10 @@ fn create(logical: &mut Logical, g: &Geometry, standing: Standing, message: &Msg
 }
 
 // Removes the blocks of a file from the stripe at one place, where it is in.
-fn drop_in(place: &mut Option<StripeParcel>, f: u16)
-    ensures { DropsFile f place.old place.new }
+fn drop_in(node: &mut Option<StripeParcel>, f: u16)
+    ensures { DropsFile f node.old node.new }
 {
-    if let Some(stripe) = place {
+    if let Some(stripe) = node {
         stripe.drop_file(f);
     }
 }

@@ -57,12 +57,12 @@ fn file_count(files: u64, g: &Geometry) -> u32
 }
 
 // How many blocks lie in the stripe at one place, where it is in.
-fn entry_count(place: &Option<StripeParcel>) -> u32
-    requires { IfSome place.now (λ p. p.quota ≤ 64) }
-    ensures count { result ≡ entry_count place.now }
-    ensures kept { IfSome place.now StripeRule }
+fn entry_count(node: &Option<StripeParcel>) -> u32
+    requires { IfSome node.now (λ p. p.quota ≤ 64) }
+    ensures count { result ≡ entry_count node.now }
+    ensures kept { IfSome node.now StripeRule }
 {
-    match place {
+    match node {
         Some(stripe) => stripe.len() as u32,
         None => 0,
     }
@@ -97,11 +97,11 @@ pub(crate) fn volume_totals(volume: &Vol, g: &Geometry) -> Totals
 }
 
 // How much the volume at one place holds, where it is in.
-fn volume_in(place: &Option<Vol>, g: &Geometry) -> Totals
-    requires { IfSome place.now (FitsVolume g.now) }
-    ensures { result ≡ totals_of g.now (by_child (volume_facts g.now) place.now) }
+fn volume_in(node: &Option<Vol>, g: &Geometry) -> Totals
+    requires { IfSome node.now (FitsVolume g.now) }
+    ensures { result ≡ totals_of g.now (by_child (volume_facts g.now) node.now) }
 {
-    match place {
+    match node {
         Some(volume) => volume_totals(volume, g),
         None => NOTHING,
     }
@@ -120,11 +120,11 @@ fn aggregate_totals(aggregate: &Aggr, g: &Geometry) -> Totals
 }
 
 // How much the volumes of the aggregate at one place hold, where it is in.
-fn aggregate_in(place: &Option<Aggr>, g: &Geometry) -> Totals
-    requires { IfSome place.now (FitsAggregate g.now) }
-    ensures { result ≡ sum_totals g.now.volumes (λ v. totals_of g.now (by_child (λ r. by_aggregate g.now r v) place.now)) }
+fn aggregate_in(node: &Option<Aggr>, g: &Geometry) -> Totals
+    requires { IfSome node.now (FitsAggregate g.now) }
+    ensures { result ≡ sum_totals g.now.volumes (λ v. totals_of g.now (by_child (λ r. by_aggregate g.now r v) node.now)) }
 {
-    match place {
+    match node {
         Some(aggregate) => aggregate_totals(aggregate, g),
         None => NOTHING,
     }

@@ -6,5 +6,5 @@ use Rattle.run_queue.proofs.candidates.best_in.Given as goal
 
 abbrev pub invariant-loop-number : goal.invariant-loop-number
 invariant-loop-number l =
-    (ready_in l.ready_table l.found ≡ earliest_from (has_room l.room) l.ready_table (16 * l.chunk) (l.number - 16 * l.chunk) (ready_in l.ready_table l.best))
+    (ready_in l.ready_table l.found ≡ earliest_from (has_room l.log_has_room) l.ready_table (16 * l.chunk) (l.number - 16 * l.chunk) (ready_in l.ready_table l.best))
     × (16 * l.chunk ≤ l.number)

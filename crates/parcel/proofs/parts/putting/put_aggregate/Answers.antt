@@ -20,7 +20,7 @@ returns-in-empty-clause-kind c =
 pub returns-in-empty-clause-err : goal.returns-in-empty-clause-err
 returns-in-empty-clause-err c =
     subst (λ q. IfErr c.put_aggregate_itself.result (λ back. (a : ℕ) → HandsBack (IsKindOf (a ∷ q) c.args.p) q c.args.p back
-    (in_child in_aggregate c.args.place.now) (in_child in_aggregate c.put_aggregate_itself.new.place)))
+    (in_child in_aggregate c.args.node.now) (in_child in_aggregate c.put_aggregate_itself.new.node)))
     (sym (no_path c.args.path.now c.in-empty.len_below)) c.put_aggregate_itself.ensures.err
 
 pub put_volume-requires-clause-fits : goal.put_volume-requires-clause-fits
@@ -29,7 +29,7 @@ put_volume-requires-clause-fits c =
     let p = c.args.path.now in
     let i = slice_index_or p 0 0 in
     let xs = c.in-Some.aggregate.volumes.items in
-    let was : c.args.place.now ≡ Some c.in-Some.aggregate = cc in
+    let was : c.args.node.now ≡ Some c.in-Some.aggregate = cc in
     let fits : FitsAggregate g c.in-Some.aggregate = subst (λ x. IfSome x (FitsAggregate g)) was c.requires.fits in
     let path : (i < g.volumes) × IsVolumePath g (rest_of p) = row_path g.volumes (IsVolumePath g) p c.in-len1-up.len_at_least c.requires.path in
     let at : c.index_mut.result.now ≡ slice_index_or xs i None = child_read xs i g.volumes c.index_mut.result.now path.0 fits.count c.index_mut.ensures.value in
@@ -53,13 +53,13 @@ returns-in-Some-clause-err c =
     let p = c.args.path.now in
     let i = slice_index_or p 0 0 in
     let xs = c.in-Some.aggregate.volumes.items in
-    let was : c.args.place.now ≡ Some c.in-Some.aggregate = cc in
+    let was : c.args.node.now ≡ Some c.in-Some.aggregate = cc in
     let fits : FitsAggregate g c.in-Some.aggregate = subst (λ x. IfSome x (FitsAggregate g)) was c.requires.fits in
     let path : (i < g.volumes) × IsVolumePath g (rest_of p) = row_path g.volumes (IsVolumePath g) p c.in-len1-up.len_at_least c.requires.path in
     let at : c.index_mut.result.now ≡ slice_index_or xs i None = child_read xs i g.volumes c.index_mut.result.now path.0 fits.count c.index_mut.ensures.value in
     map_err c.put_volume.result (λ back h. λ a. through (λ q old new. HandsBack (IsKindOf (a ∷ i ∷ q) c.args.p) q c.args.p back old new)
     (λ q old new. HandsBack (IsKindOf (a ∷ q) c.args.p) q c.args.p back old new) c.in-len1-up.len_at_least (ap (in_child in_aggregate) was) (ap (in_child in_volume) at)
-    (row_handed_back in_volume Inner xs i c.put_volume.new.place (omega arith) (IsKindOf (a ∷ i ∷ rest_of p) c.args.p) (rest_of p) c.args.p back) (h a i)) c.put_volume.ensures.err
+    (row_handed_back in_volume Inner xs i c.put_volume.new.node (omega arith) (IsKindOf (a ∷ i ∷ rest_of p) c.args.p) (rest_of p) c.args.p back) (h a i)) c.put_volume.ensures.err
 
 pub returns-in-Some-clause-fits : goal.returns-in-Some-clause-fits
 returns-in-Some-clause-fits c =
@@ -67,8 +67,8 @@ returns-in-Some-clause-fits c =
     let p = c.args.path.now in
     let i = slice_index_or p 0 0 in
     let xs = c.in-Some.aggregate.volumes.items in
-    let was : c.args.place.now ≡ Some c.in-Some.aggregate = cc in
+    let was : c.args.node.now ≡ Some c.in-Some.aggregate = cc in
     let fits : FitsAggregate g c.in-Some.aggregate = subst (λ x. IfSome x (FitsAggregate g)) was c.requires.fits in
     let path : (i < g.volumes) × IsVolumePath g (rest_of p) = row_path g.volumes (IsVolumePath g) p c.in-len1-up.len_at_least c.requires.path in
     let at : c.index_mut.result.now ≡ slice_index_or xs i None = child_read xs i g.volumes c.index_mut.result.now path.0 fits.count c.index_mut.ensures.value in
-    record { count = length-set _ _ _ ∙ fits.count; volumes = each_set (λ v. FitsVolume g) 0 i xs c.put_volume.new.place fits.volumes c.put_volume.ensures.fits }
+    record { count = length-set _ _ _ ∙ fits.count; volumes = each_set (λ v. FitsVolume g) 0 i xs c.put_volume.new.node fits.volumes c.put_volume.ensures.fits }

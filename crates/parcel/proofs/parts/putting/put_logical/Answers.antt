@@ -21,7 +21,7 @@ returns-in-empty-clause-kind c =
 pub returns-in-empty-clause-err : goal.returns-in-empty-clause-err
 returns-in-empty-clause-err c =
     subst (λ q. IfErr c.put_logical_itself.result (λ back. (a v : ℕ) → HandsBack (IsKindOf (a ∷ v ∷ zero ∷ q) c.args.p) q c.args.p back
-    (in_child in_logical c.args.place.now) (in_child in_logical c.put_logical_itself.new.place)))
+    (in_child in_logical c.args.node.now) (in_child in_logical c.put_logical_itself.new.node)))
     (sym (no_path c.args.path.now c.in-empty.len_below)) c.put_logical_itself.ensures.err
 
 pub returns-in-Some-clause-kind : goal.returns-in-Some-clause-kind
@@ -30,7 +30,7 @@ returns-in-Some-clause-kind c =
     let p = c.args.path.now in
     let i = slice_index_or p 0 0 in
     let xs = c.in-Some.logical.stripes.items in
-    let was : c.args.place.now ≡ Some c.in-Some.logical = cc in
+    let was : c.args.node.now ≡ Some c.in-Some.logical = cc in
     let fits : FitsLogical g c.in-Some.logical = subst (λ x. IfSome x (FitsLogical g)) was c.requires.fits in
     let path : (i < g.stripes) × IsLeafPath (rest_of p) = row_path g.stripes IsLeafPath p c.in-len1-up.len_at_least c.requires.path in
     let at : c.index_mut.result.now ≡ slice_index_or xs i None = child_read xs i g.stripes c.index_mut.result.now path.0 fits.count c.index_mut.ensures.value in
@@ -43,16 +43,16 @@ returns-in-Some-clause-err c =
     let p = c.args.path.now in
     let i = slice_index_or p 0 0 in
     let xs = c.in-Some.logical.stripes.items in
-    let was : c.args.place.now ≡ Some c.in-Some.logical = cc in
+    let was : c.args.node.now ≡ Some c.in-Some.logical = cc in
     let fits : FitsLogical g c.in-Some.logical = subst (λ x. IfSome x (FitsLogical g)) was c.requires.fits in
     let path : (i < g.stripes) × IsLeafPath (rest_of p) = row_path g.stripes IsLeafPath p c.in-len1-up.len_at_least c.requires.path in
     let at : c.index_mut.result.now ≡ slice_index_or xs i None = child_read xs i g.stripes c.index_mut.result.now path.0 fits.count c.index_mut.ensures.value in
     map_err c.put_stripe.result (λ back h. λ a v. through (λ q old new. HandsBack (IsKindOf (a ∷ v ∷ zero ∷ i ∷ q) c.args.p) q c.args.p back old
     new) (λ q old new. HandsBack (IsKindOf (a ∷ v ∷ zero ∷ q) c.args.p) q c.args.p back old new) c.in-len1-up.len_at_least (ap (in_child in_logical) was) (ap (in_child in_stripe) at)
-    (row_handed_back in_stripe (Files c.in-Some.logical.files) xs i c.put_stripe.new.place (omega arith)
+    (row_handed_back in_stripe (Files c.in-Some.logical.files) xs i c.put_stripe.new.node (omega arith)
     (IsKindOf (a ∷ v ∷ zero ∷ i ∷ rest_of p) c.args.p) (rest_of p) c.args.p back)
     (subst (λ q. HandsBack (IsKindOf (a ∷ v ∷ zero ∷ i ∷ q) c.args.p) q c.args.p back (in_child in_stripe c.index_mut.result.now)
-    (in_child in_stripe c.put_stripe.new.place)) (sym (leaf_path (rest_of p) path.1)) (h a v i))) c.put_stripe.ensures.err
+    (in_child in_stripe c.put_stripe.new.node)) (sym (leaf_path (rest_of p) path.1)) (h a v i))) c.put_stripe.ensures.err
 
 pub returns-in-Some-clause-fits : goal.returns-in-Some-clause-fits
 returns-in-Some-clause-fits c =
@@ -60,7 +60,7 @@ returns-in-Some-clause-fits c =
     let p = c.args.path.now in
     let i = slice_index_or p 0 0 in
     let xs = c.in-Some.logical.stripes.items in
-    let was : c.args.place.now ≡ Some c.in-Some.logical = cc in
+    let was : c.args.node.now ≡ Some c.in-Some.logical = cc in
     let fits : FitsLogical g c.in-Some.logical = subst (λ x. IfSome x (FitsLogical g)) was c.requires.fits in
     let path : (i < g.stripes) × IsLeafPath (rest_of p) = row_path g.stripes IsLeafPath p c.in-len1-up.len_at_least c.requires.path in
     let at : c.index_mut.result.now ≡ slice_index_or xs i None = child_read xs i g.stripes c.index_mut.result.now path.0 fits.count c.index_mut.ensures.value in
@@ -68,9 +68,9 @@ returns-in-Some-clause-fits c =
     let here : IfSome c.index_mut.result.now (FitsStripe g (0 + i)) = subst (λ x. IfSome x (FitsStripe g (0 + i))) (sym at) (each_at (FitsStripe g) 0 i xs fits.stripes) in
     let given : IsKindOf (0 ∷ 0 ∷ 0 ∷ i ∷ []) c.args.p → Fits g (0 ∷ 0 ∷ 0 ∷ i ∷ []) c.args.p = subst
     (λ q. IsKindOf (0 ∷ 0 ∷ 0 ∷ q) c.args.p → Fits g (0 ∷ 0 ∷ 0 ∷ q) c.args.p) one (c.requires.parcels 0 0) in
-    let now : IfSome c.put_stripe.new.place (FitsStripe g (0 + i)) = either c.put_stripe.result
+    let now : IfSome c.put_stripe.new.node (FitsStripe g (0 + i)) = either c.put_stripe.result
     (map_ok c.put_stripe.result (λ kind fit. fit g 0 0 i (given (kind 0 0 i))) c.put_stripe.ensures.kind c.put_stripe.ensures.fits)
     c.put_stripe.ensures.stays
-    (λ h. subst (λ n. IfSome c.put_stripe.new.place (FitsStripe g n)) (omega arith) h)
+    (λ h. subst (λ n. IfSome c.put_stripe.new.node (FitsStripe g n)) (omega arith) h)
     (λ e. subst (λ x. IfSome x (FitsStripe g (0 + i))) (sym e) here) in
-    record { files = fits.files; count = length-set _ _ _ ∙ fits.count; stripes = each_set (FitsStripe g) 0 i xs c.put_stripe.new.place fits.stripes now }
+    record { files = fits.files; count = length-set _ _ _ ∙ fits.count; stripes = each_set (FitsStripe g) 0 i xs c.put_stripe.new.node fits.stripes now }

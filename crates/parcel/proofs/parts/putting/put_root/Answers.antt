@@ -16,7 +16,7 @@ put_aggregate-requires-clause-fits c =
     let p = c.args.path.now in
     let i = slice_index_or p 0 0 in
     let xs = c.in-Some.root.aggregates.items in
-    let was : c.args.place.now ≡ Some c.in-Some.root = cc in
+    let was : c.args.node.now ≡ Some c.in-Some.root = cc in
     let fits : FitsRoot g c.in-Some.root = subst (λ x. IfSome x (FitsRoot g)) was c.requires.fits in
     let path : (i < g.aggregates) × IsAggregatePath g (rest_of p) = row_path g.aggregates (IsAggregatePath g) p c.in-len1-up.len_at_least c.requires.path in
     let at : c.index_mut.result.now ≡ slice_index_or xs i None = child_read xs i g.aggregates c.index_mut.result.now path.0 fits.count c.index_mut.ensures.value in
@@ -40,13 +40,13 @@ returns-in-Some-clause-err c =
     let p = c.args.path.now in
     let i = slice_index_or p 0 0 in
     let xs = c.in-Some.root.aggregates.items in
-    let was : c.args.place.now ≡ Some c.in-Some.root = cc in
+    let was : c.args.node.now ≡ Some c.in-Some.root = cc in
     let fits : FitsRoot g c.in-Some.root = subst (λ x. IfSome x (FitsRoot g)) was c.requires.fits in
     let path : (i < g.aggregates) × IsAggregatePath g (rest_of p) = row_path g.aggregates (IsAggregatePath g) p c.in-len1-up.len_at_least c.requires.path in
     let at : c.index_mut.result.now ≡ slice_index_or xs i None = child_read xs i g.aggregates c.index_mut.result.now path.0 fits.count c.index_mut.ensures.value in
     map_err c.put_aggregate.result (λ back h. through (λ q old new. HandsBack (IsKindOf (i ∷ q) c.args.p) q c.args.p back old new)
     (λ q old new. HandsBack (IsKindOf q c.args.p) q c.args.p back old new) c.in-len1-up.len_at_least (ap (in_child in_root) was) (ap (in_child in_aggregate) at)
-    (row_handed_back in_aggregate Inner xs i c.put_aggregate.new.place (omega arith) (IsKindOf (i ∷ rest_of p) c.args.p) (rest_of p) c.args.p back) (h i)) c.put_aggregate.ensures.err
+    (row_handed_back in_aggregate Inner xs i c.put_aggregate.new.node (omega arith) (IsKindOf (i ∷ rest_of p) c.args.p) (rest_of p) c.args.p back) (h i)) c.put_aggregate.ensures.err
 
 pub returns-in-Some-clause-fits : goal.returns-in-Some-clause-fits
 returns-in-Some-clause-fits c =
@@ -54,8 +54,8 @@ returns-in-Some-clause-fits c =
     let p = c.args.path.now in
     let i = slice_index_or p 0 0 in
     let xs = c.in-Some.root.aggregates.items in
-    let was : c.args.place.now ≡ Some c.in-Some.root = cc in
+    let was : c.args.node.now ≡ Some c.in-Some.root = cc in
     let fits : FitsRoot g c.in-Some.root = subst (λ x. IfSome x (FitsRoot g)) was c.requires.fits in
     let path : (i < g.aggregates) × IsAggregatePath g (rest_of p) = row_path g.aggregates (IsAggregatePath g) p c.in-len1-up.len_at_least c.requires.path in
     let at : c.index_mut.result.now ≡ slice_index_or xs i None = child_read xs i g.aggregates c.index_mut.result.now path.0 fits.count c.index_mut.ensures.value in
-    record { count = length-set _ _ _ ∙ fits.count; aggregates = each_set (λ a. FitsAggregate g) 0 i xs c.put_aggregate.new.place fits.aggregates c.put_aggregate.ensures.fits }
+    record { count = length-set _ _ _ ∙ fits.count; aggregates = each_set (λ a. FitsAggregate g) 0 i xs c.put_aggregate.new.node fits.aggregates c.put_aggregate.ensures.fits }

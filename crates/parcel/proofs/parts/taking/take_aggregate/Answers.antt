@@ -16,7 +16,7 @@ take_volume-requires-clause-fits c =
     let p = c.args.path.now in
     let i = slice_index_or p 0 0 in
     let xs = c.in-Some.aggregate.volumes.items in
-    let was : c.args.place.now ≡ Some c.in-Some.aggregate = cc in
+    let was : c.args.node.now ≡ Some c.in-Some.aggregate = cc in
     let fits : FitsAggregate g c.in-Some.aggregate = subst (λ x. IfSome x (FitsAggregate g)) was c.requires.fits in
     let path : (i < g.volumes) × IsVolumePath g (rest_of p) = row_path g.volumes (IsVolumePath g) p c.in-len1-up.len_at_least c.requires.path in
     let at : c.index_mut.result.now ≡ slice_index_or xs i None = child_read xs i g.volumes c.index_mut.result.now path.0 fits.count c.index_mut.ensures.value in
@@ -32,12 +32,12 @@ returns-in-Some-clause-none c =
     let p = c.args.path.now in
     let i = slice_index_or p 0 0 in
     let xs = c.in-Some.aggregate.volumes.items in
-    let was : c.args.place.now ≡ Some c.in-Some.aggregate = cc in
+    let was : c.args.node.now ≡ Some c.in-Some.aggregate = cc in
     let fits : FitsAggregate g c.in-Some.aggregate = subst (λ x. IfSome x (FitsAggregate g)) was c.requires.fits in
     let path : (i < g.volumes) × IsVolumePath g (rest_of p) = row_path g.volumes (IsVolumePath g) p c.in-len1-up.len_at_least c.requires.path in
     let at : c.index_mut.result.now ≡ slice_index_or xs i None = child_read xs i g.volumes c.index_mut.result.now path.0 fits.count c.index_mut.ensures.value in
     map_none c.take_volume.result (through (TakesNothing (IsVolumePath g)) (TakesNothing (IsAggregatePath g)) c.in-len1-up.len_at_least (ap (in_child in_aggregate) was) (ap (in_child in_volume) at)
-    (row_refused in_volume Inner xs i c.take_volume.new.place (omega arith) (IsVolumePath g) g.volumes (rest_of p) path.0)) c.take_volume.ensures.none
+    (row_refused in_volume Inner xs i c.take_volume.new.node (omega arith) (IsVolumePath g) g.volumes (rest_of p) path.0)) c.take_volume.ensures.none
 
 pub returns-in-Some-clause-fits : goal.returns-in-Some-clause-fits
 returns-in-Some-clause-fits c =
@@ -45,11 +45,11 @@ returns-in-Some-clause-fits c =
     let p = c.args.path.now in
     let i = slice_index_or p 0 0 in
     let xs = c.in-Some.aggregate.volumes.items in
-    let was : c.args.place.now ≡ Some c.in-Some.aggregate = cc in
+    let was : c.args.node.now ≡ Some c.in-Some.aggregate = cc in
     let fits : FitsAggregate g c.in-Some.aggregate = subst (λ x. IfSome x (FitsAggregate g)) was c.requires.fits in
     let path : (i < g.volumes) × IsVolumePath g (rest_of p) = row_path g.volumes (IsVolumePath g) p c.in-len1-up.len_at_least c.requires.path in
     let at : c.index_mut.result.now ≡ slice_index_or xs i None = child_read xs i g.volumes c.index_mut.result.now path.0 fits.count c.index_mut.ensures.value in
-    record { count = length-set _ _ _ ∙ fits.count; volumes = each_set (λ v. FitsVolume c.args.g.now) 0 i xs c.take_volume.new.place fits.volumes c.take_volume.ensures.fits }
+    record { count = length-set _ _ _ ∙ fits.count; volumes = each_set (λ v. FitsVolume c.args.g.now) 0 i xs c.take_volume.new.node fits.volumes c.take_volume.ensures.fits }
 
 pub returns-in-Some-clause-lent : goal.returns-in-Some-clause-lent
 returns-in-Some-clause-lent c =

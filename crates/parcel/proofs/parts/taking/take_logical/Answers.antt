@@ -18,12 +18,12 @@ returns-in-Some-clause-fits c =
     let p = c.args.path.now in
     let i = slice_index_or p 0 0 in
     let xs = c.in-Some.logical.stripes.items in
-    let was : c.args.place.now ≡ Some c.in-Some.logical = cc in
+    let was : c.args.node.now ≡ Some c.in-Some.logical = cc in
     let fits : FitsLogical g c.in-Some.logical = subst (λ x. IfSome x (FitsLogical g)) was c.requires.fits in
     let path : (i < g.stripes) × IsLeafPath (rest_of p) = row_path g.stripes IsLeafPath p c.in-len1-up.len_at_least c.requires.path in
     let at : c.index_mut.result.now ≡ slice_index_or xs i None = child_read xs i g.stripes c.index_mut.result.now path.0 fits.count c.index_mut.ensures.value in
     let here : IfSome c.index_mut.result.now (FitsStripe g (0 + i)) = subst (λ x. IfSome x (FitsStripe g (0 + i))) (sym at) (each_at (FitsStripe g) 0 i xs fits.stripes) in
-    record { files = fits.files; count = length-set _ _ _ ∙ fits.count; stripes = each_set (FitsStripe g) 0 i xs c.take_stripe.new.place fits.stripes (c.take_stripe.ensures.fits g (0 + i) here) }
+    record { files = fits.files; count = length-set _ _ _ ∙ fits.count; stripes = each_set (FitsStripe g) 0 i xs c.take_stripe.new.node fits.stripes (c.take_stripe.ensures.fits g (0 + i) here) }
 
 pub returns-in-Some-clause-lent : goal.returns-in-Some-clause-lent
 returns-in-Some-clause-lent c =
@@ -31,7 +31,7 @@ returns-in-Some-clause-lent c =
     let p = c.args.path.now in
     let i = slice_index_or p 0 0 in
     let xs = c.in-Some.logical.stripes.items in
-    let was : c.args.place.now ≡ Some c.in-Some.logical = cc in
+    let was : c.args.node.now ≡ Some c.in-Some.logical = cc in
     let fits : FitsLogical g c.in-Some.logical = subst (λ x. IfSome x (FitsLogical g)) was c.requires.fits in
     let path : (i < g.stripes) × IsLeafPath (rest_of p) = row_path g.stripes IsLeafPath p c.in-len1-up.len_at_least c.requires.path in
     let at : c.index_mut.result.now ≡ slice_index_or xs i None = child_read xs i g.stripes c.index_mut.result.now path.0 fits.count c.index_mut.ensures.value in

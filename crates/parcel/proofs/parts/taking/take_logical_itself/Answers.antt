@@ -9,16 +9,16 @@ use Rattle.parcel.proofs.parts.taking.take_logical_itself.Goals as goal
 
 pub returns-then-not-is_whole_logical-clause-none : goal.returns-then-not-is_whole_logical-clause-none
 returns-then-not-is_whole_logical-clause-none c =
-    let out : is_whole_logical c.args.place.now ≡ false = cc in
-    refused_itself _ _ (logical_gap c.args.g.now c.args.place.now c.requires.fits out)
+    let out : is_whole_logical c.args.node.now ≡ false = cc in
+    refused_itself _ _ (logical_gap c.args.g.now c.args.node.now c.requires.fits out)
 
 pub returns-in-Some-clause-some : goal.returns-in-Some-clause-some
 returns-in-Some-clause-some c =
-    let whole : is_whole_logical c.args.place.now ≡ true = cc in
-    taken_itself in_logical c.in-Some.logical (cc) (cc) (logical_all_in c.args.g.now c.args.place.now c.requires.fits (logical_whole c.args.place.now whole)) (λ q. refl)
+    let whole : is_whole_logical c.args.node.now ≡ true = cc in
+    taken_itself in_logical c.in-Some.logical (cc) (cc) (logical_all_in c.args.g.now c.args.node.now c.requires.fits (logical_whole c.args.node.now whole)) (λ q. refl)
 
 pub returns-in-Some-clause-lent : goal.returns-in-Some-clause-lent
 returns-in-Some-clause-lent c =
-    let whole : is_whole_logical c.args.place.now ≡ true = cc in
-    let was : c.args.place.now ≡ Some c.in-Some.logical = cc in
-    λ a v. (subst (λ x. IfSome x (FitsLogical c.args.g.now)) was c.requires.fits, subst (λ x. IsWholeChild IsWholeLogical x) was (logical_whole c.args.place.now whole))
+    let whole : is_whole_logical c.args.node.now ≡ true = cc in
+    let was : c.args.node.now ≡ Some c.in-Some.logical = cc in
+    λ a v. (subst (λ x. IfSome x (FitsLogical c.args.g.now)) was c.requires.fits, subst (λ x. IsWholeChild IsWholeLogical x) was (logical_whole c.args.node.now whole))

@@ -16,7 +16,7 @@ take_aggregate-requires-clause-fits c =
     let p = c.args.path.now in
     let i = slice_index_or p 0 0 in
     let xs = c.in-Some.root.aggregates.items in
-    let was : c.args.place.now ≡ Some c.in-Some.root = cc in
+    let was : c.args.node.now ≡ Some c.in-Some.root = cc in
     let fits : FitsRoot g c.in-Some.root = subst (λ x. IfSome x (FitsRoot g)) was c.requires.fits in
     let path : (i < g.aggregates) × IsAggregatePath g (rest_of p) = row_path g.aggregates (IsAggregatePath g) p c.in-len1-up.len_at_least c.requires.path in
     let at : c.index_mut.result.now ≡ slice_index_or xs i None = child_read xs i g.aggregates c.index_mut.result.now path.0 fits.count c.index_mut.ensures.value in
@@ -28,12 +28,12 @@ returns-in-Some-clause-none c =
     let p = c.args.path.now in
     let i = slice_index_or p 0 0 in
     let xs = c.in-Some.root.aggregates.items in
-    let was : c.args.place.now ≡ Some c.in-Some.root = cc in
+    let was : c.args.node.now ≡ Some c.in-Some.root = cc in
     let fits : FitsRoot g c.in-Some.root = subst (λ x. IfSome x (FitsRoot g)) was c.requires.fits in
     let path : (i < g.aggregates) × IsAggregatePath g (rest_of p) = row_path g.aggregates (IsAggregatePath g) p c.in-len1-up.len_at_least c.requires.path in
     let at : c.index_mut.result.now ≡ slice_index_or xs i None = child_read xs i g.aggregates c.index_mut.result.now path.0 fits.count c.index_mut.ensures.value in
     map_none c.take_aggregate.result (through (TakesNothing (IsAggregatePath g)) (TakesNothing (IsRootPath g)) c.in-len1-up.len_at_least (ap (in_child in_root) was) (ap (in_child in_aggregate) at)
-    (row_refused in_aggregate Inner xs i c.take_aggregate.new.place (omega arith) (IsAggregatePath g) g.aggregates (rest_of p) path.0)) c.take_aggregate.ensures.none
+    (row_refused in_aggregate Inner xs i c.take_aggregate.new.node (omega arith) (IsAggregatePath g) g.aggregates (rest_of p) path.0)) c.take_aggregate.ensures.none
 
 pub returns-in-Some-clause-fits : goal.returns-in-Some-clause-fits
 returns-in-Some-clause-fits c =
@@ -41,11 +41,11 @@ returns-in-Some-clause-fits c =
     let p = c.args.path.now in
     let i = slice_index_or p 0 0 in
     let xs = c.in-Some.root.aggregates.items in
-    let was : c.args.place.now ≡ Some c.in-Some.root = cc in
+    let was : c.args.node.now ≡ Some c.in-Some.root = cc in
     let fits : FitsRoot g c.in-Some.root = subst (λ x. IfSome x (FitsRoot g)) was c.requires.fits in
     let path : (i < g.aggregates) × IsAggregatePath g (rest_of p) = row_path g.aggregates (IsAggregatePath g) p c.in-len1-up.len_at_least c.requires.path in
     let at : c.index_mut.result.now ≡ slice_index_or xs i None = child_read xs i g.aggregates c.index_mut.result.now path.0 fits.count c.index_mut.ensures.value in
-    record { count = length-set _ _ _ ∙ fits.count; aggregates = each_set (λ a. FitsAggregate c.args.g.now) 0 i xs c.take_aggregate.new.place fits.aggregates c.take_aggregate.ensures.fits }
+    record { count = length-set _ _ _ ∙ fits.count; aggregates = each_set (λ a. FitsAggregate c.args.g.now) 0 i xs c.take_aggregate.new.node fits.aggregates c.take_aggregate.ensures.fits }
 
 pub returns-in-Some-clause-lent : goal.returns-in-Some-clause-lent
 returns-in-Some-clause-lent c =

@@ -17,12 +17,12 @@ pub returns-then-child-eq0-clause-none : goal.returns-then-child-eq0-clause-none
 returns-then-child-eq0-clause-none c =
     let g = c.args.g.now in
     let p = c.args.path.now in
-    let was : c.args.place.now ≡ Some c.in-Some.volume = cc in
+    let was : c.args.node.now ≡ Some c.in-Some.volume = cc in
     let at : p ≡ 0 ∷ rest_of p = path_from p 0 c.in-len1-up.len_at_least c.if-child-eq0.true in
-    let after : Vol = record { made = c.in-Some.volume.made; sealed = c.in-Some.volume.sealed; logical = c.take_logical.new.place; label = c.in-Some.volume.label } in
+    let after : Vol = record { made = c.in-Some.volume.made; sealed = c.in-Some.volume.sealed; logical = c.take_logical.new.node; label = c.in-Some.volume.label } in
     map_none c.take_logical.result
-    (λ h. subst (λ q. TakesNothing (IsVolumePath g) q (in_child in_volume c.args.place.now) (in_volume after)) (sym at)
-    (subst (λ x. TakesNothing (IsVolumePath g) (0 ∷ rest_of p) (in_child in_volume x) (in_volume after)) (sym was) (logical_refused g c.in-Some.volume c.take_logical.new.place (rest_of p) h)))
+    (λ h. subst (λ q. TakesNothing (IsVolumePath g) q (in_child in_volume c.args.node.now) (in_volume after)) (sym at)
+    (subst (λ x. TakesNothing (IsVolumePath g) (0 ∷ rest_of p) (in_child in_volume x) (in_volume after)) (sym was) (logical_refused g c.in-Some.volume c.take_logical.new.node (rest_of p) h)))
     c.take_logical.ensures.none
 
 pub returns-then-child-eq0-clause-lent : goal.returns-then-child-eq0-clause-lent

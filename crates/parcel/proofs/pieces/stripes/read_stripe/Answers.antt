@@ -18,7 +18,7 @@ returns-clause-fits c =
     let row = c.args.logical.now.stripes in
     record {
       files = c.requires.fits.files;
-      count = length-set row.items c.args.s c.read_at.new.place ∙ c.requires.fits.count;
-      stripes = each_set (FitsStripe c.args.g.now) 0 c.args.s row.items c.read_at.new.place c.requires.fits.stripes
-          (subst (λ (n : ℕ). IfSome c.read_at.new.place (FitsStripe c.args.g.now n)) (omega arith) c.read_at.ensures.fits);
+      count = length-set row.items c.args.s c.read_at.new.node ∙ c.requires.fits.count;
+      stripes = each_set (FitsStripe c.args.g.now) 0 c.args.s row.items c.read_at.new.node c.requires.fits.stripes
+          (subst (λ (n : ℕ). IfSome c.read_at.new.node (FitsStripe c.args.g.now n)) (omega arith) c.read_at.ensures.fits);
     }

@@ -20,8 +20,8 @@ returns-clause-fits c =
     let below : n < length row.items = omega (arith, c.from-place.ensures, c.requires.volume, c.requires.fits.count) in
     let at : slice_index_or row.items n None ≡ c.index_mut.result.now = sym (get_or_read row.items _ _ below c.index_mut.ensures.value None) in
     record {
-      count = length-set row.items n c.clear.new.place ∙ c.requires.fits.count;
-      volumes = each_set (λ v. FitsVolume g) 0 n row.items c.clear.new.place c.requires.fits.volumes
+      count = length-set row.items n c.clear.new.node ∙ c.requires.fits.count;
+      volumes = each_set (λ v. FitsVolume g) 0 n row.items c.clear.new.node c.requires.fits.volumes
           (c.clear.ensures.fits g (fits_in_place (λ v. FitsVolume g) row.items c.requires.fits.volumes n c.index_mut.result.now at));
     }
 
@@ -40,5 +40,5 @@ returns-clause-step c =
     ∙ (λ i. unless_closed ((ap (λ o. (by_child (volume_facts g) o).made) seen ∙ sym (c.marks-made.ensures.made g)) i)
     ((ap (λ o. (by_child (volume_facts g) o).sealed) seen ∙ sym (c.marks-made.ensures.sealed g)) i) None) ∙ sym c.change_refusal.ensures
     ∙ c.in_default.is) refl
-    (effect_drop a v (by_aggregate g r) (λ q. by_child (volume_facts g) (slice_index_or (slice_set row.items n c.clear.new.place) q None))
-    (λ q. set_changes g (λ h. nothing) row.items n c.clear.new.place below (c.clear.ensures.facts g) q ∙ ap (λ k. changed_if (λ h. nothing) (k == q) (by_aggregate g r q)) c.from-place.ensures))
+    (effect_drop a v (by_aggregate g r) (λ q. by_child (volume_facts g) (slice_index_or (slice_set row.items n c.clear.new.node) q None))
+    (λ q. set_changes g (λ h. nothing) row.items n c.clear.new.node below (c.clear.ensures.facts g) q ∙ ap (λ k. changed_if (λ h. nothing) (k == q) (by_aggregate g r q)) c.from-place.ensures))

@@ -21,8 +21,8 @@ returns-clause-fits c =
     let below : n < length row.items = omega (arith, c.from-place.ensures, c.requires.volume, c.requires.fits.count) in
     let at : slice_index_or row.items n None ≡ c.index_mut.result.now = sym (get_or_read row.items _ _ below c.index_mut.ensures.value None) in
     record {
-      count = length-set row.items n c.make.new.place ∙ c.requires.fits.count;
-      volumes = each_set (λ v. FitsVolume g) 0 n row.items c.make.new.place c.requires.fits.volumes
+      count = length-set row.items n c.make.new.node ∙ c.requires.fits.count;
+      volumes = each_set (λ v. FitsVolume g) 0 n row.items c.make.new.node c.requires.fits.volumes
           (c.make.ensures.fits g (fits_in_place (λ v. FitsVolume g) row.items c.requires.fits.volumes n c.index_mut.result.now at));
     }
 
@@ -40,7 +40,7 @@ returns-clause-step c =
     λ a range. passed g (at_aggregate g a r) (MakeVol a v) _ _ (make_tests g a v r range
     ∙ (λ i. unless (not ((ap (λ o. (by_child (volume_facts g) o).made) seen ∙ sym (c.marks-made.ensures.made g)) i)) Exists None)
     ∙ sym c.make_refusal.ensures ∙ c.in_default.is) refl
-    (effect_make a v (by_aggregate g r) (λ q. by_child (volume_facts g) (slice_index_or (slice_set row.items n c.make.new.place) q None))
-    (λ q. set_changes g with_made row.items n c.make.new.place below (c.make.ensures.facts g
+    (effect_make a v (by_aggregate g r) (λ q. by_child (volume_facts g) (slice_index_or (slice_set row.items n c.make.new.node) q None))
+    (λ q. set_changes g with_made row.items n c.make.new.node below (c.make.ensures.facts g
     ∙ ap (λ o. with_made (by_child (volume_facts g) o)) (sym at)) q
     ∙ ap (λ k. changed_if with_made (k == q) (by_aggregate g r q)) c.from-place.ensures))

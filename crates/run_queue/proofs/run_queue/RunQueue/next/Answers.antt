@@ -12,11 +12,11 @@ use Rattle.run_queue.proofs.run_queue.RunQueue.next.Goals as goal
 pub loop-chunk-init : goal.loop-chunk-init
 loop-chunk-init c =
     past-ready_table c.self.inside.ready_table c.len-best.result (omega arith)
-    ∙ below-start c.self.inside.geometry c.args.room c.self.inside.held.messages c.self.inside.waiting.messages c.self.invariant.rows.waiting_placed c.self.invariant.rows.ascends
+    ∙ below-start c.self.inside.geometry c.args.log_has_room c.self.inside.held.messages c.self.inside.waiting.messages c.self.invariant.rows.waiting_placed c.self.invariant.rows.ascends
 
 pub loop-chunk-preserved : goal.loop-chunk-preserved
 loop-chunk-preserved c =
-    let room = c.args.room in
+    let room = c.args.log_has_room in
     let held = c.self.inside.held.messages in
     let waiting = c.self.inside.waiting.messages in
     let ready_table = c.self.inside.ready_table in
@@ -34,7 +34,7 @@ loop-chunk-preserved c =
 
 pub returns : goal.returns
 returns c =
-    let room = c.args.room in
+    let room = c.args.log_has_room in
     let held = c.self.inside.held.messages in
     let waiting = c.self.inside.waiting.messages in
     c.copied.ensures
