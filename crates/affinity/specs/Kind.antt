@@ -1,4 +1,4 @@
--- Statement for clients: What each kind of message does, and which numbers it has.
+-- Statement for clients: Which kinds of message may change the state, and how many numbers each kind has.
 use Rattle.std.specs.Prelude.{ℕ, Bool, true, false}
 use Rattle.affinity.specs.declared.kinds.Kind.{Kind}
 use Rattle.affinity.specs.declared.kinds.Kind.TheVariants.{MakeVol, DropVol, Create, Delete, Seal, Unseal, Write, Punch, Read, List as ListFiles, Usage, Summary, SetLabel, Label}

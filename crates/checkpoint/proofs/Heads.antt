@@ -8,7 +8,7 @@ use Rattle.affinity.specs.declared.geometry.Geometry.{Geometry}
 use Rattle.affinity.specs.Geometry.{numbers_of}
 use Rattle.affinity.specs.Limits.{AreInRange}
 use Rattle.byteorder.specs.Endian.{IsRead, little_bytes, little_number}
-use Rattle.checkpoint.specs.Header.{header_of, marks_of_format}
+use Rattle.checkpoint.specs.Header.{header_of, magic}
 use Rattle.image.specs.Image.{has_head, image_head, is_version, version_in}
 use Rattle.checkpoint.proofs.Laid.{image_some}
 use Rattle.device_map.specs.Layout.{image, layout_of, part_bytes, part_at, part_size, slice}
@@ -40,7 +40,7 @@ are_in_range g = (g.aggregates_range, g.volumes_range, g.stripes_range, g.width_
 
 -- the numbers alone make the header
 pub same_header : (g h : Geometry) → numbers_of g ≡ numbers_of h → header_of g ≡ header_of h
-same_header g h same = ap (λ (ns : List ℕ). marks_of_format ++ flat_map (little_bytes 2) ns ++ replicate 40 0) same
+same_header g h same = ap (λ (ns : List ℕ). magic ++ flat_map (little_bytes 2) ns ++ replicate 40 0) same
 
 -- ---- the first bytes of a part
 

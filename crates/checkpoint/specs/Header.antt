@@ -7,15 +7,15 @@ use Rattle.affinity.specs.declared.geometry.Geometry.{Geometry}
 use Rattle.byteorder.specs.Endian.{little_bytes}
 
 -- the gate byte of a formatted device, and `WAFFSRV`
-abbrev pub marks_of_format : List ℕ
-marks_of_format = 1 ∷ 87 ∷ 65 ∷ 70 ∷ 70 ∷ 83 ∷ 82 ∷ 86 ∷ []
+abbrev pub magic : List ℕ
+magic = 1 ∷ 87 ∷ 65 ∷ 70 ∷ 70 ∷ 83 ∷ 82 ∷ 86 ∷ []
 
 -- the eight numbers, two bytes each, the lower one first
 abbrev pub number_bytes : Geometry → List ℕ
 number_bytes g = flat_map (little_bytes 2) (numbers_of g)
 
 abbrev pub header_of : Geometry → List ℕ
-header_of g = marks_of_format ++ number_bytes g ++ replicate 40 0
+header_of g = magic ++ number_bytes g ++ replicate 40 0
 
 abbrev pub is_header : Geometry → List ℕ → Bool
 is_header g bytes = bytes_eq bytes (header_of g)

@@ -3,7 +3,7 @@ use Rattle.std.specs.Prelude.{◌≡◌, ◌≢◌, ◌⊎◌, ◌<◌, ◌≤�
 use Rattle.affinity.specs.declared.geometry.Geometry.{Geometry}
 use Rattle.checkpoint.specs.declared.fault.OpenFault.{OpenFault}
 use Rattle.checkpoint.specs.declared.fault.OpenFault.TheVariants.{Device, TooShort, NotFormatted, BadGeometry, OutOfMemory, BadVersion, BadPiece, BadChain, BadRecord}
-use Rattle.checkpoint.specs.Header.{HasHeader, marks_of_format}
+use Rattle.checkpoint.specs.Header.{HasHeader, magic}
 use Rattle.checkpoint.specs.Recovery.{apply, means}
 use Rattle.image.specs.Image.{has_head, is_good, read}
 use Rattle.image.specs.Pieces.{piece_count}
@@ -52,11 +52,11 @@ refused g c =
 
 -- The device is long enough for a header, and doesn't begin with the marks of a formatted one.
 abbrev pub IsUnformatted : List ℕ → Type 0
-IsUnformatted c = (128 ≤ length c) × (take 8 c ≢ marks_of_format)
+IsUnformatted c = (128 ≤ length c) × (take 8 c ≢ magic)
 
 -- It begins with these marks, and no geometry has its header.
 abbrev pub HasNoGeometry : List ℕ → Type 0
-HasNoGeometry c = (128 ≤ length c) × (take 8 c ≡ marks_of_format) × ((g : Geometry) → HasHeader g c → ⊥)
+HasNoGeometry c = (128 ≤ length c) × (take 8 c ≡ magic) × ((g : Geometry) → HasHeader g c → ⊥)
 
 -- It has the header of a geometry, and is long enough for all its parts.
 pub record IsDevice (c : List ℕ) : Type 0 where

@@ -47,8 +47,9 @@ impl<T: FileExt + OpenFile + Drop> HostFile<T> {
     }
 }
 
-/// Each method makes one call of the system, and then notes it with its answer. No contract states that it makes the call
-/// that it notes, and gives the answer that the system gave: these three methods are trusted.
+/// Each method but `len` makes one call of the library. It notes what the call did: a write, a sync or a failure (a read that succeeds
+/// changes nothing). No contract states that it makes the call that it notes, and gives the answer that it got: these three methods are
+/// trusted.
 impl<T: FileExt + OpenFile + Drop> BackingFile for HostFile<T> {
     ghost use Rattle.disk.specs.RealFile.{FileKeeps};
 

@@ -1,4 +1,4 @@
--- Statement for operators: Legal runs: lists of events, each of them allowed in the core state that the ones before it left.
+-- Statement for operators: Legal runs: lists of events, each of them allowed in the machine state that the ones before it left.
 use Rattle.std.specs.Prelude.{◌≡◌, ℕ, Bool, ◌||◌, List, [], ◌∷◌, ◌++◌, map, take, if◌then◌else◌}
 use Rattle.affinity.specs.declared.geometry.Geometry.{Geometry}
 use Rattle.messages.specs.declared.Msg.{Msg}
@@ -14,12 +14,12 @@ abbrev pub IsLegal : Geometry → MachineState → List Event → Type 0
 IsLegal g old [] = Unit {0}
 IsLegal g old (event ∷ events) = IsAllowed g old event × IsLegal g event.state_after events
 
--- the core state after a run
+-- the machine state after a run
 abbrev pub last : MachineState → List Event → MachineState
 last old [] = old
 last old (event ∷ events) = last event.state_after events
 
--- the messages that a step logs, and those of them that it appends to the journal
+-- the messages that a step moves from `ran` to `logged`, and those of them that it appends to the journal
 abbrev pub logged_at : CoreState → Step → Bool → List Replied
 logged_at w (steps.Log n) device_failed = if device_failed || w.failed then [] else take n w.ran
 logged_at w _ device_failed = []
@@ -28,7 +28,7 @@ abbrev pub appended : CoreState → Step → Bool → List Msg
 appended w (steps.Log n) device_failed = if device_failed || w.failed then [] else batch w n
 appended w _ device_failed = []
 
--- the message that arrives at a step, and the reply that it gives
+-- the message that arrives at a step, with its ticket, and the reply that an outcome gives, with the ticket of its message
 abbrev pub arrives : Step → Outcome → List Entry
 arrives (steps.Arrive m) (outcomes.Ticket ticket) = (ticket, m) ∷ []
 arrives _ _ = []
@@ -57,7 +57,7 @@ abbrev pub answered : List Event → List (ℕ × Reply)
 answered [] = []
 answered (event ∷ events) = answers event.outcome ++ answered events
 
--- the message that an outcome answers, which was logged first; those that a run answers, and the changes among them
+-- the message that an outcome answers: the first that is logged; those that a run answers, and the changes carried out among them
 abbrev pub answered_at : CoreState → Outcome → List Replied
 answered_at w (outcomes.Answered ticket reply) = take 1 w.logged
 answered_at w _ = []
@@ -69,7 +69,7 @@ answered_messages w (event ∷ events) = answered_at w.core event.outcome ++ ans
 abbrev pub answered_changes : MachineState → List Event → List Msg
 answered_changes w events = loggable (answered_messages w events)
 
--- A run of steps: each had its outcome in an event of its own, and the last one left this core state.
+-- A run of steps: each had its outcome in an event of its own, and the last one left this machine state.
 pub record IsRun (g : Geometry) (old new : MachineState) (asked : List Step) (came : List Outcome) (events : List Event) : Type 0 where
   pub legal : IsLegal g old events
   pub of_steps : map (λ e. e.step) events ≡ asked

@@ -1,4 +1,4 @@
--- Statement for engineers: The head of a message: its kind and its numbers, without its data.
+-- Statement for engineers: The head of a message: its kind and its numbers, and its data not decoded; of a `setlabel` the kind alone.
 use Rattle.std.specs.Prelude.{◌≡◌, ℕ, Bool, true, false, List, [], slice_index, Option, Some, None, option_map, IfSome}
 use Rattle.affinity.specs.declared.kinds.Kind.{Kind}
 use Rattle.affinity.specs.declared.kinds.Kind.TheVariants as kinds
@@ -32,7 +32,7 @@ pub record IsWithoutData (k : Kind) (ns : List ℕ) (m : Option Msg) : Type 0 wh
   pub numbers_are : four_numbers (message_without_data k ns) ≡ ns
   pub without_data : has_data k ≡ false
 
--- What a head is, by the message that a line spells. Of a `setlabel` it has the kind alone.
+-- What a head tells of the message that a line spells, if it spells one. `SetsLabel`: if there is a message, it is a `setlabel`.
 abbrev pub IsHead : Head → Option Msg → Type 0
 IsHead NoMessage m = m ≡ None
 IsHead (WithoutData k ns) m = IsWithoutData k ns m

@@ -6,7 +6,7 @@ use Rattle.disk.specs.Device.{AreBytes}
 use Rattle.disk.proofs.Bytes.{bytes-range, byte-get_or}
 use Rattle.message.proofs.RecordLemmas.{said_whole}
 use Rattle.device_map.specs.Layout.{part_at, part_size, half}
-use Rattle.oplog.specs.Changing.{RecordsAreBytes, NoRecordSaysNone}
+use Rattle.oplog.specs.Changing.{RecordsAreBytes, BadRecordEncodesNoChange}
 use Rattle.oplog.proofs.Slices.{slice_slice, half_sized, half_inside}
 
 -- a record as a range of the device
@@ -26,5 +26,5 @@ byte_at bytes are i =
     (λ (beyond : length bytes ≤ i). subst (λ (b : ℕ). b < 256) (sym (get_or_past bytes i 0 beyond)) (omega arith))
     (cases_lt i (length bytes))
 
-pub no_record_says_none : NoRecordSaysNone
+pub no_record_says_none : BadRecordEncodesNoChange
 no_record_says_none g bytes size are none m said logged is = none m (said_whole bytes m size (byte_at bytes are) said) logged is

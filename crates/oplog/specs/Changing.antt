@@ -10,7 +10,7 @@ use Rattle.message.specs.Records.{message_in_fields, record_of}
 use Rattle.device_map.specs.Layout.{Layout, device_size, record_size}
 use Rattle.oplog.specs.Front.{record_at}
 
--- Its kind is changing, and its numbers are in range.
+-- The message is of a changing kind, and its numbers are in range.
 abbrev pub IsChangeInRange : Geometry → Msg → Type 0
 IsChangeInRange g m = (is_changing (kind m) ≡ true) × (is_in_range g m ≡ true)
 
@@ -28,13 +28,13 @@ records_of messages = map record_of messages
 
 -- ---- which records are bad
 
--- Each record of a device, whatever its gate is, has its size, and is made of bytes where the device is.
+-- On a device that is made of bytes each record is made of bytes, and `record_size` of them, whatever its gate is.
 abbrev pub RecordsAreBytes : Type 0
 RecordsAreBytes = (g : Layout) (h i : ℕ) (c : List ℕ) → h < 2 → i < g.slots → device_size g ≤ length c → AreBytes c
     → (length (record_at g h i c) ≡ record_size) × AreBytes (record_at g h i c)
 
--- The fields of bytes that are no record encode no message that the log keeps and whose record they are, not even one
--- with other numbers than bytes.
-abbrev pub NoRecordSaysNone : Type 0
-NoRecordSaysNone = (g : Geometry) (bytes : List ℕ) → length bytes ≡ record_size → AreBytes bytes → IsNoRecord g bytes
+-- Bytes of a record's size are no record. If their fields encode a change in range, its record isn't these bytes. This holds even for a
+-- message whose data aren't bytes (`IsMessage` isn't asked for).
+abbrev pub BadRecordEncodesNoChange : Type 0
+BadRecordEncodesNoChange = (g : Geometry) (bytes : List ℕ) → length bytes ≡ record_size → AreBytes bytes → IsNoRecord g bytes
     → (m : Msg) → message_in_fields bytes ≡ Some m → IsChangeInRange g m → bytes ≢ record_of m

@@ -10,7 +10,7 @@ ghost use Rattle.std.specs.Prelude.{◌≡◌, ◌<◌, ℕ, [], List, get_or, l
 ghost use Rattle.oplog.specs.Crash.{AllByArea, AppendRecovers, ChainByArea, ChainedByArea, ClearByArea, FlipByArea, ImageByArea, TornRootRecovers};
 ghost use Rattle.oplog.specs.Front.{front, record_at};
 ghost use Rattle.device_map.specs.Layout.{Layout};
-ghost use Rattle.oplog.specs.Changing.{NoRecordSaysNone, RecordsAreBytes};
+ghost use Rattle.oplog.specs.Changing.{BadRecordEncodesNoChange, RecordsAreBytes};
 ghost use Rattle.oplog.specs.Recovery.{Decoding};
 
 /// While records are appended to the current half, a crash leaves a device that recovers to the first m
@@ -45,7 +45,7 @@ pub fn a_torn_root_does_no_harm<S>()
 /// fields encode no message that the log keeps and whose record they are.
 pub fn a_bad_record_says_no_message()
     ensures bytes { RecordsAreBytes }
-    ensures none { NoRecordSaysNone }
+    ensures none { BadRecordEncodesNoChange }
 {}
 
 /// What `record` reads below the count that `front` gives are the records of the front, in order.

@@ -1,7 +1,9 @@
 //! The log of messages on a device: two halves, each with a gate for every record. The records before the first gate
-//! that isn't open are the half's front. In force are the front of the named half and, if that one is chained, then that of the other.
+//! that isn't open are the half's front. In force is the front of the named half; if the chain byte of that half is 1, the front of the
+//! other half comes after it.
 //!
-//! `Halves` appends them so that a crash at any moment leaves the front of that half, with a prefix of the new records after it.
+//! `Halves` appends records to the current half. A crash at any moment of an append leaves the front of this half as it was, with a prefix
+//! of the new records after it.
 //! `layout` names the map of such a device, `store` has the writes of a range, and `laws` state what a crash leaves.
 #![tactic(auto)]
 

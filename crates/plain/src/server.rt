@@ -23,7 +23,7 @@ mod removals;
 mod replies;
 mod totals;
 
-/// What a volume has, its blocks apart.
+/// What a volume has besides its blocks.
 #[derive(Clone, Copy)]
 struct Volume {
     sealed: bool,
@@ -36,14 +36,14 @@ struct Volume {
 /// The state of a serial server.
 #[derive(Drop)]
 pub(crate) struct Server {
-    /// The volumes that are made.
+    /// The volumes that exist.
     volumes: BTreeMap<(u16, u16), Volume>,
 
-    /// The blocks, by file.
+    /// The blocks, by aggregate, volume, file and block.
     blocks: BTreeMap<(u16, u16, u16, u16), Block>,
 
-    /// How many blocks each stripe of a volume has, so that no write counts them. A stripe that
-    /// isn't named here has none.
+    /// How many blocks each stripe of a volume has, so that no write has to count them. A stripe
+    /// without an entry has none.
     used: BTreeMap<(u16, u16, u16), u16>,
 }
 
@@ -90,6 +90,7 @@ impl Server {
         requires sound { IsConsistent g.now self.old }
         ensures reply { IfOk result (λ why. reply_to g.now (server_state self.old) (message_without_data kind numbers) ≡ reply_when why) }
         ensures state { OnOk result (server_state self.new ≡ next_state g.now (server_state self.old) (message_without_data kind numbers)) }
+        ensures unchanged { OnErr result (server_state self.new ≡ server_state self.old) }
         ensures sound { IsConsistent g.now self.new }
     {
         match self.refusal_by(g, kind, numbers) {
@@ -112,6 +113,7 @@ impl Server {
         requires sound { IsConsistent g.now self.old }
         ensures reply { IfOk result (λ why. reply_to g.now (server_state self.old) (writing numbers content.now) ≡ reply_when why) }
         ensures state { OnOk result (server_state self.new ≡ next_state g.now (server_state self.old) (writing numbers content.now)) }
+        ensures unchanged { OnErr result (server_state self.new ≡ server_state self.old) }
         ensures sound { IsConsistent g.now self.new }
     {
         let [a, v, f, b] = numbers;

@@ -5,39 +5,39 @@ use Rattle.std.specs.List.{list_any, find, AllByRecursion}
 use Rattle.std.proofs.lemmas.Bool.{ltb-true, lt-ltb, false_from_ne_true}
 use Rattle.std.proofs.lemmas.List.Folds.{list_any-append}
 use Rattle.run_queue.specs.RunQueue.{are_related_intervals, is_free_of, has_room, first_dispatchable, next_queued, CameBefore}
-pub use Rattle.run_queue.specs.Order.{Ascend, comes_first, is_conflict_free}
+pub use Rattle.run_queue.specs.Order.{Ascend, waits_for, is_conflict_free}
 use Rattle.run_queue.specs.declared.queued_message.QueuedMessage.{QueuedMessage}
 
 -- those that came before it count by their affinities alone
 all_early : (t : QueuedMessage) (ts : List QueuedMessage) → CameBefore t.ticket ts
-    → list_any (comes_first t) ts ≡ list_any (λ d. are_related_intervals t.affinity d.affinity) ts
+    → list_any (waits_for t) ts ≡ list_any (λ d. are_related_intervals t.affinity d.affinity) ts
 all_early t [] before = refl
 all_early t (d ∷ ts) before =
-    ap (λ b. (b && are_related_intervals t.affinity d.affinity) || list_any (comes_first t) ts) (lt-ltb d.ticket t.ticket before.0)
+    ap (λ b. (b && are_related_intervals t.affinity d.affinity) || list_any (waits_for t) ts) (lt-ltb d.ticket t.ticket before.0)
     ∙ ap (λ b. are_related_intervals t.affinity d.affinity || b) (all_early t ts before.1)
 
 -- no later one counts, nor does it itself
-not_less : (t d : QueuedMessage) → (d.ticket < t.ticket → ⊥) → comes_first t d ≡ false
+not_less : (t d : QueuedMessage) → (d.ticket < t.ticket → ⊥) → waits_for t d ≡ false
 not_less t d h = ap (λ b. b && are_related_intervals t.affinity d.affinity)
     (false_from_ne_true (nat_lt d.ticket t.ticket) (λ less. h (ltb-true d.ticket t.ticket less)))
 
-none_late : (t : QueuedMessage) (ts : List QueuedMessage) → AllByRecursion (λ d. t.ticket < d.ticket) ts → list_any (comes_first t) ts ≡ false
+none_late : (t : QueuedMessage) (ts : List QueuedMessage) → AllByRecursion (λ d. t.ticket < d.ticket) ts → list_any (waits_for t) ts ≡ false
 none_late t [] after = refl
 none_late t (d ∷ ts) after =
     let above = after.0 in
-    ap (λ b. b || list_any (comes_first t) ts) (not_less t d (λ less. omega (arith, less, above))) ∙ none_late t ts after.1
+    ap (λ b. b || list_any (waits_for t) ts) (not_less t d (λ less. omega (arith, less, above))) ∙ none_late t ts after.1
 
 or_nothing : (b : Bool) → (b || false) ≡ b
 or_nothing true = refl
 or_nothing false = refl
 
 only_early : (t : QueuedMessage) (earlier later : List QueuedMessage) → CameBefore t.ticket earlier → AllByRecursion (λ d. t.ticket < d.ticket) later
-    → list_any (comes_first t) (earlier ++ t ∷ later) ≡ list_any (λ d. are_related_intervals t.affinity d.affinity) earlier
+    → list_any (waits_for t) (earlier ++ t ∷ later) ≡ list_any (λ d. are_related_intervals t.affinity d.affinity) earlier
 only_early t earlier later before after =
-    list_any-append (comes_first t) earlier (t ∷ later)
-    ∙ ap (λ b. list_any (comes_first t) earlier || (b || list_any (comes_first t) later)) (not_less t t (λ less. omega (arith, less)))
-    ∙ ap (λ b. list_any (comes_first t) earlier || b) (none_late t later after)
-    ∙ or_nothing (list_any (comes_first t) earlier)
+    list_any-append (waits_for t) earlier (t ∷ later)
+    ∙ ap (λ b. list_any (waits_for t) earlier || (b || list_any (waits_for t) later)) (not_less t t (λ less. omega (arith, less)))
+    ∙ ap (λ b. list_any (waits_for t) earlier || b) (none_late t later after)
+    ∙ or_nothing (list_any (waits_for t) earlier)
     ∙ all_early t earlier before
 
 came_before : (ticket : ℕ) (ts : List QueuedMessage) (t : QueuedMessage) → CameBefore ticket ts → t.ticket < ticket → CameBefore ticket (ts ++ t ∷ [])
@@ -55,7 +55,7 @@ first_from : (room : Bool) (held waiting earlier later : List QueuedMessage) →
     → first_dispatchable room held earlier later ≡ find (λ t. has_room room t && is_conflict_free held waiting t) later
 first_from room held waiting earlier [] whole before ascends = refl
 first_from room held waiting earlier (t ∷ later) whole before ascends =
-    let early = ap (list_any (comes_first t)) whole ∙ only_early t earlier later before.0 ascends.0 in
+    let early = ap (list_any (waits_for t)) whole ∙ only_early t earlier later before.0 ascends.0 in
     let same = ap (λ b. has_room room t && (is_free_of held t && not b)) (sym early) in
     let deeper = first_from room held waiting (earlier ++ t ∷ []) later (whole ∙ sym (append_assoc earlier (t ∷ []) later))
     (all_came earlier t later before.1 ascends.0) ascends.1 in

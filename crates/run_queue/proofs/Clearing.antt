@@ -6,7 +6,7 @@ use Rattle.std.proofs.lemmas.Bool.{eq-eqb, eqb-true, ltb-true, lt-ltb, cases_Boo
 use Rattle.affinity.specs.Interval.{IsAffinity, contains}
 use Rattle.affinity.specs.declared.geometry.Geometry.{Geometry}
 use Rattle.run_queue.specs.RunQueue.{are_related_intervals, is_free_of, has_number}
-use Rattle.run_queue.specs.Order.{Ascend, comes_first, is_conflict_free}
+use Rattle.run_queue.specs.Order.{Ascend, waits_for, is_conflict_free}
 use Rattle.run_queue.specs.Near.{AreAbove, is_before, conflicts_at}
 use Rattle.run_queue.specs.declared.queued_message.QueuedMessage.{QueuedMessage}
 
@@ -80,9 +80,9 @@ module _ (g : Geometry) (t : QueuedMessage) (above : List ℕ) (are : AreAbove g
 
   none_waits : (ds : List QueuedMessage) → AllByRecursion (λ d. IsAffinity g d.affinity) ds → Ascend ds
       → ((m : ℕ) → is_near t above m ≡ true → is_before t.ticket (find (has_number m) ds) ≡ false)
-      → list_any (comes_first t) ds ≡ false
+      → list_any (waits_for t) ds ≡ false
   none_waits [] placed ascends none = refl
-  none_waits (d ∷ ds) placed ascends none = elim (cases_Bool (comes_first t d)) [
+  none_waits (d ∷ ds) placed ascends none = elim (cases_Bool (waits_for t d)) [
     | inl k ↦ absurd (let parts = and_parts (nat_lt d.ticket t.ticket) (are_related_intervals t.affinity d.affinity) k in
         let here = none d.affinity.number (near d placed.0 parts.1) in
         let there = ap (λ (o : Option QueuedMessage). is_before t.ticket o) (find-cons (has_number d.affinity.number) d ds (has_own d)) in
@@ -121,15 +121,15 @@ module _ (g : Geometry) (t : QueuedMessage) (above : List ℕ) (are : AreAbove g
           (are d.affinity there ∙ ap (λ k. is_near t above k) at ∙ close)
 
   barred-waiting : (waiting : List QueuedMessage) (m : ℕ) → AllByRecursion (λ d. IsAffinity g d.affinity) waiting → is_near t above m ≡ true
-      → is_before t.ticket (find (has_number m) waiting) ≡ true → list_any (comes_first t) waiting ≡ true
+      → is_before t.ticket (find (has_number m) waiting) ≡ true → list_any (waits_for t) waiting ≡ true
   barred-waiting waiting m placed close some = by (find (has_number m) waiting) refl some
     where
-      by : (o : Option QueuedMessage) → find (has_number m) waiting ≡ o → is_before t.ticket o ≡ true → list_any (comes_first t) waiting ≡ true
+      by : (o : Option QueuedMessage) → find (has_number m) waiting ≡ o → is_before t.ticket o ≡ true → list_any (waits_for t) waiting ≡ true
       by None is h = absurd (true≢false (sym h))
       by (Some d) is h =
           let at = eqb-true d.affinity.number m (find-passes (has_number m) waiting d is) in
           let there = find-all (λ u. IsAffinity g u.affinity) (has_number m) waiting d placed is in
-          any-found (has_number m) (comes_first t) waiting d is
+          any-found (has_number m) (waits_for t) waiting d is
           (and_from _ _ h (are d.affinity there ∙ ap (λ k. is_near t above k) at ∙ close))
 
   pub clear-if_not : (held waiting : List QueuedMessage) (m : ℕ) → AllByRecursion (λ d. IsAffinity g d.affinity) held

@@ -9,7 +9,7 @@ use Rattle.affinity.specs.Interval.{IsAffinity, contains, server_size}
 use Rattle.affinity.specs.declared.geometry.Geometry.{Geometry}
 use Rattle.run_queue.specs.RunQueue.{are_related_intervals, is_free_of, has_room, has_number, next_queued}
 use Rattle.run_queue.specs.ReadyTable.{earliest_from, if_passes, last_rank, ready_in, rank_of}
-use Rattle.run_queue.specs.Order.{Ascend, comes_first, is_conflict_free, may_go_at, earlier}
+use Rattle.run_queue.specs.Order.{Ascend, waits_for, is_conflict_free, dispatchable_at, earlier}
 use Rattle.run_queue.specs.declared.queued_message.QueuedMessage.{QueuedMessage}
 use Rattle.run_queue.proofs.ByTicket.{next_is_first}
 use Rattle.run_queue.proofs.Nearby.{contains-own, number-below}
@@ -95,13 +95,13 @@ pub own_overlap : (g : Geometry) (t d : QueuedMessage) → IsAffinity g t.affini
 own_overlap g t d placed same = or_left _ _ (ap (λ n. contains t.affinity n) (sym same) ∙ contains-own g t.affinity placed)
 
 first_in : (g : Geometry) (t : QueuedMessage) (p : QueuedMessage → Bool) (ts : List QueuedMessage) → IsAffinity g t.affinity → Ascend ts → find p ts ≡ Some t
-    → list_any (comes_first t) ts ≡ false → find (has_number t.affinity.number) ts ≡ Some t
+    → list_any (waits_for t) ts ≡ false → find (has_number t.affinity.number) ts ≡ Some t
 first_in g t p [] placed ascends found none = absurd (cc)
 first_in g t p (d ∷ ts) placed ascends found none = elim (cases_Bool (p d)) [
   | inl k ↦ (let is = sym (find-cons p d ts k) ∙ found in let same : d ≡ t = cc in
       find-cons (has_number t.affinity.number) d ts (ap (λ (u : QueuedMessage). has_number t.affinity.number u) same ∙ has_own t) ∙ ap (λ (u : QueuedMessage). Some u) same)
   | inr k ↦ (let rest = sym (find-skip p d ts k) ∙ found in
-      let parts = or_parts (comes_first t d) (list_any (comes_first t) ts) none in
+      let parts = or_parts (waits_for t d) (list_any (waits_for t) ts) none in
       let later = find-all (λ u. d.ticket < u.ticket) p ts t ascends.0 rest in
       let other = ne_eqb d.affinity.number t.affinity.number (λ same. true≢false
       (sym (and_from (nat_lt d.ticket t.ticket) _ (lt-ltb d.ticket t.ticket later) (own_overlap g t d placed (sym same))) ∙ parts.0)) in
@@ -147,10 +147,10 @@ module _ (g : Geometry) (room : Bool) (held waiting : List QueuedMessage) (place
 
   -- where the first one may not go, no one may
   pub none_at : (n : ℕ) (f : QueuedMessage) → find (has_number n) waiting ≡ Some f → (has_room room f && is_conflict_free held waiting f) ≡ false
-      → may_go_at room held waiting n ≡ None
-  none_at n f first not_good = by (may_go_at room held waiting n) refl
+      → dispatchable_at room held waiting n ≡ None
+  none_at n f first not_good = by (dispatchable_at room held waiting n) refl
     where
-      by : (o : Option QueuedMessage) → may_go_at room held waiting n ≡ o → may_go_at room held waiting n ≡ None
+      by : (o : Option QueuedMessage) → dispatchable_at room held waiting n ≡ o → dispatchable_at room held waiting n ≡ None
       by None is = is
       by (Some u) is =
           let parts = and_parts (has_number n u) _ (find-passes (λ t. has_number n t && (has_room room t && is_conflict_free held waiting t)) waiting u is) in
@@ -163,7 +163,7 @@ module _ (g : Geometry) (room : Bool) (held waiting : List QueuedMessage) (place
           absurd (true≢false (sym parts.1 ∙ ap (λ (t : QueuedMessage). has_room room t && is_conflict_free held waiting t) (sym same) ∙ not_good))
 
   pub some_at : (n : ℕ) (f : QueuedMessage) → find (has_number n) waiting ≡ Some f → (has_room room f && is_conflict_free held waiting f) ≡ true
-      → may_go_at room held waiting n ≡ Some f
+      → dispatchable_at room held waiting n ≡ Some f
   some_at n f first good = some_first (has_number n) (λ t. has_room room t && is_conflict_free held waiting t) waiting f first good
 
   no_first : (p q : QueuedMessage → Bool) (ts : List QueuedMessage) → find p ts ≡ None → find (λ u. p u && q u) ts ≡ None
@@ -173,7 +173,7 @@ module _ (g : Geometry) (room : Bool) (held waiting : List QueuedMessage) (place
     | inr k ↦ find-skip (λ u. p u && q u) d ts (ap (λ b. b && q d) k) ∙ no_first p q ts (sym (find-skip p d ts k) ∙ none)
   ]
 
-  pub empty_at : (n : ℕ) → find (has_number n) waiting ≡ None → may_go_at room held waiting n ≡ None
+  pub empty_at : (n : ℕ) → find (has_number n) waiting ≡ None → dispatchable_at room held waiting n ≡ None
   empty_at n none = no_first (has_number n) (λ t. has_room room t && is_conflict_free held waiting t) waiting none
 
   -- ---- over all numbers
@@ -198,7 +198,7 @@ module _ (g : Geometry) (room : Bool) (held waiting : List QueuedMessage) (place
     ]
   ]
 
-  pub below-step : (n : ℕ) → first_below room held waiting (n + 1) ≡ earlier (first_below room held waiting n) (may_go_at room held waiting n)
+  pub below-step : (n : ℕ) → first_below room held waiting (n + 1) ≡ earlier (first_below room held waiting n) (dispatchable_at room held waiting n)
   below-step n =
       find-same _ (λ t. (nat_lt t.affinity.number n && (has_room room t && is_conflict_free held waiting t))
       || (has_number n t && (has_room room t && is_conflict_free held waiting t))) (λ t. less_suc t.affinity.number n _) waiting

@@ -11,9 +11,9 @@ use Rattle.affinity.specs.Interval.{Interval, IsAffinity, contains, interval, se
 use Rattle.affinity.specs.declared.geometry.Geometry.{Geometry}
 use Rattle.run_queue.specs.RunQueue.{are_related_intervals, is_free_of, has_room, has_slot, has_number, without_slot, without_number, CameBefore}
 use Rattle.run_queue.specs.Slots.{times_in_slot}
-use Rattle.run_queue.specs.Order.{Ascend, comes_first, is_conflict_free, may_go_at}
+use Rattle.run_queue.specs.Order.{Ascend, waits_for, is_conflict_free, dispatchable_at}
 use Rattle.run_queue.specs.Queues.{IsBetween}
-use Rattle.run_queue.specs.ReadyTable.{if_passes, ready_at, ready_in, IsFlagRight, StayRight, AreNearRight}
+use Rattle.run_queue.specs.ReadyTable.{if_passes, ready_at, ready_in, IsFlagRight, StayRight, AreRelatedRight}
 use Rattle.run_queue.specs.declared.queued_message.QueuedMessage.{QueuedMessage}
 use Rattle.run_queue.proofs.Nearby.{number-below, same_path}
 use Rattle.run_queue.proofs.SlotCounts.{times-cons_is, times-cons_other}
@@ -24,10 +24,10 @@ use Rattle.run_queue.proofs.Earliest.{none_at, some_at, empty_at, false_and_righ
 
 -- the one that may go at a number is the one that is conflict-free there, if there is room for it
 pub room-at : (g : Geometry) (room : Bool) (held waiting : List QueuedMessage) → AllByRecursion (λ d. IsAffinity g d.affinity) waiting → Ascend waiting
-    → (n : ℕ) → if_passes (has_room room) (ready_at held waiting n) ≡ may_go_at room held waiting n
+    → (n : ℕ) → if_passes (has_room room) (ready_at held waiting n) ≡ dispatchable_at room held waiting n
 room-at g room held waiting placed ascends n = by (find (has_number n) waiting) refl
   where
-    by : (o : Option QueuedMessage) → find (has_number n) waiting ≡ o → if_passes (has_room room) (if_passes (is_conflict_free held waiting) o) ≡ may_go_at room held waiting n
+    by : (o : Option QueuedMessage) → find (has_number n) waiting ≡ o → if_passes (has_room room) (if_passes (is_conflict_free held waiting) o) ≡ dispatchable_at room held waiting n
     by None is = sym (empty_at g room held waiting placed ascends n is)
     by (Some f) is = elim (cases_Bool (is_conflict_free held waiting f)) [
       | inl clear ↦ ap (λ b. if_passes (has_room room) (if b then Some f else None)) clear ∙ elim (cases_Bool (has_room room f)) [
@@ -101,12 +101,12 @@ or_nothing false = refl
 -- a later one keeps back no one
 later-clear : (held waiting : List QueuedMessage) (t f : QueuedMessage) → f.ticket < t.ticket → is_conflict_free held (waiting ++ t ∷ []) f ≡ is_conflict_free held waiting f
 later-clear held waiting t f less =
-    let not_first : comes_first f t ≡ false = ap (λ b. b && are_related_intervals f.affinity t.affinity)
+    let not_first : waits_for f t ≡ false = ap (λ b. b && are_related_intervals f.affinity t.affinity)
     (false_from_ne_true (nat_lt t.ticket f.ticket) (λ h. let under = ltb-true t.ticket f.ticket h in omega (arith, under, less))) in
     ap (λ b. is_free_of held f && not b)
-    (list_any-append (comes_first f) waiting (t ∷ [])
-    ∙ ap (λ b. list_any (comes_first f) waiting || (b || false)) not_first
-    ∙ or_nothing (list_any (comes_first f) waiting))
+    (list_any-append (waits_for f) waiting (t ∷ [])
+    ∙ ap (λ b. list_any (waits_for f) waiting || (b || false)) not_first
+    ∙ or_nothing (list_any (waits_for f) waiting))
 
 module _ (held waiting : List QueuedMessage) (t : QueuedMessage) (later : CameBefore t.ticket waiting) where
   pub ready-arrived : (n : ℕ) → (find (has_number n) waiting ≡ None → t.affinity.number ≢ n) → ready_at held (waiting ++ t ∷ []) n ≡ ready_at held waiting n
@@ -245,9 +245,9 @@ overlap-both : (a b : Interval) → are_related_intervals a b ≡ are_related_in
 overlap-both a b = or_both (contains a b.number) (contains b a.number)
 
 not_held : (held waiting : List QueuedMessage) (u : QueuedMessage) → list_any (λ other. are_related_intervals u.affinity other.affinity) held ≡ true → is_conflict_free held waiting u ≡ false
-not_held held waiting u near = ap (λ b. not b && not (list_any (comes_first u) waiting)) near
+not_held held waiting u near = ap (λ b. not b && not (list_any (waits_for u) waiting)) near
 
-not_first : (held waiting : List QueuedMessage) (u : QueuedMessage) → list_any (comes_first u) waiting ≡ true → is_conflict_free held waiting u ≡ false
+not_first : (held waiting : List QueuedMessage) (u : QueuedMessage) → list_any (waits_for u) waiting ≡ true → is_conflict_free held waiting u ≡ false
 not_first held waiting u late = ap (λ b. is_free_of held u && not b) late ∙ false_and_right (is_free_of held u)
 
 module _ (held held' waiting : List QueuedMessage) (t : QueuedMessage) (joined : IsBetween t held held') (ascends : Ascend waiting)
@@ -259,10 +259,10 @@ module _ (held held' waiting : List QueuedMessage) (t : QueuedMessage) (joined :
   kept_before : (n : ℕ) (f : QueuedMessage) → find (has_number n) waiting ≡ Some f → t.affinity.number ≢ n → are_related_intervals f.affinity t.affinity ≡ true
       → is_conflict_free held waiting f ≡ false
   kept_before n f found other near = elim (leb_tells (suc t.ticket) f.ticket) [
-    | inl e ↦ not_first held waiting f (any-found (has_number t.affinity.number) (comes_first f) waiting t first
+    | inl e ↦ not_first held waiting f (any-found (has_number t.affinity.number) (waits_for f) waiting t first
         (and_from (nat_lt t.ticket f.ticket) _ (lt-ltb t.ticket f.ticket e.1) near))
     | inr e ↦ elim (leb_tells (suc f.ticket) t.ticket) [
-      | inl k ↦ absurd (true≢false (sym clear ∙ not_first held waiting t (any-found (has_number n) (comes_first t) waiting f found
+      | inl k ↦ absurd (true≢false (sym clear ∙ not_first held waiting t (any-found (has_number n) (waits_for t) waiting f found
           (and_from (nat_lt f.ticket t.ticket) _ (lt-ltb f.ticket t.ticket k.1) (overlap-both t.affinity f.affinity ∙ near)))))
       | inr k ↦ absurd (let late = e.1 in let early = k.1 in
           let same = same-ticket (has_number n) (has_number t.affinity.number) waiting ascends found first (omega (arith, late, early)) in
@@ -278,9 +278,9 @@ module _ (held held' waiting : List QueuedMessage) (t : QueuedMessage) (joined :
         ∙ sym (kept_before n f found other near)
     | inr far ↦ (let same = any-between (λ u. are_related_intervals f.affinity u.affinity) t held held' joined
         ∙ ap (λ b. b || list_any (λ u. are_related_intervals f.affinity u.affinity) held) far in
-        let left = any-without (comes_first f) waiting t it_alone
+        let left = any-without (waits_for f) waiting t it_alone
         (ap (λ b. nat_lt t.ticket f.ticket && b) far ∙ false_and_right (nat_lt t.ticket f.ticket)) in
-        ap (λ b. not b && not (list_any (comes_first f) (without_slot t.slot waiting))) same
+        ap (λ b. not b && not (list_any (waits_for f) (without_slot t.slot waiting))) same
         ∙ ap (λ b. is_free_of held f && not b) left)
   ]
 
@@ -323,7 +323,7 @@ module _ (g : Geometry) (t : QueuedMessage) (placed : IsAffinity g t.affinity) w
   module _ (held waiting : List QueuedMessage) (held_placed : AllByRecursion (λ d. IsAffinity g d.affinity) held)
       (waiting_placed : AllByRecursion (λ d. IsAffinity g d.affinity) waiting) where
     pub right-freed : (before after : List (Option QueuedMessage)) → ((n : ℕ) → IsFlagRight held waiting before n)
-        → AreNearRight g t.affinity (without_number t.affinity.number held) waiting after
+        → AreRelatedRight g t.affinity (without_number t.affinity.number held) waiting after
         → StayRight (without_number t.affinity.number held) waiting before after
         → (n : ℕ) → IsFlagRight (without_number t.affinity.number held) waiting after n
     right-freed before after right near stay n = by (find (has_number n) waiting) refl
@@ -331,7 +331,7 @@ module _ (g : Geometry) (t : QueuedMessage) (placed : IsAffinity g t.affinity) w
         stays : ((f : QueuedMessage) → find (has_number n) waiting ≡ Some f → are_related_intervals t.affinity f.affinity ≡ false)
             → IsFlagRight (without_number t.affinity.number held) waiting after n
         stays far = stay.1 n (right n ∙ sym (ready-same held waiting (without_number t.affinity.number held) waiting n refl (λ f found.
-            ap (λ b. not b && not (list_any (comes_first f) waiting)) (any-freed f held held_placed (far f found)))))
+            ap (λ b. not b && not (list_any (waits_for f) waiting)) (any-freed f held held_placed (far f found)))))
 
         by : (o : Option QueuedMessage) → find (has_number n) waiting ≡ o → IsFlagRight (without_number t.affinity.number held) waiting after n
         by None is = stays (λ f found. absurd (none-some f (sym is ∙ found)))

@@ -12,7 +12,7 @@ use Rattle.run_queue.specs.RunQueue.{IsNext, are_related_intervals, is_free_of, 
 use Rattle.run_queue.specs.Slots.{times_in_slot}
 use Rattle.run_queue.specs.Order.{is_conflict_free}
 use Rattle.run_queue.specs.Queues.{Waiting, HeldMessages, IsBetween, IsFirstGone}
-use Rattle.run_queue.specs.ReadyTable.{IsFlagRight, StayRight, AreNearRight}
+use Rattle.run_queue.specs.ReadyTable.{IsFlagRight, StayRight, AreRelatedRight}
 use Rattle.run_queue.specs.Invariant.{AreQueued, AreFlagsRight, QueueInvariant}
 use Rattle.run_queue.specs.declared.queued_message.QueuedMessage.{QueuedMessage}
 use Rattle.run_queue.proofs.ByTicket.{next_is_first}
@@ -117,7 +117,7 @@ messages-freed {g} {slots} {w} {h} n are = record {
 
 pub kept-freed : {g : Geometry} {slots : ℕ} {w : Waiting} {h k : HeldMessages} {t : QueuedMessage} (n : ℕ) {before after : List (Option QueuedMessage)}
     → QueueInvariant g slots w h before → find (has_number n) h.messages ≡ Some t → k ≡ record h { messages = without_number n h.messages }
-    → AreNearRight g t.affinity k.messages w.messages after → StayRight k.messages w.messages before after → QueueInvariant g slots w k after
+    → AreRelatedRight g t.affinity k.messages w.messages after → StayRight k.messages w.messages before after → QueueInvariant g slots w k after
 kept-freed {g} {slots} {w} {h} {k} {t} n {before} {after} are found freed near stay = record {
   rows = subst (λ (x : HeldMessages). AreQueued g slots w x) (sym freed) (messages-freed n are.rows);
   right = record {
@@ -125,7 +125,7 @@ kept-freed {g} {slots} {w} {h} {k} {t} n {before} {after} are found freed near s
     right = λ m. subst (λ (ts : List QueuedMessage). IsFlagRight ts w.messages after m) (sym is)
         (right-freed g t (find-all (λ d. IsAffinity g d.affinity) (has_number n) h.messages t are.rows.held_placed found)
         h.messages w.messages are.rows.held_placed are.rows.waiting_placed before after are.right.right
-        (subst (λ (ts : List QueuedMessage). AreNearRight g t.affinity ts w.messages after) is near)
+        (subst (λ (ts : List QueuedMessage). AreRelatedRight g t.affinity ts w.messages after) is near)
         (subst (λ (ts : List QueuedMessage). StayRight ts w.messages before after) is stay) m);
   };
 }

@@ -1,4 +1,4 @@
--- Definitions of the run queue: which message goes next, the order of those that wait, and how queues and ready flags keep it.
+-- Definitions of the run queue: which message is dispatched next, the order of those that wait, and how queues and ready flags keep it.
 pub mod RunQueue
 pub mod Slots
 pub mod Order

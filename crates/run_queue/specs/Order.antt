@@ -8,19 +8,19 @@ abbrev pub Ascend : List QueuedMessage → Type 0
 Ascend [] = Unit {0}
 Ascend (t ∷ messages) = AllByRecursion (λ d. t.ticket < d.ticket) messages × Ascend messages
 
--- whether the second came before the first, at a related affinity
-abbrev pub comes_first : QueuedMessage → QueuedMessage → Bool
-comes_first t d = nat_lt d.ticket t.ticket && are_related_intervals t.affinity d.affinity
+-- whether the first has to wait for the second: that one has the smaller ticket, and a related affinity
+abbrev pub waits_for : QueuedMessage → QueuedMessage → Bool
+waits_for t d = nat_lt d.ticket t.ticket && are_related_intervals t.affinity d.affinity
 
--- whether no held one is at a related affinity, and no waiting one with a smaller ticket
+-- whether no message at a related affinity is held, and none with a smaller ticket waits
 abbrev pub is_conflict_free : List QueuedMessage → List QueuedMessage → QueuedMessage → Bool
-is_conflict_free held waiting t = is_free_of held t && not (list_any (comes_first t) waiting)
+is_conflict_free held waiting t = is_free_of held t && not (list_any (waits_for t) waiting)
 
--- the first one at this number that may go, with room or without
-abbrev pub may_go_at : Bool → List QueuedMessage → List QueuedMessage → ℕ → Option QueuedMessage
-may_go_at room held waiting n = find (λ t. has_number n t && (has_room room t && is_conflict_free held waiting t)) waiting
+-- the first waiting message at this affinity number that may be dispatched, by whether the log has room
+abbrev pub dispatchable_at : Bool → List QueuedMessage → List QueuedMessage → ℕ → Option QueuedMessage
+dispatchable_at room held waiting n = find (λ t. has_number n t && (has_room room t && is_conflict_free held waiting t)) waiting
 
--- whether one came before another, if there is another
+-- whether the second came before the first, or there is no first
 abbrev pub is_earlier : Option QueuedMessage → QueuedMessage → Bool
 is_earlier None t = true
 is_earlier (Some d) t = nat_lt t.ticket d.ticket

@@ -29,8 +29,8 @@ StayRight held waiting before after =
     (length after ≡ length before) × ((n : ℕ) → IsFlagRight held waiting before n → IsFlagRight held waiting after n)
 
 -- The ready flags at all affinities related to this one are right.
-abbrev pub AreNearRight : Geometry → Interval → List QueuedMessage → List QueuedMessage → List (Option QueuedMessage) → Type 0
-AreNearRight g a held waiting ready_table = (b : Interval) → IsAffinity g b → are_related_intervals a b ≡ true
+abbrev pub AreRelatedRight : Geometry → Interval → List QueuedMessage → List QueuedMessage → List (Option QueuedMessage) → Type 0
+AreRelatedRight g a held waiting ready_table = (b : Interval) → IsAffinity g b → are_related_intervals a b ≡ true
     → IsFlagRight held waiting ready_table b.number
 
 -- the greatest rank of a message

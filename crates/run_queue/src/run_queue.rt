@@ -8,7 +8,7 @@ use crate::QueuedMessage;
 use crate::candidates::best_in;
 use crate::holders::Holders;
 use crate::ready_table::{CHUNK, ReadyTable};
-use crate::update_ready::{update_ready, update_ready_near};
+use crate::update_ready::{update_ready, update_ready_related};
 use crate::waiting::Queues;
 use affinity::{Affinity, Geometry, Place};
 use std::alloc::{AllocError, Global};
@@ -157,7 +157,7 @@ impl RunQueue {
         let number = usize::from(a.number());
         if let Some(queued) = self.held.at(number) {
             self.held.free(number);
-            update_ready_near(
+            update_ready_related(
                 &mut self.ready_table,
                 &self.geometry,
                 &self.held,

@@ -1,9 +1,9 @@
-//! How the ready flags follow waiting and held messages.
+//! How the ready table follows waiting and held messages: each affinity number has an entry, its first waiting message if conflict-free.
 ghost use Rattle.std.specs.Prelude.{◌≡◌, ◌≤◌, ◌==◌, ℕ, true, length};
 ghost use Rattle.std.specs.List.{list_any, AllByRecursion};
 ghost use Rattle.affinity.specs.Interval.{IsAffinity, contains, server_size};
 ghost use Rattle.run_queue.specs.Order.{Ascend};
-ghost use Rattle.run_queue.specs.ReadyTable.{ready_at, IsFlagRight, StayRight, AreNearRight};
+ghost use Rattle.run_queue.specs.ReadyTable.{ready_at, IsFlagRight, StayRight, AreRelatedRight};
 
 use crate::QueuedMessage;
 use crate::conflicts::{is_conflict_free, numbers_above};
@@ -12,7 +12,7 @@ use crate::ready_table::ReadyTable;
 use crate::waiting::Queues;
 use affinity::{Affinity, Geometry};
 
-// The first one at a number, if it is conflict-free.
+// The first message that waits at an affinity number, if it is conflict-free.
 fn ready_at(g: &Geometry, held: &Holders, waiting: &Queues, number: usize) -> Option<QueuedMessage>
     requires held_placed { AllByRecursion (λ t. IsAffinity g.now t.affinity) held.now.messages }
     requires waiting_placed { AllByRecursion (λ t. IsAffinity g.now t.affinity) waiting.now.messages }
@@ -27,7 +27,7 @@ fn ready_at(g: &Geometry, held: &Holders, waiting: &Queues, number: usize) -> Op
     }
 }
 
-/// Updates the ready flag at a number.
+/// Updates the entry of an affinity number.
 pub(crate) fn update_ready(
     ready_table: &mut ReadyTable,
     g: &Geometry,
@@ -47,7 +47,7 @@ pub(crate) fn update_ready(
     }
 }
 
-// Updates the ready flags at an affinity and at those below it.
+// Updates the entries of an affinity and of those below it.
 fn update_ready_below(
     ready_table: &mut ReadyTable,
     g: &Geometry,
@@ -67,7 +67,7 @@ fn update_ready_below(
     }
 }
 
-// Updates the ready flags at these numbers.
+// Updates the entries of these numbers.
 fn update_ready_each(
     ready_table: &mut ReadyTable,
     g: &Geometry,
@@ -88,8 +88,8 @@ fn update_ready_each(
     }
 }
 
-/// Updates the ready flags at all affinities that are related to this one.
-pub(crate) fn update_ready_near(
+/// Updates the entries of all affinities that are related to this one.
+pub(crate) fn update_ready_related(
     ready_table: &mut ReadyTable,
     g: &Geometry,
     held: &Holders,
@@ -101,7 +101,7 @@ pub(crate) fn update_ready_near(
     requires held_placed { AllByRecursion (λ t. IsAffinity g.now t.affinity) held.now.messages }
     requires waiting_placed { AllByRecursion (λ t. IsAffinity g.now t.affinity) waiting.now.messages }
     requires ascends { Ascend waiting.now.messages }
-    ensures near { AreNearRight g.now a held.now.messages waiting.now.messages ready_table.new }
+    ensures near { AreRelatedRight g.now a held.now.messages waiting.now.messages ready_table.new }
     ensures others { StayRight held.now.messages waiting.now.messages ready_table.old ready_table.new }
 {
     update_ready_below(ready_table, g, held, waiting, a);

@@ -19,7 +19,7 @@ use Rattle.scheduler.specs.Parts.{ArePlaced, IsCore, IsPlaced, Parts, entry_of, 
 use Rattle.scheduler.specs.Slots.{Phases, SlotView}
 use Rattle.scheduler.specs.declared.granted.Granted.{Granted}
 use Rattle.scheduler.specs.declared.granted.Granted.TheVariants as granted
-use Rattle.run_queue.proofs.ByTicket.{Ascend, comes_first, is_conflict_free, next_is_first}
+use Rattle.run_queue.proofs.ByTicket.{Ascend, waits_for, is_conflict_free, next_is_first}
 use Rattle.run_queue.specs.RunQueue.{has_room, next_queued, are_related_intervals}
 use Rattle.run_queue.specs.declared.queued_message.QueuedMessage.{QueuedMessage}
 
@@ -63,10 +63,10 @@ module _ (g : Geometry) where
       ∙ sym (list_any-append (are_related_entries g e) (entries (map replied_of l.logged)) (entries (map replied_of l.ran) ++ map entry_of l.in_flight))
 
   pub waits_touch : (ys : List SlotView) → AllByRecursion (IsPlaced g) ys → (x : SlotView) → IsPlaced g x
-      → list_any (comes_first (queued_of x)) (map queued_of ys) ≡ list_any (λ d. nat_lt d.0 (entry_of x).0 && are_related_entries g (entry_of x) d) (map entry_of ys)
+      → list_any (waits_for (queued_of x)) (map queued_of ys) ≡ list_any (λ d. nat_lt d.0 (entry_of x).0 && are_related_entries g (entry_of x) d) (map entry_of ys)
   waits_touch ys all x a =
-      any_map queued_of (comes_first (queued_of x)) ys
-      ∙ any_same (IsPlaced g) (λ y. comes_first (queued_of x) (queued_of y)) (λ y. nat_lt (entry_of y).0 (entry_of x).0 && are_related_entries g (entry_of x) (entry_of y))
+      any_map queued_of (waits_for (queued_of x)) ys
+      ∙ any_same (IsPlaced g) (λ y. waits_for (queued_of x) (queued_of y)) (λ y. nat_lt (entry_of y).0 (entry_of x).0 && are_related_entries g (entry_of x) (entry_of y))
       (λ y b. ap (λ t. nat_lt (queued_of y).ticket (queued_of x).ticket && t) (overlaps x y a b)) ys all
       ∙ sym (any_map entry_of (λ d. nat_lt d.0 (entry_of x).0 && are_related_entries g (entry_of x) d) ys)
 
@@ -163,7 +163,7 @@ module _ (keeps : Type 0) (p : Parts) (k : IsCore keeps p) where
   clear_same : (x : SlotView) → IsPlaced geometry x → is_conflict_free p.queue.held p.queue.waiting (queued_of x) ≡ is_clear_in geometry w (entry_of x)
   clear_same x a = λ i.
       not ((k.holds (λ o. are_related_intervals (queued_of x).affinity o.affinity) ∙ held_touch geometry p.phases k.placed x a) i)
-      && not ((ap (list_any (comes_first (queued_of x))) k.waits ∙ waits_touch geometry p.phases.waiting k.placed.waiting x a) i)
+      && not ((ap (list_any (waits_for (queued_of x))) k.waits ∙ waits_touch geometry p.phases.waiting k.placed.waiting x a) i)
 
   or_turned : (a b : Bool) → (a || not b) ≡ (not b || a)
   or_turned true true = refl

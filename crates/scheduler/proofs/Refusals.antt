@@ -6,7 +6,7 @@ use Rattle.std.proofs.lemmas.List.{take-take}
 use Rattle.affinity.specs.declared.geometry.Geometry.{Geometry}
 use Rattle.checkpoint.proofs.Fine.{fine, head}
 use Rattle.checkpoint.proofs.OneGeometry.{same_geometry}
-use Rattle.checkpoint.specs.Header.{HasHeader, marks_of_format}
+use Rattle.checkpoint.specs.Header.{HasHeader, magic}
 use Rattle.checkpoint.specs.Recovery.{recovered_state}
 use Rattle.checkpoint.specs.Refusals.{HasNoGeometry, IsRefused, IsRefusedWith, IsUnformatted, fault_if, refused}
 use Rattle.checkpoint.specs.declared.fault.OpenFault.{OpenFault}
@@ -24,7 +24,7 @@ data Found (c : List ℕ) (answer : Option OpenFault) : Type 0 where
   With : (g : Geometry) → 128 ≤ length c → HasHeader g c → refused g c ≡ answer → Found c answer
 
 module _ (c : List ℕ) where
-  dirty_at : (g : Geometry) → HasHeader g c → take 8 c ≡ marks_of_format
+  dirty_at : (g : Geometry) → HasHeader g c → take 8 c ≡ magic
   dirty_at g header = sym (take-take 8 64 c (omega arith)) ∙ ap (λ (l : List ℕ). take 8 l) header
 
   one_with : (g h : Geometry) → HasHeader g c → HasHeader h c → refused g c ≡ refused h c

@@ -31,8 +31,8 @@ fn push_if_loggable(message: &Msg, reply: &Reply, batch: &mut Vec<Msg>)
     }
 }
 
-/// Of the first `count` messages that ran, appends those that the log keeps to the batch. Returns how many of the
-/// `count` are of a changing kind.
+/// Appends to the batch those of the first `count` messages that ran that the log keeps. Returns how many of the `count` are of a changing
+/// kind.
 pub(crate) fn collect_loggable(
     slots: &Arena<Slot>,
     replies: &[Reply],

@@ -1,4 +1,4 @@
--- Statement for clients: What a restart after a crash goes on from, in words of lines: which were acknowledged, and which others are there.
+-- Statement for clients: The state that a restart after a crash recovers, in terms of lines: those acknowledged, and which of the others.
 use Rattle.std.specs.Prelude.{◌≡◌, ◌⊎◌, ℕ, Bool, false, ◌&&◌, List, [], ◌∷◌, ◌++◌, Option, Some}
 use Rattle.std.specs.List.{AllByRecursion}
 use Rattle.affinity.specs.Path.{are_related}
@@ -22,8 +22,8 @@ IsClosedPart g part [] = part ≡ []
 IsClosedPart g part (line ∷ ls) = ((rest : List (List ℕ)) × (part ≡ line ∷ rest) × IsClosedPart g rest ls)
     ⊎ (AllByRecursion (λ other. are_related_lines g (message_of line) (message_of other) ≡ false) part × IsClosedPart g part ls)
 
--- The first lines of the input were acknowledged, each by the serial server's answer. The state is where these lead, with a part of the
--- lines after them.
+-- The first lines of the input were acknowledged, each by the serial server's answer. The state is the one after these lines and then a
+-- part of the lines after them (`IsClosedPart`).
 pub record RecoversTo (g : Geometry) (start now : State) (input written : List ℕ) : Type 0 where
   pub acknowledged : List (List ℕ)
   pub unacknowledged : List (List ℕ)
@@ -33,7 +33,7 @@ pub record RecoversTo (g : Geometry) (start now : State) (input written : List �
   pub closed : IsClosedPart g part unacknowledged
   pub state : now ≡ state_after_lines g start (acknowledged ++ part)
 
--- These bytes recover to a state to which a server recovers that began in this one.
+-- These bytes recover to a state. Where the input is known, `RecoversTo` holds of that state, for a server that began in `start`.
 pub record BytesRecover (g : Geometry) (start : State) (input before written : Option (List ℕ)) (bytes : List ℕ) : Type 0 where
   pub now : State
   pub holds_now : recovered_state g bytes ≡ Some now

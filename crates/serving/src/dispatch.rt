@@ -1,5 +1,5 @@
-//! One iteration of a session: messages are dispatched, and what was collected is logged in one go and answered; where nothing else can be
-//! done, it waits or takes a step of a checkpoint.
+//! One iteration of a session. Messages are dispatched; what was collected is logged by one call and answered, with a step of the
+//! checkpoint in progress after each answer. Where nothing else can be done, it waits for a result, or advances or begins a checkpoint.
 
 ghost use Rattle.std.specs.Prelude.{◌≡◌, ◌<◌, ◌≤◌, ◌-◌, ◌↔◌, IsTrue, OnErr, OnOk, Some, [], None, false, is_none, length, position, true};
 ghost use Rattle.scheduler.specs.CoreView.{core_state_of};
@@ -17,15 +17,16 @@ use std::io::Read;
 use std::thread::yield_now;
 use workers::{Bench, DispatchSeat};
 
-/// How many messages may be collected before what ran is logged: the log writes as many records with one write of the records and one of
+/// How many messages may be collected before what ran is logged: the log writes that many records by one write of the records and one of
 /// their gates.
 const BATCH: usize = 64;
 
-/// How many polls of all places in succession may find nothing before the batch is logged as it is: about ten times a thread's wake-up.
-/// The count begins anew with each result, so a reply may wait for this many polls before each further result of its batch.
+/// After how many polls of all places in succession without a result the batch is logged as it is. They take about ten times as long as a
+/// thread takes to wake up. The count begins anew with each result, so a reply may wait for that many polls before each further result of
+/// its batch.
 const MAX_POLLS: usize = 16384;
 
-/// How many polls there are from one time that the thread yields the processor to the next.
+/// The thread yields the processor once in this many polls.
 const POLLS_PER_YIELD: usize = 32;
 
 /// What was collected in one iteration, and what kept messages from being dispatched. `budget` falls with each message, so collecting ends;
@@ -36,7 +37,7 @@ struct Batch {
     budget: usize,
     /// Whether one of them changed something, so that it has to be written to the log.
     changed: bool,
-    /// Whether some message lacked only room in the log, when messages were dispatched last.
+    /// Whether dispatch ended last because no message was eligible, and some message lacked only room in the log.
     lacks_room: bool,
 }
 
@@ -59,7 +60,7 @@ impl Batch {
     }
 
     /// Whether something was collected.
-    fn has_come(&self) -> bool {
+    fn has_results(&self) -> bool {
         self.budget < BATCH
     }
 
@@ -70,9 +71,9 @@ impl Batch {
         self.budget == 0
     }
 
-    /// Whether waiting for more gains nothing: it is full, or something was collected, and none of it needs a write.
+    /// Whether it is to be logged now: it is full, or it has results of which none needs a write. In both cases waiting gains nothing.
     fn is_ready_to_log(&self) -> bool {
-        self.is_full() || self.has_come() && !self.changed
+        self.is_full() || self.has_results() && !self.changed
     }
 }
 
@@ -81,7 +82,7 @@ impl Batch {
 enum Dispatched {
     /// The message is dispatched, and its job is offered to the workers.
     Job,
-    /// None is eligible, and none waits only for room in the log.
+    /// No message is eligible, and none lacks only room in the log.
     NoneEligible,
     /// No message is eligible, and some message lacks only room in the log.
     NoRoom,
@@ -89,8 +90,8 @@ enum Dispatched {
     Failed,
 }
 
-/// Offers what was granted to the workers at place k of a bench, the first free place, if it is a job. It is inlined, so that the job isn't
-/// moved once more.
+/// If a job was granted, offers it to the workers at place k of a bench, the first free one. Returns how that ended. Inlined, so that
+/// the job isn't moved once more.
 #[inline(always)]
 fn offer_granted(
     bench: &Bench,
@@ -138,8 +139,8 @@ impl<'c, R: Read, D: Disk, L: ReplySink<D>> Session<'c, R, D, L> {
         offer_granted(self.bench, &mut self.dispatch_seat, k, granted)
     }
 
-    /// Dispatches eligible messages, the one with the least ticket first, until no place is free or no further one can be dispatched: why.
-    /// `Dispatched::Job` means that no place is free.
+    /// Dispatches eligible messages, the one with the least ticket first, until no place is free or no further one can be dispatched.
+    /// Returns why it ended: `Dispatched::Job` means that no place is free.
     fn dispatch_all(&mut self) -> Dispatched
         ensures as_before { KeepsStopAndOutputFailed self.old self.new }
         ensures ended { IsEndOfDispatch self.new.core.geometry (core_state_of self.new.core) self.new.dispatch_seat.lent result }
@@ -153,15 +154,15 @@ impl<'c, R: Read, D: Disk, L: ReplySink<D>> Session<'c, R, D, L> {
         Dispatched::Job
     }
 
-    /// Dispatches messages, unless a checkpoint is due by the record count: whether one lacks only room in the log. None is dispatched
-    /// where the device has failed, as the next log reports.
+    /// Dispatches messages, unless a checkpoint is due by the record count. Returns whether it ended because no message was eligible and
+    /// some message lacked only room in the log. Where the device has failed, none is dispatched: the next call of `log` reports that.
     fn dispatch_ready(&mut self) -> bool
         ensures as_before { KeepsStopAndOutputFailed self.old self.new }
     {
         !self.trigger.is_due(self.core.left()) && matches!(self.dispatch_all(), Dispatched::NoRoom)
     }
 
-    /// Collects the result of the job at place k, if it was delivered: whether it changed something.
+    /// Collects the result of the job at place k, if it was delivered. Returns whether the job changed something.
     fn collect_one(&mut self, k: usize) -> Option<bool>
         requires place { k < length self.old.dispatch_seat.lent }
         ensures as_before { KeepsStopAndOutputFailed self.old self.new }
@@ -177,7 +178,7 @@ impl<'c, R: Read, D: Disk, L: ReplySink<D>> Session<'c, R, D, L> {
         Some(changed)
     }
 
-    /// Polls each place once, and collects the results that were delivered, until the batch is full: whether there was one.
+    /// Polls each place once, and collects the results that were delivered, until the batch is full. Returns whether there was one.
     fn collect_delivered(&mut self, batch: &mut Batch) -> bool
         ensures as_before { KeepsStopAndOutputFailed self.old self.new }
         ensures failed { self.new.core.failed ≡ self.old.core.failed }
@@ -213,8 +214,8 @@ impl<'c, R: Read, D: Disk, L: ReplySink<D>> Session<'c, R, D, L> {
         }
     }
 
-    /// Dispatches messages and collects results, until the batch is worth a write of the log, no job is in flight any more, or nothing was
-    /// collected in a while. Where something was, further messages are dispatched, so that jobs run meanwhile. It waits for nobody.
+    /// Dispatches messages and collects results, until the batch is ready to log (`is_ready_to_log`), no job is in flight any more, or
+    /// `MAX_POLLS` polls in succession found no result. After a poll that found some, it dispatches more messages. It never blocks.
     fn dispatch_and_collect(&mut self) -> Batch
         ensures as_before { KeepsStopAndOutputFailed self.old self.new }
     {
@@ -233,7 +234,7 @@ impl<'c, R: Read, D: Disk, L: ReplySink<D>> Session<'c, R, D, L> {
         batch
     }
 
-    /// Logs all that ran, in one go. Where nothing ran, it reports no more than whether the device works.
+    /// Logs all that ran, by one call of `log`. Where nothing ran, it only reports whether the device has failed.
     pub(crate) fn log_what_ran(&mut self) -> Result<usize, Halted>
         ensures moves { IsSessionStep self.old self.new result }
         ensures same { (self.new.reorder_buffer ≡ self.old.reorder_buffer) × (self.new.reply_buffer ≡ self.old.reply_buffer)
@@ -257,21 +258,21 @@ impl<'c, R: Read, D: Disk, L: ReplySink<D>> Session<'c, R, D, L> {
             self.advance_checkpoint()?;
         }
         self.retire_ready()?;
-        if self.half_waits() {
+        if self.is_half_unsent() {
             self.flush_replies()?;
         }
         Ok(())
     }
 
-    /// Whether at least half as many answers wait as lines may be outstanding. They are sent then, so that other lines are read in their
-    /// place while the rest are worked off.
-    fn half_waits(&self) -> bool {
+    /// Whether unsent answers make up at least half of the lines that may be outstanding. They are sent then, so that new lines can be read
+    /// while the others are in progress.
+    fn is_half_unsent(&self) -> bool {
         let slots = self.reorder_buffer.slots();
         self.outstanding.saturating_sub(self.reorder_buffer.len()) >= slots - slots / 2
     }
 
-    /// Where nothing was read or collected, or the session has caught up: sends what waits. If a buffered line may then be read, this is
-    /// all; else it waits for a result where a job is in flight, or takes a step of a checkpoint.
+    /// Where nothing was read or collected, or the session has caught up: sends the answers that wait. If a buffered line may then be read,
+    /// it returns. Else, if a job is in flight, it waits for a result; if none is, it calls `step_checkpoint`.
     fn flush_or_wait<W: GatedRuntime>(
         &mut self,
         rt: &W,
@@ -311,7 +312,7 @@ impl<'c, R: Read, D: Disk, L: ReplySink<D>> Session<'c, R, D, L> {
     {
         let batch = self.dispatch_and_collect();
         self.log_and_reply(rt)?;
-        if (matches!(read, Activity::Busy) || batch.has_come()) && !self.has_caught_up() {
+        if (matches!(read, Activity::Busy) || batch.has_results()) && !self.has_caught_up() {
             return Ok(Activity::Busy);
         }
         self.flush_or_wait(rt, batch.lacks_room)

@@ -4,7 +4,7 @@ use Rattle.std.proofs.lemmas.Bool.{cond-true, lt-ltb, not-false, true≢false}
 use Rattle.std.proofs.lemmas.List.{take-take}
 use Rattle.std.proofs.lemmas.Slice.Eq.{bytes_eq-Decides}
 use Rattle.std.specs.Prelude.{nat_lt}
-use Rattle.checkpoint.specs.Header.{marks_of_format}
+use Rattle.checkpoint.specs.Header.{magic}
 use Rattle.checkpoint.specs.declared.fault.OpenFault.TheVariants.{TooShort}
 use Rattle.device_map.specs.Layout.{device_size, layout_of}
 use Rattle.checkpoint.proofs.header_and_root.read_header.Goals as goal
@@ -13,14 +13,14 @@ pub returns-then-ne-clause-refused : goal.returns-then-ne-clause-refused
 returns-then-ne-clause-refused g c = λ k.
     let marks = ap (λ (l : List ℕ). take 8 l) (c.in_ok-read.ensures.bytes k) ∙ take-take 8 64 (g.D.Disk.medium c.args.disk.now).now (omega arith) in (
       omega (arith, c.if-len.false, c.len.ensures),
-      λ are. true≢false (c.if-ne.ensures {u = tt} ∙ ap not ((bytes_eq-Decides (take 8 c.read.new.out) marks_of_format).1 (marks ∙ are))),
+      λ are. true≢false (c.if-ne.ensures {u = tt} ∙ ap not ((bytes_eq-Decides (take 8 c.read.new.out) magic).1 (marks ∙ are))),
     )
 
 pub returns-in_default-clause-refused : goal.returns-in_default-clause-refused
 returns-in_default-clause-refused g c = λ k.
     let marks = ap (λ (l : List ℕ). take 8 l) (c.in_ok-read.ensures.bytes k) ∙ take-take 8 64 (g.D.Disk.medium c.args.disk.now).now (omega arith) in (
       omega (arith, c.if-len.false, c.len.ensures),
-      sym marks ∙ (bytes_eq-Decides (take 8 c.read.new.out) marks_of_format).0 (not-false _ (sym (c.if-ne.ensures {u = tt}))),
+      sym marks ∙ (bytes_eq-Decides (take 8 c.read.new.out) magic).0 (not-false _ (sym (c.if-ne.ensures {u = tt}))),
       λ h is. c.in_default.ensures.none h (c.in_ok-read.ensures.bytes k ∙ is),
     )
 

@@ -3,7 +3,7 @@ use Rattle.std.proofs.Common.{◌≡◌, ◌==◌, ◌∙◌, ℕ, List, true, s
 use Rattle.std.specs.List.{list_any}
 use Rattle.std.proofs.lemmas.Bool.{or_cases}
 use Rattle.run_queue.proofs.Nearby.{are_above}
-use Rattle.run_queue.proofs.update_ready.update_ready_near.Goals as goal
+use Rattle.run_queue.proofs.update_ready.update_ready_related.Goals as goal
 
 pub returns-clause-near : goal.returns-clause-near
 returns-clause-near c = λ b placed close.
