@@ -156,7 +156,7 @@ pub fn format<D: Disk>(alloc: Global, d: D, g: Geometry) -> Result<D, FormatErro
     ensures recovers { IfOk result (λ r. D.keeps → recovered_state g (D.medium r).now ≡ Some empty) }
     ensures version { IfOk result (λ r. D.keeps → named_version g (D.medium r).now ≡ 2) }
 
-    // What a longer device has behind its parts stays, also in what a crash leaves.
+    // The bytes of the device after its last part stay, even after a crash.
     ensures beyond { D.keeps → MatchResult result
         (λ r. KeepsBeyond (layout_of g) (D.medium d) (D.medium r))
         (λ e. KeepsBeyond (layout_of g) (D.medium d) (D.medium e.disk)) }

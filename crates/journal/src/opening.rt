@@ -285,7 +285,7 @@ pub fn open<D: Disk>(alloc: Global, d: D) -> Result<(Journal<D>, Tree), OpenErro
         (λ r. OpeningCrashImages (D.medium d) r.0.medium)
         (λ e. OpeningCrashImages (D.medium d) (D.medium e.disk)) }
 
-    // What a longer device has behind its parts stays, also in what a crash leaves.
+    // The bytes of the device after its last part stay, even after a crash.
     ensures beyond { D.keeps → (g : Geometry) → HasHeader g (D.medium d).now → MatchResult result
         (λ r. KeepsBeyond (layout_of g) (D.medium d) r.0.medium)
         (λ e. KeepsBeyond (layout_of g) (D.medium d) (D.medium e.disk)) }

@@ -41,7 +41,12 @@ fn better(log_has_room: bool, ready_table: &ReadyTable, best: usize, number: usi
 }
 
 /// The number of the earliest of these ready messages: the best so far, and those in a chunk for which there is room.
-pub(crate) fn best_in(log_has_room: bool, ready_table: &ReadyTable, best: usize, chunk: usize) -> usize
+pub(crate) fn best_in(
+    log_has_room: bool,
+    ready_table: &ReadyTable,
+    best: usize,
+    chunk: usize,
+) -> usize
     requires { chunk ≤ 4096 }
     ensures { ready_in ready_table.now result
         ≡ earliest_from (has_room log_has_room) ready_table.now (16 * chunk) 16 (ready_in ready_table.now best) }

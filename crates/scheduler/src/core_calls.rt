@@ -128,7 +128,7 @@ impl<D: Disk> Core<D> {
             (λ core. OpeningCrashImages (D.medium d) core.medium)
             (λ e. OpeningCrashImages (D.medium d) (D.medium e.disk)) }
 
-        // What a longer device has after its parts stays, even in what a crash leaves.
+        // The bytes of the device after its last part stay, even after a crash.
         ensures beyond { D.keeps → (g : Geometry) → HasHeader g (D.medium d).now → MatchResult result
             (λ core. KeepsBeyond (layout_of g) (D.medium d) core.medium)
             (λ e. KeepsBeyond (layout_of g) (D.medium d) (D.medium e.disk)) }
@@ -139,7 +139,7 @@ impl<D: Disk> Core<D> {
         ensures unwritten { IfErr result (λ e. D.keeps → IsRefusedUnwritten (D.medium d) e.fault (D.medium e.disk)) }
 
         // What recovers to a state is opened, and what is to be refused is refused for its one fault, unless the device fails
-        // or want of memory is reported.
+        // or `OutOfMemory` is reported.
         ensures opens { (g : Geometry) (x : State) → D.keeps → recovered_state g (D.medium d).now ≡ Some x
             → IfErr result (λ e. IsOfBytes e.fault → ⊥) }
         ensures exact { (fault : OpenFault) → D.keeps → IsRefused (D.medium d).now fault → IsOfBytes fault
@@ -225,8 +225,8 @@ impl<D: Disk> Core<D> {
         if self.journal.failed() {
             return Granted::Failed;
         }
-        let room = self.unlogged < self.journal.room();
-        let queued = match choose(&self.queue, room) {
+        let log_has_room = self.unlogged < self.journal.room();
+        let queued = match choose(&self.queue, log_has_room) {
             Ok(queued) => queued,
             Err(why) => return why,
         };

@@ -19,7 +19,7 @@ pub enum Granted {
     Failed,
 }
 
-/// The message that is dispatched next, while the log has `room` or not; or why there is none.
+/// The message that is dispatched next, given whether `log_has_room`; or why there is none.
 pub(crate) fn choose(queue: &RunQueue, log_has_room: bool) -> Result<QueuedMessage, Granted>
     ensures next { MatchResult result
         (λ queued. next_queued log_has_room queue.now.held queue.now.waiting ≡ Some queued)

@@ -20,7 +20,7 @@ pub(crate) struct Memory {
     pub(crate) replies: Vec<Reply>,
     pub(crate) queue: RunQueue,
 
-    /// Room for all that may be handed to the journal at once.
+    /// Room for all that may be handed to the journal in one call.
     pub(crate) batch: Vec<Msg>,
 }
 

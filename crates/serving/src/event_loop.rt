@@ -76,7 +76,7 @@ impl<'c, R: Read, D: Disk, L: ReplySink<D>> Session<'c, R, D, L> {
         }
     }
 
-    /// Reads lines and answers them, until no more is read and all that was is answered in the output.
+    /// Reads lines and answers them, until no more is read and the reply to each line that was read is sent.
     fn serve_lines<W: GatedRuntime>(&mut self, rt: &W) -> Result<(), Halted>
         ensures served { MatchResult result (λ _. (stop : ReadEnd) × HasFinished D.keeps self.new stop) (λ _. HasHalted self.new) }
     {

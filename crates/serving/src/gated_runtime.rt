@@ -1,4 +1,4 @@
-//! With what a session works beside its bench: the runtime of its call, with the gate that is notified of the jobs.
+//! What a session runs with beside its bench: the runtime of its call, and the gate whose hooks it calls.
 
 use std::sync::Wait;
 use workers::Gate;

@@ -62,8 +62,8 @@ fn may_read(stop: Option<ReadEnd>, outstanding: usize, slots: usize) -> bool
 }
 
 impl<'c, R: Read, D: Disk, L: ReplySink<D>> Session<'c, R, D, L> {
-    /// Reads the next line, if there is one, while fewer lines are outstanding than there are slots: whether there was one. Else reading
-    /// has ended.
+    /// Reads the next line, if there is one, and takes it in: whether it did. Else no more is read, and `stop` says why. It is called while
+    /// fewer lines are outstanding than there are slots.
     fn read_next(&mut self) -> bool
         requires reads { self.old.stop ≡ None }
         requires room { self.old.outstanding < self.old.reorder_buffer.slots }

@@ -77,7 +77,7 @@ pub fn each_message_inside_has_its_line<D: Disk>()
 
 /// A server that began with nothing in it has written what the serial server writes, however many messages ran at once: all of it where it
 /// has come to the end, the answers to the whole lines that were read where a read failed, those to the lines before one that found no
-/// ticket, and at every moment a beginning of it in whole lines. Where each line that was read is answered, nothing waits or is held, and
+/// ticket, and at every moment a prefix of it in whole lines. Where each line that was read is answered, nothing waits or is held, and
 /// it has committed what the serial server reaches. For each line that was written there is a legal run.
 pub fn serving_ends_as_the_serial_server<D: Disk>()
     ensures end_of_input { (start now : MachineView) (input unread : Option (List ℕ)) (ended : Bool) (before written : Option (List ℕ))

@@ -21,7 +21,7 @@ use std::thread::Threads;
 use workers::{Bench, DispatchSeat, Gate, WorkSeat, know_returned};
 
 /// How many bytes are read at a time: some 240 lines with a full block. A line is read only if it is in this buffer already or nothing else
-/// can be done, so this bounds how many changes a write of the log takes.
+/// can be done, so no more lines are outstanding than this buffer holds.
 const READ_SIZE: usize = 262_144;
 
 /// Why a server ended before the end of its input.
@@ -70,8 +70,8 @@ struct Preallocated {
 // worker (contracts call the places `bench.slots`).
 fn take_memory(alloc: Global, slots: usize, workers: usize) -> Result<Preallocated, AllocError>
     requires { workers ≤ 64 }
-    ensures slots { IfOk result (λ room. room.reorder_buffer.slots ≡ slots) }
-    ensures places { IfOk result (λ room. room.bench.slots ≡ workers) }
+    ensures slots { IfOk result (λ memory. memory.reorder_buffer.slots ≡ slots) }
+    ensures places { IfOk result (λ memory. memory.bench.slots ≡ workers) }
 {
     let input = vec![in alloc; 0; READ_SIZE]?;
     let reorder_buffer = ReorderBuffer::new(alloc, slots)?;
@@ -87,8 +87,7 @@ fn take_memory(alloc: Global, slots: usize, workers: usize) -> Result<Preallocat
     })
 }
 
-// What a server hands back: its core, which is as it always is, and why it ended before the end of its input, if it did, or could not
-// begin as a thread could not be started.
+// What a server hands back: its core, and its fault, if it ended before the end of its input or a thread could not be started.
 fn hand_back<D: Disk>(
     core: Core<D>,
     ended: Result<Result<(), ServeFault>, AllocError>,
@@ -121,15 +120,15 @@ fn serve_borrowed<
     core: Core<D>,
     reader: &'a mut R,
     sink: L,
-    room: Preallocated,
+    memory: Preallocated,
     trigger: CheckpointTrigger,
     of: PhantomData<N>,
 ) -> (Result<Core<D>, ServeError<D>>, &'a mut R, L)
     requires reader { reader.ghost_name ≡ N.name }
-    requires can_begin { CanBegin L.start core room.bench.slots (R.remaining reader.now) (L.sent sink) room.reorder_buffer }
-    requires workers { room.bench.slots ≢ 0 }
+    requires can_begin { CanBegin L.start core memory.bench.slots (R.remaining reader.now) (L.sent sink) memory.reorder_buffer }
+    requires workers { memory.bench.slots ≢ 0 }
     ensures same { result.1.ghost_name ≡ reader.entry.ghost_name }
-    ensures serves { ServePromise D.keeps room.bench.slots core (handed_back result.0) (R.remaining reader.entry.now)
+    ensures serves { ServePromise D.keeps memory.bench.slots core (handed_back result.0) (R.remaining reader.entry.now)
         (R.remaining result.1.now) (L.sent sink) (L.sent result.2) }
 {
     let Preallocated {
@@ -139,7 +138,7 @@ fn serve_borrowed<
         bench,
         dispatch_seat,
         seats,
-    } = room;
+    } = memory;
     let mut session = Session {
         core,
         dispatch_seat,
@@ -171,9 +170,9 @@ fn serve_borrowed<
     (hand_back(core, ended), reader, sink)
 }
 
-/// Answers each line that a reader has left with one line, which it sends, while `workers` threads run the messages. The lines and the core
-/// are as the serial server would leave them, whatever the workers do when. A checkpoint is made after `every` records, if that isn't 0,
-/// where the log has no room, and at the end of the input. All memory is taken before the first read, and the threads have ended when it
+/// Reads the lines that a reader still has and sends one line for each, while `workers` threads run the messages. The lines and the core
+/// are as the serial server would leave them, for every schedule of the workers. A checkpoint is made after `every` records, if that isn't
+/// 0, where the log has no room, and at the end of the input. All memory is taken before the first read, and the threads have ended when it
 /// returns. Lines are sent under the condition of `ReplySink::send` and in no other way.
 ///
 /// # Errors
@@ -202,7 +201,7 @@ pub fn serve_to<T: Threads + Wait + Sync, R: Read, L: ReplySink<D>, D: Disk + Dr
         let fault = ServeFault::NoWorkers;
         return (Err(ServeError { core, fault }), sink);
     }
-    let Ok(room) = take_memory(alloc, core.slots(), workers) else {
+    let Ok(memory) = take_memory(alloc, core.slots(), workers) else {
         let fault = ServeFault::OutOfMemory;
         return (Err(ServeError { core, fault }), sink);
     };
@@ -211,7 +210,7 @@ pub fn serve_to<T: Threads + Wait + Sync, R: Read, L: ReplySink<D>, D: Disk + Dr
         core,
         r,
         sink,
-        room,
+        memory,
         CheckpointTrigger::new(every),
         PhantomData,
     );
@@ -261,7 +260,7 @@ impl<'w, D: Disk, W: Write, B: Beginning> ReplySink<D> for Output<'w, W, B> {
     }
 }
 
-// With what a server serves, beside its core, its input and its output.
+// What a server needs beside its core, its input and its output.
 struct Setting<'c, T, G> {
     rt: &'c T,
     alloc: Global,
@@ -314,10 +313,10 @@ fn serve_writer<
     (ended, w)
 }
 
-/// Answers each line that a reader has left with one line of the output, while `workers` threads of their own run the messages. The lines
-/// and the core are as the serial server would leave them, whatever the workers do when. A checkpoint is made after `every` records, if
-/// that isn't 0, where the log has no room, and at the end of the input. All memory is taken before the first read, and the threads have
-/// ended when it returns.
+/// Reads the lines that a reader still has and writes one line of output for each, while `workers` threads of their own run the messages.
+/// The lines and the core are as the serial server would leave them, for every schedule of the workers. A checkpoint is made after `every`
+/// records, if that isn't 0, where the log has no room, and at the end of the input. All memory is taken before the first read, and the
+/// threads have ended when it returns.
 ///
 /// # Errors
 ///

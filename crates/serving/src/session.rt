@@ -29,7 +29,7 @@ pub(crate) enum ReadEnd {
 /// What a part of the loop has done.
 #[derive(Clone, Copy)]
 pub(crate) enum Activity {
-    /// Something, or more may be done at once.
+    /// Something, or more may be done without waiting.
     Busy,
     /// Nothing. Where all of the loop is idle, it may wait for input.
     Idle,

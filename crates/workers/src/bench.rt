@@ -108,7 +108,7 @@ impl Bench {
         ensures { seat.new ≡ seat.old }
     {
         let words = &self.table.shared;
-        steps::close(words, &mut seat.seat);
+        steps::set_stop(words, &mut seat.seat);
         steps::signal(words, &mut seat.seat, OFFER_EVENT);
         words.wake_all(OFFER_EVENT);
     }

@@ -23,7 +23,7 @@ pub trait DispatcherTask<E> {
         requires { can_begin self.old }
         ensures { gives self.old self.new result };
 
-    /// Signals the workers to end, also those that were started before one that couldn't be.
+    /// Signals the workers to end, also where one of them could not be started.
     fn stop_workers(&mut self)
         ensures { self.new ≡ self.old };
 }

@@ -12,7 +12,7 @@ use std::thread::yield_now;
 /// How often a worker reads the event count of the offers in one round of spinning.
 const SPINS: usize = 64;
 
-/// How many such rounds it makes before it sleeps, letting other threads go first after each: for longer
+/// How many such rounds it makes before it sleeps, yielding after each: for longer
 /// than the dispatcher takes to write the replies of 32 lines, after which it offers again.
 const SPIN_ROUNDS: usize = 32;
 
@@ -71,7 +71,7 @@ fn is_offered_now(words: &Words, seen: u64) -> bool
     false
 }
 
-// Whether it is seen with another number within some such rounds. After each, threads that wait for a processor may go first.
+// Whether it is seen with another number within some such rounds. It yields after each.
 fn is_offered_soon(words: &Words, seen: u64) -> bool
     requires { IsBench words.now.table_id }
 {

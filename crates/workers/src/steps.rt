@@ -152,7 +152,7 @@ pub fn signal(words: &Words, seat: &mut Seat, event: usize) -> u64
 }
 
 /// Sets the stop word: the bench is stopped.
-pub fn close(words: &Words, seat: &mut Seat)
+pub fn set_stop(words: &Words, seat: &mut Seat)
     requires bench { IsAtBench words.now.table_id seat.old.table_id }
     ensures { (seat.new.table_id ≡ seat.old.table_id) × (seat.new.me ≡ seat.old.me) }
 {

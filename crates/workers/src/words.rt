@@ -16,8 +16,8 @@ pub const SLEEPERS: usize = 3;
 /// How many workers spin on the event count of the offers.
 pub const SPINNERS: usize = 4;
 
-/// The number of the event count of the deliveries at which the dispatcher sleeps or slept last. It is 0 at first, at which it
-/// would sleep first.
+/// The number of the event count of the deliveries at which the dispatcher sleeps or slept last. Before its first sleep it is 0, so the
+/// first delivery wakes even where nobody sleeps.
 pub const SLEPT_AT: usize = 5;
 
 /// How many words there are before those of the places.

@@ -12,24 +12,24 @@ use Rattle.serving.proofs.server.serve_borrowed.Goals as goal
 
 pub invariant_of-session : goal.invariant_of-session
 invariant_of-session g c =
-    let room = c.args.room in
+    let memory = c.args.memory in
     let line_reader = c.new.ensures in (
       first_at g.D.Disk.keeps _ c.requires.can_begin (record {
-        none_waits = room.none_waits;
+        none_waits = memory.none_waits;
         all = line_reader.unread;
         none_read = not_drained _ _ line_reader.open;
         not_ended = line_reader.open;
-        slots = ap (λ (b : _). b.slots) room.at_bench.0;
-        none_lent = room.none_lent;
+        slots = ap (λ (b : _). b.slots) memory.at_bench.0;
+        none_lent = memory.none_lent;
       }),
-      room.at_bench.0,
+      memory.at_bench.0,
     )
 
 pub returns : goal.returns
 returns g c =
     let s : Start = record {
       core = c.args.core;
-      places = c.args.room.bench.slots;
+      places = c.args.memory.bench.slots;
       input = g.R.Read.remaining c.args.reader.now;
       before = g.L.ReplySink.sent c.args.sink;
     } in
@@ -44,12 +44,12 @@ returns g c =
     (record { core = refl; input = ap (λ (l : _). g.R.Read.remaining l.reader.now) c.new.ensures.source; before = refl }) end ends) in
     record {
       same = c.into_inner-reader.result.same ∙ sym c.requires.reader;
-      serves = subst (λ (back : CoreView × Result (Unit {0}) ServeFault). ServePromise g.D.Disk.keeps c.args.room.bench.slots c.args.core back
+      serves = subst (λ (back : CoreView × Result (Unit {0}) ServeFault). ServePromise g.D.Disk.keeps c.args.memory.bench.slots c.args.core back
           (g.R.Read.remaining c.args.reader.now) (g.R.Read.remaining c.into_inner-reader.result.reader.now) (g.L.ReplySink.sent c.args.sink)
           (g.L.ReplySink.sent last.sink)) (sym c.hand_back.ensures.ended) (record {
             run = all.run c.hand_back.ensures.no_doubt c.hand_back.ensures.recovers;
             ends = all.ends;
-            no_workers = refuses_none c.args.room.bench.slots c.requires.workers end (has_workers _ _ end ends);
+            no_workers = refuses_none c.args.memory.bench.slots c.requires.workers end (has_workers _ _ end ends);
             emptied = subst (λ (k : CoreView). OnOk end (g.D.Disk.keeps → HasEmptyLog k)) (sym (ap (λ (p : SessionView). p.core) c.session.view_is))
                 (emptied_at_end now (g.D.Disk.keeps → HasEmptyLog now.core) _ c.with_workers-ended.result gives.gives _ refl);
           });

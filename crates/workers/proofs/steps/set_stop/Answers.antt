@@ -1,7 +1,7 @@
 -- The stop word belongs to no place, so a store into it keeps the rule of the bench.
 use Rattle.std.proofs.Common.{rules, arith}
 use Rattle.workers.proofs.Keeps.{offer_count}
-use Rattle.workers.proofs.steps.close.Goals as goal
+use Rattle.workers.proofs.steps.set_stop.Goals as goal
 
 pub store-requires : goal.store-requires
 store-requires c = let w = c.requires.bench.1.0 in
