@@ -95,13 +95,13 @@ module _ {keeps : Type 0} {s : Start} {p : SessionView} (u : SessionInvariant ke
 
   -- ---- where something has failed
 
-  module _ (none_in_flight : NoneInFlight p.dispatch_seat.lent) (answered : p.core.logged ≡ []) where
+  module _ (none_lent : NoneInFlight p.dispatch_seat.lent) (answered : p.core.logged ≡ []) where
     wound_up : {unsent : List Line} {unread before torn : Option (List ℕ)} {drained : Bool} → ServingProgress keeps start now unsent s.input unread drained before torn
         → IsQuiesced p.core
     wound_up h =
         let r = h.serving.passes in
         let none : full (machine_of now).hands ≡ 0 =
-        ap (λ (l : List (Option JobView)). full (map hand_in (map lent_hand l))) none_in_flight ∙ all_empty (length p.dispatch_seat.lent) in
+        ap (λ (l : List (Option JobView)). full (map hand_in (map lent_hand l))) none_lent ∙ all_empty (length p.dispatch_seat.lent) in
         record {
           none_in_flight = ap (λ (w : MachineState). w.core.in_flight) (sym r.ends)
               ∙ last_none_out start.core.geometry (machine_of start) (events_of r.stages) r.legal (none_in_flight (core_state_of start.core) u.idle)
