@@ -10,7 +10,7 @@ pub record ArenaView (T : Type 0) : Type 0 where
   pub free : List ℕ
   pub chains : List (List ℕ)
 
--- a row is stored as the tuple of its fields
+-- an arena view is stored as the tuple of its fields
 abbrev pub arena_view_code : {T : Type 0} → Coded T → Coded (ArenaView T)
 arena_view_code {T} code =
     code_by

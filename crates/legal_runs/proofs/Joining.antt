@@ -38,7 +38,7 @@ runs_join g old (event ∷ events) more legal on =
 
 -- ---- what a crash leaves
 
--- A prefix of `in_doubt` stays one when more events follow. If there is no rest, it is empty unless the
+-- A prefix of `in_doubt` stays one when more events follow `rest`. If `rest` is empty, `in_doubt` is empty unless the
 -- device has failed, and then it isn't that of an event.
 still_in_doubt : (w : CoreState) (rest more : List Event) (n : ℕ) → n ≤ length (in_doubt w rest)
     → (n ≤ length (in_doubt w (rest ++ more))) × (take n (in_doubt w rest) ≡ take n (in_doubt w (rest ++ more)))

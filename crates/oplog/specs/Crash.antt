@@ -21,7 +21,7 @@ module _ {S : Type 0} (means : Decoding S) where
   abbrev pub RecoversByNow : Layout → ℕ → ℕ → Option S → Medium → Type 0
   RecoversByNow g n h x m = (c : List ℕ) → IsCrashImage m c → RecoversBy g n h x c
 
-  -- These bytes recover to a prefix of these records, run on x.
+  -- These bytes recover to x with a prefix of these records run on it.
   pub record RecoversBySome (g : Layout) (n h : ℕ) (x : Option S) (more : List (List ℕ)) (c : List ℕ) : Type 0 where
     pub added : ℕ
     pub at_most : added ≤ length more

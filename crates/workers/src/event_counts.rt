@@ -36,7 +36,8 @@ pub fn wait_delivery<R: Wait>(words: &Words, seat: &mut Seat, rt: &R, seen: u64)
     number
 }
 
-/// Adds one to the event count of the deliveries, and wakes the dispatcher if it sleeps at the number found. Returns whether it does.
+/// Adds one to the event count of the deliveries, and wakes the dispatcher if the number found is the one recorded in `SLEPT_AT`.
+/// Returns whether it is.
 pub fn signal_delivery(words: &Words, seat: &mut Seat) -> bool
     requires { IsAtBench words.now.table_id seat.old.table_id }
     ensures { (seat.new.table_id ≡ seat.old.table_id) × (seat.new.me ≡ seat.old.me) }
