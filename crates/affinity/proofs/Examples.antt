@@ -1,30 +1,30 @@
 -- Worked examples of the definitions.
 use Rattle.std.proofs.Common.{lit≤, ◌≡◌, true, false, [], ◌∷◌, map, refl}
-use Rattle.affinity.specs.Geometry.{small, standard, group}
+use Rattle.affinity.specs.Geometry.{small, standard, stripe_of}
 use Rattle.affinity.specs.Interval.{interval}
 use Rattle.affinity.specs.Kind.{number_count}
 use Rattle.affinity.specs.declared.geometry.Geometry.{Geometry}
 use Rattle.affinity.specs.Path.{are_related, serial, aggregate, volume, logical, stripe, label}
-use Rattle.affinity.specs.Place.{is_in_range, place}
+use Rattle.affinity.specs.Place.{is_in_range, path_of_kind}
 use Rattle.affinity.specs.declared.kinds.Kind.TheVariants.{MakeVol, DropVol, Create, Delete, Seal, Unseal, Write, Punch, Read, List as ListFiles, Usage, Summary, SetLabel, Label}
 
 -- the stripes of a small server's blocks, and of the standard one's
-first_block : group small 0 0 ≡ 0
+first_block : stripe_of small 0 0 ≡ 0
 first_block = refl
 
-second_block : group small 0 1 ≡ 1
+second_block : stripe_of small 0 1 ≡ 1
 second_block = refl
 
-second_file : group small 1 0 ≡ 1
+second_file : stripe_of small 1 0 ≡ 1
 second_file = refl
 
-end_of_run : group standard 0 3 ≡ 0
+end_of_run : stripe_of standard 0 3 ≡ 0
 end_of_run = refl
 
-next_run : group standard 0 4 ≡ 1
+next_run : stripe_of standard 0 4 ≡ 1
 next_run = refl
 
-round_again : group standard 3 7 ≡ 0
+round_again : stripe_of standard 3 7 ≡ 0
 round_again = refl
 
 -- the block is out of range, and the numbers that a kind doesn't have may be
@@ -58,46 +58,46 @@ two_of_each = record small {
   volumes_range = (lit≤ tt, lit≤ tt);
 }
 
-place_of_makevol : place two_of_each MakeVol (1 ∷ 0 ∷ 9 ∷ 9 ∷ []) ≡ aggregate 1
+place_of_makevol : path_of_kind two_of_each MakeVol (1 ∷ 0 ∷ 9 ∷ 9 ∷ []) ≡ aggregate 1
 place_of_makevol = refl
 
-place_of_dropvol : place two_of_each DropVol (0 ∷ 1 ∷ 9 ∷ 9 ∷ []) ≡ aggregate 0
+place_of_dropvol : path_of_kind two_of_each DropVol (0 ∷ 1 ∷ 9 ∷ 9 ∷ []) ≡ aggregate 0
 place_of_dropvol = refl
 
-place_of_create : place two_of_each Create (0 ∷ 1 ∷ 1 ∷ 9 ∷ []) ≡ logical 0 1
+place_of_create : path_of_kind two_of_each Create (0 ∷ 1 ∷ 1 ∷ 9 ∷ []) ≡ logical 0 1
 place_of_create = refl
 
-place_of_delete : place two_of_each Delete (1 ∷ 0 ∷ 1 ∷ 9 ∷ []) ≡ logical 1 0
+place_of_delete : path_of_kind two_of_each Delete (1 ∷ 0 ∷ 1 ∷ 9 ∷ []) ≡ logical 1 0
 place_of_delete = refl
 
-place_of_seal : place two_of_each Seal (0 ∷ 1 ∷ 9 ∷ 9 ∷ []) ≡ volume 0 1
+place_of_seal : path_of_kind two_of_each Seal (0 ∷ 1 ∷ 9 ∷ 9 ∷ []) ≡ volume 0 1
 place_of_seal = refl
 
-place_of_unseal : place two_of_each Unseal (1 ∷ 0 ∷ 9 ∷ 9 ∷ []) ≡ volume 1 0
+place_of_unseal : path_of_kind two_of_each Unseal (1 ∷ 0 ∷ 9 ∷ 9 ∷ []) ≡ volume 1 0
 place_of_unseal = refl
 
-place_of_write : place two_of_each Write (0 ∷ 1 ∷ 1 ∷ 2 ∷ []) ≡ stripe 0 1 1
+place_of_write : path_of_kind two_of_each Write (0 ∷ 1 ∷ 1 ∷ 2 ∷ []) ≡ stripe 0 1 1
 place_of_write = refl
 
-place_of_punch : place two_of_each Punch (1 ∷ 0 ∷ 0 ∷ 3 ∷ []) ≡ stripe 1 0 1
+place_of_punch : path_of_kind two_of_each Punch (1 ∷ 0 ∷ 0 ∷ 3 ∷ []) ≡ stripe 1 0 1
 place_of_punch = refl
 
-place_of_read : place two_of_each Read (1 ∷ 1 ∷ 1 ∷ 3 ∷ []) ≡ stripe 1 1 0
+place_of_read : path_of_kind two_of_each Read (1 ∷ 1 ∷ 1 ∷ 3 ∷ []) ≡ stripe 1 1 0
 place_of_read = refl
 
-place_of_list : place two_of_each ListFiles (1 ∷ 0 ∷ 9 ∷ 9 ∷ []) ≡ logical 1 0
+place_of_list : path_of_kind two_of_each ListFiles (1 ∷ 0 ∷ 9 ∷ 9 ∷ []) ≡ logical 1 0
 place_of_list = refl
 
-place_of_usage : place two_of_each Usage (0 ∷ 1 ∷ 9 ∷ 9 ∷ []) ≡ volume 0 1
+place_of_usage : path_of_kind two_of_each Usage (0 ∷ 1 ∷ 9 ∷ 9 ∷ []) ≡ volume 0 1
 place_of_usage = refl
 
-place_of_summary : place two_of_each Summary (9 ∷ 9 ∷ 9 ∷ 9 ∷ []) ≡ serial
+place_of_summary : path_of_kind two_of_each Summary (9 ∷ 9 ∷ 9 ∷ 9 ∷ []) ≡ serial
 place_of_summary = refl
 
-place_of_setlabel : place two_of_each SetLabel (0 ∷ 1 ∷ 9 ∷ 9 ∷ []) ≡ label 0 1
+place_of_setlabel : path_of_kind two_of_each SetLabel (0 ∷ 1 ∷ 9 ∷ 9 ∷ []) ≡ label 0 1
 place_of_setlabel = refl
 
-place_of_label : place two_of_each Label (1 ∷ 0 ∷ 9 ∷ 9 ∷ []) ≡ label 1 0
+place_of_label : path_of_kind two_of_each Label (1 ∷ 0 ∷ 9 ∷ 9 ∷ []) ≡ label 1 0
 place_of_label = refl
 
 -- a label runs beside files and blocks, and not beside its volume

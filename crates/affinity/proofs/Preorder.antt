@@ -4,13 +4,13 @@ use Rattle.std.specs.Prelude.{nat_le, ◌||◌, ◌-◌, ◌/◌, ◌%◌, if◌
 use Rattle.std.proofs.lemmas.Bool.{cases_order}
 use Rattle.std.proofs.lemmas.Bool.Decides.{nat_tests}
 use Rattle.std.proofs.lemmas.Nat.{row_fits, div-mul-add, mod-mul-add}
-use Rattle.affinity.specs.Path.{Path, begins, are_related, serial, aggregate, volume, logical, stripe, label}
+use Rattle.affinity.specs.Path.{Path, is_prefix, are_related, serial, aggregate, volume, logical, stripe, label}
 use Rattle.affinity.specs.Interval.{IsPath, IsAffinityOf, Interval, interval, contains, number, size, volume_number, volume_size, aggregate_size, server_size}
 use Rattle.affinity.specs.declared.geometry.Geometry.{Geometry}
 
 -- ---- among the paths of one volume
 
-in_volume : (g : Geometry) (a v : ℕ) (p q : Path) → IsPath g (a ∷ v ∷ p) → IsPath g (a ∷ v ∷ q) → begins p q ≡ contains (interval g (a ∷ v ∷ p)) (number g (a ∷ v ∷ q))
+in_volume : (g : Geometry) (a v : ℕ) (p q : Path) → IsPath g (a ∷ v ∷ p) → IsPath g (a ∷ v ∷ q) → is_prefix p q ≡ contains (interval g (a ∷ v ∷ p)) (number g (a ∷ v ∷ q))
 in_volume g a v [] [] h k = grind (arith, nat_tests)
 in_volume g a v [] (zero ∷ []) h k = grind (arith, nat_tests)
 in_volume g a v [] (zero ∷ t ∷ []) h k = grind (arith, nat_tests)
@@ -67,11 +67,11 @@ children base v w other {e} {first} {count} {r} fits low high same = ⊎_elim
 
 -- ---- among the paths of one aggregate
 
-among_volumes : (g : Geometry) (a v w : ℕ) (p q : Path) → IsPath g (a ∷ v ∷ p) → IsPath g (a ∷ w ∷ q) → begins (v ∷ p) (w ∷ q) ≡ contains (interval g (a ∷ v ∷ p)) (number g (a ∷ w ∷ q))
+among_volumes : (g : Geometry) (a v w : ℕ) (p q : Path) → IsPath g (a ∷ v ∷ p) → IsPath g (a ∷ w ∷ q) → is_prefix (v ∷ p) (w ∷ q) ≡ contains (interval g (a ∷ v ∷ p)) (number g (a ∷ w ∷ q))
 among_volumes g a v w p q h k =
     let fits = fits_in_volume g a w q k in
-    let same : v ≡ w → begins p q ≡ contains (interval g (a ∷ v ∷ p)) (number g (a ∷ w ∷ q)) =
-    λ e. subst (λ (x : ℕ). IsPath g (a ∷ x ∷ q) → begins p q ≡ contains (interval g (a ∷ v ∷ p)) (number g (a ∷ x ∷ q))) e (in_volume g a v p q h) k in
+    let same : v ≡ w → is_prefix p q ≡ contains (interval g (a ∷ v ∷ p)) (number g (a ∷ w ∷ q)) =
+    λ e. subst (λ (x : ℕ). IsPath g (a ∷ x ∷ q) → is_prefix p q ≡ contains (interval g (a ∷ v ∷ p)) (number g (a ∷ x ∷ q))) e (in_volume g a v p q h) k in
     children (2 + a * aggregate_size g) v w (number g (a ∷ w ∷ q)) (fits_in_volume g a v p h) fits.low (omega arith) same
 
 -- a path's volume, and its aggregate, are there
@@ -95,18 +95,18 @@ fits_in_aggregate g a (v ∷ p) h =
     let space : v * volume_size g + volume_size g ≤ g.volumes * volume_size g = earlier v g.volumes (volume_size g) (volume_there g a v p h).1 in
     record { low = omega arith; some = omega arith; high = omega arith }
 
-in_aggregate : (g : Geometry) (a : ℕ) (p q : Path) → IsPath g (a ∷ p) → IsPath g (a ∷ q) → begins p q ≡ contains (interval g (a ∷ p)) (number g (a ∷ q))
+in_aggregate : (g : Geometry) (a : ℕ) (p q : Path) → IsPath g (a ∷ p) → IsPath g (a ∷ q) → is_prefix p q ≡ contains (interval g (a ∷ p)) (number g (a ∷ q))
 in_aggregate g a [] q h k = let fits = fits_in_aggregate g a q k in grind (arith, nat_tests)
 in_aggregate g a (v ∷ p) [] h k = let fits = fits_in_volume g a v p h in grind (arith, nat_tests)
 in_aggregate g a (v ∷ p) (w ∷ q) h k = among_volumes g a v w p q h k
 
 -- ---- among all paths of a server
 
-among_aggregates : (g : Geometry) (a b : ℕ) (p q : Path) → IsPath g (a ∷ p) → IsPath g (b ∷ q) → begins (a ∷ p) (b ∷ q) ≡ contains (interval g (a ∷ p)) (number g (b ∷ q))
+among_aggregates : (g : Geometry) (a b : ℕ) (p q : Path) → IsPath g (a ∷ p) → IsPath g (b ∷ q) → is_prefix (a ∷ p) (b ∷ q) ≡ contains (interval g (a ∷ p)) (number g (b ∷ q))
 among_aggregates g a b p q h k =
     let fits = fits_in_aggregate g b q k in
-    let same : a ≡ b → begins p q ≡ contains (interval g (a ∷ p)) (number g (b ∷ q)) =
-    λ e. subst (λ (x : ℕ). IsPath g (x ∷ q) → begins p q ≡ contains (interval g (a ∷ p)) (number g (x ∷ q))) e (in_aggregate g a p q h) k in
+    let same : a ≡ b → is_prefix p q ≡ contains (interval g (a ∷ p)) (number g (b ∷ q)) =
+    λ e. subst (λ (x : ℕ). IsPath g (x ∷ q) → is_prefix p q ≡ contains (interval g (a ∷ p)) (number g (x ∷ q))) e (in_aggregate g a p q h) k in
     children 1 a b (number g (b ∷ q)) (fits_in_aggregate g a p h) fits.low (omega arith) same
 
 fits_in_server : (g : Geometry) (p : Path) → IsPath g p → FitsIn 0 (server_size g) (number g p) (size g p)
@@ -117,16 +117,16 @@ fits_in_server g (a ∷ p) h =
     record { low = omega arith; some = omega arith; high = omega arith }
 
 -- A path begins another one exactly where its interval contains the other's number.
-pub begins-contains : (g : Geometry) (p q : Path) → IsPath g p → IsPath g q → begins p q ≡ contains (interval g p) (number g q)
-begins-contains g [] q h k = let fits = fits_in_server g q k in grind (arith, nat_tests)
-begins-contains g (a ∷ p) [] h k = let fits = fits_in_aggregate g a p h in grind (arith, nat_tests)
-begins-contains g (a ∷ p) (b ∷ q) h k = among_aggregates g a b p q h k
+pub is_prefix-contains : (g : Geometry) (p q : Path) → IsPath g p → IsPath g q → is_prefix p q ≡ contains (interval g p) (number g q)
+is_prefix-contains g [] q h k = let fits = fits_in_server g q k in grind (arith, nat_tests)
+is_prefix-contains g (a ∷ p) [] h k = let fits = fits_in_aggregate g a p h in grind (arith, nat_tests)
+is_prefix-contains g (a ∷ p) (b ∷ q) h k = among_aggregates g a b p q h k
 
 -- Affinities are related as their paths are.
 pub are_related-contains : (g : Geometry) (p q : Path) (a b : Interval) → IsAffinityOf g p a → IsAffinityOf g q b → (contains a b.number || contains b a.number) ≡ are_related p q
 are_related-contains g p q a b h k =
-    let forward = begins-contains g p q h.path k.path in
-    let back = begins-contains g q p k.path h.path in
+    let forward = is_prefix-contains g p q h.path k.path in
+    let back = is_prefix-contains g q p k.path h.path in
     rw (h.interval, k.interval, forward, back) refl
 
 -- ---- back from a number to its path

@@ -1,18 +1,18 @@
--- Statement for clients: The numbers of a server, and the stripe of a block. A geometry carries the proof that each of its numbers is in
--- range, as `g.stripes_range`.
+-- Statement for clients: The configuration of a server (its geometry), and the stripe of a block. A geometry carries the proof that each
+-- of its numbers is in range, as `g.stripes_range`.
 use Rattle.std.specs.Prelude.{ℕ, ◌+◌, ◌/◌, ◌%◌, List, [], ◌∷◌}
 use Rattle.std.proofs.Common.{lit≤}
 use Rattle.affinity.specs.declared.geometry.Geometry.{Geometry}
 
--- the numbers in their order
+-- the eight numbers of a geometry, in the order in which `Geometry::new` takes them
 abbrev pub numbers_of : Geometry → List ℕ
 numbers_of g = g.aggregates ∷ g.volumes ∷ g.stripes ∷ g.width ∷ g.files ∷ g.blocks ∷ g.quota ∷ g.half ∷ []
 
--- the stripe of block b of file f
-abbrev pub group : Geometry → ℕ → ℕ → ℕ
-group g f b = (f + b / g.width) % g.stripes
+-- the number, in its volume, of the stripe in which block b of file f lies
+abbrev pub stripe_of : Geometry → ℕ → ℕ → ℕ
+stripe_of g f b = (f + b / g.width) % g.stripes
 
--- the program's own numbers, where none are given
+-- the default geometry, of which the options change single numbers
 abbrev pub standard : Geometry
 standard = record {
   aggregates = 1;

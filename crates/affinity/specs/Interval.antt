@@ -13,13 +13,15 @@ pub record Interval : Type 0 where
 abbrev pub volume_size : Geometry → ℕ
 volume_size g = 3 + g.stripes
 
+-- how many affinities an aggregate has: itself, and those of its volumes
 abbrev pub aggregate_size : Geometry → ℕ
 aggregate_size g = 1 + g.volumes * volume_size g
 
+-- how many affinities a server has: itself, and those of its aggregates
 abbrev pub server_size : Geometry → ℕ
 server_size g = 1 + g.aggregates * aggregate_size g
 
--- The paths that there are: each number is below the limit that the geometry sets.
+-- The path is that of an affinity of the geometry: each number is below its limit.
 abbrev pub IsPath : Geometry → Path → Type 0
 IsPath g [] = Unit {0}
 IsPath g (a ∷ []) = a < g.aggregates
@@ -29,10 +31,11 @@ IsPath g (a ∷ v ∷ zero ∷ s ∷ []) = (a < g.aggregates) × (v < g.volumes)
 IsPath g (a ∷ v ∷ suc zero ∷ []) = (a < g.aggregates) × (v < g.volumes)
 IsPath g _ = ⊥
 
+-- the number of the affinity of volume v of aggregate a
 abbrev pub volume_number : Geometry → ℕ → ℕ → ℕ
 volume_number g a v = 2 + a * aggregate_size g + v * volume_size g
 
--- the place of a path in preorder
+-- the number of the affinity at a path: its position in preorder
 abbrev pub number : Geometry → Path → ℕ
 number g [] = 0
 number g (a ∷ []) = 1 + a * aggregate_size g
@@ -41,7 +44,7 @@ number g (a ∷ v ∷ zero ∷ []) = volume_number g a v + 1
 number g (a ∷ v ∷ zero ∷ s ∷ _) = volume_number g a v + 2 + s
 number g (a ∷ v ∷ suc _ ∷ _) = volume_number g a v + 2 + g.stripes
 
--- how many paths begin with it
+-- how many affinities there are at a path and below it
 abbrev pub size : Geometry → Path → ℕ
 size g [] = server_size g
 size g (a ∷ []) = aggregate_size g
@@ -50,6 +53,7 @@ size g (a ∷ v ∷ zero ∷ []) = 1 + g.stripes
 size g (a ∷ v ∷ zero ∷ s ∷ _) = 1
 size g (a ∷ v ∷ suc _ ∷ _) = 1
 
+-- the interval of the affinity at a path
 abbrev pub interval : Geometry → Path → Interval
 interval g p = record { number = number g p; end = number g p + size g p }
 
@@ -57,11 +61,11 @@ interval g p = record { number = number g p; end = number g p + size g p }
 abbrev pub contains : Interval → ℕ → Bool
 contains i n = nat_le i.number n && nat_lt n i.end
 
--- the affinity of a path that there is
+-- The path is that of an affinity of the geometry, and this is its interval.
 pub record IsAffinityOf (g : Geometry) (p : Path) (a : Interval) : Type 0 where
   pub path : IsPath g p
   pub interval : a ≡ interval g p
 
--- an affinity of the geometry, whichever path it is of
+-- The interval is that of an affinity of the geometry, at some path.
 abbrev pub IsAffinity : Geometry → Interval → Type 0
 IsAffinity g a = (p : Path) × IsAffinityOf g p a

@@ -3,7 +3,7 @@ use Rattle.std.specs.Prelude.{ℕ, Bool, true, false}
 use Rattle.affinity.specs.declared.kinds.Kind.{Kind}
 use Rattle.affinity.specs.declared.kinds.Kind.TheVariants.{MakeVol, DropVol, Create, Delete, Seal, Unseal, Write, Punch, Read, List as ListFiles, Usage, Summary, SetLabel, Label}
 
--- whether it may change what the server holds
+-- whether a message of the kind may change what the server holds
 abbrev pub is_changing : Kind → Bool
 is_changing MakeVol = true
 is_changing DropVol = true
@@ -20,7 +20,7 @@ is_changing Summary = false
 is_changing SetLabel = true
 is_changing Label = false
 
--- how many of the four numbers aggregate, volume, file and block it has, from the first on
+-- how many numbers a message of the kind has: the first ones of aggregate, volume, file and block
 abbrev pub number_count : Kind → ℕ
 number_count MakeVol = 2
 number_count DropVol = 2

@@ -1,18 +1,19 @@
 -- Statement for clients: Paths name the affinities of a server: each begins with the paths of those above it.
 use Rattle.std.specs.Prelude.{ℕ, Bool, true, false, ◌&&◌, ◌||◌, ◌==◌, List, [], ◌∷◌}
 
+-- the numbers from the root down: aggregate, volume, then 0 and the stripe, or 1 for the label
 abbrev pub Path : Type 0
 Path = List ℕ
 
--- whether the first path is a beginning of the second
-abbrev pub begins : Path → Path → Bool
-begins [] q = true
-begins (x ∷ p) [] = false
-begins (x ∷ p) (y ∷ q) = (x == y) && begins p q
+-- whether the first path is a prefix of the second: its affinity is the other one, or lies above it
+abbrev pub is_prefix : Path → Path → Bool
+is_prefix [] q = true
+is_prefix (x ∷ p) [] = false
+is_prefix (x ∷ p) (y ∷ q) = (x == y) && is_prefix p q
 
--- Two paths are related when one is a beginning of the other.
+-- Two paths are related (in conflict) when one is a prefix of the other.
 abbrev pub are_related : Path → Path → Bool
-are_related p q = begins p q || begins q p
+are_related p q = is_prefix p q || is_prefix q p
 
 -- the whole server
 abbrev pub serial : Path
@@ -28,7 +29,7 @@ volume a v = a ∷ v ∷ []
 abbrev pub logical : ℕ → ℕ → Path
 logical a v = a ∷ v ∷ 0 ∷ []
 
--- a volume's blocks of one group
+-- a stripe: the blocks of the volume that lie in it
 abbrev pub stripe : ℕ → ℕ → ℕ → Path
 stripe a v s = a ∷ v ∷ 0 ∷ s ∷ []
 

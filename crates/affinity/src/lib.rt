@@ -1,5 +1,4 @@
-//! The numbers of a server, the kinds of its messages, and where in the tree of affinities each
-//! message belongs.
+//! The configuration of a server (its geometry), the kinds of its messages, and where in the tree of affinities each message belongs.
 
 #![tactic(auto)]
 

@@ -1,8 +1,8 @@
 //! The places in the tree of affinities, and the place of each message.
 ghost use Rattle.std.specs.Prelude.{◌≡◌, ◌<◌, IfSome, is_some};
-ghost use Rattle.affinity.specs.Geometry.{group};
+ghost use Rattle.affinity.specs.Geometry.{stripe_of};
 ghost use Rattle.affinity.specs.Interval.{IsAffinityOf};
-ghost use Rattle.affinity.specs.Place.{is_in_range, path, place, place_by};
+ghost use Rattle.affinity.specs.Place.{is_in_range, path, path_of_kind, path_of_numbers};
 
 use crate::{Affinity, Geometry, Kind};
 
@@ -17,7 +17,7 @@ pub enum Place {
     /// The files and blocks of a volume.
     Logical(u16, u16),
 
-    /// The blocks of a volume that are of one group.
+    /// The blocks of a volume that lie in one stripe.
     Stripe(u16, u16, u16),
 
     /// The label of a volume.
@@ -27,19 +27,19 @@ pub enum Place {
 /// The stripe of its volume to which block `b` of file `f` belongs. Runs of `width` blocks go to
 /// one stripe after another, and each file begins one stripe after the file before it.
 pub fn group_of(g: &Geometry, f: u16, b: u16) -> u16
-    ensures value { result ≡ group g.now f b }
+    ensures value { result ≡ stripe_of g.now f b }
     ensures below { result < g.now.stripes }
 {
     let turn = u32::from(f) + u32::from(b / g.width);
     (turn % u32::from(g.stripes)) as u16
 }
 
-/// The affinity of a message of this kind with these numbers: aggregate, volume, file and block.
-/// There is none where a number that the kind has is out of range. The others are not looked
-/// at.
+/// Where a message of this kind with these numbers (aggregate, volume, file and block) belongs, as an affinity.
+/// There is none where a number that the kind has is out of range. Numbers that the kind doesn't
+/// have are ignored.
 pub fn place_of(g: &Geometry, k: Kind, n: [u16; 4]) -> Option<Affinity>
     ensures in_range { is_some result ≡ is_in_range g.now k n }
-    ensures placed { IfSome result (IsAffinityOf g.now (place g.now k n)) }
+    ensures placed { IfSome result (IsAffinityOf g.now (path_of_kind g.now k n)) }
 {
     if !is_in_range(g, k, n) {
         return None;
@@ -49,7 +49,7 @@ pub fn place_of(g: &Geometry, k: Kind, n: [u16; 4]) -> Option<Affinity>
 
 /// The place of a message.
 fn place_by(g: &Geometry, k: Kind, n: [u16; 4]) -> Place
-    ensures { path result ≡ place g.now k n }
+    ensures { path result ≡ path_of_kind g.now k n }
 {
     let [a, v, f, b] = n;
     match k {

@@ -2,21 +2,20 @@
 use Rattle.std.proofs.Common.{◌≡◌, ◌≢◌, ℕ, zero, suc, ◌+◌, ◌-◌, ◌<◌, ◌≤◌, List, [], ◌∷◌, refl, sym, ap, ◌∙◌, inl, inr, arith}
 use Rattle.std.proofs.lemmas.Bool.{cases_eq}
 use Rattle.std.specs.List.{concat, AllByRecursion}
-use Rattle.arena.specs.Lists.{times}
+use Rattle.arena.specs.Lists.{count_of}
 use Rattle.arena.specs.Linked.{IsWay, ring, table, rings, IsLinked}
-use Rattle.arena.proofs.Times.{times-append, times-nowhere}
+use Rattle.arena.proofs.Counts.{count_of-append, count_of-nowhere}
 use Rattle.arena.proofs.Ways.{AreSlots, walk-inside, slots-below}
 
 -- a number that is in none of the lists of a table
-pub times-table : (i : ℕ) (at : ℕ → List ℕ) (from count : ℕ) → ((e : ℕ) → from ≤ e → e < from + count → times i (at e) ≡ 0)
-    → times i (concat (table at from count)) ≡ 0
-times-table i at from zero none = refl
-times-table i at from (suc count) none =
+pub count_of-table : (i : ℕ) (at : ℕ → List ℕ) (from count : ℕ) → ((e : ℕ) → from ≤ e → e < from + count → count_of i (at e) ≡ 0) → count_of i (concat (table at from count)) ≡ 0
+count_of-table i at from zero none = refl
+count_of-table i at from (suc count) none =
     omega (
       arith,
-      times-append i (at from) (concat (table at (suc from) count)),
+      count_of-append i (at from) (concat (table at (suc from) count)),
       none from (omega arith) (omega arith),
-      times-table i at (suc from) count (λ e low high. none e (omega arith) (omega arith)),
+      count_of-table i at (suc from) count (λ e low high. none e (omega arith) (omega arith)),
     )
 
 module _ (slots nodes slot : ℕ) (next previous : ℕ → ℕ) (linked : IsLinked slots nodes next previous)
@@ -28,8 +27,7 @@ module _ (slots nodes slot : ℕ) (next previous : ℕ → ℕ) (linked : IsLink
   alone_back = ap previous (sym alone) ∙ linked.previous_undoes slot is_node
 
   -- no way from another node comes by
-  pub way-passes : (a : ℕ) (xs : List ℕ) (z : ℕ) → a < nodes → AreSlots nodes xs → a ≢ slot → IsWay next a xs z
-      → AllByRecursion (λ x. x ≢ slot) xs
+  pub way-passes : (a : ℕ) (xs : List ℕ) (z : ℕ) → a < nodes → AreSlots nodes xs → a ≢ slot → IsWay next a xs z → AllByRecursion (λ x. x ≢ slot) xs
   way-passes a [] z below inside apart way = tt
   way-passes a (x ∷ xs) z below inside apart way =
       let other : x ≢ slot = (λ same. apart (sym (linked.previous_undoes a below) ∙ ap previous (way.0 ∙ same) ∙ alone_back)) in
@@ -41,13 +39,12 @@ module _ (slots nodes slot : ℕ) (next previous : ℕ → ℕ) (linked : IsLink
       (slots-below slots nodes (ring next slots end) linked.slots_fit (walk-inside next slots slots (next end)))
       (λ same. omega arith) (linked.closed end outside below)
 
-  pub times-alone : times slot (concat (rings next slots nodes)) ≡ 0
-  times-alone = times-table slot (ring next slots) slots (nodes - slots)
-      (λ e low high. times-nowhere slot (ring next slots e) (ring-passes e low (omega (arith, linked.slots_fit))))
+  pub count_of-alone : count_of slot (concat (rings next slots nodes)) ≡ 0
+  count_of-alone = count_of-table slot (ring next slots) slots (nodes - slots)
+      (λ e low high. count_of-nowhere slot (ring next slots e) (ring-passes e low (omega (arith, linked.slots_fit))))
 
 -- the converse
-pub alone-from_times : (slots nodes : ℕ) (next previous : ℕ → ℕ) → IsLinked slots nodes next previous → (a : ℕ) → a < slots
-    → times a (concat (rings next slots nodes)) ≡ 0 → next a ≡ a
+pub alone-from_times : (slots nodes : ℕ) (next previous : ℕ → ℕ) → IsLinked slots nodes next previous → (a : ℕ) → a < slots → count_of a (concat (rings next slots nodes)) ≡ 0 → next a ≡ a
 alone-from_times slots nodes next previous linked a within none = elim (cases_eq (next a) a) [
   | inl e ↦ e
   | inr n ↦ absurd (omega (arith, linked.placed a within n))

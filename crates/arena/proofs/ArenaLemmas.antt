@@ -1,4 +1,4 @@
--- What a caller needs of the parts of a row, and of the chains after a call. No proof of this crate rests on it: it is
+-- What a caller needs of the partition of an arena's slots, and of the chains after a call. No proof of this crate rests on it: it is
 -- for the crates above that keep what they hold on chains.
 use Rattle.std.proofs.Common.{◌≡◌, ◌≢◌, ℕ, zero, suc, ◌+◌, ◌<◌, ◌≤◌, true, List, [], ◌∷◌, ◌++◌, map, length, refl, sym, ap, ◌∙◌, inl, inr, arith, eqb, Some, slice_index_or, eq-eqb}
 use Rattle.std.proofs.lemmas.Bool.{lt-ltb}
@@ -6,9 +6,9 @@ use Rattle.std.proofs.lemmas.Bool.Decides.{leb_tells, eqb_tells}
 use Rattle.std.proofs.lemmas.List.{length-set, get_or-set_same, get_or-set_other, length-map, length-append}
 use Rattle.std.proofs.lemmas.Map.Steps.{le-length_from_below}
 use Rattle.std.specs.List.{concat, list_any}
-use Rattle.arena.specs.Lists.{times, without, first_of}
-use Rattle.arena.specs.ArenaView.{ArenaView, capacity_of, holds_value, chain_at, listed, aside, IsParted, moved, front_of}
-use Rattle.arena.proofs.Times.{times-append, times-cons_is, times-cons_other, times-at, without-absent, length-once}
+use Rattle.arena.specs.Lists.{count_of, without, first_of}
+use Rattle.arena.specs.ArenaView.{ArenaView, capacity_of, holds_value, chain_at, listed, aside, IsPartitioned, moved, front_of}
+use Rattle.arena.proofs.Counts.{count_of-append, count_of-cons_is, count_of-cons_other, count_of-at, without-absent, length-once}
 use Rattle.arena.proofs.Keeping.{each-from_times}
 
 -- a chain after a slot left
@@ -18,8 +18,7 @@ chain-without (xs ∷ chains) i zero = refl
 chain-without (xs ∷ chains) i (suc d) = chain-without chains i d
 
 -- the chain that a slot was moved to, and each other
-pub chain-moved_same : (chains : List (List ℕ)) (i c : ℕ) → c < length chains
-    → slice_index_or (moved chains i c) c [] ≡ without i (slice_index_or chains c []) ++ i ∷ []
+pub chain-moved_same : (chains : List (List ℕ)) (i c : ℕ) → c < length chains → slice_index_or (moved chains i c) c [] ≡ without i (slice_index_or chains c []) ++ i ∷ []
 chain-moved_same chains i c within =
     get_or-set_same (map (without i) chains) c (slice_index_or (map (without i) chains) c [] ++ i ∷ []) [] (omega (arith, length-map chains (without i)))
     ∙ ap (λ (xs : List ℕ). xs ++ i ∷ []) (chain-without chains i c)
@@ -33,75 +32,74 @@ length-moved chains i c =
     length-set (map (without i) chains) c (slice_index_or (map (without i) chains) c [] ++ i ∷ []) ∙ length-map chains (without i)
 
 -- two chains together have a slot no more often than all
-times-two : (i : ℕ) (chains : List (List ℕ)) (c d : ℕ) → c ≢ d
-    → times i (slice_index_or chains c []) + times i (slice_index_or chains d []) ≤ times i (concat chains)
-times-two i [] c d other = omega arith
-times-two i (xs ∷ chains) zero zero other = absurd (other refl)
-times-two i (xs ∷ chains) zero (suc d) other = omega (arith, times-append i xs (concat chains), times-at i chains d)
-times-two i (xs ∷ chains) (suc c) zero other = omega (arith, times-append i xs (concat chains), times-at i chains c)
-times-two i (xs ∷ chains) (suc c) (suc d) other =
-    omega (arith, times-append i xs (concat chains), times-two i chains c d (λ same. other (ap (λ n. suc n) same)))
+count_of-two : (i : ℕ) (chains : List (List ℕ)) (c d : ℕ) → c ≢ d → count_of i (slice_index_or chains c []) + count_of i (slice_index_or chains d []) ≤ count_of i (concat chains)
+count_of-two i [] c d other = omega arith
+count_of-two i (xs ∷ chains) zero zero other = absurd (other refl)
+count_of-two i (xs ∷ chains) zero (suc d) other = omega (arith, count_of-append i xs (concat chains), count_of-at i chains d)
+count_of-two i (xs ∷ chains) (suc c) zero other = omega (arith, count_of-append i xs (concat chains), count_of-at i chains c)
+count_of-two i (xs ∷ chains) (suc c) (suc d) other =
+    omega (arith, count_of-append i xs (concat chains), count_of-two i chains c d (λ same. other (ap (λ n. suc n) same)))
 
-found-from_times : (q : ℕ) (xs : List ℕ) → 0 < times q xs → list_any (eqb q) xs ≡ true
+found-from_times : (q : ℕ) (xs : List ℕ) → 0 < count_of q xs → list_any (eqb q) xs ≡ true
 found-from_times q [] some = absurd (omega arith)
 found-from_times q (x ∷ xs) some = elim (eqb_tells q x) [
   | inl e ↦ rw e.0 refl
-  | inr n ↦ rw n.0 (found-from_times q xs (let same = times-cons_other q x xs (λ same. n.1 (sym same)) in omega arith))
+  | inr n ↦ rw n.0 (found-from_times q xs (let same = count_of-cons_other q x xs (λ same. n.1 (sym same)) in omega arith))
 ]
 
-times-first : (i : ℕ) (xs : List ℕ) → first_of xs ≡ Some i → 0 < times i xs
-times-first i [] first = absurd (cc)
-times-first i (x ∷ xs) first = let same : x ≡ i = cc in omega (arith, times-cons_is i x xs same)
+count_of-first : (i : ℕ) (xs : List ℕ) → first_of xs ≡ Some i → 0 < count_of i xs
+count_of-first i [] first = absurd (cc)
+count_of-first i (x ∷ xs) first = let same : x ≡ i = cc in omega (arith, count_of-cons_is i x xs same)
 
-first-without : (i : ℕ) (xs : List ℕ) → first_of xs ≡ Some i → times i xs ≤ 1 → xs ≡ i ∷ without i xs
+first-without : (i : ℕ) (xs : List ℕ) → first_of xs ≡ Some i → count_of i xs ≤ 1 → xs ≡ i ∷ without i xs
 first-without i [] first once = absurd (cc)
 first-without i (x ∷ xs) first once =
     let same : x ≡ i = cc in
-    let rest = without-absent i xs (let more = times-cons_is i x xs same in omega arith) in
+    let rest = without-absent i xs (let more = count_of-cons_is i x xs same in omega arith) in
     let gone : without i (x ∷ xs) ≡ without i xs = rw (eq-eqb x i same) refl in
     cc
 
 module _ {T : Type 0} where
   -- a slot on a chain holds its value, is not free, and is on no other chain
-  pub chained-listed : (m : ArenaView T) (i c : ℕ) → 0 < times i (chain_at m c) → 0 < times i (concat m.chains)
-  chained-listed m i c some = omega (arith, times-at i m.chains c)
+  pub chained-listed : (m : ArenaView T) (i c : ℕ) → 0 < count_of i (chain_at m c) → 0 < count_of i (concat m.chains)
+  chained-listed m i c some = omega (arith, count_of-at i m.chains c)
 
-  pub chained-holds : (m : ArenaView T) (i c : ℕ) → IsParted m → 0 < times i (chain_at m c) → holds_value m i ≡ true
-  chained-holds m i c parted some = parted.chains_hold i (chained-listed m i c some)
+  pub chained-holds : (m : ArenaView T) (i c : ℕ) → IsPartitioned m → 0 < count_of i (chain_at m c) → holds_value m i ≡ true
+  chained-holds m i c partitioned some = partitioned.chains_hold i (chained-listed m i c some)
 
-  pub chained-once : (m : ArenaView T) (i c : ℕ) → IsParted m → times i (chain_at m c) ≤ 1
-  chained-once m i c parted = omega (arith, times-at i m.chains c, times-append i m.free (concat m.chains), parted.once i)
+  pub chained-once : (m : ArenaView T) (i c : ℕ) → IsPartitioned m → count_of i (chain_at m c) ≤ 1
+  chained-once m i c partitioned = omega (arith, count_of-at i m.chains c, count_of-append i m.free (concat m.chains), partitioned.once i)
 
-  pub chained-apart : (m : ArenaView T) (i c d : ℕ) → IsParted m → c ≢ d → 0 < times i (chain_at m c) → times i (chain_at m d) ≡ 0
-  chained-apart m i c d parted other some =
-      omega (arith, times-two i m.chains c d other, times-append i m.free (concat m.chains), parted.once i)
+  pub chained-apart : (m : ArenaView T) (i c d : ℕ) → IsPartitioned m → c ≢ d → 0 < count_of i (chain_at m c) → count_of i (chain_at m d) ≡ 0
+  chained-apart m i c d partitioned other some =
+      omega (arith, count_of-two i m.chains c d other, count_of-append i m.free (concat m.chains), partitioned.once i)
 
   -- the first slot of a chain, and what is left of the chain without it
-  pub front-chained : (m : ArenaView T) (i c : ℕ) → front_of m c ≡ Some i → 0 < times i (chain_at m c)
-  front-chained m i c first = times-first i (chain_at m c) first
+  pub front-chained : (m : ArenaView T) (i c : ℕ) → front_of m c ≡ Some i → 0 < count_of i (chain_at m c)
+  front-chained m i c first = count_of-first i (chain_at m c) first
 
-  pub chain-front : (m : ArenaView T) (i c : ℕ) → IsParted m → front_of m c ≡ Some i → chain_at m c ≡ i ∷ without i (chain_at m c)
-  chain-front m i c parted first = first-without i (chain_at m c) first (chained-once m i c parted)
+  pub chain-front : (m : ArenaView T) (i c : ℕ) → IsPartitioned m → front_of m c ≡ Some i → chain_at m c ≡ i ∷ without i (chain_at m c)
+  chain-front m i c partitioned first = first-without i (chain_at m c) first (chained-once m i c partitioned)
 
   -- the numbers of the slots in the parts add up to the capacity
-  pub length-parts : (m : ArenaView T) → IsParted m → length m.free + length (concat m.chains) + length (aside m) ≡ capacity_of m
-  length-parts m parted =
+  pub length-parts : (m : ArenaView T) → IsPartitioned m → length m.free + length (concat m.chains) + length (aside m) ≡ capacity_of m
+  length-parts m partitioned =
       let all = listed m ++ aside m in
       let short = length-once (capacity_of m) all (λ i. at_most i) (each-from_times (λ x. x < capacity_of m) all (λ i some. below i some)) in
       let long = le-length_from_below all (capacity_of m) (λ q low. found-from_times q all (there q low)) in
       omega (arith, length-append (listed m) (aside m), length-append m.free (concat m.chains))
     where
-      at_most : (i : ℕ) → times i (listed m ++ aside m) ≤ 1
+      at_most : (i : ℕ) → count_of i (listed m ++ aside m) ≤ 1
       at_most i = elim (leb_tells (suc i) (capacity_of m)) [
-        | inl e ↦ (let count = rw e.0 at (parted.parts i) in omega arith)
-        | inr n ↦ (let count = rw n.0 at (parted.parts i) in omega arith)
+        | inl e ↦ (let count = rw e.0 at (partitioned.parts i) in omega arith)
+        | inr n ↦ (let count = rw n.0 at (partitioned.parts i) in omega arith)
       ]
 
-      below : (i : ℕ) → 0 < times i (listed m ++ aside m) → i < capacity_of m
+      below : (i : ℕ) → 0 < count_of i (listed m ++ aside m) → i < capacity_of m
       below i some = elim (leb_tells (suc i) (capacity_of m)) [
         | inl e ↦ e.1
-        | inr n ↦ absurd (let count = rw n.0 at (parted.parts i) in omega arith)
+        | inr n ↦ absurd (let count = rw n.0 at (partitioned.parts i) in omega arith)
       ]
 
-      there : (q : ℕ) → q < capacity_of m → 0 < times q (listed m ++ aside m)
-      there q low = let count = rw (lt-ltb q (capacity_of m) low) at (parted.parts q) in omega arith
+      there : (q : ℕ) → q < capacity_of m → 0 < count_of q (listed m ++ aside m)
+      there q low = let count = rw (lt-ltb q (capacity_of m) low) at (partitioned.parts q) in omega arith

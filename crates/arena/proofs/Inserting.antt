@@ -2,11 +2,11 @@
 use Rattle.std.proofs.Common.{◌≡◌, ◌≢◌, ℕ, suc, ◌+◌, ◌-◌, ◌<◌, ◌≤◌, List, [], ◌∷◌, ◌++◌, length, refl, sym, ap, subst, ◌∙◌, inl, inr, arith, slice_set, slice_index_or}
 use Rattle.std.proofs.lemmas.Bool.{cases_eq}
 use Rattle.std.specs.List.{concat, AllByRecursion}
-use Rattle.arena.specs.Lists.{times}
+use Rattle.arena.specs.Lists.{count_of}
 use Rattle.arena.specs.Linked.{IsWay, ring, rings, IsLinked}
-use Rattle.arena.proofs.Times.{times-last, times-cons_same, times-cons_other, times-set, times-at, length-once}
+use Rattle.arena.proofs.Counts.{count_of-last, count_of-cons_same, count_of-cons_other, count_of-set, count_of-at, length-once}
 use Rattle.arena.proofs.Ways.{AreSlots, walk-way, walk-inside, length-walk, slots-append, way-kept, table-set, table-at, length-table}
-use Rattle.arena.proofs.Alone.{alone_back, ring-passes, times-alone}
+use Rattle.arena.proofs.Alone.{alone_back, ring-passes, count_of-alone}
 
 -- The slot was tied to a node and to the node behind that one.
 pub record IsInserted (slot before : ℕ) (next previous next' previous' : ℕ → ℕ) : Type 0 where
@@ -31,8 +31,7 @@ module _ (slots nodes slot before : ℕ) (next previous next' previous' : ℕ �
   is_node = omega (arith, linked.slots_fit)
 
   after_apart : next before ≢ slot
-  after_apart same = before_apart (sym (linked.previous_undoes before before_below) ∙ ap previous same
-      ∙ alone_back slots nodes slot next previous linked within alone)
+  after_apart same = before_apart (sym (linked.previous_undoes before before_below) ∙ ap previous same ∙ alone_back slots nodes slot next previous linked within alone)
 
   next_below : (a : ℕ) → a < nodes → next' a < nodes
   next_below a below = elim (cases_eq a slot) [
@@ -82,24 +81,24 @@ module _ (slots nodes slot before : ℕ) (next previous next' previous' : ℕ �
   -- the list with this end becomes this one, and no other comes by the node before the slot
   module _ (list : ℕ) (made : List ℕ) (list_below : list < nodes - slots)
       (way : IsWay next' (slots + list) made (slots + list)) (inside : AreSlots slots made)
-      (more : (i : ℕ) → times i made ≡ times i (slot ∷ ring next slots (slots + list)))
+      (more : (i : ℕ) → count_of i made ≡ count_of i (slot ∷ ring next slots (slots + list)))
       (before_moves : before < slots → next before ≢ before)
       (avoids : (end : ℕ) → slots ≤ end → end < nodes → end ≢ slots + list
       → (end ≢ before) × AllByRecursion (λ x. x ≢ before) (ring next slots end)) where
-    nowhere : times slot (concat (rings next slots nodes)) ≡ 0
-    nowhere = times-alone slots nodes slot next previous linked within alone
+    nowhere : count_of slot (concat (rings next slots nodes)) ≡ 0
+    nowhere = count_of-alone slots nodes slot next previous linked within alone
 
     ring_at : slice_index_or (rings next slots nodes) list [] ≡ ring next slots (slots + list)
     ring_at = table-at (ring next slots) slots (nodes - slots) list list_below
 
-    made_once : (i : ℕ) → times i made ≤ 1
+    made_once : (i : ℕ) → count_of i made ≤ 1
     made_once i =
-        let in_all : times i (ring next slots (slots + list)) ≤ times i (concat (rings next slots nodes)) =
-        rw (← ring_at) (times-at i (rings next slots nodes) list) in
+        let in_all : count_of i (ring next slots (slots + list)) ≤ count_of i (concat (rings next slots nodes)) =
+        rw (← ring_at) (count_of-at i (rings next slots nodes) list) in
         elim (cases_eq slot i) [
-          | inl e ↦ (let count : times i made ≡ suc (times i (ring next slots (slots + list))) = more i ∙ rw e (times-cons_same i (ring next slots (slots + list))) in
-              let none : times i (concat (rings next slots nodes)) ≡ 0 = rw (← e) nowhere in omega arith)
-          | inr n ↦ (let count = more i ∙ times-cons_other i slot (ring next slots (slots + list)) n in omega (arith, linked.once i))
+          | inl e ↦ (let count : count_of i made ≡ suc (count_of i (ring next slots (slots + list))) = more i ∙ rw e (count_of-cons_same i (ring next slots (slots + list))) in
+              let none : count_of i (concat (rings next slots nodes)) ≡ 0 = rw (← e) nowhere in omega arith)
+          | inr n ↦ (let count = more i ∙ count_of-cons_other i slot (ring next slots (slots + list)) n in omega (arith, linked.once i))
         ]
 
     ring-made : ring next' slots (slots + list) ≡ made
@@ -134,34 +133,34 @@ module _ (slots nodes slot before : ℕ) (next previous next' previous' : ℕ �
     ]
 
     -- the slot is once more in the lists, and each other as often as before
-    count : (i : ℕ) → times i (concat (rings next' slots nodes)) ≡ times i (slot ∷ concat (rings next slots nodes))
+    count : (i : ℕ) → count_of i (concat (rings next' slots nodes)) ≡ count_of i (slot ∷ concat (rings next slots nodes))
     count i =
         let long : list < length (rings next slots nodes) = omega (arith, length-table (ring next slots) slots (nodes - slots)) in
-        let changed = times-set i (rings next slots nodes) list made long in
-        let here : times i (slice_index_or (rings next slots nodes) list []) ≡ times i (ring next slots (slots + list)) = ap (λ (xs : List ℕ). times i xs) ring_at in
-        let now : times i (concat (rings next' slots nodes)) ≡ times i (concat (slice_set (rings next slots nodes) list made)) =
-        ap (λ (xs : List (List ℕ)). times i (concat xs)) rings-inserted in
+        let changed = count_of-set i (rings next slots nodes) list made long in
+        let here : count_of i (slice_index_or (rings next slots nodes) list []) ≡ count_of i (ring next slots (slots + list)) = ap (λ (xs : List ℕ). count_of i xs) ring_at in
+        let now : count_of i (concat (rings next' slots nodes)) ≡ count_of i (concat (slice_set (rings next slots nodes) list made)) =
+        ap (λ (xs : List (List ℕ)). count_of i (concat xs)) rings-inserted in
         elim (cases_eq slot i) [
-          | inl e ↦ (let one : times i (slot ∷ ring next slots (slots + list)) ≡ suc (times i (ring next slots (slots + list))) = rw e (times-cons_same i (ring next slots (slots + list))) in
-              let two : times i (slot ∷ concat (rings next slots nodes)) ≡ suc (times i (concat (rings next slots nodes))) = rw e (times-cons_same i (concat (rings next slots nodes))) in
+          | inl e ↦ (let one : count_of i (slot ∷ ring next slots (slots + list)) ≡ suc (count_of i (ring next slots (slots + list))) = rw e (count_of-cons_same i (ring next slots (slots + list))) in
+              let two : count_of i (slot ∷ concat (rings next slots nodes)) ≡ suc (count_of i (concat (rings next slots nodes))) = rw e (count_of-cons_same i (concat (rings next slots nodes))) in
               omega (arith, more i))
-          | inr n ↦ (let one = times-cons_other i slot (ring next slots (slots + list)) n in
-              let two = times-cons_other i slot (concat (rings next slots nodes)) n in
+          | inr n ↦ (let one = count_of-cons_other i slot (ring next slots (slots + list)) n in
+              let two = count_of-cons_other i slot (concat (rings next slots nodes)) n in
               omega (arith, more i))
         ]
 
-    once : (i : ℕ) → times i (concat (rings next' slots nodes)) ≤ 1
+    once : (i : ℕ) → count_of i (concat (rings next' slots nodes)) ≤ 1
     once i = elim (cases_eq slot i) [
-      | inl e ↦ (let two : times i (slot ∷ concat (rings next slots nodes)) ≡ suc (times i (concat (rings next slots nodes))) = rw e (times-cons_same i (concat (rings next slots nodes))) in
-          let none : times i (concat (rings next slots nodes)) ≡ 0 = rw (← e) nowhere in omega (arith, count i))
-      | inr n ↦ (let two = times-cons_other i slot (concat (rings next slots nodes)) n in omega (arith, count i, linked.once i))
+      | inl e ↦ (let two : count_of i (slot ∷ concat (rings next slots nodes)) ≡ suc (count_of i (concat (rings next slots nodes))) = rw e (count_of-cons_same i (concat (rings next slots nodes))) in
+          let none : count_of i (concat (rings next slots nodes)) ≡ 0 = rw (← e) nowhere in omega (arith, count i))
+      | inr n ↦ (let two = count_of-cons_other i slot (concat (rings next slots nodes)) n in omega (arith, count i, linked.once i))
     ]
 
-    placed : (a : ℕ) → a < slots → next' a ≢ a → 0 < times a (concat (rings next' slots nodes))
+    placed : (a : ℕ) → a < slots → next' a ≢ a → 0 < count_of a (concat (rings next' slots nodes))
     placed a low moves = elim (cases_eq slot a) [
-      | inl e ↦ (let two : times a (slot ∷ concat (rings next slots nodes)) ≡ suc (times a (concat (rings next slots nodes))) = rw e (times-cons_same a (concat (rings next slots nodes))) in
+      | inl e ↦ (let two : count_of a (slot ∷ concat (rings next slots nodes)) ≡ suc (count_of a (concat (rings next slots nodes))) = rw e (count_of-cons_same a (concat (rings next slots nodes))) in
           omega (arith, count a))
-      | inr n ↦ (let two = times-cons_other a slot (concat (rings next slots nodes)) n in
+      | inr n ↦ (let two = count_of-cons_other a slot (concat (rings next slots nodes)) n in
           elim (cases_eq (next a) a) [
             | inl loop ↦ (let other : a ≢ before = (λ same. before_moves (let P : ℕ → Type 0 = λ x. x < slots in subst P same low)
                 (sym (ap next same) ∙ loop ∙ same)) in
@@ -189,8 +188,7 @@ module _ (slots nodes slot list : ℕ) (next previous next' previous' : ℕ → 
   end_below = omega (arith, linked.slots_fit)
 
   -- no way over slots to another end comes by the node before this end
-  way-avoids : (a : ℕ) (xs : List ℕ) (z : ℕ) → AreSlots slots xs → z ≢ slots + list → IsWay next a xs z
-      → (a ≢ previous (slots + list)) × AllByRecursion (λ x. x ≢ previous (slots + list)) xs
+  way-avoids : (a : ℕ) (xs : List ℕ) (z : ℕ) → AreSlots slots xs → z ≢ slots + list → IsWay next a xs z → (a ≢ previous (slots + list)) × AllByRecursion (λ x. x ≢ previous (slots + list)) xs
   way-avoids a [] z inside other way =
       ((λ same. other (sym way ∙ ap next same ∙ linked.next_undoes (slots + list) end_below)), tt)
   way-avoids a (x ∷ xs) z inside other way = (
@@ -200,8 +198,7 @@ module _ (slots nodes slot list : ℕ) (next previous next' previous' : ℕ → 
     way-avoids x xs z inside.1 other way.1,
   )
 
-  avoids_last : (end : ℕ) → slots ≤ end → end < nodes → end ≢ slots + list
-      → (end ≢ previous (slots + list)) × AllByRecursion (λ x. x ≢ previous (slots + list)) (ring next slots end)
+  avoids_last : (end : ℕ) → slots ≤ end → end < nodes → end ≢ slots + list → (end ≢ previous (slots + list)) × AllByRecursion (λ x. x ≢ previous (slots + list)) (ring next slots end)
   avoids_last end outside below other =
       way-avoids end (ring next slots end) end (walk-inside next slots slots (next end)) other (linked.closed end outside below)
 
@@ -210,8 +207,7 @@ module _ (slots nodes slot list : ℕ) (next previous next' previous' : ℕ → 
   apart-from_slots node outside (x ∷ xs) inside =
       (λ same. absurd (let low : x < slots = inside.0 in omega arith), apart-from_slots node outside xs inside.1)
 
-  avoids_first : (end : ℕ) → slots ≤ end → end < nodes → end ≢ slots + list
-      → (end ≢ slots + list) × AllByRecursion (λ x. x ≢ slots + list) (ring next slots end)
+  avoids_first : (end : ℕ) → slots ≤ end → end < nodes → end ≢ slots + list → (end ≢ slots + list) × AllByRecursion (λ x. x ≢ slots + list) (ring next slots end)
   avoids_first end outside below other =
       (other, apart-from_slots (slots + list) (omega arith) (ring next slots end) (walk-inside next slots slots (next end)))
 
@@ -219,15 +215,14 @@ module _ (slots nodes slot list : ℕ) (next previous next' previous' : ℕ → 
   last_apart same =
       absurd (let loop : slots + list ≡ slot = sym (linked.next_undoes (slots + list) end_below) ∙ ap next same ∙ alone in omega arith)
 
-  more_last : (i : ℕ) → times i (ring next slots (slots + list) ++ slot ∷ []) ≡ times i (slot ∷ ring next slots (slots + list))
-  more_last i = times-last i slot (ring next slots (slots + list))
+  more_last : (i : ℕ) → count_of i (ring next slots (slots + list) ++ slot ∷ []) ≡ count_of i (slot ∷ ring next slots (slots + list))
+  more_last i = count_of-last i slot (ring next slots (slots + list))
 
   module _ (inserted : IsInserted slot (previous (slots + list)) next previous next' previous') where
     to_end : next (previous (slots + list)) ≡ slots + list
     to_end = linked.next_undoes (slots + list) end_below
 
-    way-last : (a : ℕ) (xs : List ℕ) → a < nodes → AreSlots slots xs → a ≢ slot → AllByRecursion (λ x. x ≢ slot) xs
-        → IsWay next a xs (slots + list) → IsWay next' a (xs ++ slot ∷ []) (slots + list)
+    way-last : (a : ℕ) (xs : List ℕ) → a < nodes → AreSlots slots xs → a ≢ slot → AllByRecursion (λ x. x ≢ slot) xs → IsWay next a xs (slots + list) → IsWay next' a (xs ++ slot ∷ []) (slots + list)
     way-last a [] below inside other others way =
         (ap next' (sym (linked.previous_undoes a below) ∙ ap previous way) ∙ inserted.to_slot, inserted.from_slot ∙ to_end)
     way-last a (x ∷ xs) below inside other others way =

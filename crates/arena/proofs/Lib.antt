@@ -1,9 +1,9 @@
--- ---- for the crates above: how often a slot is in lists, the parts of a row after each call, and
--- what a caller needs of chains and parts
-pub mod Times
+-- ---- for the crates above: how often a slot is in lists, the partition of the slots after each call, and
+-- what a caller needs of chains and of the partition
+pub mod Counts
 pub mod Parts
 pub mod ArenaLemmas
--- ---- this crate's own: that the links are those of lists, and that the arena keeps its row by them
+-- ---- this crate's own: that the links are those of lists, and that the arena keeps its view by them
 mod Ways
 mod Unlinking
 mod Alone

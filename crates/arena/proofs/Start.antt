@@ -3,44 +3,44 @@ use Rattle.std.proofs.Common.{◌≡◌, ℕ, zero, suc, ◌+◌, ◌-◌, ◌<�
 use Rattle.std.proofs.lemmas.Bool.{lt-ltb, le-ltb, eq-eqb, ne_eqb, cases_eq}
 use Rattle.std.proofs.lemmas.Bool.Decides.{nat_tests}
 use Rattle.std.specs.List.{concat}
-use Rattle.arena.specs.Lists.{times, numbers_from}
+use Rattle.arena.specs.Lists.{count_of, numbers_from}
 use Rattle.arena.specs.Linked.{IsWay, ring, table, rings, IsLinked, next_at_start, previous_at_start}
-use Rattle.arena.proofs.Times.{times-append, times-cons_is, times-cons_other, length-numbers}
+use Rattle.arena.proofs.Counts.{count_of-append, count_of-cons_is, count_of-cons_other, length-numbers}
 use Rattle.arena.proofs.Ways.{AreSlots, walk-way}
 
 -- how often a number is among consecutive numbers
-times-low : (i first count : ℕ) → i < first → times i (numbers_from first count) ≡ 0
-times-low i first zero low = refl
-times-low i first (suc count) low =
-    times-cons_other i first (numbers_from (suc first) count) (λ same. omega arith) ∙ times-low i (suc first) count (omega arith)
+count_of-low : (i first count : ℕ) → i < first → count_of i (numbers_from first count) ≡ 0
+count_of-low i first zero low = refl
+count_of-low i first (suc count) low =
+    count_of-cons_other i first (numbers_from (suc first) count) (λ same. omega arith) ∙ count_of-low i (suc first) count (omega arith)
 
-pub times-high : (i first count : ℕ) → first + count ≤ i → times i (numbers_from first count) ≡ 0
-times-high i first zero high = refl
-times-high i first (suc count) high =
-    times-cons_other i first (numbers_from (suc first) count) (λ same. omega arith) ∙ times-high i (suc first) count (omega arith)
+pub count_of-high : (i first count : ℕ) → first + count ≤ i → count_of i (numbers_from first count) ≡ 0
+count_of-high i first zero high = refl
+count_of-high i first (suc count) high =
+    count_of-cons_other i first (numbers_from (suc first) count) (λ same. omega arith) ∙ count_of-high i (suc first) count (omega arith)
 
-pub times-numbers : (i first count : ℕ) → times i (numbers_from first count) ≤ 1
-times-numbers i first zero = omega arith
-times-numbers i first (suc count) = elim (cases_eq first i) [
-  | inl e ↦ (let more = times-cons_is i first (numbers_from (suc first) count) e in
-      omega (arith, times-low i (suc first) count (omega arith)))
-  | inr n ↦ (let same = times-cons_other i first (numbers_from (suc first) count) n in omega (arith, times-numbers i (suc first) count))
+pub count_of-numbers : (i first count : ℕ) → count_of i (numbers_from first count) ≤ 1
+count_of-numbers i first zero = omega arith
+count_of-numbers i first (suc count) = elim (cases_eq first i) [
+  | inl e ↦ (let more = count_of-cons_is i first (numbers_from (suc first) count) e in
+      omega (arith, count_of-low i (suc first) count (omega arith)))
+  | inr n ↦ (let same = count_of-cons_other i first (numbers_from (suc first) count) n in omega (arith, count_of-numbers i (suc first) count))
 ]
 
-pub times-numbers_in : (i first count : ℕ) → first ≤ i → i < first + count → 0 < times i (numbers_from first count)
-times-numbers_in i first zero low high = absurd (omega arith)
-times-numbers_in i first (suc count) low high = elim (cases_eq first i) [
-  | inl e ↦ (let more = times-cons_is i first (numbers_from (suc first) count) e in omega arith)
-  | inr n ↦ (let same = times-cons_other i first (numbers_from (suc first) count) n in omega (arith, times-numbers_in i (suc first) count (omega arith) (omega arith)))
+pub count_of-numbers_in : (i first count : ℕ) → first ≤ i → i < first + count → 0 < count_of i (numbers_from first count)
+count_of-numbers_in i first zero low high = absurd (omega arith)
+count_of-numbers_in i first (suc count) low high = elim (cases_eq first i) [
+  | inl e ↦ (let more = count_of-cons_is i first (numbers_from (suc first) count) e in omega arith)
+  | inr n ↦ (let same = count_of-cons_other i first (numbers_from (suc first) count) n in omega (arith, count_of-numbers_in i (suc first) count (omega arith) (omega arith)))
 ]
 
 numbers-inside : (first count slots : ℕ) → first + count ≤ slots → AreSlots slots (numbers_from first count)
 numbers-inside first zero slots fit = tt
 numbers-inside first (suc count) slots fit = (omega arith, numbers-inside (suc first) count slots (omega arith))
 
-pub times-empties : (i count : ℕ) → times i (concat (replicate count [])) ≡ 0
-times-empties i zero = refl
-times-empties i (suc count) = times-empties i count
+pub count_of-empties : (i count : ℕ) → count_of i (concat (replicate count [])) ≡ 0
+count_of-empties i zero = refl
+count_of-empties i (suc count) = count_of-empties i count
 
 next-slot : (slots node : ℕ) → node < slots → next_at_start slots node ≡ suc node
 next-slot slots node low = rw (lt-ltb node slots low) (omega arith)
@@ -115,7 +115,7 @@ module _ (slots nodes : ℕ) (next previous : ℕ → ℕ) (fit : slots < nodes)
 
   pub IsLinked-start : (others : ℕ) → nodes ≡ slots + suc others → IsLinked slots nodes next previous
   IsLinked-start others total =
-      let all = λ (i : ℕ). times-append i (numbers_from 0 slots) (concat (replicate others [])) in
+      let all = λ (i : ℕ). count_of-append i (numbers_from 0 slots) (concat (replicate others [])) in
       record {
         slots_fit = omega arith;
         next_below = next_below;
@@ -123,7 +123,7 @@ module _ (slots nodes : ℕ) (next previous : ℕ → ℕ) (fit : slots < nodes)
         next_undoes = next_undoes;
         previous_undoes = previous_undoes;
         closed = closed;
-        once = λ i. rw (rings-start others total) (omega (arith, all i, times-empties i others, times-numbers i 0 slots));
+        once = λ i. rw (rings-start others total) (omega (arith, all i, count_of-empties i others, count_of-numbers i 0 slots));
         placed = λ a low moves. rw (rings-start others total)
-            (omega (arith, all a, times-numbers_in a 0 slots (omega arith) (omega arith)));
+            (omega (arith, all a, count_of-numbers_in a 0 slots (omega arith) (omega arith)));
       }

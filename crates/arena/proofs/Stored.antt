@@ -1,11 +1,11 @@
--- What a few writes to the two rows do to the lists.
+-- What a few writes to the two arrays of links do to the lists.
 use Rattle.std.proofs.Common.{◌≡◌, ℕ, ◌+◌, ◌-◌, ◌<◌, List, length, ap, ◌∙◌, inl, inr, arith, slice_index, get_or}
 use Rattle.std.proofs.lemmas.List.{get_or_default}
 use Rattle.std.proofs.lemmas.Bool.Decides.{leb_tells}
 use Rattle.arena.specs.Lists.{first_of}
 use Rattle.arena.specs.Linked.{Linked, list_at, ring, rings, IsLinked, IsWellLinked}
-use Rattle.arena.proofs.Ways.{walk-inside, times-no_slot, table-at, length-table}
-use Rattle.arena.proofs.Alone.{times-table}
+use Rattle.arena.proofs.Ways.{walk-inside, count_of-no_slot, table-at, length-table}
+use Rattle.arena.proofs.Alone.{count_of-table}
 use Rattle.arena.proofs.Behind.{slot_or_none, first_of-ring}
 
 -- the rows of numbers are the neighbors of lists
@@ -23,28 +23,25 @@ pub stored-same : (slots : ℕ) (next next' : List ℕ) (lists : List (List ℕ)
 stored-same slots next next' lists long same =
     ap (λ n. rings (λ x. slice_index next' x) slots n) long ∙ same
 
-pub IsWellLinked-linked : (slots nodes : ℕ) (next previous : ℕ → ℕ) → IsLinked slots nodes next previous
-    → IsWellLinked (record { slots = slots; lists = rings next slots nodes })
+pub IsWellLinked-linked : (slots nodes : ℕ) (next previous : ℕ → ℕ) → IsLinked slots nodes next previous → IsWellLinked (record { slots = slots; lists = rings next slots nodes })
 IsWellLinked-linked slots nodes next previous linked = record {
   once = linked.once;
   within = λ i some. elim (leb_tells slots i) [
     | inl e ↦ absurd (omega (
       arith,
-      times-table i (ring next slots) slots (nodes - slots)
-          (λ end low high. times-no_slot slots i (ring next slots end) (walk-inside next slots slots (next end)) e.1),
+      count_of-table i (ring next slots) slots (nodes - slots)
+          (λ end low high. count_of-no_slot slots i (ring next slots end) (walk-inside next slots slots (next end)) e.1),
     ))
     | inr n ↦ n.1
   ];
 }
 
-pub end-below : (slots : ℕ) (next previous : List ℕ) (list : ℕ) → IsStored slots next previous → list < length (stored slots next).lists
-    → slots + list < length next
+pub end-below : (slots : ℕ) (next previous : List ℕ) (list : ℕ) → IsStored slots next previous → list < length (stored slots next).lists → slots + list < length next
 end-below slots next previous list ok within =
     omega (arith, length-table (ring (λ x. slice_index next x) slots) slots (length next - slots), ok.1.slots_fit)
 
 -- the end of a list that a contract sees
-pub end-there : (slots : ℕ) (next previous : List ℕ) (links : Linked) (list : ℕ) → stored slots next ≡ links → IsStored slots next previous
-    → list < length links.lists → slots + list < length next
+pub end-there : (slots : ℕ) (next previous : List ℕ) (links : Linked) (list : ℕ) → stored slots next ≡ links → IsStored slots next previous → list < length links.lists → slots + list < length next
 end-there slots next previous links list view ok within = end-below slots next previous list ok (rw (← view) at within)
 
 pub list-below : (slots : ℕ) (next : List ℕ) (list : ℕ) → list < length (stored slots next).lists → list < length next - slots
@@ -64,12 +61,10 @@ read row node x below got = got ∙ get_or_default row node x 0 below
 pub slot-below : (slots : ℕ) (next previous : List ℕ) (slot : ℕ) → IsStored slots next previous → slot < slots → slot < length next
 slot-below slots next previous slot ok within = omega (arith, ok.1.slots_fit)
 
-pub read_next : (slots : ℕ) (next previous : List ℕ) (slot x : ℕ) → IsStored slots next previous → slot < slots → x ≡ get_or next slot x
-    → x ≡ slice_index next slot
+pub read_next : (slots : ℕ) (next previous : List ℕ) (slot x : ℕ) → IsStored slots next previous → slot < slots → x ≡ get_or next slot x → x ≡ slice_index next slot
 read_next slots next previous slot x ok within got = read next slot x (slot-below slots next previous slot ok within) got
 
-pub read_previous : (slots : ℕ) (next previous : List ℕ) (slot x : ℕ) → IsStored slots next previous → slot < slots → x ≡ get_or previous slot x
-    → x ≡ slice_index previous slot
+pub read_previous : (slots : ℕ) (next previous : List ℕ) (slot x : ℕ) → IsStored slots next previous → slot < slots → x ≡ get_or previous slot x → x ≡ slice_index previous slot
 read_previous slots next previous slot x ok within got =
     read previous slot x (omega (arith, slot-below slots next previous slot ok within, ok.0)) got
 

@@ -1,7 +1,7 @@
 -- The slot is put first on a list.
 use Rattle.std.proofs.Common.{◌≡◌, ◌≢◌, ℕ, ◌+◌, ◌<◌, List, ◌∷◌, length, arith, slice_index, slice_set}
 use Rattle.std.specs.List.{concat}
-use Rattle.arena.specs.Lists.{times}
+use Rattle.arena.specs.Lists.{count_of}
 use Rattle.arena.specs.Linked.{list_at}
 use Rattle.arena.proofs.Alone.{alone-from_times}
 use Rattle.arena.proofs.Inserting.{IsInserted, rings-prepended, IsLinked-prepended}
@@ -9,7 +9,7 @@ use Rattle.arena.proofs.Stored.{IsStored, stored, stored-same, end-below, list-b
 use Rattle.arena.proofs.StoredInserting.{long_next, inserted, IsStored-by}
 
 module _ (slots slot list after : ℕ) (next previous : List ℕ) (ok : IsStored slots next previous) (within : slot < slots)
-    (list_within : list < length (stored slots next).lists) (nowhere : times slot (concat (stored slots next).lists) ≡ 0)
+    (list_within : list < length (stored slots next).lists) (nowhere : count_of slot (concat (stored slots next).lists) ≡ 0)
     (after_is : after ≡ slice_index next (slots + list)) where
   end_below : slots + list < length next
   end_below = end-below slots next previous list ok list_within

@@ -3,9 +3,9 @@ use Rattle.std.proofs.Common.{◌≡◌, ◌≢◌, ℕ, ◌-◌, ◌<◌, ◌�
 use Rattle.std.proofs.lemmas.Bool.{cases_eq}
 use Rattle.std.proofs.lemmas.Bool.Decides.{eqb_tells}
 use Rattle.std.specs.List.{concat}
-use Rattle.arena.specs.Lists.{times, without}
+use Rattle.arena.specs.Lists.{count_of, without}
 use Rattle.arena.specs.Linked.{IsWay, ring, rings, IsLinked}
-use Rattle.arena.proofs.Times.{times-without_all_same, times-without_all_other, length-without}
+use Rattle.arena.proofs.Counts.{count_of-without_all_same, count_of-without_all_other, length-without}
 use Rattle.arena.proofs.Ways.{AreSlots, walk-way, walk-inside, length-walk, slots-below, slots-without, table-map}
 
 -- The neighbors of a slot were tied to one another, and the slot to itself.
@@ -114,18 +114,18 @@ module _ (slots nodes slot : ℕ) (next previous next' previous' : ℕ → ℕ) 
       let P : List ℕ → Type 0 = λ xs. IsWay next' end xs end in
       subst P (sym (ring-unlinked end outside below)) (ring_way end outside below)
 
-  once : (i : ℕ) → times i (concat (rings next' slots nodes)) ≤ 1
+  once : (i : ℕ) → count_of i (concat (rings next' slots nodes)) ≤ 1
   once i = rw rings-unlinked (elim (cases_eq i slot) [
-    | inl e ↦ rw e (omega (arith, times-without_all_same slot (rings next slots nodes)))
-    | inr n ↦ omega (arith, times-without_all_other i slot (rings next slots nodes) n, linked.once i)
+    | inl e ↦ rw e (omega (arith, count_of-without_all_same slot (rings next slots nodes)))
+    | inr n ↦ omega (arith, count_of-without_all_other i slot (rings next slots nodes) n, linked.once i)
   ])
 
-  placed : (a : ℕ) → a < slots → next' a ≢ a → 0 < times a (concat (rings next' slots nodes))
+  placed : (a : ℕ) → a < slots → next' a ≢ a → 0 < count_of a (concat (rings next' slots nodes))
   placed a low moves =
       let other : a ≢ slot = (λ same. moves (ap next' same ∙ unlinked.alone_next ∙ sym same)) in
       let moved : next a ≢ a = (λ loop.
       moves (unlinked.rest_next a other (λ same. other (sym loop ∙ ap next same ∙ linked.next_undoes slot is_node)) ∙ loop)) in
-      rw rings-unlinked (omega (arith, times-without_all_other a slot (rings next slots nodes) other, linked.placed a low moved))
+      rw rings-unlinked (omega (arith, count_of-without_all_other a slot (rings next slots nodes) other, linked.placed a low moved))
 
   pub IsLinked-unlinked : IsLinked slots nodes next' previous'
   IsLinked-unlinked = record {

@@ -1,11 +1,11 @@
--- Ways over nodes, and the rows of lists that they make.
+-- Ways over nodes, and the lists that they make.
 use Rattle.std.proofs.Common.{◌≡◌, ◌≢◌, ℕ, zero, suc, ◌+◌, ◌<◌, ◌≤◌, List, [], ◌∷◌, ◌++◌, map, length, refl, ap, ◌∙◌, inl, inr, arith, add-zero, slice_set, slice_index_or}
 use Rattle.std.proofs.lemmas.Bool.{lt-ltb, le-ltb}
 use Rattle.std.proofs.lemmas.Bool.Decides.{eqb_tells, leb_tells}
 use Rattle.std.specs.List.{AllByRecursion}
-use Rattle.arena.specs.Lists.{times, without}
+use Rattle.arena.specs.Lists.{count_of, without}
 use Rattle.arena.specs.Linked.{IsWay, walk, table}
-use Rattle.arena.proofs.Times.{times-cons_other}
+use Rattle.arena.proofs.Counts.{count_of-cons_other}
 
 -- each number of the list is a slot
 abbrev pub AreSlots : ℕ → List ℕ → Type 0
@@ -13,8 +13,7 @@ AreSlots slots xs = AllByRecursion (λ x. x < slots) xs
 
 module _ (next : ℕ → ℕ) (slots : ℕ) where
   -- a way over slots to an end is what the walk finds
-  pub walk-way : (steps a : ℕ) (xs : List ℕ) (z : ℕ) → IsWay next a xs z → AreSlots slots xs → slots ≤ z
-      → length xs ≤ steps → walk next slots steps (next a) ≡ xs
+  pub walk-way : (steps a : ℕ) (xs : List ℕ) (z : ℕ) → IsWay next a xs z → AreSlots slots xs → slots ≤ z → length xs ≤ steps → walk next slots steps (next a) ≡ xs
   walk-way zero a [] z way inside outside short = refl
   walk-way zero a (x ∷ xs) z way inside outside short = absurd (omega arith)
   walk-way (suc steps) a [] z way inside outside short = rw (way, le-ltb z slots outside) refl
@@ -53,21 +52,19 @@ slots-append slots i [] inside within = (within, tt)
 slots-append slots i (x ∷ xs) inside within = (inside.0, slots-append slots i xs inside.1 within)
 
 -- a number that is no slot is in no list of slots
-pub times-no_slot : (slots i : ℕ) (xs : List ℕ) → AreSlots slots xs → slots ≤ i → times i xs ≡ 0
-times-no_slot slots i [] inside outside = refl
-times-no_slot slots i (x ∷ xs) inside outside =
-    times-cons_other i x xs (λ same. absurd (let within : x < slots = inside.0 in omega arith)) ∙ times-no_slot slots i xs inside.1 outside
+pub count_of-no_slot : (slots i : ℕ) (xs : List ℕ) → AreSlots slots xs → slots ≤ i → count_of i xs ≡ 0
+count_of-no_slot slots i [] inside outside = refl
+count_of-no_slot slots i (x ∷ xs) inside outside =
+    count_of-cons_other i x xs (λ same. absurd (let within : x < slots = inside.0 in omega arith)) ∙ count_of-no_slot slots i xs inside.1 outside
 
 -- a way stays where its nodes lead on as before
-pub way-kept : (next next' : ℕ → ℕ) {a b : ℕ} (xs : List ℕ) (z : ℕ) → next' b ≡ next a
-    → AllByRecursion (λ x. next' x ≡ next x) xs → IsWay next a xs z → IsWay next' b xs z
+pub way-kept : (next next' : ℕ → ℕ) {a b : ℕ} (xs : List ℕ) (z : ℕ) → next' b ≡ next a → AllByRecursion (λ x. next' x ≡ next x) xs → IsWay next a xs z → IsWay next' b xs z
 way-kept next next' [] z first rest way = first ∙ way
 way-kept next next' (x ∷ xs) z first rest way =
     (first ∙ way.0, way-kept next next' xs z rest.0 rest.1 way.1)
 
 -- the rows of two functions, where one is made of the other at each place
-pub table-map : (at at' : ℕ → List ℕ) (made : List ℕ → List ℕ) (from count : ℕ)
-    → ((e : ℕ) → from ≤ e → e < from + count → at' e ≡ made (at e)) → table at' from count ≡ map made (table at from count)
+pub table-map : (at at' : ℕ → List ℕ) (made : List ℕ → List ℕ) (from count : ℕ) → ((e : ℕ) → from ≤ e → e < from + count → at' e ≡ made (at e)) → table at' from count ≡ map made (table at from count)
 table-map at at' made from zero each = refl
 table-map at at' made from (suc count) each =
     let here = each from (omega arith) (omega arith) in
@@ -83,8 +80,7 @@ map-same [] = refl
 map-same (xs ∷ lists) = ap (λ (l : List (List ℕ)). xs ∷ l) (map-same lists)
 
 -- the rows of two functions that differ at one place
-pub table-set : (at at' : ℕ → List ℕ) (from count k : ℕ) → k < count
-    → ((e : ℕ) → from ≤ e → e < from + count → e ≢ from + k → at' e ≡ at e)
+pub table-set : (at at' : ℕ → List ℕ) (from count k : ℕ) → k < count → ((e : ℕ) → from ≤ e → e < from + count → e ≢ from + k → at' e ≡ at e)
     → table at' from count ≡ slice_set (table at from count) k (at' (from + k))
 table-set at at' from zero k within others = absurd (omega arith)
 table-set at at' from (suc count) zero within others =

@@ -9,6 +9,6 @@ module _ (T : RattleType) (arena : MutBor (ArenaView T.Denot)) (i : ℕ) where
   abbrev pub lends_value : MutBor T.Denot → Fml
   lends_value r = Lends (the_row T) T arena r (with_value arena.now i)
 
-  -- the same where there is a value, and at `None` the arena stays as it is
+  -- `lends_value` for a borrowed value; at `None` nothing was borrowed, and the arena stays as it is
   abbrev pub lends_get : Option (MutBor T.Denot) → Fml
   lends_get r = LendsIf (the_row T) T arena r (with_value arena.now i) arena.now

@@ -1,52 +1,52 @@
--- Inner: How two arrays of numbers keep lists of slots.
+-- Inner: How two arrays of numbers (each node's next and previous node) keep lists of slots.
 use Rattle.std.specs.Prelude.{◌≡◌, ◌≢◌, ℕ, zero, suc, ◌+◌, ◌-◌, ◌<◌, ◌≤◌, List, [], ◌∷◌, nat_lt, nat_le, ◌==◌, if◌then◌else◌, slice_index_or}
 use Rattle.std.specs.List.{concat}
-use Rattle.arena.specs.Lists.{times}
+use Rattle.arena.specs.Lists.{count_of}
 
--- what a contract sees: the number of slots, and lists of slots
+-- what contracts see of `Links`: the number of slots, and the lists of slots
 pub record Linked : Type 0 where
   pub slots : ℕ
   pub lists : List (List ℕ)
 
--- the list of this number
+-- list number k
 abbrev pub list_at : Linked → ℕ → List ℕ
 list_at m k = slice_index_or m.lists k []
 
--- the slots on the way from a node, up to a node that is no slot
+-- the slots met from a node on by following `next`, up to a node that is no slot, and no more than `steps` of them
 abbrev pub walk : (ℕ → ℕ) → ℕ → ℕ → ℕ → List ℕ
 walk next slots zero node = []
 walk next slots (suc steps) node = if nat_lt node slots then node ∷ walk next slots steps (next node) else []
 
--- the slots between an end node and the next end node
+-- the list whose end node this is: the slots from the node after it on, up to an end node
 abbrev pub ring : (ℕ → ℕ) → ℕ → ℕ → List ℕ
 ring next slots end = walk next slots slots (next end)
 
--- what a function gives at n numbers, from this one on
+-- what a function gives at `count` numbers, from `from` on
 abbrev pub table : (ℕ → List ℕ) → ℕ → ℕ → List (List ℕ)
 table at from zero = []
 table at from (suc count) = at from ∷ table at (suc from) count
 
--- the lists, one for each node that is no slot
+-- all lists: one for each node that is no slot
 abbrev pub rings : (ℕ → ℕ) → ℕ → ℕ → List (List ℕ)
 rings next slots nodes = table (ring next slots) slots (nodes - slots)
 
--- from node a the way goes over these nodes to z
+-- from node a, `next` leads over these nodes, in their order, to node z
 abbrev pub IsWay : (ℕ → ℕ) → ℕ → List ℕ → ℕ → Type 0
 IsWay next a [] z = next a ≡ z
 IsWay next a (x ∷ xs) z = (next a ≡ x) × IsWay next x xs z
 
--- at the start, the node after a node: the first list has all slots in order, and the others are empty
+-- the node after a node in new `Links`: the first list has all slots in order, and the others are empty
 abbrev pub next_at_start : ℕ → ℕ → ℕ
 next_at_start slots node = if nat_lt node slots then node + 1 else (if node == slots then 0 else node)
 
--- at the start, the node before a node
+-- the node before a node in new `Links`
 abbrev pub previous_at_start : ℕ → ℕ → ℕ
 previous_at_start slots node = if node == 0 then slots else (if nat_le node slots then node - 1 else node)
 
--- each number that is on a list is a slot, and is there once
+-- Each number on the lists is a slot, and is on them once.
 pub record IsWellLinked (m : Linked) : Type 0 where
-  pub once : (i : ℕ) → times i (concat m.lists) ≤ 1
-  pub within : (i : ℕ) → 0 < times i (concat m.lists) → i < m.slots
+  pub once : (i : ℕ) → count_of i (concat m.lists) ≤ 1
+  pub within : (i : ℕ) → 0 < count_of i (concat m.lists) → i < m.slots
 
 -- The nodes below `slots` are slots, and each of the others is the end of a list.
 pub record IsLinked (slots nodes : ℕ) (next previous : ℕ → ℕ) : Type 0 where
@@ -57,6 +57,6 @@ pub record IsLinked (slots nodes : ℕ) (next previous : ℕ → ℕ) : Type 0 w
   pub previous_undoes : (a : ℕ) → a < nodes → previous (next a) ≡ a
   -- each list goes round to its own end
   pub closed : (end : ℕ) → slots ≤ end → end < nodes → IsWay next end (ring next slots end) end
-  pub once : (i : ℕ) → times i (concat (rings next slots nodes)) ≤ 1
+  pub once : (i : ℕ) → count_of i (concat (rings next slots nodes)) ≤ 1
   -- a slot that is on no list is its own neighbor
-  pub placed : (a : ℕ) → a < slots → next a ≢ a → 0 < times a (concat (rings next slots nodes))
+  pub placed : (a : ℕ) → a < slots → next a ≢ a → 0 < count_of a (concat (rings next slots nodes))

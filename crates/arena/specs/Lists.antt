@@ -1,16 +1,16 @@
--- Statement for engineers: Words on lists of slot numbers.
+-- Statement for engineers: Definitions on lists of slot numbers.
 use Rattle.std.specs.Prelude.{ℕ, zero, suc, Bool, not, List, [], ◌∷◌, filter, Option, Some, None, nat_lt, ◌==◌, if◌then◌else◌}
 
 -- how often a number is in a list
-abbrev pub times : ℕ → List ℕ → ℕ
-times i [] = 0
-times i (x ∷ xs) = if x == i then suc (times i xs) else times i xs
+abbrev pub count_of : ℕ → List ℕ → ℕ
+count_of i [] = 0
+count_of i (x ∷ xs) = if x == i then suc (count_of i xs) else count_of i xs
 
 -- whether a number is in a list
 abbrev pub is_on : ℕ → List ℕ → Bool
-is_on i xs = nat_lt 0 (times i xs)
+is_on i xs = nat_lt 0 (count_of i xs)
 
--- a list without a number
+-- a list with a number taken out, wherever it occurs
 abbrev pub without : ℕ → List ℕ → List ℕ
 without i xs = filter (λ x. not (x == i)) xs
 

@@ -5,7 +5,7 @@ ghost use Rattle.std.specs.Prelude.{◌≡◌, ◌+◌, ◌<◌, length, slice_s
 ghost use Rattle.std.specs.Option.{option_copied_mut};
 ghost use Rattle.std.specs.Option.Follows.{option_follows_value};
 ghost use Rattle.std.specs.Borrow.{sem};
-ghost use Rattle.arena.specs.ArenaView.{IsParted, capacity_of, value_at, holds_value, empty_arena, put_answer, after_put, front_of, next_of, can_move, after_move, after_lend, restore_answer, after_restore, after_take, with_value};
+ghost use Rattle.arena.specs.ArenaView.{IsPartitioned, capacity_of, value_at, holds_value, empty_arena, put_answer, after_put, front_of, next_of, can_move, after_move, after_lend, restore_answer, after_restore, after_take, with_value};
 
 mod links;
 
@@ -33,11 +33,12 @@ impl<T> Model for Arena<T> {
 
     ghost Value = { ArenaView T };
 
+    // For the prover alone: the type of the view, as a value.
     ghost coded = { arena_view_code T.code };
 
-    ghost use Rattle.arena.specs.Invariant.{row_of, ArenaRule};
+    ghost use Rattle.arena.specs.Invariant.{arena_view_of, ArenaRule};
 
-    ghost view = { λ a. row_of a.values.items a.links };
+    ghost view = { λ a. arena_view_of a.values.items a.links };
 
     ghost invariant = { λ a. ArenaRule a.values.items a.links a.free };
 }
@@ -74,8 +75,8 @@ impl<T> Arena<T> {
     /// there is no memory.
     pub fn with_capacity(alloc: Global, slots: usize, chains: usize) -> Result<Arena<T>, AllocError>
         requires { slots + chains < usize.MAX }
-        ensures row { IfOk result (λ arena. arena ≡ empty_arena slots chains) }
-        ensures parted { IfOk result IsParted }
+        ensures arena { IfOk result (λ arena. arena ≡ empty_arena slots chains) }
+        ensures partitioned { IfOk result IsPartitioned }
     {
         let links = Links::new(alloc, slots, chains)?;
         let mut values = Vec::with_capacity(alloc, slots)?;
@@ -91,7 +92,7 @@ impl<T> Arena<T> {
 
     /// How many slots are free.
     pub fn free(&self) -> usize
-        ensures parted { IsParted self.now }
+        ensures partitioned { IsPartitioned self.now }
         ensures count { result ≡ length self.now.free }
     {
         self.free
@@ -99,7 +100,7 @@ impl<T> Arena<T> {
 
     /// How many slots there are.
     pub fn capacity(&self) -> usize
-        ensures parted { IsParted self.now }
+        ensures partitioned { IsPartitioned self.now }
         ensures count { result ≡ capacity_of self.now }
     {
         self.values.len()
@@ -108,7 +109,7 @@ impl<T> Arena<T> {
     /// The value in a slot: none where the slot is free, where its value is out, and where there is
     /// no slot.
     pub fn get(&self, i: usize) -> Option<&T>
-        ensures parted { IsParted self.now }
+        ensures partitioned { IsPartitioned self.now }
         ensures value { option_copied result ≡ value_at self.now i }
     {
         self.values.get(i)?.as_ref()
@@ -117,8 +118,8 @@ impl<T> Arena<T> {
     /// The value in a slot for writing, where `get` gives one.
     pub fn get_mut(&mut self, i: usize) -> Option<&mut T>
         ensures* writes_back { sem 𝓛 (lends_get T.row self.entry i result) }
-        ensures parted { IsParted self.old }
-        ensures stays_parted { IsTrue (holds_value self.old i) → (value : T) → IsParted (with_value self.old i value) }
+        ensures partitioned { IsPartitioned self.old }
+        ensures stays_partitioned { IsTrue (holds_value self.old i) → (value : T) → IsPartitioned (with_value self.old i value) }
         ensures value { option_copied_mut result ≡ value_at self.old i }
     {
         if self.holds(i) {
@@ -140,7 +141,7 @@ impl<T> Arena<T> {
     fn holds(&self, i: usize) -> bool
         ensures answer { result ≡ holds_value self.now i }
         ensures there { IsTrue result → i < capacity_of self.now }
-        ensures parted { IsParted self.now }
+        ensures partitioned { IsPartitioned self.now }
     {
         matches!(self.values.get(i), Some(Some(_)))
     }
@@ -156,8 +157,8 @@ impl<T> Arena<T> {
     /// slot is free it hands the value back.
     pub fn put(&mut self, value: T) -> Result<usize, T>
         ensures answer { result ≡ put_answer self.old value }
-        ensures row { self.new ≡ after_put self.old value }
-        ensures parted { IsParted self.new }
+        ensures arena { self.new ≡ after_put self.old value }
+        ensures partitioned { IsPartitioned self.new }
     {
         let Some(slot) = self.links.first(FREE) else {
             return Err(value);
@@ -170,7 +171,7 @@ impl<T> Arena<T> {
 
     /// The first slot of a chain: none where the chain is empty, and where there is no such chain.
     pub fn front(&self, c: usize) -> Option<usize>
-        ensures parted { IsParted self.now }
+        ensures partitioned { IsPartitioned self.now }
         ensures slot { result ≡ front_of self.now c }
     {
         if c < self.chains() {
@@ -183,7 +184,7 @@ impl<T> Arena<T> {
     /// The slot after this one on its chain: none where it is the last, and where it is on no
     /// chain.
     pub fn next(&self, i: usize) -> Option<usize>
-        ensures parted { IsParted self.now }
+        ensures partitioned { IsPartitioned self.now }
         ensures slot { result ≡ next_of self.now i }
     {
         if self.holds(i) {
@@ -197,8 +198,8 @@ impl<T> Arena<T> {
     /// changes nothing, where the slot holds no value or there is no such chain.
     pub fn move_to(&mut self, i: usize, c: usize) -> bool
         ensures answer { result ≡ can_move self.old i c }
-        ensures row { self.new ≡ after_move self.old i c }
-        ensures parted { IsParted self.new }
+        ensures arena { self.new ≡ after_move self.old i c }
+        ensures partitioned { IsPartitioned self.new }
     {
         if !self.holds(i) || c >= self.chains() {
             return false;
@@ -212,8 +213,8 @@ impl<T> Arena<T> {
     /// `restore` brings the value back. Gives `None`, and changes nothing, where `get` does.
     pub fn lend(&mut self, i: usize) -> Option<T>
         ensures answer { result ≡ value_at self.old i }
-        ensures row { self.new ≡ after_lend self.old i }
-        ensures parted { IsParted self.new }
+        ensures arena { self.new ≡ after_lend self.old i }
+        ensures partitioned { IsPartitioned self.new }
     {
         if !self.holds(i) {
             return None;
@@ -226,8 +227,8 @@ impl<T> Arena<T> {
     /// the value back, and changes nothing.
     pub fn restore(&mut self, i: usize, value: T) -> Result<(), T>
         ensures answer { result ≡ restore_answer self.old i value }
-        ensures row { self.new ≡ after_restore self.old i value }
-        ensures parted { IsParted self.new }
+        ensures arena { self.new ≡ after_restore self.old i value }
+        ensures partitioned { IsPartitioned self.new }
     {
         if i >= self.capacity() || self.holds(i) || !self.links.is_alone(i) {
             return Err(value);
@@ -240,8 +241,8 @@ impl<T> Arena<T> {
     /// nothing, where `get` does.
     pub fn take(&mut self, i: usize) -> Option<T>
         ensures answer { result ≡ value_at self.old i }
-        ensures row { self.new ≡ after_take self.old i }
-        ensures parted { IsParted self.new }
+        ensures arena { self.new ≡ after_take self.old i }
+        ensures partitioned { IsPartitioned self.new }
     {
         if !self.holds(i) {
             return None;

@@ -1,7 +1,7 @@
 //! Lists of slots, doubly linked by index.
 ghost use Rattle.std.specs.Prelude.{◌≡◌, ◌+◌, ◌<◌, ◌↔◌, [], ◌∷◌, ◌++◌, map, length, replicate, IsTrue, IfOk, slice_set};
 ghost use Rattle.std.specs.List.{concat};
-ghost use Rattle.arena.specs.Lists.{times, without, numbers_from, first_of, behind_in};
+ghost use Rattle.arena.specs.Lists.{count_of, without, numbers_from, first_of, behind_in};
 ghost use Rattle.arena.specs.Linked.{list_at, next_at_start, previous_at_start, IsWellLinked};
 
 use std::alloc::{AllocError, Global};
@@ -119,7 +119,7 @@ impl Links {
     /// Whether a slot is on no list.
     pub(crate) fn is_alone(&self, slot: usize) -> bool
         requires { slot < self.now.slots }
-        ensures { IsTrue result ↔ (times slot (concat self.now.lists) ≡ 0) }
+        ensures { IsTrue result ↔ (count_of slot (concat self.now.lists) ≡ 0) }
     {
         self.next[slot] == slot
     }
@@ -128,7 +128,7 @@ impl Links {
     pub(crate) fn unlink(&mut self, slot: usize)
         requires { slot < self.old.slots }
         ensures lists { self.new ≡ record self.old { lists = map (without slot) self.old.lists } }
-        ensures alone { times slot (concat self.new.lists) ≡ 0 }
+        ensures alone { count_of slot (concat self.new.lists) ≡ 0 }
         ensures sound { IsWellLinked self.new }
     {
         let before = self.previous[slot];
@@ -143,7 +143,7 @@ impl Links {
     pub(crate) fn append(&mut self, list: usize, slot: usize)
         requires slot_is_there { slot < self.old.slots }
         requires list_is_there { list < length self.old.lists }
-        requires alone { times slot (concat self.old.lists) ≡ 0 }
+        requires alone { count_of slot (concat self.old.lists) ≡ 0 }
         ensures lists { self.new ≡ record self.old { lists = slice_set self.old.lists list (list_at self.old list ++ slot ∷ []) } }
         ensures sound { IsWellLinked self.new }
     {
@@ -171,7 +171,7 @@ impl Links {
     fn prepend(&mut self, list: usize, slot: usize)
         requires slot_is_there { slot < self.old.slots }
         requires list_is_there { list < length self.old.lists }
-        requires alone { times slot (concat self.old.lists) ≡ 0 }
+        requires alone { count_of slot (concat self.old.lists) ≡ 0 }
         ensures lists { self.new ≡ record self.old { lists = slice_set self.old.lists list (slot ∷ list_at self.old list) } }
         ensures sound { IsWellLinked self.new }
     {

@@ -2,7 +2,7 @@
 use Rattle.std.proofs.Common.{◌≡◌, ℕ, List, [], ◌∷◌, Option, Some, codes, refl, ap, sym, subst, lit≤, arith, ◌≤◌}
 use Rattle.affinity.specs.Geometry.{standard}
 use Rattle.clap.proofs.OnLiterals.{clap_on_literals}
-use Rattle.arguments.specs.Arguments.{AsksFormat, AsksHelp, AsksNoService, AsksOutOfRange, AsksPlain, AsksServeWith, AsksShow, AsksVersion, IsWrong}
+use Rattle.arguments.specs.Arguments.{AsksFormat, AsksHelp, AsksNoCommand, AsksOutOfRange, AsksPlain, AsksServeWith, AsksShow, AsksVersion, IsWrong}
 
 -- two names are distinguished by it
 abbrev first_letter : Option (List ℕ) → ℕ
@@ -49,15 +49,15 @@ pub version_of_a_command_is_wrong : (program : List ℕ) → IsWrong (program �
 unfolding clap_on_literals
 version_of_a_command_is_wrong program = (λ e. cc, refl)
 
-pub help_is_no_service : (program : List ℕ) → AsksNoService (program ∷ codes "help" ∷ [])
+pub help_is_no_service : (program : List ℕ) → AsksNoCommand (program ∷ codes "help" ∷ [])
 unfolding clap_on_literals
 help_is_no_service program = λ e. cc
 
-pub help_on_plain_is_no_service : (program : List ℕ) → AsksNoService (program ∷ codes "help" ∷ codes "plain" ∷ [])
+pub help_on_plain_is_no_service : (program : List ℕ) → AsksNoCommand (program ∷ codes "help" ∷ codes "plain" ∷ [])
 unfolding clap_on_literals
 help_on_plain_is_no_service program = λ e. cc
 
-pub help_on_no_command_is_no_service : (program : List ℕ) → AsksNoService (program ∷ codes "help" ∷ codes "flat" ∷ [])
+pub help_on_no_command_is_no_service : (program : List ℕ) → AsksNoCommand (program ∷ codes "help" ∷ codes "flat" ∷ [])
 unfolding clap_on_literals
 help_on_no_command_is_no_service program = λ e. cc
 
@@ -94,13 +94,11 @@ pub options_of_show_are_wrong : (program : List ℕ) → IsWrong (program ∷ co
 unfolding clap_on_literals
 options_of_show_are_wrong program = (λ e. cc, refl)
 
-pub asks_serve : (program : List ℕ)
-    → AsksServeWith (program ∷ codes "serve" ∷ codes "d" ∷ []) (codes "d") (2 ∷ 16 ∷ 0 ∷ [])
+pub asks_serve : (program : List ℕ) → AsksServeWith (program ∷ codes "serve" ∷ codes "d" ∷ []) (codes "d") (2 ∷ 16 ∷ 0 ∷ [])
 unfolding clap_on_literals
 asks_serve program = (refl, refl, refl, refl)
 
-pub asks_serve_with_numbers : (program : List ℕ)
-    → AsksServeWith (program ∷ codes "serve" ∷ codes "--workers=4" ∷ codes "d" ∷ codes "--every" ∷ codes "9" ∷ []) (codes "d")
+pub asks_serve_with_numbers : (program : List ℕ) → AsksServeWith (program ∷ codes "serve" ∷ codes "--workers=4" ∷ codes "d" ∷ codes "--every" ∷ codes "9" ∷ []) (codes "d")
     (4 ∷ 16 ∷ 9 ∷ [])
 unfolding clap_on_literals
 asks_serve_with_numbers program = (refl, refl, refl, refl)

@@ -33,13 +33,11 @@ pub is_plain_in_row : {a : App} (name : Text) (has_device : Bool) (options : Lis
 is_plain_in_row name has_device options is = ap (λ (a : App). a.top.is_plain) is ∙ row_is_plain name has_device options
 
 -- one more option, and one more command
-pub one_more_option : (a : App) (options : List OptionRow) (i : ℕ) (d : OptionRow) → i < length options
-    → with_options a (take (i + 1) options)
+pub one_more_option : (a : App) (options : List OptionRow) (i : ℕ) (d : OptionRow) → i < length options → with_options a (take (i + 1) options)
     ≡ with_rule (with_options a (take i options)) (rule_within (get_or options i d).0.now (pos (get_or options i d).2) (pos (get_or options i d).3))
 one_more_option a options i d lt = fold_more (λ b option. with_rule b (rule_within option.0.now (pos option.2) (pos option.3))) a options i d lt
 
-pub one_more_command : (a : App) (rows : List CommandRow) (i : ℕ) (d : CommandRow) → i < length rows
-    → with_commands a (take (i + 1) rows)
+pub one_more_command : (a : App) (rows : List CommandRow) (i : ℕ) (d : CommandRow) → i < length rows → with_commands a (take (i + 1) rows)
     ≡ with_subcommand (with_commands a (take i rows)) (command_app (get_or rows i d).0.now (get_or rows i d).2 (get_or rows i d).3.now).top
 one_more_command a rows i d lt = fold_more (λ b row. with_subcommand b (command_app row.0.now row.2 row.3.now).top) a rows i d lt
 

@@ -22,7 +22,7 @@ use Rattle.arguments.specs.declared.parsing.ArgumentRefusal.TheVariants.{Words, 
 
 -- ---- the commands
 
--- the options of a geometry, in the order of its numbers
+-- the names of the options of a geometry, in the order of its numbers
 abbrev pub names : List Text
 names = codes "aggregates" ∷ codes "volumes" ∷ codes "stripes" ∷ codes "width" ∷ codes "files" ∷ codes "blocks" ∷ codes "quota"
     ∷ codes "half" ∷ []
@@ -31,15 +31,16 @@ names = codes "aggregates" ∷ codes "volumes" ∷ codes "stripes" ∷ codes "wi
 abbrev pub number_rule : Text → Rule
 number_rule name = record (new_rule name) { long = Some name; value_names = 1; parser = Some (Signed (pos 0) (pos 65535)) }
 
--- an option with one value, a number from the one to the other
+-- an option with one value, a number from `least` to `most`
 abbrev pub rule_within : Text → ℤ → ℤ → Rule
 rule_within name least most = record (new_rule name) { long = Some name; value_names = 1; parser = Some (Signed least most) }
 
+-- a command with the options of a geometry added
 abbrev pub with_numbers : App → App
 with_numbers a = fold (λ b name. with_rule b (number_rule name)) a names
 
--- the options of a service: how many workers it has, how many lines it reads before it has answered them, and after how many records it
--- makes a checkpoint
+-- the options of `serve`: how many workers it has, how many lines it may read before their replies are sent, and after how many records
+-- it makes a checkpoint
 abbrev pub with_service : App → App
 with_service a =
     with_rule (with_rule (with_rule a (rule_within (codes "workers") (pos 0) (pos 64))) (rule_within (codes "slots") (pos 1) (pos 1024)))
@@ -86,7 +87,7 @@ number_of text =
 abbrev pub number_in : List Row → Text → ℕ → ℕ
 number_in rows name default = unwrap_or (option_and_then number_of (one_of name rows)) default
 
--- the eight numbers
+-- the eight numbers of the geometry, by the options that were given
 abbrev pub numbers_in : List Row → List ℕ
 numbers_in rows =
     number_in rows (codes "aggregates") standard.aggregates
@@ -103,7 +104,7 @@ numbers_in rows =
 abbrev pub service_numbers : ServiceNumbers → List ℕ
 service_numbers s = s.workers ∷ s.slots ∷ s.every ∷ []
 
--- the options of `serve`
+-- workers, slots and records to a checkpoint of `serve`, by the options that were given
 abbrev pub service_in : List Row → List ℕ
 service_in rows =
     number_in rows (codes "workers") 2
@@ -111,7 +112,7 @@ service_in rows =
     ∷ number_in rows (codes "every") 0
     ∷ []
 
--- the file of the device; no arguments pass that don't give it
+-- the file of the device; arguments without it are refused before
 abbrev pub device_in : List Row → Text
 device_in rows = unwrap_or (first_of (codes "device") rows) []
 
@@ -119,7 +120,7 @@ device_in rows = unwrap_or (first_of (codes "device") rows) []
 abbrev pub findings : List Text → Kinds
 findings words = fault_of waffd words
 
--- whether the text printed of it goes to the standard error: it does, but for help and the version
+-- whether what `clap` found is a mistake, whose text goes to the standard error: all but help and the version
 abbrev pub is_mistake : ErrorKind → Bool
 is_mistake DisplayHelp = false
 is_mistake DisplayVersion = false
@@ -133,7 +134,7 @@ command_of words = subcommand_of waffd words
 abbrev pub IsNamed : Text → Option (Text × List Row) → Type 0
 IsNamed name command = option_map (λ c. c.0) command ≡ Some name
 
--- The command is `plain`: it is none of the others, and no arguments pass that name none.
+-- The command is `plain`: it is none of the others. Arguments that name no command are refused before.
 abbrev pub IsPlain : Option (Text × List Row) → Type 0
 IsPlain command = (¬ (IsNamed (codes "format") command)) × (¬ (IsNamed (codes "show") command)) × (¬ (IsNamed (codes "serve") command))
 
@@ -152,12 +153,12 @@ abbrev pub device_at : Option (Text × List Row) → Text
 device_at None = []
 device_at (Some command) = device_in command.1
 
--- The geometry of these numbers, or their refusal.
+-- The result is the geometry of these numbers, or they are refused because one is out of range.
 abbrev pub GivesGeometry : List ℕ → Result Geometry ArgumentRefusal → Type 0
 GivesGeometry numbers (Ok g) = numbers_of g ≡ numbers
 GivesGeometry numbers (Err refusal) = (refusal ≡ GeometryOutOfRange) × (¬ (AreInRange numbers))
 
--- The request, or its refusal, by the command.
+-- The result is the request that the command makes, or why there is none.
 abbrev pub IsRequested : Option (Text × List Row) → Result Request ArgumentRefusal → Type 0
 IsRequested command (Ok (Plain g)) = IsPlain command × (numbers_of g ≡ numbers_at command)
 IsRequested command (Ok (Format path g)) = IsNamed (codes "format") command × (path.now ≡ device_at command)
@@ -202,10 +203,10 @@ AsksHelp words = findings words ≡ DisplayHelp ∷ []
 abbrev pub AsksVersion : List Text → Type 0
 AsksVersion words = findings words ≡ DisplayVersion ∷ []
 
--- The arguments ask for no command: they ask for help or the version, or there are mistakes in them. After the argument `help` there may be
--- a mistake or none, and `clap` decides which.
-abbrev pub AsksNoService : List Text → Type 0
-AsksNoService words = findings words ≢ []
+-- No command is carried out: the arguments ask for help or the version, or there are mistakes in them. For arguments after `help` the
+-- findings leave open which of these it is.
+abbrev pub AsksNoCommand : List Text → Type 0
+AsksNoCommand words = findings words ≢ []
 
 -- There are mistakes in the arguments, and they ask for no help and no version.
 abbrev pub IsWrong : List Text → Type 0

@@ -12,14 +12,14 @@ OptionRow = Bor Text × Bor Text × ℕ × ℕ
 abbrev pub CommandRow : Type 0
 CommandRow = Bor Text × Bor Text × Bool × Bor (List OptionRow)
 
--- a command with each of these options added
+-- a parser with each of these options added
 abbrev pub with_options : App → List OptionRow → App
 with_options a options = fold (λ b option. with_rule b (rule_within option.0.now (pos option.2) (pos option.3))) a options
 
--- the command of a row
+-- the parser of the command of a row
 unfoldable pub command_app : Text → Bool → List OptionRow → App
 command_app name has_device options = with_options (if has_device then with_rule (new_app name) device_rule else new_app name) options
 
--- a program with the commands of these rows added
+-- a parser with the commands of these rows added as subcommands: `top` of a parser is its description as a command
 abbrev pub with_commands : App → List CommandRow → App
 with_commands a rows = fold (λ b row. with_subcommand b (command_app row.0.now row.2 row.3.now).top) a rows

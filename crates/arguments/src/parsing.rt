@@ -78,7 +78,7 @@ const NUMBERS: [NumberOption<'static>; 8] = [
     ),
 ];
 
-/// The options of a service, in the order of its numbers.
+/// The options of `serve`, in the order of its numbers.
 const SERVICE: [NumberOption<'static>; 3] = [
     (
         "workers",
@@ -88,13 +88,13 @@ const SERVICE: [NumberOption<'static>; 3] = [
     ),
     (
         "slots",
-        "Lines that are read and not answered yet, 1 to 1024 [default: 16]",
+        "Lines that are read and whose reply is not sent, 1 to 1024 [default: 16]",
         1,
         1024,
     ),
     (
         "every",
-        "Changes between consistency points, 0 to 1024; 0 makes them where the log is full [default: 0]",
+        "Changes between checkpoints, 0 to 1024; 0 makes them where the log is full [default: 0]",
         0,
         1024,
     ),
@@ -255,7 +255,8 @@ fn commands<'a>(alloc: Global) -> Result<Command<'a>, AllocError>
     with_commands(alloc, &COMMANDS)
 }
 
-/// The number that was given to an option, or the program's own.
+/// The number that was given to an option, or else `standard`, the default. In clauses `rows_of` gives the options that `clap` found, each
+/// with its values.
 fn number_given(options: &ArgMatches<'_>, name: &str, standard: u16) -> u16
     ensures { result ≡ number_in (rows_of (found_of options.now)) name.now standard }
 {
@@ -322,6 +323,7 @@ fn requested<'a>(matches: &ArgMatches<'a>) -> Result<Request<'a>, ArgumentRefusa
             service_given(options),
         )),
         Some((_plain, options)) => Ok(Request::Plain(geometry_given(options)?)),
+        // This is never the case: arguments that name no command are refused before.
         None => Ok(Request::Plain(Geometry::default())),
     }
 }

@@ -4,15 +4,15 @@ use Rattle.std.proofs.lemmas.List.{length-replicate, replicate-append-replicate,
 use Rattle.disk.specs.Device.{Medium, SameOutside, overlaid}
 use Rattle.disk.proofs.Moments.{leaves_now, started, then, weaker}
 use Rattle.disk.proofs.Outside.{same_all, same_both, wider}
-use Rattle.oplog.specs.Changes.{ChangesOnly}
+use Rattle.oplog.specs.Changes.{CrashesChangeOnly}
 
 -- What changes in a range changes in a wider one.
-pub changed_within : {w0 w1 : Medium} {a k at n : ℕ} → a ≤ at → at + n ≤ a + k → ChangesOnly w0 w1 (SameOutside at n) → ChangesOnly w0 w1 (SameOutside a k)
+pub changed_within : {w0 w1 : Medium} {a k at n : ℕ} → a ≤ at → at + n ≤ a + k → CrashesChangeOnly w0 w1 (SameOutside at n) → CrashesChangeOnly w0 w1 (SameOutside a k)
 changed_within {w0} {w1} {a} {k} {at} {n} below behind moments =
     weaker w0 w1 _ _ moments (λ c after. record { old = after.old; left = after.left; change = wider at n after.old c after.change a k below behind })
 
 -- one segment after another
-pub changed_then : {w0 w1 w2 : Medium} {a k : ℕ} → ChangesOnly w0 w1 (SameOutside a k) → ChangesOnly w1 w2 (SameOutside a k) → ChangesOnly w0 w2 (SameOutside a k)
+pub changed_then : {w0 w1 w2 : Medium} {a k : ℕ} → CrashesChangeOnly w0 w1 (SameOutside a k) → CrashesChangeOnly w1 w2 (SameOutside a k) → CrashesChangeOnly w0 w2 (SameOutside a k)
 changed_then {w0} {w1} {w2} {a} {k} first second =
     then w0 w1 w2 _ first
     (weaker w1 w2 _ _ second
@@ -36,7 +36,7 @@ zeros_more xs at done more =
     ∙ ap (λ (l : List ℕ). overlaid xs at l) (replicate-append-replicate done more 0)
 
 -- before the first call
-pub nothing_changed : (m : Medium) (at n : ℕ) → ChangesOnly m m (SameOutside at n)
+pub nothing_changed : (m : Medium) (at n : ℕ) → CrashesChangeOnly m m (SameOutside at n)
 nothing_changed m at n = started m _ (λ c left. record { old = c; left = left; change = same_all at n c })
 
 pub nothing_over : (xs : List ℕ) (at : ℕ) → overlaid xs at [] ≡ xs

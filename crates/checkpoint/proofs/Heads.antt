@@ -11,7 +11,7 @@ use Rattle.byteorder.specs.Endian.{IsRead, little_bytes, little_number}
 use Rattle.checkpoint.specs.Header.{header_of, magic}
 use Rattle.image.specs.Image.{has_head, image_head, is_version, version_in}
 use Rattle.checkpoint.proofs.Laid.{image_some}
-use Rattle.device_map.specs.Layout.{image, layout_of, part_bytes, part_at, part_size, slice}
+use Rattle.device_map.specs.Layout.{image_part, layout_of, part_bytes, part_at, part_size, slice}
 use Rattle.oplog.proofs.Slices.{image_sized}
 
 -- ---- a header
@@ -58,7 +58,7 @@ version_first bytes = get_or-take 64 bytes 0 0 (omega arith)
 pub has_head_first : (bytes : List ℕ) → has_head (take 64 bytes) ≡ has_head bytes
 has_head_first bytes = λ i. is_version (version_first bytes i) && bytes_eq (take-take 64 64 bytes (omega arith) i) (image_head (version_first bytes i))
 
-pub head_there : (g : Geometry) (n at : ℕ) (now out : List ℕ) → n < 2 → at ≡ part_at (layout_of g) (image n) → out ≡ slice now at 64 → out ≡ take 64 (part_bytes (layout_of g) (image n) now)
+pub head_there : (g : Geometry) (n at : ℕ) (now out : List ℕ) → n < 2 → at ≡ part_at (layout_of g) (image_part n) → out ≡ slice now at 64 → out ≡ take 64 (part_bytes (layout_of g) (image_part n) now)
 head_there g n at now out is_image place is =
     is ∙ ap (λ (a : ℕ). slice now a 64) place
-    ∙ first_of_part now (part_at (layout_of g) (image n)) 64 (part_size (layout_of g) (image n)) (omega (arith, image_sized (layout_of g) n is_image, image_some g))
+    ∙ first_of_part now (part_at (layout_of g) (image_part n)) 64 (part_size (layout_of g) (image_part n)) (omega (arith, image_sized (layout_of g) n is_image, image_some g))

@@ -1,4 +1,4 @@
--- What is on a device that is laid out, and what it recovers to once its gate is open.
+-- What is on a device that is laid out, and what it recovers to once its format byte is set.
 use Rattle.std.proofs.Common.{◌≡◌, ◌≢◌, ◌⊎◌, ℕ, zero, suc, ◌+◌, ◌-◌, ◌<◌, ◌≤◌, Bool, true, ◌&&◌, not, cond, eqb, List, [], ◌∷◌, ◌++◌, length, take, drop, get_or, replicate, Option, Some, None, inl, inr, ⊎_elim, refl, sym, ◌∙◌, ap, subst, arith}
 use Rattle.std.specs.Prelude.{nat_le, if◌then◌else◌}
 use Rattle.std.proofs.lemmas.Slice.Eq.{bytes_eq-Decides}
@@ -7,7 +7,7 @@ use Rattle.std.proofs.lemmas.List.{length-replicate, get_or-take, get_or-drop, g
 use Rattle.affinity.specs.declared.geometry.Geometry.{Geometry}
 use Rattle.checkpoint.specs.Formatting.{HasBytesAt, IsAllButFormatByte, IsAllButHeader, HasNoFormatByte}
 use Rattle.checkpoint.specs.Header.{header_of, is_header}
-use Rattle.checkpoint.specs.Recovery.{recovered_state, means}
+use Rattle.checkpoint.specs.Recovery.{recovered_state, decoding}
 use Rattle.checkpoint.specs.Version.{named_version}
 use Rattle.checkpoint.proofs.Blank.{empty_spelled}
 use Rattle.disk.specs.Device.{SameOutside, overlaid}
@@ -16,8 +16,8 @@ use Rattle.disk.proofs.Overlays.{overlaid_outside, length-overlaid, range-overla
 use Rattle.image.specs.Image.{image_of, read, version_in}
 use Rattle.image.proofs.Reading.{read_again}
 use Rattle.oplog.specs.Front.{chain, front, gates, count_open, rows}
-use Rattle.device_map.specs.Layout.{Layout, slice, layout_of, part_bytes, part_at, device_size, half, half_size, header, image, image_size}
-use Rattle.oplog.specs.Recovery.{named_area, in_force, is_laid_out, run, recovers_as}
+use Rattle.device_map.specs.Layout.{Layout, slice, layout_of, part_bytes, part_at, device_size, half_part, half_size, header_part, image_part, image_size}
+use Rattle.oplog.specs.Recovery.{named_area, in_force, is_laid_out, run, recovers_by_area}
 use Rattle.oplog.proofs.Slices.{slice_slice}
 use Rattle.meaning.specs.State.{State, empty}
 use Rattle.meaning.proofs.Kept.{empty_is_state}
@@ -58,10 +58,10 @@ pub image_some : (g : Geometry) → 64 ≤ image_size g
 unfolding image_size
 image_some g = omega arith
 
--- the header, of its gate and what comes after
+-- the header, of its format byte and what comes after
 pub header_there : (g : Geometry) (c : List ℕ) → get_or c 0 0 ≡ 1 → HasBytesAt c 1 (drop 1 (header_of g)) → slice c 0 64 ≡ header_of g
-header_there g [] is_open has = absurd (omega (arith, is_open))
-header_there g (x ∷ c) is_open has = λ i. is_open i ∷ has i
+header_there g [] is_formatted has = absurd (omega (arith, is_formatted))
+header_there g (x ∷ c) is_formatted has = λ i. is_formatted i ∷ has i
 
 module _ (g : Geometry) (c : List ℕ) (laid : IsAllButHeader g c) where
   abbrev l : Layout
@@ -77,9 +77,9 @@ module _ (g : Geometry) (c : List ℕ) (laid : IsAllButHeader g c) where
   shut_0 = slice_slice c 128 (half_size g.half) 64 g.half (omega arith) ∙ zeros_there c 64 (64 + (64 + g.half)) 128 g.half laid.root (omega arith)
 
   no_front : front l 0 c ≡ []
-  no_front = ap (λ (n : ℕ). rows 520 n (drop (64 + g.half) (part_bytes l (half 0) c))) (ap count_open shut_0 ∙ open_none g.half)
+  no_front = ap (λ (n : ℕ). rows 520 n (drop (64 + g.half) (part_bytes l (half_part 0) c))) (ap count_open shut_0 ∙ open_none g.half)
 
-  image_there : part_bytes l (image 0) c ≡ image_of 2 g empty
+  image_there : part_bytes l (image_part 0) c ≡ image_of 2 g empty
   image_there =
       let some = image_some g in
       let long : length {A = ℕ} (2 ∷ replicate {A = ℕ} (image_size g - 1) 0) ≡ image_size g = omega (arith, some, length-replicate {A = ℕ} (image_size g - 1) 0) in
@@ -88,25 +88,25 @@ module _ (g : Geometry) (c : List ℕ) (laid : IsAllButHeader g c) where
   in_force_none : in_force l 0 c ≡ []
   in_force_none = ap (λ (b : ℕ). cond (eqb b 1) (front l 0 c ++ front l 1 c) (front l 0 c)) no_chain_0 ∙ no_front
 
--- Behind its header, an empty device recovers to the empty state once its gate is open.
+-- Behind its header, an empty device recovers to the empty state once its format byte is set.
 pub holds_empty : (g : Geometry) (c : List ℕ) → device_size (layout_of g) ≤ length c → IsAllButFormatByte g c → get_or c 0 0 ≡ 1 → recovered_state g c ≡ Some empty
-holds_empty g c long headed is_open =
+holds_empty g c long headed is_formatted =
     let l : Layout = layout_of g in
     let laid = headed.laid in
-    let head : is_header g (part_bytes l header c) ≡ true = (bytes_eq-Decides (part_bytes l header c) (header_of g)).1 (header_there g c is_open headed.header) in
+    let head : is_header g (part_bytes l header_part c) ≡ true = (bytes_eq-Decides (part_bytes l header_part c) (header_of g)).1 (header_there g c is_formatted headed.header) in
     let whole : nat_le (device_size l) (length c) ≡ true = le-leb (device_size l) (length c) long in
     let one_chain : not (eqb (chain l 0 c) 1 && eqb (chain l 1 c) 1) ≡ true = ap (λ (b : ℕ). not (eqb b 1 && eqb (chain l 1 c) 1)) (no_chain_0 g c laid) in
-    let laid_out : is_laid_out (means g) l c ≡ true = (λ i. head i && whole i && one_chain i) in
-    ap (λ (n : ℕ). recovers_as (means g) l n c) (names_0 g c laid)
-    ∙ ap (λ (t : Bool). if t then run (means g) (read g (part_bytes l (image 0) c)) (in_force l 0 c) else None) laid_out
-    ∙ ap (λ (bytes : List ℕ). run (means g) (read g bytes) (in_force l 0 c)) (image_there g c laid)
-    ∙ ap (λ (x : Option State). run (means g) x (in_force l 0 c)) (read_again g empty (empty_is_state g))
-    ∙ ap (λ (rs : List (List ℕ)). run (means g) (Some empty) rs) (in_force_none g c laid)
+    let laid_out : is_laid_out (decoding g) l c ≡ true = (λ i. head i && whole i && one_chain i) in
+    ap (λ (n : ℕ). recovers_by_area (decoding g) l n c) (names_0 g c laid)
+    ∙ ap (λ (t : Bool). if t then run (decoding g) (read g (part_bytes l (image_part 0) c)) (in_force l 0 c) else None) laid_out
+    ∙ ap (λ (bytes : List ℕ). run (decoding g) (read g bytes) (in_force l 0 c)) (image_there g c laid)
+    ∙ ap (λ (x : Option State). run (decoding g) x (in_force l 0 c)) (read_again g empty (empty_is_state g))
+    ∙ ap (λ (rs : List (List ℕ)). run (decoding g) (Some empty) rs) (in_force_none g c laid)
 
 -- Its image, which is named, has version 2.
 pub version_empty : (g : Geometry) (c : List ℕ) → IsAllButHeader g c → named_version g c ≡ 2
 version_empty g c laid =
-    ap (λ (n : ℕ). version_in (part_bytes (layout_of g) (image n) c)) (names_0 g c laid) ∙ ap (λ (bytes : List ℕ). version_in bytes) (image_there g c laid)
+    ap (λ (n : ℕ). version_in (part_bytes (layout_of g) (image_part n) c)) (names_0 g c laid) ∙ ap (λ (bytes : List ℕ). version_in bytes) (image_there g c laid)
 
 -- ---- changes of it
 
@@ -123,20 +123,20 @@ headed_kept g c torn same headed = record {
   header = has_kept 1 (inr (omega arith)) same headed.header;
 }
 
--- The header's bytes behind its gate are written.
+-- The header's bytes behind its format byte are written.
 pub headed : (g : Geometry) (c : List ℕ) (bytes : List ℕ) → bytes ≡ drop 1 (header_of g) → 64 ≤ length c → IsAllButHeader g c → IsAllButFormatByte g (overlaid c 1 bytes)
 headed g c bytes are long laid = record {
   laid = laid_kept g 1 (length bytes) c (overlaid c 1 bytes) (omega (arith, ap (λ (l : List ℕ). length l) are)) (overlaid_outside c 1 bytes) laid;
   header = subst (λ (l : List ℕ). HasBytesAt (overlaid c 1 bytes) 1 l) are (has_put c 1 bytes (omega (arith, long, ap (λ (l : List ℕ). length l) are)));
 }
 
--- The gate is opened behind a whole header: whatever a crash leaves of it, the device is shut or recovers to the empty state.
+-- The format byte is set behind a whole header: whatever a crash leaves, the device isn't formatted, or recovers to the empty state.
 pub torn_open : (g : Geometry) (c torn : List ℕ) → device_size (layout_of g) ≤ length c → IsAllButFormatByte g c → SameOutside 0 1 c torn
     → HasNoFormatByte (length c) torn ⊎ (recovered_state g torn ≡ Some empty)
 torn_open g c torn long headed same =
     ⊎_elim
-    (λ (is_open : get_or torn 0 0 ≡ 1). inr (holds_empty g torn (omega (arith, long, same.size)) (headed_kept g c torn same headed) is_open))
-    (λ (shut : get_or torn 0 0 ≢ 1). inl (record { size = same.size; gate = shut }))
+    (λ (is_formatted : get_or torn 0 0 ≡ 1). inr (holds_empty g torn (omega (arith, long, same.size)) (headed_kept g c torn same headed) is_formatted))
+    (λ (shut : get_or torn 0 0 ≢ 1). inl (record { size = same.size; first_byte = shut }))
     (cases_eq (get_or torn 0 0) 1)
 
 nothing_over : (c : List ℕ) → overlaid c 0 [] ≡ c

@@ -4,7 +4,7 @@ pub mod Refusing
 pub mod Behind
 pub mod Replays
 pub mod OneGeometry
-pub mod Fine
+pub mod NotRefused
 -- ---- for this crate alone
 mod Changed
 mod Shut

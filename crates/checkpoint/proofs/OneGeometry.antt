@@ -6,9 +6,9 @@ use Rattle.affinity.specs.Geometry.{numbers_of}
 use Rattle.affinity.proofs.Numbers.{geometry_same}
 use Rattle.byteorder.specs.Endian.{IsRead, little_number}
 use Rattle.checkpoint.specs.Header.{HasHeader, header_of, is_header}
-use Rattle.checkpoint.specs.Recovery.{recovered_state, means}
+use Rattle.checkpoint.specs.Recovery.{recovered_state, decoding}
 use Rattle.checkpoint.proofs.Heads.{numbers_there, two_bytes}
-use Rattle.device_map.specs.Layout.{device_size, header, layout_of, part_bytes}
+use Rattle.device_map.specs.Layout.{device_size, header_part, layout_of, part_bytes}
 use Rattle.oplog.specs.Recovery.{is_laid_out}
 use Rattle.meaning.specs.State.{State}
 
@@ -36,6 +36,7 @@ laid_where false y x is = cc
 
 pub one_geometry : (g h : Geometry) (c : List ℕ) → HasHeader g c → (x : State) → recovered_state h c ≡ Some x → g ≡ h
 one_geometry g h c head x is =
-    let laid : is_laid_out (means h) (layout_of h) c ≡ true = laid_where (is_laid_out (means h) (layout_of h) c) _ x is in
-    let there : is_header h (part_bytes (layout_of h) header c) ≡ true = first_true (is_header h (part_bytes (layout_of h) header c)) (nat_le (device_size (layout_of h)) (length c)) _ laid in
-    same_geometry g h (sym head ∙ (bytes_eq-Decides (part_bytes (layout_of h) header c) (header_of h)).0 there)
+    let laid : is_laid_out (decoding h) (layout_of h) c ≡ true = laid_where (is_laid_out (decoding h) (layout_of h) c) _ x is in
+    let there : is_header h (part_bytes (layout_of h) header_part c) ≡ true =
+    first_true (is_header h (part_bytes (layout_of h) header_part c)) (nat_le (device_size (layout_of h)) (length c)) _ laid in
+    same_geometry g h (sym head ∙ (bytes_eq-Decides (part_bytes (layout_of h) header_part c) (header_of h)).0 there)

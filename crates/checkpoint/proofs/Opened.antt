@@ -1,4 +1,4 @@
--- The header of a device is written: its numbers, and then its gate.
+-- The header of a device is written: its numbers, and then its format byte.
 use Rattle.std.proofs.Common.{◌≡◌, ◌⊎◌, ℕ, ◌≤◌, List, [], ◌∷◌, length, drop, get_or, Some, inl, inr, ⊎_elim, sym, ◌∙◌, ap, subst, arith}
 use Rattle.affinity.specs.declared.geometry.Geometry.{Geometry}
 use Rattle.checkpoint.specs.Formatting.{FormatCrashImages, IsAllButFormatByte, IsAllButHeader, HasNoFormatByte, StaysUnformatted}
@@ -12,13 +12,13 @@ use Rattle.disk.specs.Moments.{CrashImagesAre}
 use Rattle.disk.proofs.Leaves.{synced_left}
 use Rattle.disk.proofs.Moments.{then, weaker}
 use Rattle.disk.proofs.Overlays.{item-overlaid, length-overlaid, overlaid_outside}
-use Rattle.oplog.specs.Changes.{ChangesOnly}
+use Rattle.oplog.specs.Changes.{CrashesChangeOnly}
 use Rattle.device_map.specs.Layout.{device_size, layout_of}
 use Rattle.oplog.specs.Store.{Stored}
 use Rattle.meaning.specs.State.{empty}
 
 module _ (g : Geometry) (w0 w1 : Medium) (bytes : List ℕ) (are : bytes ≡ drop 1 (header_of g)) (whole : device_size (layout_of g) ≤ length w0.now)
-    (shut : StaysUnformatted (length w0.now) w0) (laid : IsAllButHeader g w0.now) (first : ChangesOnly w0 w1 (SameOutside 1 (length bytes))) where
+    (shut : StaysUnformatted (length w0.now) w0) (laid : IsAllButHeader g w0.now) (first : CrashesChangeOnly w0 w1 (SameOutside 1 (length bytes))) where
   pub numbers_moments : CrashImagesAre w0 w1 (λ c. HasNoFormatByte (length w0.now) c ⊎ (recovered_state g c ≡ Some empty))
   numbers_moments = weaker w0 w1 _ _ (still_shut (length w0.now) w0 w1 1 (length bytes) (omega arith) shut first) (λ c still. inl still)
 
@@ -29,7 +29,7 @@ module _ (g : Geometry) (w0 w1 : Medium) (bytes : List ℕ) (are : bytes ≡ dro
     has : IsAllButFormatByte g w1.now
     has = subst (λ (l : List ℕ). IsAllButFormatByte g l) (sym stored.now) (headed g w0.now bytes are (omega (arith, whole)) laid)
 
-    pub gate_moments : (w2 : Medium) → ChangesOnly w1 w2 (SameOutside 0 1) → CrashImagesAre w0 w2 (λ c. HasNoFormatByte (length w0.now) c ⊎ (recovered_state g c ≡ Some empty))
+    pub gate_moments : (w2 : Medium) → CrashesChangeOnly w1 w2 (SameOutside 0 1) → CrashImagesAre w0 w2 (λ c. HasNoFormatByte (length w0.now) c ⊎ (recovered_state g c ≡ Some empty))
     gate_moments w2 second =
         then w0 w1 w2 _ numbers_moments
         (weaker w1 w2 _ _ second
@@ -57,7 +57,7 @@ module _ (g : Geometry) (w0 : Medium) (whole : device_size (layout_of g) ≤ len
       (λ c either. ⊎_elim (λ (left : IsCrashImage w0 c). inl left) (λ (shut : HasNoFormatByte (length w0.now) c). inr (inl (shut_unformatted (length w0.now) c (omega (arith, whole)) shut))) either)
 
   module _ (w1 w2 : Medium) (first : CrashImagesAre w0 w1 (λ c. IsCrashImage w0 c ⊎ HasNoFormatByte (length w0.now) c)) (shut : StaysUnformatted (length w0.now) w1)
-      (at k : ℕ) (behind : 1 ≤ at) (second : ChangesOnly w1 w2 (SameOutside at k)) where
+      (at k : ℕ) (behind : 1 ≤ at) (second : CrashesChangeOnly w1 w2 (SameOutside at k)) where
     pub laid_moments : CrashImagesAre w0 w2 (FormatCrashImages g w0)
     laid_moments =
         then w0 w1 w2 _ (shut_moments w1 first)

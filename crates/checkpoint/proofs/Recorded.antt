@@ -7,7 +7,7 @@ use Rattle.std.proofs.lemmas.Slice.Eq.{bytes_eq-Decides}
 use Rattle.affinity.specs.declared.geometry.Geometry.{Geometry}
 use Rattle.affinity.specs.Kind.{is_changing}
 use Rattle.checkpoint.specs.declared.fault.OpenFault.TheVariants as faults
-use Rattle.checkpoint.specs.Loading.{IsFaultOfBytes, fault_of_log, record_fault}
+use Rattle.checkpoint.specs.Loading.{IsConsistentFault, fault_of_log, record_fault}
 use Rattle.checkpoint.specs.Recovery.{apply, apply_decoded, is_record_there}
 use Rattle.checkpoint.specs.Refusals.{fault_if}
 use Rattle.disk.specs.Device.{AreBytes}
@@ -19,10 +19,10 @@ use Rattle.message.specs.Records.{message_in_fields, record_of}
 use Rattle.message.proofs.RecordLemmas.{record_says}
 use Rattle.oplog.specs.declared.fault.LogFault.{LogFault}
 use Rattle.oplog.specs.declared.fault.LogFault.TheVariants.{Device, BadRecord}
-use Rattle.oplog.specs.Log.{IsAbout, IsOfRecord}
-use Rattle.oplog.specs.Changing.{IsChangeInRange, IsNoRecord}
+use Rattle.oplog.specs.Log.{NamesRecord, IsOfRecord}
+use Rattle.oplog.specs.Changing.{IsChangeInRange, IsNoChangeRecord}
 use Rattle.oplog.proofs.BadRecords.{no_record_says_none}
-use Rattle.meaning.specs.Serial.{is_done, is_loggable, next_state, reply_to}
+use Rattle.meaning.specs.Serial.{is_done, is_recorded, next_state, reply_to}
 use Rattle.meaning.specs.State.{State}
 
 not_done : (r : Reply) → (r ≡ Done → ⊥) → is_done r ≡ false
@@ -44,10 +44,10 @@ module _ (g : Geometry) (x : State) (m : Msg) (bytes : List ℕ) (whole : IsMess
   pub not_carried : (reply_to g x m ≡ Done → ⊥) → apply g x bytes ≡ None
   not_carried differs =
       decoded ∙ ap (λ (b : Bool). if b then Some (next_state g x m) else None)
-      (and_right (bytes_eq bytes (record_of m) && is_in_range g m) (is_loggable m (reply_to g x m)) (and_right (is_changing (kind m)) (is_done (reply_to g x m)) (not_done (reply_to g x m) differs)))
+      (and_right (bytes_eq bytes (record_of m) && is_in_range g m) (is_recorded m (reply_to g x m)) (and_right (is_changing (kind m)) (is_done (reply_to g x m)) (not_done (reply_to g x m) differs)))
 
 -- of bytes that are the record of no message that is logged
-pub no_record : (g : Geometry) (x : State) (bytes : List ℕ) → length bytes ≡ 520 → AreBytes bytes → IsNoRecord g bytes → apply g x bytes ≡ None
+pub no_record : (g : Geometry) (x : State) (bytes : List ℕ) → length bytes ≡ 520 → AreBytes bytes → IsNoChangeRecord g bytes → apply g x bytes ≡ None
 no_record g x bytes size are none = by (message_in_fields bytes) refl
   where
     by : (o : Option Msg) → message_in_fields bytes ≡ o → apply_decoded g x bytes o ≡ None
@@ -56,18 +56,17 @@ no_record g x bytes size are none = by (message_in_fields bytes) refl
         ap (λ (b : Bool). if b then Some (next_state g x m) else None)
         (false_from_ne_true (is_record_there g x bytes m)
         (λ there.
-        let first = and_parts (bytes_eq bytes (record_of m) && is_in_range g m) (is_loggable m (reply_to g x m)) there in
+        let first = and_parts (bytes_eq bytes (record_of m) && is_in_range g m) (is_recorded m (reply_to g x m)) there in
         let second = and_parts (bytes_eq bytes (record_of m)) (is_in_range g m) first.0 in
         let third = and_parts (is_changing (kind m)) (is_done (reply_to g x m)) first.1 in
         no_record_says_none g bytes size are none m is (third.0, second.1) ((bytes_eq-Decides bytes (record_of m)).0 second.0)))
 
 module _ {g h : Geometry} (same : h ≡ g) (x : State) (half i : ℕ) (bytes : List ℕ) where
   -- A record that couldn't be read gives the fault that its bytes give.
-  pub read_fault : length bytes ≡ 520 → AreBytes bytes → (e : LogFault) → IsOfRecord h bytes (Err e) → IsAbout half i (Err e)
-      → IsFaultOfBytes (record_fault g x half i bytes) (fault_of_log e)
+  pub read_fault : length bytes ≡ 520 → AreBytes bytes → (e : LogFault) → IsOfRecord h bytes (Err e) → NamesRecord half i (Err e) → IsConsistentFault (record_fault g x half i bytes) (fault_of_log e)
   read_fault size are Device of_it about = tt
   read_fault size are (BadRecord a b) of_it about =
-      ap (λ (o : Option State). fault_if (is_none o) (faults.BadRecord half i) None) (no_record g x bytes size are (subst (λ (k : Geometry). IsNoRecord k bytes) same of_it))
+      ap (λ (o : Option State). fault_if (is_none o) (faults.BadRecord half i) None) (no_record g x bytes size are (subst (λ (k : Geometry). IsNoChangeRecord k bytes) same of_it))
       ∙ (λ j. Some (faults.BadRecord (sym about.0 j) (sym about.1 j)))
 
   -- So does one that isn't carried out.

@@ -9,15 +9,15 @@ use Rattle.checkpoint.specs.declared.fault.OpenFault.TheVariants.{Device, TooSho
 use Rattle.checkpoint.specs.declared.inspecting.Shown.{Shown}
 use Rattle.checkpoint.specs.declared.loading.Loaded.{Loaded}
 use Rattle.checkpoint.specs.Header.{HasHeader, header_of, is_header}
-use Rattle.checkpoint.specs.Loading.{IsFaultOfBytes, IsOfHalf, IsOfHeader, are_chained, image_fault, in_force_fault, records_fault}
-use Rattle.checkpoint.specs.Recovery.{apply, recovered_state, means}
-use Rattle.checkpoint.specs.Refusals.{IsDevice, IsRefused, fault_if, fault_or_later, first_bad_piece, first_bad_record, refused}
+use Rattle.checkpoint.specs.Loading.{IsConsistentFault, IsOfHalf, IsOfHeader, are_both_chained, image_fault, in_force_fault, records_fault}
+use Rattle.checkpoint.specs.Recovery.{apply, recovered_state, decoding}
+use Rattle.checkpoint.specs.Refusals.{IsWholeDevice, IsRefused, fault_if, fault_or_later, first_bad_piece, first_bad_record, refused}
 use Rattle.checkpoint.specs.Shown.{IsLoaded, IsShown, ShowsLoaded}
 use Rattle.checkpoint.proofs.Replays.{fault_from}
 use Rattle.image.specs.Image.{has_head, read, version_in}
 use Rattle.messages.specs.declared.Msg.TheVariants.{Summary}
 use Rattle.oplog.specs.Front.{chain, front}
-use Rattle.device_map.specs.Layout.{Layout, layout_of, device_size, header, image, other, part_bytes}
+use Rattle.device_map.specs.Layout.{Layout, layout_of, device_size, header_part, image_part, other, part_bytes}
 use Rattle.oplog.specs.Recovery.{in_force, is_laid_out, named_area, run}
 use Rattle.oplog.proofs.Kept.{run-append}
 use Rattle.parcel.specs.Tree.{state_in}
@@ -39,32 +39,31 @@ two_first : (t : Bool) (f : OpenFault) (k : ℕ → OpenFault) (o : Option ℕ) 
 two_first true f k o later e is = is
 two_first false f k o later e is = first_of k o later e is
 
-two_none : (t : Bool) (f : OpenFault) (k : ℕ → OpenFault) (o : Option ℕ) (later : Option OpenFault)
-    → fault_if t f (fault_or_later k o None) ≡ None → fault_if t f (fault_or_later k o later) ≡ later
+two_none : (t : Bool) (f : OpenFault) (k : ℕ → OpenFault) (o : Option ℕ) (later : Option OpenFault) → fault_if t f (fault_or_later k o None) ≡ None → fault_if t f (fault_or_later k o later) ≡ later
 two_none true f k o later is = cc
 two_none false f k None later is = refl
 two_none false f k (Some n) later is = cc
 
 -- ---- the chain bytes
 
-pub one_not : (l : Layout) (c : List ℕ) (n : ℕ) → n < 2 → (chain l n c == 1) ≡ false → are_chained l c ≡ false
+pub one_not : (l : Layout) (c : List ℕ) (n : ℕ) → n < 2 → (chain l n c == 1) ≡ false → are_both_chained l c ≡ false
 one_not l c zero is_half is = and_left (chain l 0 c == 1) (chain l 1 c == 1) is
 one_not l c (suc zero) is_half is = and_right (chain l 0 c == 1) (chain l 1 c == 1) is
 one_not l c (suc (suc n)) is_half is = absurd (omega (arith, is_half))
 
-pub both_are : (l : Layout) (c : List ℕ) (n : ℕ) → n < 2 → (chain l n c == 1) ≡ true → (chain l (other n) c == 1) ≡ true → are_chained l c ≡ true
+pub both_are : (l : Layout) (c : List ℕ) (n : ℕ) → n < 2 → (chain l n c == 1) ≡ true → (chain l (other n) c == 1) ≡ true → are_both_chained l c ≡ true
 both_are l c zero is_half here there = λ i. here i && there i
 both_are l c (suc zero) is_half here there = λ i. there i && here i
 both_are l c (suc (suc n)) is_half here there = absurd (omega (arith, is_half))
 
 -- ---- the records in force
 
-none_here : (g : Geometry) (rs : List (List ℕ)) (i : ℕ) (y : State) (o : Option State) → ((z : State) → run (means g) (Some z) rs ≡ Some y → first_bad_record g (suc i) (Some z) rs ≡ None)
-    → run (means g) o rs ≡ Some y → (if is_some o then first_bad_record g (suc i) o rs else Some i) ≡ None
+none_here : (g : Geometry) (rs : List (List ℕ)) (i : ℕ) (y : State) (o : Option State) → ((z : State) → run (decoding g) (Some z) rs ≡ Some y → first_bad_record g (suc i) (Some z) rs ≡ None)
+    → run (decoding g) o rs ≡ Some y → (if is_some o then first_bad_record g (suc i) o rs else Some i) ≡ None
 none_here g rs i y None later ran = cc
 none_here g rs i y (Some z) later ran = later z ran
 
-none_bad : (g : Geometry) (rs : List (List ℕ)) (i : ℕ) (o : Option State) (y : State) → run (means g) o rs ≡ Some y → first_bad_record g i o rs ≡ None
+none_bad : (g : Geometry) (rs : List (List ℕ)) (i : ℕ) (o : Option State) (y : State) → run (decoding g) o rs ≡ Some y → first_bad_record g i o rs ≡ None
 none_bad g rs i None y is = refl
 none_bad g [] i (Some x) y is = refl
 none_bad g (r ∷ rs) i (Some x) y is = none_here g rs i y (apply g x r) (λ z ran. none_bad g rs (suc i) (Some z) y ran) is
@@ -76,14 +75,14 @@ module _ (g : Geometry) (x : State) (n : ℕ) (c : List ℕ) where
   abbrev pub behind : Bool → Option State → Option OpenFault
   behind chained o = fault_or_later (BadRecord (other n)) (first_bad_record g 0 o (if chained then front l (other n) c else [])) None
 
-  pub named_refused : (e : OpenFault) → IsFaultOfBytes (records_fault g x n (front l n c)) e → IsFaultOfBytes (in_force_fault g x n c) e
-  named_refused = fault_from _ _ (first_of (BadRecord n) (first_bad_record g 0 (Some x) (front l n c)) (behind (chain l n c == 1) (run (means g) (Some x) (front l n c))))
+  pub named_refused : (e : OpenFault) → IsConsistentFault (records_fault g x n (front l n c)) e → IsConsistentFault (in_force_fault g x n c) e
+  named_refused = fault_from _ _ (first_of (BadRecord n) (first_bad_record g 0 (Some x) (front l n c)) (behind (chain l n c == 1) (run (decoding g) (Some x) (front l n c))))
 
   -- once the records of the named half were run
-  module _ (y : State) (ran : run (means g) (Some x) (front l n c) ≡ Some y) where
+  module _ (y : State) (ran : run (decoding g) (Some x) (front l n c) ≡ Some y) where
     pub named_sound : in_force_fault g x n c ≡ behind (chain l n c == 1) (Some y)
     named_sound =
-        ap (λ (o : Option ℕ). fault_or_later (BadRecord n) o (behind (chain l n c == 1) (run (means g) (Some x) (front l n c)))) (none_bad g (front l n c) 0 (Some x) y ran)
+        ap (λ (o : Option ℕ). fault_or_later (BadRecord n) o (behind (chain l n c == 1) (run (decoding g) (Some x) (front l n c)))) (none_bad g (front l n c) 0 (Some x) y ran)
         ∙ ap (λ (o : Option State). behind (chain l n c == 1) o) ran
 
     pub alone_sound : (chain l n c == 1) ≡ false → in_force_fault g x n c ≡ None
@@ -92,14 +91,14 @@ module _ (g : Geometry) (x : State) (n : ℕ) (c : List ℕ) where
     pub alone_count : (chain l n c == 1) ≡ false → length (front l n c) ≡ length (in_force l n c)
     alone_count alone = ap (λ (rs : List (List ℕ)). length rs) (sym (cond-false (chain l n c == 1) (front l n c ++ front l (other n) c) (front l n c) alone))
 
-    pub alone_ran : (chain l n c == 1) ≡ false → run (means g) (Some x) (in_force l n c) ≡ Some y
-    alone_ran alone = ap (λ (rs : List (List ℕ)). run (means g) (Some x) rs) (cond-false (chain l n c == 1) (front l n c ++ front l (other n) c) (front l n c) alone) ∙ ran
+    pub alone_ran : (chain l n c == 1) ≡ false → run (decoding g) (Some x) (in_force l n c) ≡ Some y
+    alone_ran alone = ap (λ (rs : List (List ℕ)). run (decoding g) (Some x) rs) (cond-false (chain l n c == 1) (front l n c ++ front l (other n) c) (front l n c) alone) ∙ ran
 
-    pub other_refused : (chain l n c == 1) ≡ true → (e : OpenFault) → IsFaultOfBytes (records_fault g y (other n) (front l (other n) c)) e → IsFaultOfBytes (in_force_fault g x n c) e
+    pub other_refused : (chain l n c == 1) ≡ true → (e : OpenFault) → IsConsistentFault (records_fault g y (other n) (front l (other n) c)) e → IsConsistentFault (in_force_fault g x n c) e
     other_refused chained = fault_from _ _ (λ e is. named_sound ∙ ap (λ (t : Bool). behind t (Some y)) chained ∙ is)
 
     -- and then those of the other half
-    module _ (chained : (chain l n c == 1) ≡ true) (z : State) (more : run (means g) (Some y) (front l (other n) c) ≡ Some z) where
+    module _ (chained : (chain l n c == 1) ≡ true) (z : State) (more : run (decoding g) (Some y) (front l (other n) c) ≡ Some z) where
       pub both_sound : in_force_fault g x n c ≡ None
       both_sound =
           named_sound ∙ ap (λ (t : Bool). behind t (Some y)) chained
@@ -111,23 +110,23 @@ module _ (g : Geometry) (x : State) (n : ℕ) (c : List ℕ) where
       pub both_count : length (front l n c) + length (front l (other n) c) ≡ length (in_force l n c)
       both_count = sym (ap (λ (rs : List (List ℕ)). length rs) both_there ∙ length-append (front l n c) (front l (other n) c))
 
-      pub both_ran : run (means g) (Some x) (in_force l n c) ≡ Some z
+      pub both_ran : run (decoding g) (Some x) (in_force l n c) ≡ Some z
       both_ran =
-          ap (λ (rs : List (List ℕ)). run (means g) (Some x) rs) both_there ∙ run-append (means g) (Some x) (front l n c) (front l (other n) c)
-          ∙ ap (λ (o : Option State). run (means g) o (front l (other n) c)) ran ∙ more
+          ap (λ (rs : List (List ℕ)). run (decoding g) (Some x) rs) both_there ∙ run-append (decoding g) (Some x) (front l n c) (front l (other n) c)
+          ∙ ap (λ (o : Option State). run (decoding g) o (front l (other n) c)) ran ∙ more
 
 -- ---- an image
 
-pub head_refused : (g : Geometry) (bytes : List ℕ) (e : OpenFault) → IsFaultOfBytes (fault_if (not (has_head bytes)) BadVersion None) e → IsFaultOfBytes (image_fault g bytes) e
+pub head_refused : (g : Geometry) (bytes : List ℕ) (e : OpenFault) → IsConsistentFault (fault_if (not (has_head bytes)) BadVersion None) e → IsConsistentFault (image_fault g bytes) e
 head_refused g bytes = fault_from _ _ (first_if (not (has_head bytes)) BadVersion (fault_or_later BadPiece (first_bad_piece g bytes) None))
 
 pub pieces_refused : (g : Geometry) (bytes : List ℕ) → has_head bytes ≡ true → (e : OpenFault)
-    → IsFaultOfBytes (fault_or_later BadPiece (first_bad_piece g bytes) None) e → IsFaultOfBytes (image_fault g bytes) e
+    → IsConsistentFault (fault_or_later BadPiece (first_bad_piece g bytes) None) e → IsConsistentFault (image_fault g bytes) e
 pieces_refused g bytes head = fault_from _ _ (λ e is. ap (λ (t : Bool). fault_if (not t) BadVersion (fault_or_later BadPiece (first_bad_piece g bytes) None)) head ∙ is)
 
 -- ---- a device
 
-pub refused_with : (g : Geometry) (c : List ℕ) → HasHeader g c → 128 ≤ length c → (e : OpenFault) → IsFaultOfBytes (refused g c) e → IsRefused c e
+pub refused_with : (g : Geometry) (c : List ℕ) → HasHeader g c → 128 ≤ length c → (e : OpenFault) → IsConsistentFault (refused g c) e → IsRefused c e
 refused_with g c head long Device is = tt
 refused_with g c head long OutOfMemory is = tt
 refused_with g c head long NotFormatted is = absurd is
@@ -140,30 +139,30 @@ refused_with g c head long (BadRecord h i) is = record { geometry = g; long = lo
 
 module _ (g : Geometry) (c : List ℕ) (head : HasHeader g c) (long : device_size (layout_of g) ≤ length c) (n : ℕ) (names : n ≡ named_area (layout_of g) c) where
   abbrev bytes : List ℕ
-  bytes = part_bytes (layout_of g) (image n) c
+  bytes = part_bytes (layout_of g) (image_part n) c
 
   records_of : ℕ → Option State → Option OpenFault
   records_of k o =
       fault_or_later (BadRecord k) (first_bad_record g 0 o (front (layout_of g) k c))
-      (fault_or_later (BadRecord (other k)) (first_bad_record g 0 (run (means g) o (front (layout_of g) k c)) (if chain (layout_of g) k c == 1 then front (layout_of g) (other k) c else [])) None)
+      (fault_or_later (BadRecord (other k)) (first_bad_record g 0 (run (decoding g) o (front (layout_of g) k c)) (if chain (layout_of g) k c == 1 then front (layout_of g) (other k) c else [])) None)
 
   behind_image : ℕ → Option OpenFault
-  behind_image k = fault_if (are_chained (layout_of g) c) BadChain (records_of k (read g (part_bytes (layout_of g) (image k) c)))
+  behind_image k = fault_if (are_both_chained (layout_of g) c) BadChain (records_of k (read g (part_bytes (layout_of g) (image_part k) c)))
 
-  tests_of : ℕ → Option OpenFault
-  tests_of k =
-      fault_if (not (has_head (part_bytes (layout_of g) (image k) c))) BadVersion
-      (fault_or_later BadPiece (first_bad_piece g (part_bytes (layout_of g) (image k) c)) (behind_image k))
+  checks_of : ℕ → Option OpenFault
+  checks_of k =
+      fault_if (not (has_head (part_bytes (layout_of g) (image_part k) c))) BadVersion
+      (fault_or_later BadPiece (first_bad_piece g (part_bytes (layout_of g) (image_part k) c)) (behind_image k))
 
-  opened : refused g c ≡ tests_of n
-  unfolding tests_of behind_image records_of
-  opened = cond-false (nat_lt (length c) (device_size (layout_of g))) (Some TooShort) _ (le-ltb (length c) (device_size (layout_of g)) long) ∙ ap tests_of (sym names)
+  opened : refused g c ≡ checks_of n
+  unfolding checks_of behind_image records_of
+  opened = cond-false (nat_lt (length c) (device_size (layout_of g))) (Some TooShort) _ (le-ltb (length c) (device_size (layout_of g)) long) ∙ ap checks_of (sym names)
 
   enough : 128 ≤ length c
   enough = omega (arith, long)
 
-  pub image_refused : (e : OpenFault) → IsFaultOfBytes (image_fault g bytes) e → IsRefused c e
-  unfolding tests_of behind_image records_of
+  pub image_refused : (e : OpenFault) → IsConsistentFault (image_fault g bytes) e → IsRefused c e
+  unfolding checks_of behind_image records_of
   image_refused e is =
       refused_with g c head enough e
       (fault_from _ _ (λ f it. opened ∙ two_first (not (has_head bytes)) BadVersion BadPiece (first_bad_piece g bytes) (behind_image n) f it) e is)
@@ -171,35 +170,35 @@ module _ (g : Geometry) (c : List ℕ) (head : HasHeader g c) (long : device_siz
   -- once the image was read
   module _ (good : image_fault g bytes ≡ None) where
     past_image : refused g c ≡ behind_image n
-    unfolding tests_of behind_image records_of
+    unfolding checks_of behind_image records_of
     past_image = opened ∙ two_none (not (has_head bytes)) BadVersion BadPiece (first_bad_piece g bytes) (behind_image n) good
 
-    pub chain_refused : (e : OpenFault) → IsFaultOfBytes (fault_if (are_chained (layout_of g) c) BadChain None) e → IsRefused c e
+    pub chain_refused : (e : OpenFault) → IsConsistentFault (fault_if (are_both_chained (layout_of g) c) BadChain None) e → IsRefused c e
     unfolding behind_image
     chain_refused e is =
         refused_with g c head enough e
-        (fault_from _ _ (λ f it. past_image ∙ first_if (are_chained (layout_of g) c) BadChain (records_of n (read g bytes)) f it) e is)
+        (fault_from _ _ (λ f it. past_image ∙ first_if (are_both_chained (layout_of g) c) BadChain (records_of n (read g bytes)) f it) e is)
 
     -- and no more than one half is chained
-    module _ (x : State) (decoded : read g bytes ≡ Some x) (one : are_chained (layout_of g) c ≡ false) where
+    module _ (x : State) (decoded : read g bytes ≡ Some x) (one : are_both_chained (layout_of g) c ≡ false) where
       pub past_chain : refused g c ≡ in_force_fault g x n c
-      unfolding tests_of behind_image records_of
-      past_chain = past_image ∙ cond-false (are_chained (layout_of g) c) (Some BadChain) (records_of n (read g bytes)) one ∙ ap (λ (o : Option State). records_of n o) decoded
+      unfolding checks_of behind_image records_of
+      past_chain = past_image ∙ cond-false (are_both_chained (layout_of g) c) (Some BadChain) (records_of n (read g bytes)) one ∙ ap (λ (o : Option State). records_of n o) decoded
 
-      pub records_refused : (e : OpenFault) → IsFaultOfBytes (in_force_fault g x n c) e → IsRefused c e
+      pub records_refused : (e : OpenFault) → IsConsistentFault (in_force_fault g x n c) e → IsRefused c e
       records_refused e is = refused_with g c head enough e (fault_from _ _ (λ f it. past_chain ∙ it) e is)
 
       pub not_refused : in_force_fault g x n c ≡ None → refused g c ≡ None
       not_refused is = past_chain ∙ is
 
-      pub recovers_for : (y : State) → run (means g) (Some x) (in_force (layout_of g) n c) ≡ Some y → recovered_state g c ≡ Some y
+      pub recovers_for : (y : State) → run (decoding g) (Some x) (in_force (layout_of g) n c) ≡ Some y → recovered_state g c ≡ Some y
       recovers_for y ran =
-          let is_head : is_header g (part_bytes (layout_of g) header c) ≡ true = (bytes_eq-Decides (part_bytes (layout_of g) header c) (header_of g)).1 head in
+          let is_head : is_header g (part_bytes (layout_of g) header_part c) ≡ true = (bytes_eq-Decides (part_bytes (layout_of g) header_part c) (header_of g)).1 head in
           let whole : nat_le (device_size (layout_of g)) (length c) ≡ true = le-leb (device_size (layout_of g)) (length c) long in
-          let laid_out : is_laid_out (means g) (layout_of g) c ≡ true = λ i. is_head i && whole i && not (one i) in
-          ap (λ (k : ℕ). if is_laid_out (means g) (layout_of g) c then run (means g) (read g (part_bytes (layout_of g) (image k) c)) (in_force (layout_of g) k c) else None) (sym names)
-          ∙ ap (λ (t : Bool). if t then run (means g) (read g bytes) (in_force (layout_of g) n c) else None) laid_out
-          ∙ ap (λ (o : Option State). run (means g) o (in_force (layout_of g) n c)) decoded ∙ ran
+          let laid_out : is_laid_out (decoding g) (layout_of g) c ≡ true = λ i. is_head i && whole i && not (one i) in
+          ap (λ (k : ℕ). if is_laid_out (decoding g) (layout_of g) c then run (decoding g) (read g (part_bytes (layout_of g) (image_part k) c)) (in_force (layout_of g) k c) else None) (sym names)
+          ∙ ap (λ (t : Bool). if t then run (decoding g) (read g bytes) (in_force (layout_of g) n c) else None) laid_out
+          ∙ ap (λ (o : Option State). run (decoding g) o (in_force (layout_of g) n c)) decoded ∙ ran
 
 -- ---- what is reported of it
 
@@ -209,7 +208,7 @@ shown c l s is told = record {
   sound = ap (λ (g : Geometry). refused g c) told.geometry ∙ is.sound;
   area = told.area ∙ is.area ∙ ap (λ (g : Geometry). named_area (layout_of g) c) (sym told.geometry);
   records = told.records ∙ is.records ∙ sym (λ i. length (in_force (layout_of (told.geometry i)) (told.area i) c));
-  version = told.version ∙ is.version ∙ sym (λ i. version_in (part_bytes (layout_of (told.geometry i)) (image (told.area i)) c));
+  version = told.version ∙ is.version ∙ sym (λ i. version_in (part_bytes (layout_of (told.geometry i)) (image_part (told.area i)) c));
   state = state_in l.tree;
   held = ap (λ (g : Geometry). recovered_state g c) told.geometry ∙ is.state;
   summary = told.summary ∙ ap (λ (g : Geometry). reply_to g (state_in l.tree) Summary) (sym told.geometry);
@@ -217,12 +216,12 @@ shown c l s is told = record {
 
 -- of a tree whose geometry is that of the header
 pub loaded : {g : Geometry} {c : List ℕ} {l : Loaded} → l.tree.geometry ≡ g → HasHeader g c → refused g c ≡ None → l.area ≡ named_area (layout_of g) c
-    → l.version ≡ version_in (part_bytes (layout_of g) (image l.area) c) → l.records ≡ length (in_force (layout_of g) l.area c) → recovered_state g c ≡ Some (state_in l.tree) → IsLoaded c l
+    → l.version ≡ version_in (part_bytes (layout_of g) (image_part l.area) c) → l.records ≡ length (in_force (layout_of g) l.area c) → recovered_state g c ≡ Some (state_in l.tree) → IsLoaded c l
 loaded {c} {l} same head sound area version records state = record {
   header = subst (λ (h : Geometry). HasHeader h c) (sym same) head;
   sound = ap (λ (h : Geometry). refused h c) same ∙ sound;
   area = area ∙ ap (λ (h : Geometry). named_area (layout_of h) c) (sym same);
-  version = version ∙ ap (λ (h : Geometry). version_in (part_bytes (layout_of h) (image l.area) c)) (sym same);
+  version = version ∙ ap (λ (h : Geometry). version_in (part_bytes (layout_of h) (image_part l.area) c)) (sym same);
   records = records ∙ ap (λ (h : Geometry). length (in_force (layout_of h) l.area c)) (sym same);
   state = ap (λ (h : Geometry). recovered_state h c) same ∙ state;
 }
@@ -230,7 +229,7 @@ loaded {c} {l} same head sound area version records state = record {
 -- ---- of which half a bad record is
 
 -- the faults of the head and the pieces of an image are of no record
-pub image_half : (n : ℕ) (t : Bool) (o : Option ℕ) (e : OpenFault) → IsFaultOfBytes (fault_if t BadVersion (fault_or_later BadPiece o None)) e → IsOfHalf n e
+pub image_half : (n : ℕ) (t : Bool) (o : Option ℕ) (e : OpenFault) → IsConsistentFault (fault_if t BadVersion (fault_or_later BadPiece o None)) e → IsOfHalf n e
 image_half n true o (BadRecord h i) is = cc
 image_half n false None (BadRecord h i) is = cc
 image_half n false (Some k) (BadRecord h i) is = cc
@@ -244,7 +243,7 @@ image_half n t o (BadPiece k) is = tt
 image_half n t o BadChain is = tt
 
 -- nor is the fault of the chain bytes
-pub chain_half : (n : ℕ) (t : Bool) (e : OpenFault) → IsFaultOfBytes (fault_if t BadChain None) e → IsOfHalf n e
+pub chain_half : (n : ℕ) (t : Bool) (e : OpenFault) → IsConsistentFault (fault_if t BadChain None) e → IsOfHalf n e
 chain_half n true (BadRecord h i) is = cc
 chain_half n false (BadRecord h i) is = cc
 chain_half n t Device is = tt
@@ -257,7 +256,7 @@ chain_half n t (BadPiece k) is = tt
 chain_half n t BadChain is = tt
 
 -- the fault of the records of a half is of one of that half
-pub records_half : (n : ℕ) (o : Option ℕ) (e : OpenFault) → IsFaultOfBytes (fault_or_later (BadRecord n) o None) e → IsOfHalf n e
+pub records_half : (n : ℕ) (o : Option ℕ) (e : OpenFault) → IsConsistentFault (fault_or_later (BadRecord n) o None) e → IsOfHalf n e
 records_half n None (BadRecord h i) is = cc
 records_half n (Some k) (BadRecord h i) is = sym (ap half_in is)
   where
@@ -300,6 +299,6 @@ never_out_of_memory BadChain is same = is
 never_out_of_memory (BadRecord h i) is same = is
 
 -- Behind the header, any refusal is one of a device with all its parts.
-pub behind_header : {T : Type 0} (r : Result T OpenFault) (keeps : Type 0) (c : List ℕ) → (keeps → IsDevice c) → IfErr r (λ e. e ≡ OutOfMemory → keeps → IsDevice c)
+pub behind_header : {T : Type 0} (r : Result T OpenFault) (keeps : Type 0) (c : List ℕ) → (keeps → IsWholeDevice c) → IfErr r (λ e. e ≡ OutOfMemory → keeps → IsWholeDevice c)
 behind_header (Ok v) keeps c held = tt
 behind_header (Err e) keeps c held = λ is. held

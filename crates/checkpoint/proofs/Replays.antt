@@ -5,8 +5,8 @@ use Rattle.std.proofs.lemmas.List.{drop_more}
 use Rattle.affinity.specs.declared.geometry.Geometry.{Geometry}
 use Rattle.checkpoint.specs.declared.fault.OpenFault.{OpenFault}
 use Rattle.checkpoint.specs.declared.fault.OpenFault.TheVariants.{Device, TooShort, NotFormatted, BadGeometry, OutOfMemory, BadVersion, BadPiece, BadChain, BadRecord}
-use Rattle.checkpoint.specs.Loading.{IsFaultOfBytes, record_fault, records_fault}
-use Rattle.checkpoint.specs.Recovery.{apply, means}
+use Rattle.checkpoint.specs.Loading.{IsConsistentFault, record_fault, records_fault}
+use Rattle.checkpoint.specs.Recovery.{apply, decoding}
 use Rattle.checkpoint.specs.Refusals.{fault_if, fault_or_later, first_bad_record}
 use Rattle.disk.specs.Device.{Medium, Moment, moments}
 use Rattle.oplog.specs.Front.{front, record_at}
@@ -29,7 +29,7 @@ same_bytes old new same = ap (λ (ms : List Moment). now_in ms) same
 -- ---- faults
 
 -- A fault that was looked for alone comes of those that are looked for later too.
-pub fault_from : (o p : Option OpenFault) → ((e : OpenFault) → o ≡ Some e → p ≡ Some e) → (e : OpenFault) → IsFaultOfBytes o e → IsFaultOfBytes p e
+pub fault_from : (o p : Option OpenFault) → ((e : OpenFault) → o ≡ Some e → p ≡ Some e) → (e : OpenFault) → IsConsistentFault o e → IsConsistentFault p e
 fault_from o p gives Device is = tt
 fault_from o p gives OutOfMemory is = tt
 fault_from o p gives NotFormatted is = absurd is
@@ -50,8 +50,8 @@ module _ (g : Geometry) (h i : ℕ) (x : State) (r : List ℕ) (rs : List (List 
       by None is = is
       by (Some y) is = cc
 
-  runs : (y : State) → apply g x r ≡ Some y → run (means g) (Some x) (r ∷ rs) ≡ run (means g) (Some y) rs
-  runs y is = ap (λ (o : Option State). run (means g) o rs) is
+  runs : (y : State) → apply g x r ≡ Some y → run (decoding g) (Some x) (r ∷ rs) ≡ run (decoding g) (Some y) rs
+  runs y is = ap (λ (o : Option State). run (decoding g) o rs) is
 
   good_here : (y : State) → apply g x r ≡ Some y → first_bad_record g i (Some x) (r ∷ rs) ≡ first_bad_record g (i + 1) (Some y) rs
   good_here y is =
@@ -63,7 +63,7 @@ module _ (g : Geometry) (h i : ℕ) (x : State) (r : List ℕ) (rs : List (List 
 module _ (g : Geometry) (l : Layout) (h : ℕ) (c : List ℕ) (x0 : State) where
   -- what is left of it, from state x on, is as the whole of it
   pub record IsAt (i : ℕ) (x : State) : Type 0 where
-    pub ran : run (means g) (Some x0) (front l h c) ≡ run (means g) (Some x) (drop i (front l h c))
+    pub ran : run (decoding g) (Some x0) (front l h c) ≡ run (decoding g) (Some x) (drop i (front l h c))
     pub first : first_bad_record g 0 (Some x0) (front l h c) ≡ first_bad_record g i (Some x) (drop i (front l h c))
 
   next : (i : ℕ) → i < length (front l h c) → drop i (front l h c) ≡ record_at l h i c ∷ drop (i + 1) (front l h c)
@@ -74,12 +74,12 @@ module _ (g : Geometry) (l : Layout) (h : ℕ) (c : List ℕ) (x0 : State) where
 
   pub at_next : (i : ℕ) (x y : State) → i < length (front l h c) → apply g x (record_at l h i c) ≡ Some y → IsAt i x → IsAt (i + 1) y
   at_next i x y few is before = record {
-    ran = before.ran ∙ ap (λ (rs : List (List ℕ)). run (means g) (Some x) rs) (next i few) ∙ runs g h i x (record_at l h i c) (drop (i + 1) (front l h c)) y is;
+    ran = before.ran ∙ ap (λ (rs : List (List ℕ)). run (decoding g) (Some x) rs) (next i few) ∙ runs g h i x (record_at l h i c) (drop (i + 1) (front l h c)) y is;
     first = before.first ∙ ap (λ (rs : List (List ℕ)). first_bad_record g i (Some x) rs) (next i few) ∙ good_here g h i x (record_at l h i c) (drop (i + 1) (front l h c)) y is;
   }
 
   pub bad_at : (i : ℕ) (x : State) → i < length (front l h c) → IsAt i x → (e : OpenFault)
-      → IsFaultOfBytes (record_fault g x h i (record_at l h i c)) e → IsFaultOfBytes (records_fault g x0 h (front l h c)) e
+      → IsConsistentFault (record_fault g x h i (record_at l h i c)) e → IsConsistentFault (records_fault g x0 h (front l h c)) e
   bad_at i x few before =
       fault_from _ _
       (λ e is.
@@ -96,6 +96,6 @@ module _ {a b : Log} (log : b ≡ a) {c d : List ℕ} (bytes : d ≡ c) (half : 
     pub apply_same : apply h x (record_at (layout b) half i d) ≡ apply g x (record_at (layout a) half i c)
     apply_same = λ j. apply (geometry j) x (record_at (layout (log j)) half i (bytes j))
 
-    pub record_fault_same : (e : OpenFault) → IsFaultOfBytes (record_fault h x half i (record_at (layout b) half i d)) e
-        → IsFaultOfBytes (record_fault g x half i (record_at (layout a) half i c)) e
-    record_fault_same e = subst (λ (o : Option OpenFault). IsFaultOfBytes o e) (λ j. record_fault (geometry j) x half i (record_at (layout (log j)) half i (bytes j)))
+    pub record_fault_same : (e : OpenFault) → IsConsistentFault (record_fault h x half i (record_at (layout b) half i d)) e
+        → IsConsistentFault (record_fault g x half i (record_at (layout a) half i c)) e
+    record_fault_same e = subst (λ (o : Option OpenFault). IsConsistentFault o e) (λ j. record_fault (geometry j) x half i (record_at (layout (log j)) half i (bytes j)))

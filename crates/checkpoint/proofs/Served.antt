@@ -4,9 +4,9 @@ use Rattle.affinity.specs.declared.geometry.Geometry.{Geometry}
 use Rattle.affinity.specs.declared.kinds.Kind.{Kind}
 use Rattle.affinity.specs.Interval.{Interval, IsAffinityOf}
 use Rattle.affinity.specs.Path.{Path}
-use Rattle.affinity.specs.Place.{place as place_of}
+use Rattle.affinity.specs.Place.{path_of_kind}
 use Rattle.messages.specs.declared.Msg.{Msg}
-use Rattle.messages.specs.Messages.{IsMessage, kind, four_numbers, place}
+use Rattle.messages.specs.Messages.{IsMessage, kind, four_numbers, path_of}
 use Rattle.parcel.specs.Fits.{Fits, IsKindOf}
 use Rattle.parcel.specs.Nodes.{Nodes, tree_state}
 use Rattle.parcel.specs.Run.{JobView, IsJobRun, IsSerialStep}
@@ -21,32 +21,32 @@ use Rattle.meaning.specs.State.{IsState}
 use Rattle.affinity.proofs.Preorder.{path_unique}
 
 -- the affinity that was asked for is that of the message's place
-pub placed : {g : Geometry} (m : Msg) {k : Kind} {n : List ℕ} {a : Interval} → k ≡ kind m → n ≡ four_numbers m → IsAffinityOf g (place_of g k n) a → IsAffinityOf g (place g m) a
-placed {g} m {n} {a} k_is n_is there = subst (λ (l : List ℕ). IsAffinityOf g (place_of g (kind m) l) a) n_is (subst (λ (j : Kind). IsAffinityOf g (place_of g j n) a) k_is there)
+pub placed : {g : Geometry} (m : Msg) {k : Kind} {n : List ℕ} {a : Interval} → k ≡ kind m → n ≡ four_numbers m → IsAffinityOf g (path_of_kind g k n) a → IsAffinityOf g (path_of g m) a
+placed {g} m {n} {a} k_is n_is there = subst (λ (l : List ℕ). IsAffinityOf g (path_of_kind g (kind m) l) a) n_is (subst (λ (j : Kind). IsAffinityOf g (path_of_kind g j n) a) k_is there)
 
 module _ {g : Geometry} {m : Msg} {s : Standing} {l : Parcels} {job : JobView} (is : job ≡ record { geometry = g; ticket = 0; message = m; standing = s; parcels = l })
-    {a : Interval} (there : IsAffinityOf g (place g m) a) {done : Done} (ran : IsJobRun job done) {old lent : Nodes}
+    {a : Interval} (there : IsAffinityOf g (path_of g m) a) {done : Done} (ran : IsJobRun job done) {old lent : Nodes}
     {h : Geometry} (same : g ≡ h) (took : (p : Path) → IsAffinityOf h p a → LendsAt h p s l old lent) where
   -- what was lent by the tree of a geometry that is the same
   lends : LendsJob job old lent
   lends =
       subst (λ (j : JobView). LendsJob j old lent) (sym is)
-      (subst (λ (i : Geometry). (p : Path) → IsAffinityOf i p a → LendsAt i p s l old lent) (sym same) took (place g m) there)
+      (subst (λ (i : Geometry). (p : Path) → IsAffinityOf i p a → LendsAt i p s l old lent) (sym same) took (path_of g m) there)
 
   -- what was run goes back
-  pub goes_back : CanBeRestored g (place g m) done.parcels lent
+  pub goes_back : CanBeRestored g (path_of g m) done.parcels lent
   goes_back = subst (λ (j : JobView). CanBeRestored j.geometry (job_place j) done.parcels lent) is (ran_goes_back job done old lent lends ran)
 
   module _ {k : Geometry} (alike : g ≡ k) {r : Parcels} (is_done : r ≡ done.parcels) where
     pub fits_there : (q : Path) → IsAffinityOf k q a → IsKindOf q r → Fits k q r
     fits_there =
         subst (λ (i : Geometry). (q : Path) → IsAffinityOf i q a → IsKindOf q r → Fits i q r) alike
-        (λ q at kind_is. subst (λ (x : Parcels). Fits g q x) (sym is_done) (subst (λ (p : Path). Fits g p done.parcels) (path_unique g (place g m) q a there at) goes_back.fits))
+        (λ q at kind_is. subst (λ (x : Parcels). Fits g q x) (sym is_done) (subst (λ (p : Path). Fits g p done.parcels) (path_unique g (path_of g m) q a there at) goes_back.fits))
 
     -- so a refusal to put it back can't come
     pub goes : ((q : Path) → IsAffinityOf k q a → IsOut q lent → IsKindOf q r → ⊥) → ⊥
     goes refused =
-        refused (place g m) (subst (λ (i : Geometry). IsAffinityOf i (place g m) a) alike there) goes_back.out (subst (λ (x : Parcels). IsKindOf (place g m) x) (sym is_done) goes_back.kind)
+        refused (path_of g m) (subst (λ (i : Geometry). IsAffinityOf i (path_of g m) a) alike there) goes_back.out (subst (λ (x : Parcels). IsKindOf (path_of g m) x) (sym is_done) goes_back.kind)
 
     -- the whole of it
     module _ {new : Nodes} (put : (q : Path) → IsAffinityOf k q a → RestoresAt k q r lent new) where
@@ -55,8 +55,8 @@ module _ {g : Geometry} {m : Msg} {s : Standing} {l : Parcels} {job : JobView} (
         taken = lends;
         ran = ran;
         put = subst (λ (j : JobView). RestoresAt j.geometry (job_place j) done.parcels lent new) (sym is)
-            (subst (λ (x : Parcels). RestoresAt g (place g m) x lent new) is_done
-            (subst (λ (i : Geometry). (q : Path) → IsAffinityOf i q a → RestoresAt i q r lent new) (sym alike) put (place g m) there));
+            (subst (λ (x : Parcels). RestoresAt g (path_of g m) x lent new) is_done
+            (subst (λ (i : Geometry). (q : Path) → IsAffinityOf i q a → RestoresAt i q r lent new) (sym alike) put (path_of g m) there));
       }
 
       pub stepped : IsSerialStep h (tree_state h old) m done.reply (tree_state h new)

@@ -1,4 +1,4 @@
--- A device whose gate is shut, and the writes of that gate.
+-- A device that isn't formatted, and the writes of the format byte.
 use Rattle.std.proofs.Common.{◌≡◌, ◌≢◌, ◌⊎◌, ℕ, ◌+◌, ◌-◌, ◌<◌, ◌≤◌, List, [], ◌∷◌, length, take, drop, get_or, slice_range, inl, inr, ⊎_elim, refl, sym, ◌∙◌, ap, subst, arith}
 use Rattle.std.proofs.lemmas.Bool.{cases_eq}
 use Rattle.std.proofs.lemmas.List.{get_or-take}
@@ -10,7 +10,7 @@ use Rattle.disk.proofs.Leaves.{synced_left, itself}
 use Rattle.disk.proofs.Moments.{started, then, weaker}
 use Rattle.disk.proofs.Outside.{same_item}
 use Rattle.disk.proofs.Overlays.{item-overlaid, length-overlaid}
-use Rattle.oplog.specs.Changes.{ChangesOnly}
+use Rattle.oplog.specs.Changes.{CrashesChangeOnly}
 use Rattle.oplog.specs.Store.{Stored}
 
 -- lists that differ at most in their first item, and not in that
@@ -20,29 +20,29 @@ same_first [] (y ∷ ys) same first = absurd (omega (arith, same.size))
 same_first (x ∷ xs) [] same first = absurd (omega (arith, same.size))
 same_first (x ∷ xs) (y ∷ ys) same first = λ i. first i ∷ same.after i
 
--- The first byte of an open gate is written: it is open still, or shut.
+-- The format byte is written where it was 1: it still is, or it isn't.
 pub torn_gate : (old c : List ℕ) → get_or old 0 0 ≡ 1 → SameOutside 0 1 old c → (c ≡ old) ⊎ HasNoFormatByte (length old) c
 torn_gate old c was same =
     ⊎_elim
-    (λ (is_open : get_or c 0 0 ≡ 1). inl (same_first old c same (is_open ∙ sym was)))
-    (λ (shut : get_or c 0 0 ≢ 1). inr (record { size = same.size; gate = shut }))
+    (λ (is_formatted : get_or c 0 0 ≡ 1). inl (same_first old c same (is_formatted ∙ sym was)))
+    (λ (shut : get_or c 0 0 ≢ 1). inr (record { size = same.size; first_byte = shut }))
     (cases_eq (get_or c 0 0) 1)
 
 -- what a crash may leave of a device of which nothing is unsynced, and whose first byte is not 1
 pub synced_shut : (n : ℕ) (m : Medium) → IsSynced m → length m.now ≡ n → get_or m.now 0 0 ≢ 1 → StaysUnformatted n m
 synced_shut n m synced long shut c left =
     let is : c ≡ m.now = synced_left m c synced left in
-    record { size = ap length is ∙ long; gate = λ is_open. shut (sym (ap (λ (l : List ℕ). get_or l 0 0) is) ∙ is_open) }
+    record { size = ap length is ∙ long; first_byte = λ is_formatted. shut (sym (ap (λ (l : List ℕ). get_or l 0 0) is) ∙ is_formatted) }
 
--- the gate once 0 is stored there
+-- the format byte once 0 is stored there
 pub stored_shut : (n : ℕ) (w0 w1 : Medium) → 0 < length w0.now → length w0.now ≡ n → Stored 0 (0 ∷ []) w0 w1 → StaysUnformatted n w1
 stored_shut n w0 w1 some long stored =
     synced_shut n w1 stored.synced (ap length stored.now ∙ length-overlaid w0.now 0 (0 ∷ []) ∙ long)
-    (λ is_open. let zero : get_or w1.now 0 0 ≡ 0 = ap (λ (l : List ℕ). get_or l 0 0) stored.now ∙ item-overlaid w0.now 0 0 0 [] some in absurd (omega (arith, zero, is_open)))
+    (λ is_formatted. let zero : get_or w1.now 0 0 ≡ 0 = ap (λ (l : List ℕ). get_or l 0 0) stored.now ∙ item-overlaid w0.now 0 0 0 [] some in absurd (omega (arith, zero, is_formatted)))
 
--- While an open gate is shut, behind a sync: the old device, or a shut one.
+-- While a format byte of 1 is cleared, behind a sync: the old device, or one that isn't formatted.
 pub shutting : {w0 w1 w2 : Medium} → AreBytes w0.now → IsSynced w1 → w1.now ≡ w0.now → get_or w1.now 0 0 ≡ 1
-    → CrashImagesAre w0 w1 (λ c. IsCrashImage w0 c ⊎ HasNoFormatByte (length w0.now) c) → ChangesOnly w1 w2 (SameOutside 0 1)
+    → CrashImagesAre w0 w1 (λ c. IsCrashImage w0 c ⊎ HasNoFormatByte (length w0.now) c) → CrashesChangeOnly w1 w2 (SameOutside 0 1)
     → CrashImagesAre w0 w2 (λ c. IsCrashImage w0 c ⊎ HasNoFormatByte (length w0.now) c)
 shutting {w0} {w1} {w2} are synced kept was begun moments =
     then w0 w1 w2 _ begun
@@ -55,17 +55,17 @@ shutting {w0} {w1} {w2} are synced kept was begun moments =
     (λ (shut : HasNoFormatByte (length w0.now) c). inr shut)
     (torn_gate w0.now c (sym (ap (λ (l : List ℕ). get_or l 0 0) kept) ∙ was) change)))
 
--- What is written behind the gate of a shut device leaves it shut.
-pub still_shut : (n : ℕ) (w0 w1 : Medium) (at k : ℕ) → 1 ≤ at → StaysUnformatted n w0 → ChangesOnly w0 w1 (SameOutside at k) → CrashImagesAre w0 w1 (HasNoFormatByte n)
+-- What is written behind the format byte of a device that isn't formatted leaves it unformatted.
+pub still_shut : (n : ℕ) (w0 w1 : Medium) (at k : ℕ) → 1 ≤ at → StaysUnformatted n w0 → CrashesChangeOnly w0 w1 (SameOutside at k) → CrashImagesAre w0 w1 (HasNoFormatByte n)
 still_shut n w0 w1 at k behind shut moments =
     weaker w0 w1 _ _ moments
     (λ c after.
     let was = shut after.old after.left in
-    record { size = after.change.size ∙ was.size; gate = λ is_open. was.gate (sym (same_item at k after.old c after.change 0 0 (omega (arith, behind))) ∙ is_open) })
+    record { size = after.change.size ∙ was.size; first_byte = λ is_formatted. was.first_byte (sym (same_item at k after.old c after.change 0 0 (omega (arith, behind))) ∙ is_formatted) })
 
 pub shut_unformatted : (n : ℕ) (c : List ℕ) → 128 ≤ n → HasNoFormatByte n c → IsUnformatted c
 shut_unformatted n c long shut =
-    (omega (arith, long, shut.size), λ marks. shut.gate (sym (get_or-take 8 c 0 0 (omega arith)) ∙ ap (λ (l : List ℕ). get_or l 0 0) marks))
+    (omega (arith, long, shut.size), λ marks. shut.first_byte (sym (get_or-take 8 c 0 0 (omega arith)) ∙ ap (λ (l : List ℕ). get_or l 0 0) marks))
 
 -- before the first call
 pub begun : (m : Medium) → CrashImagesAre m m (λ c. IsCrashImage m c ⊎ HasNoFormatByte (length m.now) c)

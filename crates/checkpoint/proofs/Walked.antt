@@ -4,10 +4,10 @@ use Rattle.std.specs.Prelude.{if◌then◌else◌}
 use Rattle.std.proofs.lemmas.Bool.{and_parts, cases_lt, cond-false, cond-true, eqb-true, false_from_ne_true, false≢true, or_cases}
 use Rattle.std.proofs.lemmas.List.{length-drop, length-take, length-take-le}
 use Rattle.affinity.specs.declared.geometry.Geometry.{Geometry}
-use Rattle.affinity.specs.Geometry.{group}
+use Rattle.affinity.specs.Geometry.{stripe_of}
 use Rattle.checkpoint.specs.declared.fault.OpenFault.{OpenFault}
 use Rattle.checkpoint.specs.declared.fault.OpenFault.TheVariants.{BadPiece}
-use Rattle.checkpoint.specs.Loading.{IsFaultOfBytes}
+use Rattle.checkpoint.specs.Loading.{IsConsistentFault}
 use Rattle.checkpoint.specs.Refusals.{fault_or_later, first_bad, first_bad_piece}
 use Rattle.disk.specs.Device.{AreBytes}
 use Rattle.disk.proofs.Bytes.{bytes-range, bytes_by_recursion}
@@ -17,17 +17,17 @@ use Rattle.image.proofs.Joining.{piece_inside, whole_image}
 use Rattle.image.proofs.Numbers.{number_there}
 use Rattle.image.proofs.Walk.{good_is_read, good_is_seen}
 use Rattle.messages.specs.Messages.{AreSizedBytes as Holds}
-use Rattle.device_map.specs.Layout.{device_size, image, layout_of, part_bytes, part_at, part_size, slice}
+use Rattle.device_map.specs.Layout.{device_size, image_part, layout_of, part_bytes, part_at, part_size, slice}
 use Rattle.oplog.proofs.Slices.{image_sized, part_inside, slice_slice}
 use Rattle.meaning.specs.State.{State, empty, is_block_of}
 
 -- ---- where pieces lie
 
-pub piece_there : (g : Geometry) (number n : ℕ) {at : ℕ} (now : List ℕ) {out : List ℕ} → number < 2 → n < piece_count g → at ≡ part_at (layout_of g) (image number) + piece_at g n
-    → out ≡ slice now at (piece_size g n) → out ≡ piece_in g (part_bytes (layout_of g) (image number) now) n
+pub piece_there : (g : Geometry) (number n : ℕ) {at : ℕ} (now : List ℕ) {out : List ℕ} → number < 2 → n < piece_count g → at ≡ part_at (layout_of g) (image_part number) + piece_at g n
+    → out ≡ slice now at (piece_size g n) → out ≡ piece_in g (part_bytes (layout_of g) (image_part number) now) n
 piece_there g number n now is_image below place is =
     is ∙ ap (λ (a : ℕ). slice now a (piece_size g n)) place
-    ∙ sym (slice_slice now (part_at (layout_of g) (image number)) (part_size (layout_of g) (image number)) (piece_at g n) (piece_size g n)
+    ∙ sym (slice_slice now (part_at (layout_of g) (image_part number)) (part_size (layout_of g) (image_part number)) (piece_at g n) (piece_size g n)
     (omega (arith, piece_inside g n below, image_sized (layout_of g) number is_image)))
 
 -- ---- volumes of which no piece was taken in have no block
@@ -55,7 +55,7 @@ module _ (version : ℕ) (g : Geometry) (n : ℕ) (x : State) (bytes : List ℕ)
       by : (m f b : ℕ) → n + 1 ≤ m → part_of g m ≡ 0 → (p : ℕ) → (with_part version g x (aggregate_of g n) (volume_of g n) p bytes).blocks (aggregate_of g m, volume_of g m, f, b) ≡ None
       by m f b behind part zero = before.blocks m f b (omega (arith, behind)) part
       by m f b behind part (suc s) =
-          ap (λ (t : Bool). if t && (group g f b == s) then block_in g bytes f b else x.blocks (aggregate_of g m, volume_of g m, f, b)) (apart m behind part f b)
+          ap (λ (t : Bool). if t && (stripe_of g f b == s) then block_in g bytes f b else x.blocks (aggregate_of g m, volume_of g m, f, b)) (apart m behind part f b)
           ∙ before.blocks m f b (omega (arith, behind)) part
 
 -- ---- one piece
@@ -110,7 +110,7 @@ good_next g bytes n good here i few =
 -- ---- what a step of the walk gives, by a tree's own geometry
 
 module _ {g h : Geometry} (same : h ≡ g) (number n : ℕ) {at size : ℕ} (buffer : List ℕ) (is_image : number < 2) (below : n < piece_count g)
-    (place : at ≡ part_at (layout_of g) (image number) + piece_at g n) (sized : size ≡ piece_size h n) where
+    (place : at ≡ part_at (layout_of g) (image_part number) + piece_at g n) (sized : size ≡ piece_size h n) where
   its_size : size ≡ piece_size g n
   its_size = sized ∙ ap (λ (k : Geometry). piece_size k n) same
 
@@ -123,17 +123,16 @@ module _ {g h : Geometry} (same : h ≡ g) (number n : ℕ) {at size : ℕ} (buf
         length-take size buffer,
         piece_inside g n below,
         image_sized (layout_of g) number is_image,
-        part_inside (layout_of g) (image number),
+        part_inside (layout_of g) (image_part number),
         long,
       )
 
-  pub read_there : {now seen out : List ℕ} → size ≤ length buffer → seen ≡ now → out ≡ slice seen at (length (take size buffer))
-      → out ≡ piece_in g (part_bytes (layout_of g) (image number) now) n
+  pub read_there : {now seen out : List ℕ} → size ≤ length buffer → seen ≡ now → out ≡ slice seen at (length (take size buffer)) → out ≡ piece_in g (part_bytes (layout_of g) (image_part number) now) n
   read_there {now} room are is =
       let long : length (take size buffer) ≡ piece_size g n = omega (arith, length-take size buffer, room, its_size) in
       piece_there g number n now is_image below place (is ∙ (λ i. slice (are i) at (long i)))
 
-  pub next_place : (len : ℕ) → size ≤ length buffer → len ≡ length (take size buffer) → at + len ≡ part_at (layout_of g) (image number) + piece_at g (n + 1)
+  pub next_place : (len : ℕ) → size ≤ length buffer → len ≡ length (take size buffer) → at + len ≡ part_at (layout_of g) (image_part number) + piece_at g (n + 1)
   next_place len room is =
       let more : piece_at g (n + 1) ≡ piece_at g (suc n) = ap (λ (k : ℕ). piece_at g k) (add-one n) in
       omega (arith, place, its_size, length-take size buffer, room, is, more)
@@ -148,9 +147,9 @@ module _ {g h : Geometry} (same : h ≡ g) (bytes : List ℕ) (n : ℕ) {version
   decoded_turn is = is ∙ ap (λ (k : Geometry). with_piece version k x n out) same ∙ decoded_next g bytes n ver below so_far there
 
   pub bad_queued : (out ≡ piece_of version h (with_piece version h x n out) n → false ≡ true) → AreGood g bytes n → (e : OpenFault) → e ≡ BadPiece n
-      → IsFaultOfBytes (fault_or_later BadPiece (first_bad_piece g bytes) None) e
+      → IsConsistentFault (fault_or_later BadPiece (first_bad_piece g bytes) None) e
   bad_queued bad good e is =
-      subst (λ (f : OpenFault). IsFaultOfBytes (fault_or_later BadPiece (first_bad_piece g bytes) None) f) (sym is)
+      subst (λ (f : OpenFault). IsConsistentFault (fault_or_later BadPiece (first_bad_piece g bytes) None) f) (sym is)
       (ap (λ (o : Option ℕ). fault_or_later BadPiece o None)
       (bad_piece g bytes n below good
       (is_bad_here g bytes n ver below so_far there
@@ -164,14 +163,13 @@ free_queued version {g} {n} {x} same out is before =
 
 module _ (g : Geometry) (number : ℕ) (now : List ℕ) (is_image : number < 2) (long : device_size (layout_of g) ≤ length now) (are : AreBytes now) where
   abbrev bytes : List ℕ
-  bytes = part_bytes (layout_of g) (image number) now
+  bytes = part_bytes (layout_of g) (image_part number) now
 
   pub image_bytes : Holds (piece_at g (piece_count g)) bytes
   image_bytes =
-      let at = part_at (layout_of g) (image number) in
-      let size = part_size (layout_of g) (image number) in (
-        length-take-le size (drop at now) (omega (arith, length-drop at now, long, part_inside (layout_of g) (image number)))
-            ∙ image_sized (layout_of g) number is_image ∙ sym (whole_image g),
+      let at = part_at (layout_of g) (image_part number) in
+      let size = part_size (layout_of g) (image_part number) in (
+        length-take-le size (drop at now) (omega (arith, length-drop at now, long, part_inside (layout_of g) (image_part number))) ∙ image_sized (layout_of g) number is_image ∙ sym (whole_image g),
         bytes_by_recursion bytes (bytes-range at size now are),
       )
 

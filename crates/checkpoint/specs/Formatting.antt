@@ -5,34 +5,34 @@ use Rattle.checkpoint.specs.Header.{header_of}
 use Rattle.checkpoint.specs.Recovery.{recovered_state}
 use Rattle.checkpoint.specs.Refusals.{IsUnformatted}
 use Rattle.disk.specs.Device.{Medium, IsCrashImage}
-use Rattle.device_map.specs.Layout.{slice, layout_of, part_at, half, image, image_size}
+use Rattle.device_map.specs.Layout.{slice, layout_of, part_at, half_part, image_part, image_size}
 use Rattle.meaning.specs.State.{empty}
 
--- What a crash before might have left, what isn't formatted, or a sound device that recovers to the empty state.
+-- What a crash of the device `before` leaves, what isn't formatted, or a sound device that recovers to the empty state.
 abbrev pub FormatCrashImages : Geometry → Medium → List ℕ → Type 0
 FormatCrashImages g before c = IsCrashImage before c ⊎ (IsUnformatted c ⊎ (recovered_state g c ≡ Some empty))
 
 -- n bytes, the first of them not 1
 pub record HasNoFormatByte (n : ℕ) (c : List ℕ) : Type 0 where
   pub size : length c ≡ n
-  pub gate : get_or c 0 0 ≢ 1
+  pub first_byte : get_or c 0 0 ≢ 1
 
--- so is whatever a crash leaves now
+-- Whatever a crash leaves now is n bytes, the first of them not 1.
 abbrev pub StaysUnformatted : ℕ → Medium → Type 0
 StaysUnformatted n m = (c : List ℕ) → IsCrashImage m c → HasNoFormatByte n c
 
--- These bytes are there.
+-- These bytes lie at offset `at`.
 abbrev pub HasBytesAt : List ℕ → ℕ → List ℕ → Type 0
 HasBytesAt c at bytes = slice c at (length bytes) ≡ bytes
 
--- All of an empty device but for its header: zeros from the root zone to the gates of half 0, in the chain area and
+-- All of an empty device but for its header: zeros from the root zone to the gates of half 0, in the chain zone and
 -- gates of half 1, and in the image but for the version.
 pub record IsAllButHeader (g : Geometry) (c : List ℕ) : Type 0 where
   pub root : HasBytesAt c 64 (replicate (64 + (64 + g.half)) 0)
-  pub one : HasBytesAt c (part_at (layout_of g) (half 1)) (replicate (64 + g.half) 0)
-  pub image : HasBytesAt c (part_at (layout_of g) (image 0)) (2 ∷ replicate (image_size g - 1) 0)
+  pub one : HasBytesAt c (part_at (layout_of g) (half_part 1)) (replicate (64 + g.half) 0)
+  pub image : HasBytesAt c (part_at (layout_of g) (image_part 0)) (2 ∷ replicate (image_size g - 1) 0)
 
--- and the header behind its gate byte
+-- All of an empty device but for its first byte, the format byte.
 pub record IsAllButFormatByte (g : Geometry) (c : List ℕ) : Type 0 where
   pub laid : IsAllButHeader g c
   pub header : HasBytesAt c 1 (drop 1 (header_of g))

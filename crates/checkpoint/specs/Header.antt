@@ -1,4 +1,4 @@
--- Format for operators: The header of a device: that it is formatted, and the numbers of its server.
+-- Format for operators: The header of a device: that it is formatted, and its server's geometry.
 use Rattle.std.specs.Prelude.{◌≡◌, ℕ, Bool, List, [], ◌∷◌, ◌++◌, take, replicate}
 use Rattle.std.specs.List.{flat_map}
 use Rattle.std.specs.Str.{bytes_eq}
@@ -6,7 +6,7 @@ use Rattle.affinity.specs.Geometry.{numbers_of}
 use Rattle.affinity.specs.declared.geometry.Geometry.{Geometry}
 use Rattle.byteorder.specs.Endian.{little_bytes}
 
--- the gate byte of a formatted device, and `WAFFSRV`
+-- the format byte of a formatted device, 1, and `WAFFSRV`
 abbrev pub magic : List ℕ
 magic = 1 ∷ 87 ∷ 65 ∷ 70 ∷ 70 ∷ 83 ∷ 82 ∷ 86 ∷ []
 
@@ -14,9 +14,11 @@ magic = 1 ∷ 87 ∷ 65 ∷ 70 ∷ 70 ∷ 83 ∷ 82 ∷ 86 ∷ []
 abbrev pub number_bytes : Geometry → List ℕ
 number_bytes g = flat_map (little_bytes 2) (numbers_of g)
 
+-- the header of a device of this geometry: the magic, its numbers and 40 zeros
 abbrev pub header_of : Geometry → List ℕ
 header_of g = magic ++ number_bytes g ++ replicate 40 0
 
+-- whether these bytes are the header of this geometry
 abbrev pub is_header : Geometry → List ℕ → Bool
 is_header g bytes = bytes_eq bytes (header_of g)
 

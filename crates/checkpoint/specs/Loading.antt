@@ -4,14 +4,14 @@ use Rattle.affinity.specs.declared.geometry.Geometry.{Geometry}
 use Rattle.checkpoint.specs.declared.fault.OpenFault.{OpenFault}
 use Rattle.checkpoint.specs.declared.fault.OpenFault.TheVariants.{Device, TooShort, NotFormatted, BadGeometry, OutOfMemory, BadVersion, BadPiece, BadRecord}
 use Rattle.checkpoint.specs.Header.{HasHeader}
-use Rattle.checkpoint.specs.Recovery.{apply, means}
+use Rattle.checkpoint.specs.Recovery.{apply, decoding}
 use Rattle.checkpoint.specs.Refusals.{fault_if, fault_or_later, first_bad_piece, first_bad_record}
 use Rattle.disk.specs.Device.{Medium}
 use Rattle.image.specs.Image.{has_head, read}
 use Rattle.oplog.specs.declared.fault.LogFault.{LogFault}
 use Rattle.oplog.specs.declared.fault.LogFault.TheVariants as log
 use Rattle.oplog.specs.Front.{chain, front}
-use Rattle.device_map.specs.Layout.{Layout, device_size, image, layout_of, other, part_bytes}
+use Rattle.device_map.specs.Layout.{Layout, device_size, image_part, layout_of, other, part_bytes}
 use Rattle.oplog.specs.Recovery.{named_area, run}
 use Rattle.meaning.specs.State.{State}
 
@@ -26,14 +26,13 @@ CountsOpenFault (Err _) old new = new ≡ old
 abbrev pub IsOpeningCall : {T : Type 0} → Result T OpenFault → Medium → Medium → Type 0
 IsOpeningCall result old new = CountsOpenFault result old.faults new.faults × (length new.now ≡ length old.now)
 
--- This fault is the one that the bytes of a device with a header give. They show neither a device that fails nor want of
--- memory.
-abbrev pub IsFaultOfBytes : Option OpenFault → OpenFault → Type 0
-IsFaultOfBytes given Device = Unit {0}
-IsFaultOfBytes given OutOfMemory = Unit {0}
-IsFaultOfBytes given NotFormatted = ⊥
-IsFaultOfBytes given BadGeometry = ⊥
-IsFaultOfBytes given fault = given ≡ Some fault
+-- This fault is the given one, which the bytes of a device with a header show, or `Device` or `OutOfMemory`, which bytes don't show.
+abbrev pub IsConsistentFault : Option OpenFault → OpenFault → Type 0
+IsConsistentFault given Device = Unit {0}
+IsConsistentFault given OutOfMemory = Unit {0}
+IsConsistentFault given NotFormatted = ⊥
+IsConsistentFault given BadGeometry = ⊥
+IsConsistentFault given fault = given ≡ Some fault
 
 -- The device failed, or the fault is one of its header: nothing behind it was looked at, and no memory taken.
 abbrev pub IsOfHeader : OpenFault → Type 0
@@ -66,8 +65,8 @@ abbrev pub image_fault : Geometry → List ℕ → Option OpenFault
 image_fault g bytes = fault_if (not (has_head bytes)) BadVersion (fault_or_later BadPiece (first_bad_piece g bytes) None)
 
 -- the chain bytes of both halves are 1
-abbrev pub are_chained : Layout → List ℕ → Bool
-are_chained l c = (chain l 0 c == 1) && (chain l 1 c == 1)
+abbrev pub are_both_chained : Layout → List ℕ → Bool
+are_both_chained l c = (chain l 0 c == 1) && (chain l 1 c == 1)
 
 -- the fault of the first record in force that can't be run where it is, from a state on, with area n as the named one
 abbrev pub in_force_fault : Geometry → State → ℕ → List ℕ → Option OpenFault
@@ -75,7 +74,7 @@ in_force_fault g x n c =
     let l = layout_of g in
     fault_or_later (BadRecord n) (first_bad_record g 0 (Some x) (front l n c))
     (fault_or_later (BadRecord (other n))
-    (first_bad_record g 0 (run (means g) (Some x) (front l n c)) (if chain l n c == 1 then front l (other n) c else [])) None)
+    (first_bad_record g 0 (run (decoding g) (Some x) (front l n c)) (if chain l n c == 1 then front l (other n) c else [])) None)
 
 -- A device with these bytes has a header of this geometry and all its parts, this is its named area, and whether its half is
 -- chained. The image there is sound, at most one half is chained, and the records of the named half lead from the state of
@@ -85,8 +84,8 @@ pub record NamedHolds (g : Geometry) (c : List ℕ) (area : ℕ) (chained : Bool
   pub long_enough : device_size (layout_of g) ≤ length c
   pub named : area ≡ named_area (layout_of g) c
   pub chain : chained ≡ (chain (layout_of g) area c == 1)
-  pub one : are_chained (layout_of g) c ≡ false
-  pub sound : image_fault g (part_bytes (layout_of g) (image area) c) ≡ None
+  pub one : are_both_chained (layout_of g) c ≡ false
+  pub sound : image_fault g (part_bytes (layout_of g) (image_part area) c) ≡ None
   pub first : State
-  pub decoded : read g (part_bytes (layout_of g) (image area) c) ≡ Some first
-  pub ran : run (means g) (Some first) (front (layout_of g) area c) ≡ Some x
+  pub decoded : read g (part_bytes (layout_of g) (image_part area) c) ≡ Some first
+  pub ran : run (decoding g) (Some first) (front (layout_of g) area c) ≡ Some x

@@ -9,13 +9,14 @@ use Rattle.messages.specs.Messages.{is_in_range}
 use Rattle.message.specs.Records.{message_in_fields, record_of}
 use Rattle.device_map.specs.Layout.{layout_of}
 use Rattle.oplog.specs.Recovery.{Decoding, recovers}
-use Rattle.meaning.specs.Serial.{is_loggable, next_state, reply_to}
+use Rattle.meaning.specs.Serial.{is_recorded, next_state, reply_to}
 use Rattle.meaning.specs.State.{State}
 
 -- The bytes are the record of the message, which is in range, changing, and carried out in this state.
 abbrev pub is_record_there : Geometry → State → List ℕ → Msg → Bool
-is_record_there g x bytes m = bytes_eq bytes (record_of m) && is_in_range g m && is_loggable m (reply_to g x m)
+is_record_there g x bytes m = bytes_eq bytes (record_of m) && is_in_range g m && is_recorded m (reply_to g x m)
 
+-- the state after these bytes, whose fields decode to this message; none where they aren't its record, or it can't be run in the state
 abbrev pub apply_decoded : Geometry → State → List ℕ → Option Msg → Option State
 apply_decoded g x bytes None = None
 apply_decoded g x bytes (Some m) = if is_record_there g x bytes m then Some (next_state g x m) else None
@@ -24,10 +25,10 @@ apply_decoded g x bytes (Some m) = if is_record_there g x bytes m then Some (nex
 abbrev pub apply : Geometry → State → List ℕ → Option State
 apply g x bytes = apply_decoded g x bytes (message_in_fields bytes)
 
--- what images, records and headers mean
-abbrev pub means : Geometry → Decoding State
-means g = record { read = read g; apply = apply g; is_header = is_header g }
+-- how images, records and headers are decoded
+abbrev pub decoding : Geometry → Decoding State
+decoding g = record { read = read g; apply = apply g; is_header = is_header g }
 
 -- the state that a device of this geometry recovers to; none where its header, length, chain bytes, image or a record in force is bad
 abbrev pub recovered_state : Geometry → List ℕ → Option State
-recovered_state g c = recovers (means g) (layout_of g) c
+recovered_state g c = recovers (decoding g) (layout_of g) c

@@ -4,15 +4,15 @@ use Rattle.affinity.specs.declared.geometry.Geometry.{Geometry}
 use Rattle.checkpoint.specs.declared.fault.OpenFault.{OpenFault}
 use Rattle.checkpoint.specs.declared.fault.OpenFault.TheVariants.{Device, TooShort, NotFormatted, BadGeometry, OutOfMemory, BadVersion, BadPiece, BadChain, BadRecord}
 use Rattle.checkpoint.specs.Header.{HasHeader, magic}
-use Rattle.checkpoint.specs.Recovery.{apply, means}
+use Rattle.checkpoint.specs.Recovery.{apply, decoding}
 use Rattle.image.specs.Image.{has_head, is_good, read}
 use Rattle.image.specs.Pieces.{piece_count}
 use Rattle.oplog.specs.Front.{chain, front}
-use Rattle.device_map.specs.Layout.{layout_of, part_bytes, device_size, image, other}
+use Rattle.device_map.specs.Layout.{layout_of, part_bytes, device_size, image_part, other}
 use Rattle.oplog.specs.Recovery.{named_area, run}
 use Rattle.meaning.specs.State.{State}
 
--- the least of n numbers from i on that fails
+-- the least of the n numbers from i on that isn't good
 abbrev pub first_bad : (ℕ → Bool) → ℕ → ℕ → Option ℕ
 first_bad is_good i zero = None
 first_bad is_good i (suc n) = if is_good i then first_bad is_good (suc i) n else Some i
@@ -29,9 +29,11 @@ first_bad_record g i (Some x) (r ∷ rs) = if is_some (apply g x r) then first_b
 
 -- ---- one test after another
 
+-- this fault if the test holds, else the later one
 abbrev pub fault_if : Bool → OpenFault → Option OpenFault → Option OpenFault
 fault_if test fault later = if test then Some fault else later
 
+-- the fault of this number if there is one, else the later one
 abbrev pub fault_or_later : (ℕ → OpenFault) → Option ℕ → Option OpenFault → Option OpenFault
 fault_or_later fault None later = later
 fault_or_later fault (Some n) later = Some (fault n)
@@ -41,37 +43,37 @@ abbrev pub refused : Geometry → List ℕ → Option OpenFault
 refused g c =
     let l = layout_of g in
     let n = named_area l c in
-    let bytes = part_bytes l (image n) c in
+    let bytes = part_bytes l (image_part n) c in
     let chained = if chain l n c == 1 then front l (other n) c else [] in
     fault_if (nat_lt (length c) (device_size l)) TooShort
     (fault_if (not (has_head bytes)) BadVersion
     (fault_or_later BadPiece (first_bad_piece g bytes)
     (fault_if ((chain l 0 c == 1) && (chain l 1 c == 1)) BadChain
     (fault_or_later (BadRecord n) (first_bad_record g 0 (read g bytes) (front l n c))
-    (fault_or_later (BadRecord (other n)) (first_bad_record g 0 (run (means g) (read g bytes) (front l n c)) chained) None)))))
+    (fault_or_later (BadRecord (other n)) (first_bad_record g 0 (run (decoding g) (read g bytes) (front l n c)) chained) None)))))
 
--- The device is long enough for a header, and doesn't begin with the marks of a formatted one.
+-- The device is long enough for a header, and doesn't begin with the magic.
 abbrev pub IsUnformatted : List ℕ → Type 0
 IsUnformatted c = (128 ≤ length c) × (take 8 c ≢ magic)
 
--- It begins with these marks, and no geometry has its header.
+-- The device begins with the magic, and no geometry has its header.
 abbrev pub HasNoGeometry : List ℕ → Type 0
 HasNoGeometry c = (128 ≤ length c) × (take 8 c ≡ magic) × ((g : Geometry) → HasHeader g c → ⊥)
 
--- It has the header of a geometry, and is long enough for all its parts.
-pub record IsDevice (c : List ℕ) : Type 0 where
+-- The device has the header of a geometry, and is long enough for all its parts.
+pub record IsWholeDevice (c : List ℕ) : Type 0 where
   pub geometry : Geometry
   pub header : HasHeader geometry c
   pub parts : device_size (layout_of geometry) ≤ length c
 
--- It has the header of a geometry, and is refused with this fault.
+-- The device has the header of a geometry, and is refused with this fault.
 pub record IsRefusedWith (c : List ℕ) (fault : OpenFault) : Type 0 where
   pub geometry : Geometry
   pub long : 128 ≤ length c
   pub header : HasHeader geometry c
   pub is : refused geometry c ≡ Some fault
 
--- This fault is the answer to these bytes. They show neither a device that fails nor want of memory.
+-- This fault is a right answer to these bytes. `Device` and `OutOfMemory` always are, as bytes show neither.
 abbrev pub IsRefused : List ℕ → OpenFault → Type 0
 IsRefused c Device = Unit {0}
 IsRefused c OutOfMemory = Unit {0}

@@ -7,7 +7,7 @@ use Rattle.checkpoint.specs.Recovery.{recovered_state}
 use Rattle.checkpoint.specs.Refusals.{refused}
 use Rattle.image.specs.Image.{version_in}
 use Rattle.messages.specs.declared.Msg.TheVariants.{Summary}
-use Rattle.device_map.specs.Layout.{layout_of, image, part_bytes}
+use Rattle.device_map.specs.Layout.{layout_of, image_part, part_bytes}
 use Rattle.oplog.specs.Recovery.{in_force, named_area}
 use Rattle.parcel.specs.Tree.{state_in}
 use Rattle.meaning.specs.Serial.{reply_to}
@@ -18,11 +18,11 @@ pub record IsLoaded (c : List ℕ) (l : Loaded) : Type 0 where
   pub header : HasHeader l.tree.geometry c
   pub sound : refused l.tree.geometry c ≡ None
   pub area : l.area ≡ named_area (layout_of l.tree.geometry) c
-  pub version : l.version ≡ version_in (part_bytes (layout_of l.tree.geometry) (image l.area) c)
+  pub version : l.version ≡ version_in (part_bytes (layout_of l.tree.geometry) (image_part l.area) c)
   pub records : l.records ≡ length (in_force (layout_of l.tree.geometry) l.area c)
   pub state : recovered_state l.tree.geometry c ≡ Some (state_in l.tree)
 
--- This is reported of what was loaded.
+-- The report s is of what was loaded.
 pub record ShowsLoaded (l : Loaded) (s : Shown) : Type 0 where
   pub geometry : s.geometry ≡ l.tree.geometry
   pub area : s.area ≡ l.area
@@ -36,9 +36,9 @@ pub record IsShown (c : List ℕ) (s : Shown) : Type 0 where
   pub header : HasHeader s.geometry c
   pub sound : refused s.geometry c ≡ None
   pub area : s.area ≡ named_area (layout_of s.geometry) c
-  -- the front of the named half, and where that one is chained, of the other half
+  -- those in the front of the named half and, where that half is chained, in the front of the other
   pub records : s.records ≡ length (in_force (layout_of s.geometry) s.area c)
-  pub version : s.version ≡ version_in (part_bytes (layout_of s.geometry) (image s.area) c)
+  pub version : s.version ≡ version_in (part_bytes (layout_of s.geometry) (image_part s.area) c)
   pub state : State
   pub held : recovered_state s.geometry c ≡ Some state
   pub summary : s.summary ≡ reply_to s.geometry state Summary

@@ -40,7 +40,7 @@ pub enum OpenFault {
     /// The device is shorter than its header and root zone, or than the parts that its header gives.
     #[error("device too short")]
     TooShort,
-    /// The device doesn't begin with the marks of a formatted one.
+    /// The device doesn't begin with the magic of a formatted one.
     #[error("not formatted")]
     NotFormatted,
     /// No geometry has this header: one of its numbers is out of range, or the bytes after them aren't all zero.

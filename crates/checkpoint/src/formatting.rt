@@ -1,7 +1,7 @@
 //! How a device is made.
 //!
-//! The gate of its header is shut first and opened last, each with a sync of its own before and after it. So a crash
-//! leaves the old device, or one whose gate is shut, or the whole new one.
+//! Its format byte is cleared first and set last, each with a sync of its own before and after it. So a crash leaves the
+//! old device, or one that isn't formatted, or the whole new one.
 ghost use Rattle.std.specs.Prelude.{◌≡◌, ◌≢◌, ◌⊎◌, ◌↔◌, ◌+◌, ◌-◌, ◌<◌, ◌≤◌, Some, length, replicate, OnOk, IfOk, IfErr, MatchResult, IsErrOf, IsFalse, IsTrue};
 ghost use Rattle.affinity.specs.declared.geometry.Geometry.{Geometry};
 ghost use Rattle.checkpoint.specs.Formatting.{FormatCrashImages, IsAllButHeader, HasNoFormatByte, StaysUnformatted};
@@ -10,15 +10,15 @@ ghost use Rattle.checkpoint.specs.Version.{named_version};
 ghost use Rattle.disk.specs.Device.{IsDeviceCall, IsSynced, IsCrashImage, SameOutside, overlaid};
 ghost use Rattle.disk.specs.Moments.{CrashImagesAre};
 ghost use Rattle.oplog.specs.Beyond.{KeepsBeyond};
-ghost use Rattle.oplog.specs.Changes.{ChangesOnly};
+ghost use Rattle.oplog.specs.Changes.{CrashesChangeOnly};
 ghost use Rattle.device_map.specs.Layout.{Layout, device_size, layout_of};
 ghost use Rattle.meaning.specs.State.{empty};
 
-use crate::header::{OPEN, header_of};
+use crate::header::{FORMATTED, header_of};
 use crate::{FormatError, FormatFault};
 use affinity::Geometry;
 use device_map::{
-    CHAIN_AREA, ROOT_ZONE_AT, ROOT_ZONE_SIZE, device_len, half_at, image_at, image_size,
+    CHAIN_ZONE_SIZE, ROOT_ZONE_AT, ROOT_ZONE_SIZE, device_len, half_at, image_at, image_size,
 };
 use disk::{Disk, DiskFault};
 use image::layout::VERSION;
@@ -42,10 +42,8 @@ fn write_zeros<D: Disk>(disk: &mut D, zeros: &[u8], at: u64, count: usize) -> Re
     requires zeros { zeros.now ≡ replicate (length zeros.now) 0 }
     requires some { 0 < length zeros.now }
     requires inside { at + count ≤ length (D.medium disk.old).now }
-    ensures any_moment { D.keeps →
-        ChangesOnly (D.medium disk.old) (D.medium disk.new) (SameOutside at count) }
-    ensures written { OnOk result (D.keeps →
-        (D.medium disk.new).now ≡ overlaid (D.medium disk.old).now at (replicate count 0)) }
+    ensures any_moment { D.keeps → CrashesChangeOnly (D.medium disk.old) (D.medium disk.new) (SameOutside at count) }
+    ensures written { OnOk result (D.keeps → (D.medium disk.new).now ≡ overlaid (D.medium disk.old).now at (replicate count 0)) }
     ensures inside { IsErrOf result DiskFault.OutOfRange → ⊥ }
     ensures call { IsDeviceCall result (D.medium disk.old) (D.medium disk.new) }
 {
@@ -58,30 +56,29 @@ fn write_zeros<D: Disk>(disk: &mut D, zeros: &[u8], at: u64, count: usize) -> Re
     Ok(())
 }
 
-/// Whether this is the gate byte of a formatted device.
-fn is_open(gate: u8) -> bool
-    ensures open { IsTrue result → gate ≡ 1 }
-    ensures shut { IsFalse result → gate ≢ 1 }
+/// Whether this is the first byte of a formatted device.
+fn is_formatted(first_byte: u8) -> bool
+    ensures formatted { IsTrue result → first_byte ≡ 1 }
+    ensures unformatted { IsFalse result → first_byte ≢ 1 }
 {
-    gate == OPEN
+    first_byte == FORMATTED
 }
 
-/// Shuts the gate of the header where it is open. Any other first byte stays, since a torn write to
-/// it might open a gate that was shut.
-fn shut_gate<D: Disk>(disk: &mut D) -> Result<(), DiskFault>
+/// Clears the format byte where it is 1. Any other first byte stays, since a torn write to it might
+/// make it 1.
+fn clear_format_byte<D: Disk>(disk: &mut D) -> Result<(), DiskFault>
     requires { 0 < length (D.medium disk.old).now }
     ensures any_moment { D.keeps → CrashImagesAre (D.medium disk.old) (D.medium disk.new)
         (λ c. IsCrashImage (D.medium disk.old) c ⊎ HasNoFormatByte (length (D.medium disk.old).now) c) }
-    ensures shut { OnOk result (D.keeps →
-        StaysUnformatted (length (D.medium disk.old).now) (D.medium disk.new)) }
+    ensures unformatted { OnOk result (D.keeps → StaysUnformatted (length (D.medium disk.old).now) (D.medium disk.new)) }
     ensures beyond { D.keeps → (l : Layout) → KeepsBeyond l (D.medium disk.old) (D.medium disk.new) }
     ensures inside { IsErrOf result DiskFault.OutOfRange → ⊥ }
     ensures call { IsDeviceCall result (D.medium disk.old) (D.medium disk.new) }
 {
     disk.sync()?;
-    let mut gate = [0u8];
-    disk.read_at(0, &mut gate)?;
-    if is_open(gate[0]) {
+    let mut first_byte = [0u8];
+    disk.read_at(0, &mut first_byte)?;
+    if is_formatted(first_byte[0]) {
         store(disk, 0, &[0])?;
     }
     Ok(())
@@ -92,14 +89,14 @@ fn lay_out<D: Disk>(disk: &mut D, zeros: &[u8], g: &Geometry) -> Result<(), Disk
     requires zeros { zeros.now ≡ replicate (length zeros.now) 0 }
     requires some { 0 < length zeros.now }
     requires long_enough { device_size (layout_of g.now) ≤ length (D.medium disk.old).now }
-    ensures any_moment { D.keeps → ChangesOnly (D.medium disk.old) (D.medium disk.new)
+    ensures any_moment { D.keeps → CrashesChangeOnly (D.medium disk.old) (D.medium disk.new)
         (SameOutside 64 (device_size (layout_of g.now) - 64)) }
     ensures laid { OnOk result (D.keeps → IsAllButHeader g.now (D.medium disk.new).now) }
     ensures synced { OnOk result (D.keeps → IsSynced (D.medium disk.new)) }
     ensures inside { IsErrOf result DiskFault.OutOfRange → ⊥ }
     ensures call { IsDeviceCall result (D.medium disk.old) (D.medium disk.new) }
 {
-    let front = CHAIN_AREA + usize::from(g.half);
+    let front = CHAIN_ZONE_SIZE + usize::from(g.half);
     write_zeros(disk, zeros, ROOT_ZONE_AT, ROOT_ZONE_SIZE + front)?;
     write_zeros(disk, zeros, half_at(g, 1), front)?;
     write_zeros(disk, zeros, image_at(g, 0), image_size(g))?;
@@ -107,10 +104,10 @@ fn lay_out<D: Disk>(disk: &mut D, zeros: &[u8], g: &Geometry) -> Result<(), Disk
     Ok(())
 }
 
-/// Writes the header of a device that has all else, its gate last.
-fn open_gate<D: Disk>(disk: &mut D, g: &Geometry) -> Result<(), DiskFault>
+/// Writes the header of a device that has all else, the format byte last.
+fn write_header<D: Disk>(disk: &mut D, g: &Geometry) -> Result<(), DiskFault>
     requires long_enough { device_size (layout_of g.now) ≤ length (D.medium disk.old).now }
-    requires shut { D.keeps → StaysUnformatted (length (D.medium disk.old).now) (D.medium disk.old) }
+    requires unformatted { D.keeps → StaysUnformatted (length (D.medium disk.old).now) (D.medium disk.old) }
     requires laid { D.keeps → IsAllButHeader g.now (D.medium disk.old).now }
     ensures any_moment { D.keeps → CrashImagesAre (D.medium disk.old) (D.medium disk.new)
         (λ c. HasNoFormatByte (length (D.medium disk.old).now) c ⊎ (recovered_state g.now c ≡ Some empty)) }
@@ -123,7 +120,7 @@ fn open_gate<D: Disk>(disk: &mut D, g: &Geometry) -> Result<(), DiskFault>
 {
     let header = header_of(g);
     store(disk, 1, &header[1..])?;
-    store(disk, 0, &[OPEN])?;
+    store(disk, 0, &[FORMATTED])?;
     Ok(())
 }
 
@@ -141,13 +138,13 @@ fn format_on<D: Disk>(disk: &mut D, zeros: &[u8], g: &Geometry) -> Result<(), Di
     ensures inside { IsErrOf result DiskFault.OutOfRange → ⊥ }
     ensures call { IsDeviceCall result (D.medium disk.old) (D.medium disk.new) }
 {
-    shut_gate(disk)?;
+    clear_format_byte(disk)?;
     lay_out(disk, zeros, g)?;
-    open_gate(disk, g)
+    write_header(disk, g)
 }
 
 /// Makes a device of this geometry that recovers to the empty state, and hands it back with nothing
-/// unsynced. A crash at any moment of the call leaves what a crash before it could leave, or a device
+/// unsynced. A crash at any moment of the call leaves what one just before it could leave, or a device
 /// that isn't formatted, or the new device.
 ///
 /// `TooShort` exactly where the device is shorter than `device_len`, and `OutOfMemory` where there is

@@ -7,11 +7,11 @@ use affinity::Geometry;
 use byteorder::{ByteOrder, LittleEndian};
 use device_map::HEADER_SIZE;
 
-/// The gate byte of a formatted device.
-pub(crate) const OPEN: u8 = 1;
+/// The first byte of the magic, which is written last: 1 once the device is formatted.
+pub(crate) const FORMATTED: u8 = 1;
 
 /// What a formatted device begins with.
-pub(crate) const MAGIC: [u8; 8] = [OPEN, b'W', b'A', b'F', b'F', b'S', b'R', b'V'];
+pub(crate) const MAGIC: [u8; 8] = [FORMATTED, b'W', b'A', b'F', b'F', b'S', b'R', b'V'];
 
 /// The header of a device of this geometry.
 pub(crate) fn header_of(g: &Geometry) -> [u8; HEADER_SIZE]

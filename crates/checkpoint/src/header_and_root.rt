@@ -47,8 +47,7 @@ pub fn read_header<D: Disk>(disk: &mut D) -> Result<Geometry, OpenFault>
 /// The area that the root zone names.
 pub(crate) fn named_area<D: Disk>(disk: &mut D, g: &Geometry) -> Result<usize, OpenFault>
     requires { device_size (layout_of g.now) ≤ length (D.medium disk.old).now }
-    ensures area { IfOk result (λ n. D.keeps →
-        n ≡ named_area (layout_of g.now) (D.medium disk.old).now) }
+    ensures area { IfOk result (λ n. D.keeps → n ≡ named_area (layout_of g.now) (D.medium disk.old).now) }
     ensures range { IfOk result (λ n. n < 2) }
     ensures device { IfErr result (λ e. e ≡ Device) }
     ensures untouched { D.keeps → moments (D.medium disk.new) ≡ moments (D.medium disk.old) }

@@ -1,12 +1,12 @@
 //! An image, read into a tree piece by piece.
 ghost use Rattle.std.specs.Prelude.{◌≡◌, ◌≢◌, ◌↔◌, ◌+◌, ◌*◌, ◌<◌, ◌≤◌, ℕ, true, None, Some, length, IfErr, IsOk, OnOk};
 ghost use Rattle.checkpoint.specs.declared.fault.OpenFault.TheVariants.{BadPiece, OutOfMemory};
-ghost use Rattle.checkpoint.specs.Loading.{IsOpeningCall, IsFaultOfBytes};
+ghost use Rattle.checkpoint.specs.Loading.{IsOpeningCall, IsConsistentFault};
 ghost use Rattle.checkpoint.specs.Refusals.{fault_or_later, first_bad_piece};
 ghost use Rattle.disk.specs.Device.{moments};
 ghost use Rattle.image.specs.Image.{has_head, is_version, read, version_in};
 ghost use Rattle.image.specs.Pieces.{aggregate_of, part_of, piece_count, piece_of, piece_size, volume_of, with_piece};
-ghost use Rattle.device_map.specs.Layout.{device_size, image, layout_of, part_bytes};
+ghost use Rattle.device_map.specs.Layout.{device_size, image_part, layout_of, part_bytes};
 ghost use Rattle.parcel.specs.Tree.{IsWholeTree, state_in};
 ghost use Rattle.meaning.specs.State.{empty};
 
@@ -17,8 +17,9 @@ use disk::Disk;
 use image::layout::{piece_count, piece_size};
 use parcel::{Tree, read_piece, read_piece_1};
 
-/// Takes in bytes as piece `n` of an image of this version. `BadPiece` exactly where they are not that piece of a state that
-/// has what the tree has.
+/// Takes in bytes as piece `n` of an image of this version. `BadPiece` exactly where taking
+/// them into the tree's state, and encoding piece `n` of that, gives other bytes. Part 0 of a volume is its own piece: before
+/// that is read the volume has no block.
 fn take_piece(tree: &mut Tree, version: u8, n: usize, piece: &[u8]) -> Result<(), OpenFault>
     requires whole { IsWholeTree tree.old }
     requires known { is_version version ≡ true }
@@ -45,8 +46,8 @@ fn take_piece(tree: &mut Tree, version: u8, n: usize, piece: &[u8]) -> Result<()
     Ok(())
 }
 
-/// Reads the pieces of an image with a head into a new tree, through a buffer. `BadPiece` exactly where one of them isn't
-/// that of what the image decodes to, with the first such piece; then the tree isn't of use any more.
+/// Reads the pieces of an image with a head into a new tree, through a buffer. `BadPiece` exactly where one of them
+/// differs from the encoding of what the image decodes to, with the first such piece; then the tree isn't of use any more.
 pub(crate) fn read_pieces<D: Disk>(
     disk: &mut D,
     tree: &mut Tree,
@@ -59,17 +60,17 @@ pub(crate) fn read_pieces<D: Disk>(
     requires number { number < 2 }
     requires known { is_version version ≡ true }
     requires version { D.keeps → version ≡ version_in
-        (part_bytes (layout_of tree.old.geometry) (image number) (D.medium disk.old).now) }
+        (part_bytes (layout_of tree.old.geometry) (image_part number) (D.medium disk.old).now) }
     requires head { D.keeps → has_head
-        (part_bytes (layout_of tree.old.geometry) (image number) (D.medium disk.old).now) ≡ true }
-    requires parts { device_size (layout_of tree.old.geometry) ≤ length (D.medium disk.old).now }
+        (part_bytes (layout_of tree.old.geometry) (image_part number) (D.medium disk.old).now) ≡ true }
+    requires long_enough { device_size (layout_of tree.old.geometry) ≤ length (D.medium disk.old).now }
     requires room { tree.old.geometry.quota * 520 ≤ length buffer.old }
     ensures read { OnOk result (D.keeps → read tree.old.geometry
-        (part_bytes (layout_of tree.old.geometry) (image number) (D.medium disk.old).now) ≡ Some (state_in tree.new)) }
+        (part_bytes (layout_of tree.old.geometry) (image_part number) (D.medium disk.old).now) ≡ Some (state_in tree.new)) }
     ensures good { OnOk result (D.keeps → first_bad_piece tree.old.geometry
-        (part_bytes (layout_of tree.old.geometry) (image number) (D.medium disk.old).now) ≡ None) }
-    ensures refused { IfErr result (λ e. D.keeps → IsFaultOfBytes (fault_or_later BadPiece (first_bad_piece tree.old.geometry
-        (part_bytes (layout_of tree.old.geometry) (image number) (D.medium disk.old).now)) None) e) }
+        (part_bytes (layout_of tree.old.geometry) (image_part number) (D.medium disk.old).now) ≡ None) }
+    ensures refused { IfErr result (λ e. D.keeps → IsConsistentFault (fault_or_later BadPiece (first_bad_piece tree.old.geometry
+        (part_bytes (layout_of tree.old.geometry) (image_part number) (D.medium disk.old).now)) None) e) }
     ensures never_out_of_memory { IfErr result (λ e. e ≢ OutOfMemory) }
     ensures whole { OnOk result (IsWholeTree tree.new) }
     ensures geometry { tree.new.geometry ≡ tree.old.geometry }

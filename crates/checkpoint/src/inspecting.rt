@@ -1,6 +1,6 @@
 //! What a device holds, or why it is refused.
 ghost use Rattle.std.specs.Prelude.{◌≡◌, ◌↔◌, ◌+◌, IfErr, IfOk, MatchResult, length};
-ghost use Rattle.checkpoint.specs.Refusals.{IsDevice, IsRefused};
+ghost use Rattle.checkpoint.specs.Refusals.{IsWholeDevice, IsRefused};
 ghost use Rattle.checkpoint.specs.Shown.{IsShown, ShowsLoaded};
 ghost use Rattle.disk.specs.Device.{moments};
 ghost use Rattle.parcel.specs.Tree.{IsWholeTree};
@@ -16,7 +16,7 @@ use std::alloc::Global;
 /// What a device holds.
 #[derive(Clone, Copy, Debug, PartialEq, Eq)]
 pub struct Shown {
-    /// The numbers of its server.
+    /// The geometry of its server.
     pub geometry: Geometry,
     /// The area that is named, 0 or 1: image and half of that number.
     pub area: usize,
@@ -54,14 +54,13 @@ fn show(loaded: Loaded) -> Shown
 /// Reports what a device holds, and hands it back. It is only read: what a read gives, and what a crash may leave now or
 /// might have left at any moment, is as before.
 ///
-/// It is refused exactly where its bytes are, with the first fault in the order of the tests: length, marks, geometry,
-/// length for that geometry, memory, the head of the named image, its pieces, the chain bytes, the records of the named
-/// half, those of the other one. `Device` exactly where the device failed.
+/// It is refused for the first fault in this order of checks, and for no other reason: length, magic, geometry, length for that
+/// geometry, memory, the head of the named image, its pieces, the chain bytes, the records of the named half, those of the
+/// other one. `Device` exactly where the device failed.
 pub fn inspect<D: Disk>(alloc: Global, d: D) -> Result<(Shown, D), OpenError<D>>
     ensures shown { IfOk result (λ r. D.keeps → IsShown (D.medium d).now r.0) }
     ensures refused { IfErr result (λ e. D.keeps → IsRefused (D.medium d).now e.fault) }
-    ensures memory { IfErr result (λ e. e.fault ≡ OpenFault.OutOfMemory →
-        D.keeps → IsDevice (D.medium d).now) }
+    ensures memory { IfErr result (λ e. e.fault ≡ OpenFault.OutOfMemory → D.keeps → IsWholeDevice (D.medium d).now) }
     ensures untouched { D.keeps → MatchResult result
         (λ r. moments (D.medium r.1) ≡ moments (D.medium d))
         (λ e. moments (D.medium e.disk) ≡ moments (D.medium d)) }

@@ -2,16 +2,16 @@
 ghost use Rattle.std.specs.Prelude.{◌≡◌, ◌≢◌, ◌+◌, ◌*◌, ◌<◌, ◌≤◌, ◌==◌, false, None, Some, length, IfErr, IfOk, OnOk};
 ghost use Rattle.checkpoint.specs.declared.fault.OpenFault.TheVariants.{BadChain, OutOfMemory};
 ghost use Rattle.checkpoint.specs.Header.{HasHeader};
-ghost use Rattle.checkpoint.specs.Loading.{IsOpeningCall, IsFaultOfBytes, IsOfHalf, NamedHolds, are_chained, image_fault, in_force_fault};
-ghost use Rattle.checkpoint.specs.Recovery.{means};
-ghost use Rattle.checkpoint.specs.Refusals.{IsDevice, IsRefused, fault_if};
+ghost use Rattle.checkpoint.specs.Loading.{IsOpeningCall, IsConsistentFault, IsOfHalf, NamedHolds, are_both_chained, image_fault, in_force_fault};
+ghost use Rattle.checkpoint.specs.Recovery.{decoding};
+ghost use Rattle.checkpoint.specs.Refusals.{IsWholeDevice, IsRefused, fault_if};
 ghost use Rattle.checkpoint.specs.Shown.{IsLoaded};
 ghost use Rattle.disk.specs.Device.{moments};
 ghost use Rattle.image.specs.Image.{read, version_in};
-ghost use Rattle.oplog.specs.Calls.{HasParts};
+ghost use Rattle.oplog.specs.Calls.{IsLongEnough};
 ghost use Rattle.oplog.specs.Front.{chain, front};
-ghost use Rattle.device_map.specs.Layout.{device_size, image, layout_of, part_bytes};
-ghost use Rattle.oplog.specs.Log.{layout, new_log, renamed};
+ghost use Rattle.device_map.specs.Layout.{device_size, image_part, layout_of, part_bytes};
+ghost use Rattle.oplog.specs.Log.{layout, new_log, with_half_named};
 ghost use Rattle.oplog.specs.Recovery.{in_force, named_area, run};
 ghost use Rattle.parcel.specs.Tree.{IsWholeTree, state_in};
 ghost use Rattle.meaning.specs.State.{empty};
@@ -73,16 +73,16 @@ fn read_image<D: Disk>(
     requires whole { IsWholeTree tree.old }
     requires empty { state_in tree.old ≡ empty }
     requires area { area < 2 }
-    requires parts { device_size (layout_of tree.old.geometry) ≤ length (D.medium disk.old).now }
+    requires long_enough { device_size (layout_of tree.old.geometry) ≤ length (D.medium disk.old).now }
     requires room { tree.old.geometry.quota * 520 ≤ length buffer.old }
     ensures version { IfOk result (λ v. D.keeps →
-        v ≡ version_in (part_bytes (layout_of tree.old.geometry) (image area) (D.medium disk.old).now)) }
+        v ≡ version_in (part_bytes (layout_of tree.old.geometry) (image_part area) (D.medium disk.old).now)) }
     ensures read { OnOk result (D.keeps → read tree.old.geometry
-        (part_bytes (layout_of tree.old.geometry) (image area) (D.medium disk.old).now) ≡ Some (state_in tree.new)) }
+        (part_bytes (layout_of tree.old.geometry) (image_part area) (D.medium disk.old).now) ≡ Some (state_in tree.new)) }
     ensures sound { OnOk result (D.keeps → image_fault tree.old.geometry
-        (part_bytes (layout_of tree.old.geometry) (image area) (D.medium disk.old).now) ≡ None) }
-    ensures refused { IfErr result (λ e. D.keeps → IsFaultOfBytes (image_fault tree.old.geometry
-        (part_bytes (layout_of tree.old.geometry) (image area) (D.medium disk.old).now)) e) }
+        (part_bytes (layout_of tree.old.geometry) (image_part area) (D.medium disk.old).now) ≡ None) }
+    ensures refused { IfErr result (λ e. D.keeps → IsConsistentFault (image_fault tree.old.geometry
+        (part_bytes (layout_of tree.old.geometry) (image_part area) (D.medium disk.old).now)) e) }
     ensures never_out_of_memory { IfErr result (λ e. e ≢ OutOfMemory) }
     ensures whole { OnOk result (IsWholeTree tree.new) }
     ensures geometry { OnOk result (tree.new.geometry ≡ tree.old.geometry) }
@@ -97,22 +97,21 @@ fn read_image<D: Disk>(
 /// Whether the chain byte of this area's half is 1. `BadChain` exactly where those of both halves are.
 fn chain_of<D: Disk>(disk: &mut D, g: &Geometry, area: usize) -> Result<bool, OpenFault>
     requires area { area < 2 }
-    requires parts { device_size (layout_of g.now) ≤ length (D.medium disk.old).now }
-    ensures chained { IfOk result (λ b. D.keeps →
-        b ≡ (chain (layout_of g.now) area (D.medium disk.old).now == 1)) }
-    ensures sound { OnOk result (D.keeps → are_chained (layout_of g.now) (D.medium disk.old).now ≡ false) }
+    requires long_enough { device_size (layout_of g.now) ≤ length (D.medium disk.old).now }
+    ensures chained { IfOk result (λ b. D.keeps → b ≡ (chain (layout_of g.now) area (D.medium disk.old).now == 1)) }
+    ensures sound { OnOk result (D.keeps → are_both_chained (layout_of g.now) (D.medium disk.old).now ≡ false) }
     ensures refused { IfErr result (λ e. D.keeps →
-        IsFaultOfBytes (fault_if (are_chained (layout_of g.now) (D.medium disk.old).now) BadChain None) e) }
+        IsConsistentFault (fault_if (are_both_chained (layout_of g.now) (D.medium disk.old).now) BadChain None) e) }
     ensures never_out_of_memory { IfErr result (λ e. e ≢ OutOfMemory) }
     ensures untouched { D.keeps → moments (D.medium disk.new) ≡ moments (D.medium disk.old) }
     ensures call { IsOpeningCall result (D.medium disk.old) (D.medium disk.new) }
 {
-    let named = is_chained(disk, g, area)?;
-    if !named {
+    let named_chained = is_chained(disk, g, area)?;
+    if !named_chained {
         return Ok(false);
     }
-    let behind = is_chained(disk, g, 1 - area)?;
-    if behind {
+    let other_chained = is_chained(disk, g, 1 - area)?;
+    if other_chained {
         return Err(OpenFault::BadChain);
     }
     Ok(true)
@@ -134,9 +133,8 @@ pub struct Named {
 /// Loads what the named area holds by itself: its image is read into an empty tree, and the records of its half are run
 /// on it. The log then names that half, with no room. The device is only read.
 ///
-/// The device has a header and all its parts. It is refused exactly where its bytes are, for any fault but a bad record
-/// of the other half: `BadVersion`, `BadPiece`, `BadChain`, `BadRecord`, in the order of the tests. `Device` exactly where
-/// the device failed.
+/// The device has a header and all its parts. It is refused for the first of these faults, and for no other: `BadVersion`,
+/// `BadPiece`, `BadChain`, `BadRecord` of the named half. `Device` exactly where the device failed.
 pub fn load_named<D: Disk>(
     disk: &mut D,
     tree: &mut Tree,
@@ -147,19 +145,17 @@ pub fn load_named<D: Disk>(
     requires empty { state_in tree.old ≡ empty }
     requires log { log.old ≡ new_log tree.old.geometry }
     requires header { D.keeps → HasHeader tree.old.geometry (D.medium disk.old).now }
-    requires parts { device_size (layout_of tree.old.geometry) ≤ length (D.medium disk.old).now }
+    requires long_enough { device_size (layout_of tree.old.geometry) ≤ length (D.medium disk.old).now }
     requires room { tree.old.geometry.quota * 520 ≤ length buffer.old }
     ensures loaded { IfOk result (λ n. D.keeps →
         NamedHolds tree.old.geometry (D.medium disk.old).now n.area n.chained (state_in tree.new)) }
     ensures area { IfOk result (λ n. n.area < 2) }
     ensures version { IfOk result (λ n. D.keeps →
-        n.version ≡ version_in (part_bytes (layout_of tree.old.geometry) (image n.area) (D.medium disk.old).now)) }
-    ensures records { IfOk result (λ n. D.keeps →
-        n.records ≡ length (front (layout_of tree.old.geometry) n.area (D.medium disk.old).now)) }
-    ensures log { IfOk result (λ n. log.new ≡ renamed n.area (new_log tree.old.geometry)) }
+        n.version ≡ version_in (part_bytes (layout_of tree.old.geometry) (image_part n.area) (D.medium disk.old).now)) }
+    ensures records { IfOk result (λ n. D.keeps → n.records ≡ length (front (layout_of tree.old.geometry) n.area (D.medium disk.old).now)) }
+    ensures log { IfOk result (λ n. log.new ≡ with_half_named n.area (new_log tree.old.geometry)) }
     ensures refused { IfErr result (λ e. D.keeps → IsRefused (D.medium disk.old).now e) }
-    ensures half { IfErr result (λ e. D.keeps →
-        IsOfHalf (named_area (layout_of tree.old.geometry) (D.medium disk.old).now) e) }
+    ensures half { IfErr result (λ e. D.keeps → IsOfHalf (named_area (layout_of tree.old.geometry) (D.medium disk.old).now) e) }
     ensures never_out_of_memory { IfErr result (λ e. e ≢ OutOfMemory) }
     ensures whole { OnOk result (IsWholeTree tree.new) }
     ensures geometry { OnOk result (tree.new.geometry ≡ tree.old.geometry) }
@@ -191,17 +187,15 @@ fn replay_in_force<D: Disk>(
     requires not_failed { log.old.failed ≡ false }
     requires area { area < 2 }
     requires chained { D.keeps → chained ≡ (chain (layout log.old) area (D.medium disk.old).now == 1) }
-    requires parts { HasParts log.old (D.medium disk.old) }
+    requires long_enough { IsLongEnough log.old (D.medium disk.old) }
     requires whole { IsWholeTree tree.old }
     requires geometry { log.old.geometry ≡ tree.old.geometry }
-    ensures count { IfOk result (λ n. D.keeps →
-        n ≡ length (in_force (layout_of tree.old.geometry) area (D.medium disk.old).now)) }
-    ensures done { OnOk result (D.keeps → run (means tree.old.geometry) (Some (state_in tree.old))
+    ensures count { IfOk result (λ n. D.keeps → n ≡ length (in_force (layout_of tree.old.geometry) area (D.medium disk.old).now)) }
+    ensures done { OnOk result (D.keeps → run (decoding tree.old.geometry) (Some (state_in tree.old))
         (in_force (layout_of tree.old.geometry) area (D.medium disk.old).now) ≡ Some (state_in tree.new)) }
-    ensures sound { OnOk result (D.keeps →
-        in_force_fault tree.old.geometry (state_in tree.old) area (D.medium disk.old).now ≡ None) }
+    ensures sound { OnOk result (D.keeps → in_force_fault tree.old.geometry (state_in tree.old) area (D.medium disk.old).now ≡ None) }
     ensures refused { IfErr result (λ e. D.keeps →
-        IsFaultOfBytes (in_force_fault tree.old.geometry (state_in tree.old) area (D.medium disk.old).now) e) }
+        IsConsistentFault (in_force_fault tree.old.geometry (state_in tree.old) area (D.medium disk.old).now) e) }
     ensures whole { OnOk result (IsWholeTree tree.new) }
     ensures geometry { OnOk result (tree.new.geometry ≡ tree.old.geometry) }
     ensures log { OnOk result (log.new ≡ log.old) }
@@ -216,17 +210,17 @@ fn replay_in_force<D: Disk>(
     Ok(count + more)
 }
 
-/// Loads a device. It is refused exactly where its bytes are, with the first fault in the order of the tests, or where
-/// it fails or there is no memory. The device is only read.
+/// Loads a device. It is refused for the first fault in the order of the checks, and for no other reason; or it fails, or
+/// there is no memory. The device is only read.
 pub(crate) fn load<D: Disk>(alloc: Global, disk: &mut D) -> Result<Loaded, OpenFault>
     ensures loaded { IfOk result (λ l. D.keeps → IsLoaded (D.medium disk.old).now l) }
     ensures whole { IfOk result (λ l. IsWholeTree l.tree) }
-    ensures log { IfOk result (λ l. l.log ≡ renamed l.area (new_log l.tree.geometry)) }
+    ensures log { IfOk result (λ l. l.log ≡ with_half_named l.area (new_log l.tree.geometry)) }
     ensures area { IfOk result (λ l. l.area < 2) }
     ensures parts { IfOk result (λ l.
         device_size (layout_of l.tree.geometry) ≤ length (D.medium disk.old).now) }
     ensures refused { IfErr result (λ e. D.keeps → IsRefused (D.medium disk.old).now e) }
-    ensures memory { IfErr result (λ e. e ≡ OutOfMemory → D.keeps → IsDevice (D.medium disk.old).now) }
+    ensures memory { IfErr result (λ e. e ≡ OutOfMemory → D.keeps → IsWholeDevice (D.medium disk.old).now) }
     ensures untouched { D.keeps → moments (D.medium disk.new) ≡ moments (D.medium disk.old) }
     ensures call { IsOpeningCall result (D.medium disk.old) (D.medium disk.new) }
 {

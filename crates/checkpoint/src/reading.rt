@@ -1,12 +1,12 @@
 //! Reads of a device: any range, a chain byte, and the head of an image.
 ghost use Rattle.std.specs.Prelude.{◌≡◌, ◌≢◌, ◌+◌, ◌<◌, ◌≤◌, ◌==◌, not, true, None, length, IfErr, IfOk, OnOk};
 ghost use Rattle.checkpoint.specs.declared.fault.OpenFault.TheVariants.{BadVersion, Device, OutOfMemory};
-ghost use Rattle.checkpoint.specs.Loading.{IsOpeningCall, IsFaultOfBytes};
+ghost use Rattle.checkpoint.specs.Loading.{IsOpeningCall, IsConsistentFault};
 ghost use Rattle.checkpoint.specs.Refusals.{fault_if};
 ghost use Rattle.disk.specs.Device.{moments};
 ghost use Rattle.image.specs.Image.{has_head, is_version, version_in};
 ghost use Rattle.oplog.specs.Front.{chain};
-ghost use Rattle.device_map.specs.Layout.{device_size, image, layout_of, part_bytes, slice};
+ghost use Rattle.device_map.specs.Layout.{device_size, image_part, layout_of, part_bytes, slice};
 
 use crate::OpenFault;
 use affinity::Geometry;
@@ -14,7 +14,7 @@ use device_map::{IMAGE_HEAD_SIZE, half_at, image_at};
 use disk::Disk;
 use image::layout::{FIRST_VERSION, VERSION, head_of};
 
-/// Fills `out` with bytes of the device, from `at` on.
+/// Fills `out` with bytes of the device, from `at` on. (The definition `read` is something else: the state that an image holds.)
 pub(crate) fn read<D: Disk>(disk: &mut D, at: u64, out: &mut [u8]) -> Result<(), OpenFault>
     requires { at + length out.old ≤ length (D.medium disk.old).now }
     ensures bytes { OnOk result (D.keeps → out.new ≡ slice (D.medium disk.old).now at (length out.old)) }
@@ -36,8 +36,7 @@ pub(crate) fn is_chained<D: Disk>(
 ) -> Result<bool, OpenFault>
     requires half { half < 2 }
     requires long_enough { device_size (layout_of g.now) ≤ length (D.medium disk.old).now }
-    ensures chained { IfOk result (λ b. D.keeps →
-        b ≡ (chain (layout_of g.now) half (D.medium disk.old).now == 1)) }
+    ensures chained { IfOk result (λ b. D.keeps → b ≡ (chain (layout_of g.now) half (D.medium disk.old).now == 1)) }
     ensures device { IfErr result (λ e. e ≡ Device) }
     ensures untouched { D.keeps → moments (D.medium disk.new) ≡ moments (D.medium disk.old) }
     ensures call { IsOpeningCall result (D.medium disk.old) (D.medium disk.new) }
@@ -64,7 +63,8 @@ fn has_head(head: &[u8; IMAGE_HEAD_SIZE]) -> bool
     head[..] == head_of(version)[..]
 }
 
-/// The version of this image. `BadVersion` exactly where it doesn't begin with a version and zeros.
+/// The version of this image. `BadVersion` exactly where it doesn't begin with a version and zeros; any other error is `Device`, which is
+/// consistent with any bytes (`IsConsistentFault`).
 pub(crate) fn version_of<D: Disk>(
     disk: &mut D,
     g: &Geometry,
@@ -73,12 +73,11 @@ pub(crate) fn version_of<D: Disk>(
     requires number { number < 2 }
     requires long_enough { device_size (layout_of g.now) ≤ length (D.medium disk.old).now }
     ensures version { IfOk result (λ v. D.keeps →
-        v ≡ version_in (part_bytes (layout_of g.now) (image number) (D.medium disk.old).now)) }
+        v ≡ version_in (part_bytes (layout_of g.now) (image_part number) (D.medium disk.old).now)) }
     ensures known { IfOk result (λ v. is_version v ≡ true) }
-    ensures head { OnOk result (D.keeps →
-        has_head (part_bytes (layout_of g.now) (image number) (D.medium disk.old).now) ≡ true) }
-    ensures refused { IfErr result (λ e. D.keeps → IsFaultOfBytes (fault_if (not (has_head
-        (part_bytes (layout_of g.now) (image number) (D.medium disk.old).now))) BadVersion None) e) }
+    ensures head { OnOk result (D.keeps → has_head (part_bytes (layout_of g.now) (image_part number) (D.medium disk.old).now) ≡ true) }
+    ensures refused { IfErr result (λ e. D.keeps → IsConsistentFault (fault_if (not (has_head
+        (part_bytes (layout_of g.now) (image_part number) (D.medium disk.old).now))) BadVersion None) e) }
     ensures never_out_of_memory { IfErr result (λ e. e ≢ OutOfMemory) }
     ensures untouched { D.keeps → moments (D.medium disk.new) ≡ moments (D.medium disk.old) }
     ensures call { IsOpeningCall result (D.medium disk.old) (D.medium disk.new) }

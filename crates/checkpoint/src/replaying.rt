@@ -1,10 +1,10 @@
 //! The records of a half, run on a tree.
 ghost use Rattle.std.specs.Prelude.{◌≡◌, ◌≢◌, ◌<◌, ◌≤◌, Some, false, IfOk, IfErr, OnOk};
 ghost use Rattle.checkpoint.specs.declared.fault.OpenFault.TheVariants.{OutOfMemory};
-ghost use Rattle.checkpoint.specs.Loading.{IsOpeningCall, IsFaultOfBytes, record_fault, records_fault};
-ghost use Rattle.checkpoint.specs.Recovery.{apply, means};
+ghost use Rattle.checkpoint.specs.Loading.{IsOpeningCall, IsConsistentFault, record_fault, records_fault};
+ghost use Rattle.checkpoint.specs.Recovery.{apply, decoding};
 ghost use Rattle.disk.specs.Device.{moments};
-ghost use Rattle.oplog.specs.Calls.{HasFront, HasParts};
+ghost use Rattle.oplog.specs.Calls.{HasFront, IsLongEnough};
 ghost use Rattle.oplog.specs.Front.{front, record_at};
 ghost use Rattle.oplog.specs.Log.{layout};
 ghost use Rattle.oplog.specs.Recovery.{run};
@@ -29,13 +29,13 @@ fn replay_record<D: Disk>(
     requires not_failed { log.old.failed ≡ false }
     requires half { half < 2 }
     requires i { i < log.old.geometry.half }
-    requires parts { HasParts log.old (D.medium disk.old) }
+    requires long_enough { IsLongEnough log.old (D.medium disk.old) }
     requires whole { IsWholeTree tree.old }
     requires geometry { log.old.geometry ≡ tree.old.geometry }
     ensures done { OnOk result (D.keeps →
         apply tree.old.geometry (state_in tree.old) (record_at (layout log.old) half i (D.medium disk.old).now)
         ≡ Some (state_in tree.new)) }
-    ensures refused { IfErr result (λ e. D.keeps → IsFaultOfBytes (record_fault tree.old.geometry (state_in tree.old)
+    ensures refused { IfErr result (λ e. D.keeps → IsConsistentFault (record_fault tree.old.geometry (state_in tree.old)
         half i (record_at (layout log.old) half i (D.medium disk.old).now)) e) }
     ensures never_out_of_memory { IfErr result (λ e. e ≢ OutOfMemory) }
     ensures whole { OnOk result (IsWholeTree tree.new) }
@@ -63,13 +63,13 @@ fn replay_front<D: Disk>(
     requires half { half < 2 }
     requires within { count ≤ log.old.geometry.half }
     requires count { D.keeps → HasFront log.old half count (D.medium disk.old) }
-    requires parts { HasParts log.old (D.medium disk.old) }
+    requires long_enough { IsLongEnough log.old (D.medium disk.old) }
     requires whole { IsWholeTree tree.old }
     requires geometry { log.old.geometry ≡ tree.old.geometry }
     ensures done { OnOk result (D.keeps →
-        run (means tree.old.geometry) (Some (state_in tree.old))
+        run (decoding tree.old.geometry) (Some (state_in tree.old))
         (front (layout log.old) half (D.medium disk.old).now) ≡ Some (state_in tree.new)) }
-    ensures refused { IfErr result (λ e. D.keeps → IsFaultOfBytes (records_fault tree.old.geometry
+    ensures refused { IfErr result (λ e. D.keeps → IsConsistentFault (records_fault tree.old.geometry
         (state_in tree.old) half (front (layout log.old) half (D.medium disk.old).now)) e) }
     ensures never_out_of_memory { IfErr result (λ e. e ≢ OutOfMemory) }
     ensures whole { OnOk result (IsWholeTree tree.new) }
@@ -94,15 +94,15 @@ pub fn replay<D: Disk>(
 ) -> Result<usize, OpenFault>
     requires not_failed { log.old.failed ≡ false }
     requires half { half < 2 }
-    requires parts { HasParts log.old (D.medium disk.old) }
+    requires long_enough { IsLongEnough log.old (D.medium disk.old) }
     requires whole { IsWholeTree tree.old }
     requires geometry { log.old.geometry ≡ tree.old.geometry }
     ensures count { IfOk result (λ n. D.keeps → HasFront log.old half n (D.medium disk.old)) }
     ensures few { IfOk result (λ n. n ≤ log.old.geometry.half) }
     ensures done { OnOk result (D.keeps →
-        run (means tree.old.geometry) (Some (state_in tree.old))
+        run (decoding tree.old.geometry) (Some (state_in tree.old))
         (front (layout log.old) half (D.medium disk.old).now) ≡ Some (state_in tree.new)) }
-    ensures refused { IfErr result (λ e. D.keeps → IsFaultOfBytes (records_fault tree.old.geometry
+    ensures refused { IfErr result (λ e. D.keeps → IsConsistentFault (records_fault tree.old.geometry
         (state_in tree.old) half (front (layout log.old) half (D.medium disk.old).now)) e) }
     ensures never_out_of_memory { IfErr result (λ e. e ≢ OutOfMemory) }
     ensures whole { OnOk result (IsWholeTree tree.new) }

@@ -21,15 +21,15 @@ pub fn step(tree: &mut Tree, m: Msg) -> Reply
 {
     let g = tree.geometry();
     know_message(&m);
-    let Some(place) = place_of(&g, m.kind(), m.numbers()) else {
+    let Some(affinity) = place_of(&g, m.kind(), m.numbers()) else {
         unreachable!()
     };
-    let Some((standing, parcels)) = tree.lend(place) else {
+    let Some((standing, parcels)) = tree.lend(affinity) else {
         unreachable!()
     };
     let done = run(Job::new(g, 0, m, standing, parcels));
     let reply = *done.reply();
-    let Ok(()) = tree.restore(place, done.into_parcels()) else {
+    let Ok(()) = tree.restore(affinity, done.into_parcels()) else {
         unreachable!()
     };
     reply

@@ -1,4 +1,4 @@
--- How a call ends where its words give no request, and where they do.
+-- How a call ends where its arguments give no request, and where they do.
 use Rattle.std.proofs.Common.{◌≡◌, ◌∙◌, refl, sym, ap, subst, inl, inr, ℕ, List, [], Option, Some, None, codes}
 use Rattle.std.specs.Prelude.{Err, Ok, Result}
 use Rattle.std.proofs.KnownBytes.{Appends-nil}
@@ -10,17 +10,17 @@ use Rattle.affinity.proofs.Numbers.{geometry_same}
 use Rattle.clap.specs.Words.{IsAmong, Text, kind_of}
 use Rattle.meaning.specs.Output.{WritesOutput, IsBeginning}
 use Rattle.meaning.specs.State.{empty}
-use Rattle.commands.specs.Ends.{EndsMaking, EndsInMemory}
+use Rattle.commands.specs.Ends.{EndsFormatting, EndsInMemory}
 use Rattle.commands.specs.Serving.{EndsInFile}
 use Rattle.commands.specs.declared.serve_options.ServeOptions.{ServeOptions}
 use Rattle.commands.proofs.Services.{service_same}
 use Rattle.disk.specs.declared.fault.FileFault.TheVariants as file
-use Rattle.commands.specs.Calls.{Ends, EndsFormat, EndsHelp, EndsPlain, EndsRefused, EndsServe, EndsShow, status_at, status_of_refusal}
+use Rattle.commands.specs.Calls.{Ends, ExitsFormat, ExitsHelp, ExitsPlain, ExitsRefused, ExitsServe, ExitsShow, status_at, status_of_refusal}
 use Rattle.commands.specs.Services.{AsksServe, with_at_most_64_workers}
 use Rattle.commands.specs.Faults.{status_of}
 use Rattle.arguments.proofs.Asking.{no_mistake, two_names}
 use Rattle.arguments.proofs.Options.{in_range}
-use Rattle.arguments.specs.Arguments.{Asks, AsksFormat, AsksNoService, AsksPlain, AsksShow, IsReason, command_of}
+use Rattle.arguments.specs.Arguments.{Asks, AsksFormat, AsksNoCommand, AsksPlain, AsksShow, IsReason, command_of}
 use Rattle.commands.specs.declared.faults.Fault.{Fault}
 use Rattle.commands.specs.declared.faults.Fault.TheVariants.{Read, Write, GeometryOutOfRange, OutOfMemory, Device, NoWorkers, NoTicketLeft, Format as ByFormat, Open as ByOpen}
 use Rattle.arguments.specs.declared.parsing.ArgumentRefusal.{ArgumentRefusal}
@@ -30,35 +30,35 @@ use Rattle.arguments.specs.declared.parsing.Request.TheVariants.{Help, Plain, Fo
 
 -- ---- words that ask for no service
 
-pub refused_by : (why : ArgumentRefusal) → EndsRefused (status_of_refusal why)
+pub refused_by : (why : ArgumentRefusal) → ExitsRefused (status_of_refusal why)
 refused_by (refusal.Words error) = inl refl
 refused_by refusal.OutOfMemory = inr refl
 refused_by refusal.GeometryOutOfRange = inl refl
 
-pub helped : (words : List Text) (request : Request) (end : Result (Unit {0}) Fault) {input left : Option (List ℕ)} (old new : Option (List ℕ))
-    → AsksNoService words → Asks words request → Ends request end input left old new → EndsHelp (status_at end) × (left ≡ input)
-helped words (Plain g) end old new no_service asks ends = absurd (no_service asks.0)
-helped words (Format path g) end old new no_service asks ends = absurd (no_service asks.0)
-helped words (Show path) end old new no_service asks ends = absurd (no_service asks.0)
-helped words (Serve path s) end old new no_service asks ends = absurd (no_service asks.0)
-helped words (Help text) (Ok _) old new no_service asks ends = (inl refl, ends)
-helped words (Help text) (Err Write) old new no_service asks ends = (inr (inl refl), ends)
-helped words (Help text) (Err fault) old new no_service asks ends = absurd ends
+pub helped : (arguments : List Text) (request : Request) (end : Result (Unit {0}) Fault) {input left : Option (List ℕ)} (old new : Option (List ℕ))
+    → AsksNoCommand arguments → Asks arguments request → Ends request end input left old new → ExitsHelp (status_at end) × (left ≡ input)
+helped arguments (Plain g) end old new no_service asks ends = absurd (no_service asks.0)
+helped arguments (Format path g) end old new no_service asks ends = absurd (no_service asks.0)
+helped arguments (Show path) end old new no_service asks ends = absurd (no_service asks.0)
+helped arguments (Serve path s) end old new no_service asks ends = absurd (no_service asks.0)
+helped arguments (Help text) (Ok _) old new no_service asks ends = (inl refl, ends)
+helped arguments (Help text) (Err Write) old new no_service asks ends = (inr (inl refl), ends)
+helped arguments (Help text) (Err fault) old new no_service asks ends = absurd ends
 
 -- ---- a fault has a status of its own
 
-pub is_told : (fault : Fault) → status_of fault ≡ 0 → ⊥
-is_told Read none = cc
-is_told Write none = cc
-is_told GeometryOutOfRange none = cc
-is_told OutOfMemory none = cc
-is_told Device none = cc
-is_told NoWorkers none = cc
-is_told NoTicketLeft none = cc
-is_told (ByFormat formatting.OutOfMemory) none = cc
-is_told (ByFormat fault) none = cc
-is_told (ByOpen opening.OutOfMemory) none = cc
-is_told (ByOpen fault) none = cc
+pub is_reported : (fault : Fault) → status_of fault ≡ 0 → ⊥
+is_reported Read none = cc
+is_reported Write none = cc
+is_reported GeometryOutOfRange none = cc
+is_reported OutOfMemory none = cc
+is_reported Device none = cc
+is_reported NoWorkers none = cc
+is_reported NoTicketLeft none = cc
+is_reported (ByFormat formatting.OutOfMemory) none = cc
+is_reported (ByFormat fault) none = cc
+is_reported (ByOpen opening.OutOfMemory) none = cc
+is_reported (ByOpen fault) none = cc
 
 pub is_refused : (why : ArgumentRefusal) → status_of_refusal why ≡ 0 → ⊥
 is_refused (refusal.Words error) none = cc
@@ -71,64 +71,64 @@ nothing_written : (g : Geometry) (input old : Option (List ℕ)) → WritesOutpu
 nothing_written g None old = tt
 nothing_written g (Some bytes) old = ([], Appends-nil old, (0, refl))
 
-pub served_nothing : (words : List Text) {g : Geometry} (why : ArgumentRefusal) {input old : Option (List ℕ)} → AsksPlain words g → IsReason words why
-    → EndsPlain g (status_of_refusal why) input input old old
-served_nothing words {g} refusal.OutOfMemory {input} {old} asks reason = (Err OutOfMemory, refl, nothing_written g input old)
-served_nothing words {g} refusal.GeometryOutOfRange asks reason = absurd (reason.3 (subst AreInRange asks.2 (in_range g)))
-served_nothing words (refusal.Words error) asks reason = absurd (no_mistake words error asks.0 reason)
+pub served_nothing : (arguments : List Text) {g : Geometry} (why : ArgumentRefusal) {input old : Option (List ℕ)} → AsksPlain arguments g → IsReason arguments why
+    → ExitsPlain g (status_of_refusal why) input input old old
+served_nothing arguments {g} refusal.OutOfMemory {input} {old} asks reason = (Err OutOfMemory, refl, nothing_written g input old)
+served_nothing arguments {g} refusal.GeometryOutOfRange asks reason = absurd (reason.3 (subst AreInRange asks.2 (in_range g)))
+served_nothing arguments (refusal.Words error) asks reason = absurd (no_mistake arguments error asks.0 reason)
 
-pub formatted_nothing : (words : List Text) {path : List ℕ} (g : Geometry) (why : ArgumentRefusal) {old : Option (List ℕ)} → AsksFormat words path g → IsReason words why
-    → EndsFormat g (status_of_refusal why) old old
-formatted_nothing words g refusal.OutOfMemory asks reason = (Err OutOfMemory, refl, refl)
-formatted_nothing words g refusal.GeometryOutOfRange asks reason = absurd (reason.3 (subst AreInRange asks.3 (in_range g)))
-formatted_nothing words g (refusal.Words error) asks reason = absurd (no_mistake words error asks.0 reason)
+pub formatted_nothing : (arguments : List Text) {path : List ℕ} (g : Geometry) (why : ArgumentRefusal) {old : Option (List ℕ)} → AsksFormat arguments path g → IsReason arguments why
+    → ExitsFormat g (status_of_refusal why) old old
+formatted_nothing arguments g refusal.OutOfMemory asks reason = (Err OutOfMemory, refl, refl)
+formatted_nothing arguments g refusal.GeometryOutOfRange asks reason = absurd (reason.3 (subst AreInRange asks.3 (in_range g)))
+formatted_nothing arguments g (refusal.Words error) asks reason = absurd (no_mistake arguments error asks.0 reason)
 
-pub shown_nothing : (words : List Text) {path : List ℕ} (why : ArgumentRefusal) {old : Option (List ℕ)} → AsksShow words path → IsReason words why
-    → EndsShow (status_of_refusal why) old old
-shown_nothing words refusal.OutOfMemory asks reason = (Err OutOfMemory, refl, refl)
-shown_nothing words refusal.GeometryOutOfRange asks reason = absurd (reason.1 asks.1)
-shown_nothing words (refusal.Words error) asks reason = absurd (no_mistake words error asks.0 reason)
+pub shown_nothing : (arguments : List Text) {path : List ℕ} (why : ArgumentRefusal) {old : Option (List ℕ)} → AsksShow arguments path → IsReason arguments why
+    → ExitsShow (status_of_refusal why) old old
+shown_nothing arguments refusal.OutOfMemory asks reason = (Err OutOfMemory, refl, refl)
+shown_nothing arguments refusal.GeometryOutOfRange asks reason = absurd (reason.1 asks.1)
+shown_nothing arguments (refusal.Words error) asks reason = absurd (no_mistake arguments error asks.0 reason)
 
-pub served_on_nothing : (words : List Text) {path : List ℕ} {s : ServeOptions} (why : ArgumentRefusal) {input old : Option (List ℕ)} → AsksServe words path s
-    → IsReason words why → EndsServe s (status_of_refusal why) input input old old
-served_on_nothing words refusal.OutOfMemory asks reason =
+pub served_on_nothing : (arguments : List Text) {path : List ℕ} {s : ServeOptions} (why : ArgumentRefusal) {input old : Option (List ℕ)} → AsksServe arguments path s
+    → IsReason arguments why → ExitsServe s (status_of_refusal why) input input old old
+served_on_nothing arguments refusal.OutOfMemory asks reason =
     (Err OutOfMemory, refl, inl (record { why = file.OutOfMemory; ends = refl; unread = refl; unwritten = refl }))
-served_on_nothing words refusal.GeometryOutOfRange asks reason = absurd (reason.2 asks.1)
-served_on_nothing words (refusal.Words error) asks reason = absurd (no_mistake words error asks.0 reason)
+served_on_nothing arguments refusal.GeometryOutOfRange asks reason = absurd (reason.2 asks.1)
+served_on_nothing arguments (refusal.Words error) asks reason = absurd (no_mistake arguments error asks.0 reason)
 
 -- ---- what the words ask for is done
 
-pub served : (words : List Text) (request : Request) {g : Geometry} (end : Result (Unit {0}) Fault) {input left old new : Option (List ℕ)} → Asks words request
-    → AsksPlain words g → Ends request end input left old new → EndsPlain g (status_at end) input left old new
-served words (Plain h) {g} end {input} {left} {old} {new} given asks ends =
+pub served : (arguments : List Text) (request : Request) {g : Geometry} (end : Result (Unit {0}) Fault) {input left old new : Option (List ℕ)} → Asks arguments request
+    → AsksPlain arguments g → Ends request end input left old new → ExitsPlain g (status_at end) input left old new
+served arguments (Plain h) {g} end {input} {left} {old} {new} given asks ends =
     (end, refl, subst (λ k. EndsInMemory k end input left old new) (geometry_same h g (given.2 ∙ sym asks.2)) ends)
-served words (Format path h) end given asks ends = absurd (asks.1.0 given.1)
-served words (Show path) end given asks ends = absurd (asks.1.1 given.1)
-served words (Serve path s) end given asks ends = absurd (asks.1.2 given.1)
-served words (Help text) end given asks ends = absurd (subst (IsAmong (kind_of text)) asks.0 given.0)
+served arguments (Format path h) end given asks ends = absurd (asks.1.0 given.1)
+served arguments (Show path) end given asks ends = absurd (asks.1.1 given.1)
+served arguments (Serve path s) end given asks ends = absurd (asks.1.2 given.1)
+served arguments (Help text) end given asks ends = absurd (subst (IsAmong (kind_of text)) asks.0 given.0)
 
-pub formatted : (words : List Text) (request : Request) {path : List ℕ} (g : Geometry) (end : Result (Unit {0}) Fault) {input left old new : Option (List ℕ)}
-    → Asks words request → AsksFormat words path g → Ends request end input left old new → EndsFormat g (status_at end) old new × (left ≡ input)
-formatted words (Plain h) g end given asks ends = absurd (given.1.0 asks.1)
-formatted words (Format there h) g end {old} {new} given asks ends =
-    ((end, refl, subst (λ k. EndsMaking k end old new) (geometry_same h g (given.3 ∙ sym asks.3)) ends.1), ends.0)
-formatted words (Show there) g end given asks ends = let same : codes "format" ≡ codes "show" = two_names _ _ (command_of words) asks.1 given.1 in cc
-formatted words (Serve there s) g end given asks ends = let same : codes "format" ≡ codes "serve" = two_names _ _ (command_of words) asks.1 given.1 in cc
-formatted words (Help text) g end given asks ends = absurd (subst (IsAmong (kind_of text)) asks.0 given.0)
+pub formatted : (arguments : List Text) (request : Request) {path : List ℕ} (g : Geometry) (end : Result (Unit {0}) Fault) {input left old new : Option (List ℕ)}
+    → Asks arguments request → AsksFormat arguments path g → Ends request end input left old new → ExitsFormat g (status_at end) old new × (left ≡ input)
+formatted arguments (Plain h) g end given asks ends = absurd (given.1.0 asks.1)
+formatted arguments (Format there h) g end {old} {new} given asks ends =
+    ((end, refl, subst (λ k. EndsFormatting k end old new) (geometry_same h g (given.3 ∙ sym asks.3)) ends.1), ends.0)
+formatted arguments (Show there) g end given asks ends = let same : codes "format" ≡ codes "show" = two_names _ _ (command_of arguments) asks.1 given.1 in cc
+formatted arguments (Serve there s) g end given asks ends = let same : codes "format" ≡ codes "serve" = two_names _ _ (command_of arguments) asks.1 given.1 in cc
+formatted arguments (Help text) g end given asks ends = absurd (subst (IsAmong (kind_of text)) asks.0 given.0)
 
-pub shown : (words : List Text) (request : Request) {path : List ℕ} (end : Result (Unit {0}) Fault) {input left old new : Option (List ℕ)} → Asks words request
-    → AsksShow words path → Ends request end input left old new → EndsShow (status_at end) old new × (left ≡ input)
-shown words (Plain h) end given asks ends = absurd (given.1.1 asks.1)
-shown words (Format there h) end given asks ends = let same : codes "format" ≡ codes "show" = two_names _ _ (command_of words) given.1 asks.1 in cc
-shown words (Show there) end given asks ends = ((end, refl, ends.1), ends.0)
-shown words (Serve there s) end given asks ends = let same : codes "show" ≡ codes "serve" = two_names _ _ (command_of words) asks.1 given.1 in cc
-shown words (Help text) end given asks ends = absurd (subst (IsAmong (kind_of text)) asks.0 given.0)
+pub shown : (arguments : List Text) (request : Request) {path : List ℕ} (end : Result (Unit {0}) Fault) {input left old new : Option (List ℕ)} → Asks arguments request
+    → AsksShow arguments path → Ends request end input left old new → ExitsShow (status_at end) old new × (left ≡ input)
+shown arguments (Plain h) end given asks ends = absurd (given.1.1 asks.1)
+shown arguments (Format there h) end given asks ends = let same : codes "format" ≡ codes "show" = two_names _ _ (command_of arguments) given.1 asks.1 in cc
+shown arguments (Show there) end given asks ends = ((end, refl, ends.1), ends.0)
+shown arguments (Serve there s) end given asks ends = let same : codes "show" ≡ codes "serve" = two_names _ _ (command_of arguments) asks.1 given.1 in cc
+shown arguments (Help text) end given asks ends = absurd (subst (IsAmong (kind_of text)) asks.0 given.0)
 
-pub served_on : (words : List Text) (request : Request) {path : List ℕ} {s : ServeOptions} (end : Result (Unit {0}) Fault) {input left old new : Option (List ℕ)}
-    → Asks words request → AsksServe words path s → Ends request end input left old new → EndsServe s (status_at end) input left old new
-served_on words (Plain h) end given asks ends = absurd (given.1.2 asks.1)
-served_on words (Format there h) end given asks ends = let same : codes "format" ≡ codes "serve" = two_names _ _ (command_of words) given.1 asks.1 in cc
-served_on words (Show there) end given asks ends = let same : codes "show" ≡ codes "serve" = two_names _ _ (command_of words) given.1 asks.1 in cc
-served_on words (Serve there t) {s} end {input} {left} {old} {new} given asks ends =
+pub served_on : (arguments : List Text) (request : Request) {path : List ℕ} {s : ServeOptions} (end : Result (Unit {0}) Fault) {input left old new : Option (List ℕ)}
+    → Asks arguments request → AsksServe arguments path s → Ends request end input left old new → ExitsServe s (status_at end) input left old new
+served_on arguments (Plain h) end given asks ends = absurd (given.1.2 asks.1)
+served_on arguments (Format there h) end given asks ends = let same : codes "format" ≡ codes "serve" = two_names _ _ (command_of arguments) given.1 asks.1 in cc
+served_on arguments (Show there) end given asks ends = let same : codes "show" ≡ codes "serve" = two_names _ _ (command_of arguments) given.1 asks.1 in cc
+served_on arguments (Serve there t) {s} end {input} {left} {old} {new} given asks ends =
     (end, refl, subst (λ u. EndsInFile u end input left old new) (service_same ends.0 s (ends.1 ∙ ap with_at_most_64_workers given.3 ∙ sym asks.3)) ends.2)
-served_on words (Help text) end given asks ends = absurd (subst (IsAmong (kind_of text)) asks.0 given.0)
+served_on arguments (Help text) end given asks ends = absurd (subst (IsAmong (kind_of text)) asks.0 given.0)

@@ -1,4 +1,4 @@
--- What is printed of the small device, and which service words that are written out ask for.
+-- What is printed of the small device, and which service the arguments of examples ask for.
 use Rattle.std.proofs.Common.{◌≡◌, ◌++◌, ℕ, List, [], ◌∷◌, codes, ap, lit≤, refl}
 use Rattle.std.specs.Fmt.{digits}
 use Rattle.affinity.specs.Geometry.{small}
@@ -22,14 +22,12 @@ unfolding digits
 small_is_shown = refl
 
 -- the program's own name is any text
-asks_serve : (program : List ℕ)
-    → AsksServe (program ∷ codes "serve" ∷ codes "d" ∷ []) (codes "d") (record { workers = 2; slots = 16; every = 0; few = lit≤ tt })
+asks_serve : (program : List ℕ) → AsksServe (program ∷ codes "serve" ∷ codes "d" ∷ []) (codes "d") (record { workers = 2; slots = 16; every = 0; few = lit≤ tt })
 asks_serve program =
     let asks = given.asks_serve program in
     (asks.0, asks.1, asks.2, ap with_at_most_64_workers asks.3)
 
-asks_serve_with_numbers : (program : List ℕ)
-    → AsksServe (program ∷ codes "serve" ∷ codes "--workers=4" ∷ codes "d" ∷ codes "--every" ∷ codes "9" ∷ []) (codes "d")
+asks_serve_with_numbers : (program : List ℕ) → AsksServe (program ∷ codes "serve" ∷ codes "--workers=4" ∷ codes "d" ∷ codes "--every" ∷ codes "9" ∷ []) (codes "d")
     (record { workers = 4; slots = 16; every = 9; few = lit≤ tt })
 asks_serve_with_numbers program =
     let asks = given.asks_serve_with_numbers program in

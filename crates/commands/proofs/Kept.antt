@@ -1,21 +1,21 @@
 -- What was sent is kept: from the run behind it, and what the core promises of its device at the end.
 use Rattle.std.proofs.Common.{ℕ, List, ◌++◌, map, Option, subst}
 use Rattle.std.specs.Prelude.{Result, Ok, Err}
-use Rattle.checkpoint.proofs.Fine.{fine, head}
+use Rattle.checkpoint.proofs.NotRefused.{is_not_refused, has_header}
 use Rattle.disk.specs.Device.{IsCrashImage, Medium}
-use Rattle.legal_runs.specs.Events.{loggable}
+use Rattle.legal_runs.specs.Events.{recorded}
 use Rattle.legal_runs.specs.Runs.{logged_messages}
 use Rattle.runs.specs.Machine.{machine_of}
-use Rattle.runs.specs.Stages.{events_of}
-use Rattle.meaning.specs.Serial.{fold}
+use Rattle.runs.specs.DeviceEvents.{events_of}
+use Rattle.meaning.specs.Serial.{state_after_all}
 use Rattle.serving.proofs.Logged.{holds_all, written_are_kept}
 use Rattle.serving.specs.Ends.{HasServed, committed_in}
-use Rattle.serving.specs.Lines.{Line, admitted, text, ticketed}
-use Rattle.serving.specs.Logged.{AreInLog, HoldsLog}
+use Rattle.serving.specs.Lines.{Line, admitted, answer_text, ticketed}
+use Rattle.serving.specs.Logged.{AreInHistory, RecoversToHistory}
 use Rattle.serving.specs.declared.server.ServeFault.{ServeFault}
 use Rattle.serving.specs.declared.server.ServeFault.TheVariants as faults
 use Rattle.commands.proofs.OnDevice.{is_idle}
-use Rattle.commands.specs.Faults.{as_fault}
+use Rattle.commands.specs.Faults.{command_result}
 use Rattle.commands.specs.Acknowledged.{HoldsAcknowledged, KeepsAcknowledged, UnlessWriteFailed}
 use Rattle.commands.specs.Serving.{HasServedBy, machine_at_start}
 use Rattle.commands.specs.declared.faults.Fault.{Fault}
@@ -29,32 +29,32 @@ module _ {keeps : Type 0} {s : ServeOptions} {old new : Medium} {end : Result (U
   held {unsent} served keep c leaves =
       let g = h.start.geometry in
       let x = committed_in h.start in
-      let log = logged_messages (machine_of (machine_at_start s h.start)) (events_of served.stages) in
+      let log = logged_messages (machine_of (machine_at_start s h.start)) (events_of served.device_events) in
       let idle = is_idle s.slots h.start h.fresh in
-      let on_device : HoldsLog g x (ticketed 0 (admitted g served.taken)) log c =
-      subst (λ (t : ℕ). HoldsLog g x (ticketed t (admitted g served.taken)) log c) h.fresh.next
-      (holds_all keeps (machine_at_start s h.start) h.now input served.taken served.stages idle h.fresh.no_doubt served.run keep c
+      let on_device : RecoversToHistory g x (ticketed 0 (admitted g served.consumed)) log c =
+      subst (λ (t : ℕ). RecoversToHistory g x (ticketed t (admitted g served.consumed)) log c) h.fresh.next
+      (holds_all keeps (machine_at_start s h.start) h.now input served.consumed served.device_events idle h.fresh.no_doubt served.run keep c
       (subst (λ (m : Medium). IsCrashImage m c) h.given_back leaves)) in
-      let state = fold g x (loggable (log ++ on_device.more)) in
+      let state = state_after_all g x (recorded (log ++ on_device.more)) in
       record {
         geometry = g;
         start = x;
         recovered_before = record { header = λ _. h.header keep; recovered_before = λ _. h.recovered_before keep };
-        taken = served.taken;
+        consumed = served.consumed;
         first = served.run.first;
-        sent = map text served.sent_lines;
+        sent = map answer_text served.sent_lines;
         output = served.output;
-        log = log;
-        kept = subst (λ (t : ℕ). AreInLog g log t served.taken (map text served.sent_lines)) h.fresh.next
+        history = log;
+        kept = subst (λ (t : ℕ). AreInHistory g log t served.consumed (map answer_text served.sent_lines)) h.fresh.next
             (written_are_kept keeps (machine_at_start s h.start) h.now unsent input before written idle served);
         holds = on_device;
-        header = head g c state leaves.bytes on_device.recovers;
-        not_refused = fine g c state leaves.bytes on_device.recovers;
+        header = has_header g c state leaves.bytes on_device.recovers;
+        not_refused = is_not_refused g c state leaves.bytes on_device.recovers;
       }
 
 -- whatever the end
 pub keeps_acknowledged : {keeps : Type 0} {s : ServeOptions} {old new : Medium} (end : Result (Unit {0}) ServeFault) {input left before written : Option (List ℕ)}
-    → HasServedBy keeps s old new end input left before written → KeepsAcknowledged keeps old new (as_fault end) input before written
+    → HasServedBy keeps s old new end input left before written → KeepsAcknowledged keeps old new (command_result end) input before written
 keeps_acknowledged (Ok _) h = held h h.served.run.served
 keeps_acknowledged (Err faults.Device) h = held h h.served.run.1
 keeps_acknowledged (Err faults.Write) h = tt
@@ -64,15 +64,14 @@ keeps_acknowledged (Err faults.NoWorkers) h = held h h.served.run
 keeps_acknowledged (Err faults.OutOfMemory) h = held h h.served.run
 
 -- what follows of what is so follows of it at each end
-pub told_so : {P Q : Type 0} (end : Result (Unit {0}) Fault) (before written : Option (List ℕ)) → (P → Q)
-    → UnlessWriteFailed end before written P → UnlessWriteFailed end before written Q
-told_so (Err ends.Write) before written f k = tt
-told_so (Err (ends.Open fault)) before written f k = k
-told_so (Ok _) before written f k = f k
-told_so (Err ends.Read) before written f k = f k
-told_so (Err ends.GeometryOutOfRange) before written f k = f k
-told_so (Err ends.OutOfMemory) before written f k = f k
-told_so (Err ends.Device) before written f k = f k
-told_so (Err ends.NoWorkers) before written f k = f k
-told_so (Err ends.NoTicketLeft) before written f k = f k
-told_so (Err (ends.Format fault)) before written f k = f k
+pub unless_write_failed : {P Q : Type 0} (end : Result (Unit {0}) Fault) (before written : Option (List ℕ)) → (P → Q) → UnlessWriteFailed end before written P → UnlessWriteFailed end before written Q
+unless_write_failed (Err ends.Write) before written f k = tt
+unless_write_failed (Err (ends.Open fault)) before written f k = k
+unless_write_failed (Ok _) before written f k = f k
+unless_write_failed (Err ends.Read) before written f k = f k
+unless_write_failed (Err ends.GeometryOutOfRange) before written f k = f k
+unless_write_failed (Err ends.OutOfMemory) before written f k = f k
+unless_write_failed (Err ends.Device) before written f k = f k
+unless_write_failed (Err ends.NoWorkers) before written f k = f k
+unless_write_failed (Err ends.NoTicketLeft) before written f k = f k
+unless_write_failed (Err (ends.Format fault)) before written f k = f k

@@ -9,15 +9,15 @@ use Rattle.disk.proofs.Leaves.{itself}
 use Rattle.disk.specs.Device.{AreBytes, IsCrashImage, Medium}
 use Rattle.journal.specs.Opening.{OpeningCrashImages}
 use Rattle.legal_runs.specs.Laws.{IsIdle}
-use Rattle.runs.specs.Stages.{Stage}
-use Rattle.meaning.specs.Serial.{fold}
+use Rattle.runs.specs.DeviceEvents.{DeviceEvent}
+use Rattle.meaning.specs.Serial.{state_after_all}
 use Rattle.messages.specs.declared.Msg.{Msg}
 use Rattle.scheduler.specs.CoreView.{IsJustOpened, CoreView, RecoversNow, core_state_of}
 use Rattle.serving.specs.Ends.{HasRunLines, committed_in}
 use Rattle.serving.specs.Serve.{HasEmptyLog, ServePromise}
 use Rattle.serving.specs.declared.server.ServeFault.{ServeFault}
 use Rattle.serving.specs.declared.server.ServeFault.TheVariants as faults
-use Rattle.commands.specs.Faults.{as_fault}
+use Rattle.commands.specs.Faults.{command_result}
 use Rattle.commands.specs.Serving.{EndsOnDevice, CrashesSafely, HasNoRecords, HasServedBy, HasServedNothing, IsIncarnation, RecoversDurably, RecoveredTo, ServedDevice, machine_at_start, legal_run_of}
 use Rattle.commands.specs.declared.serve_options.ServeOptions.{ServeOptions}
 
@@ -31,9 +31,9 @@ is_idle slots c just = record { none_waits = just.none_waits; none_held = rw (ju
 module _ (keeps : Type 0) (s : ServeOptions) (old : Medium) (start now : CoreView) (end : Result (Unit {0}) ServeFault)
     (input left before written : Option (List ℕ)) where
   pub is_incarnation : IsJustOpened s.slots start → (keeps → HasHeader start.geometry old.now) → (keeps → recovered_state start.geometry old.now ≡ Some (committed_in start))
-      → (taken : List (List ℕ)) (stages : List Stage) → HasRunLines keeps (machine_at_start s start) now input taken stages → keeps
-      → IsIncarnation s start old now.medium stages
-  is_incarnation fresh header recovered_before taken stages run keep = λ k within. record {
+      → (consumed : List (List ℕ)) (device_events : List DeviceEvent) → HasRunLines keeps (machine_at_start s start) now input consumed device_events → keeps
+      → IsIncarnation s start old now.medium device_events
+  is_incarnation fresh header recovered_before consumed device_events run keep = λ k within. record {
     header = header keep;
     recovered_before = recovered_before keep;
     idle = is_idle s.slots start fresh;
@@ -60,7 +60,7 @@ module _ (keeps : Type 0) (s : ServeOptions) (old : Medium) (start now : CoreVie
 
 -- such a service crashes safely
 pub has_lived : {keeps : Type 0} {s : ServeOptions} {old new : Medium} (end : Result (Unit {0}) ServeFault) {input left before written : Option (List ℕ)}
-    → HasServedBy keeps s old new end input left before written → CrashesSafely keeps s old new (as_fault end) input left before written
+    → HasServedBy keeps s old new end input left before written → CrashesSafely keeps s old new (command_result end) input left before written
 has_lived (Ok _) h = (Ok tt, refl, h)
 has_lived (Err faults.NoWorkers) h = (Err faults.NoWorkers, refl, h)
 has_lived (Err faults.Read) h = (Err faults.Read, refl, h)
@@ -72,8 +72,7 @@ has_lived (Err faults.Exhausted) h = (Err faults.Exhausted, refl, h)
 -- ---- what the device recovers to
 
 -- a core that has not failed: its device recovers to what is committed
-recovers_for : (keeps : Type 0) (now : CoreView) → now.doubt ≡ [] → (keeps → RecoversNow now) → AreBytes now.medium.now
-    → RecoversDurably keeps now.medium now.geometry (committed_in now)
+recovers_for : (keeps : Type 0) (now : CoreView) → now.doubt ≡ [] → (keeps → RecoversNow now) → AreBytes now.medium.now → RecoversDurably keeps now.medium now.geometry (committed_in now)
 recovers_for keeps now none leaves bytes = record {
   now = λ k. one k now.medium.now (itself now.medium.now now.medium.unsynced bytes);
   each = one;
@@ -83,7 +82,7 @@ recovers_for keeps now none leaves bytes = record {
     one k c left =
         let some = leaves k c left in
         let nothing : take some.added now.doubt ≡ [] = rw none (take_all some.added [] (omega arith)) in
-        some.is ∙ ap (λ (ms : List Msg). Some (fold now.geometry (committed_in now) ms)) nothing
+        some.is ∙ ap (λ (ms : List Msg). Some (state_after_all now.geometry (committed_in now) ms)) nothing
 
 -- ---- each end, in the words of the serial server
 
@@ -119,7 +118,7 @@ module _ {keeps : Type 0} {s : ServeOptions} {old new : Medium} {end : Result (U
 -- what a service promises of each of its ends
 pub ends_on_device : {keeps : Type 0} {s : ServeOptions} {old new : Medium} (end : Result (Unit {0}) ServeFault) {input left before written : Option (List ℕ)}
     → (h : HasServedBy keeps s old new end input left before written) → (h.now.failed ≡ false → h.now.doubt ≡ []) → AreBytes new.now
-    → EndsOnDevice keeps s old new (as_fault end) input left before written
+    → EndsOnDevice keeps s old new (command_result end) input left before written
 ends_on_device {new} (Ok _) h no_doubt bytes =
     let same = h.served.run.served.run.geometry in (
       h.served.no_workers,

@@ -1,39 +1,39 @@
--- What a restart goes on from, from what a service on a device has done.
+-- From what a service on a device has done follows the state from which a restart goes on.
 use Rattle.std.proofs.Common.{◌≡◌, ℕ, List, [], ◌++◌, Option, Some, None, ap, sym, ◌∙◌, subst, inl, inr, ⊎_elim, arith}
 use Rattle.std.specs.Prelude.{Result, Ok, Err, OnOk}
 use Rattle.std.specs.Io.KnownBytes.{Appends}
 use Rattle.std.proofs.KnownBytes.{Appends-nil}
 use Rattle.affinity.specs.declared.geometry.Geometry.{Geometry}
-use Rattle.checkpoint.proofs.Fine.{fine, head}
+use Rattle.checkpoint.proofs.NotRefused.{is_not_refused, has_header}
 use Rattle.checkpoint.proofs.OneGeometry.{one_geometry}
 use Rattle.checkpoint.specs.Recovery.{recovered_state}
 use Rattle.disk.proofs.Leaves.{synced_left}
 use Rattle.disk.proofs.Moments.{counts_now}
 use Rattle.disk.specs.Device.{IsSynced, IsCrashImage, Medium}
 use Rattle.disk.specs.Memory.{Memory}
-use Rattle.disk.specs.Moments.{left_since, moment}
+use Rattle.disk.specs.Moments.{left_since, moment_number}
 use Rattle.disk.specs.declared.torn.Torn.{Torn}
-use Rattle.journal.specs.Opening.{IsPastSync, OpeningCrashImages, RecoversAs}
-use Rattle.legal_runs.specs.Events.{loggable}
+use Rattle.journal.specs.Opening.{IsPastSync, OpeningCrashImages, RecoversAsBefore}
+use Rattle.legal_runs.specs.Events.{recorded}
 use Rattle.legal_runs.specs.Runs.{logged_messages}
 use Rattle.runs.specs.Machine.{machine_of}
-use Rattle.runs.specs.Stages.{events_of}
-use Rattle.meaning.specs.Output.{WritesOutput, serial_out}
-use Rattle.meaning.specs.Serial.{fold}
+use Rattle.runs.specs.DeviceEvents.{events_of}
+use Rattle.meaning.specs.Output.{WritesOutput, serial_output}
+use Rattle.meaning.specs.Serial.{state_after_all}
 use Rattle.meaning.specs.State.{State, empty}
 use Rattle.serving.proofs.Recovering.{none_written, bytes_recover}
 use Rattle.serving.proofs.Logged.{holds_all}
 use Rattle.serving.specs.Ends.{committed_in}
 use Rattle.serving.specs.Lines.{admitted, ticketed}
 use Rattle.serving.specs.Restart.{RecoversTo, BytesRecover}
-use Rattle.serving.specs.Logged.{HoldsLog}
+use Rattle.serving.specs.Logged.{RecoversToHistory}
 use Rattle.serving.specs.declared.server.ServeFault.{ServeFault}
 use Rattle.serving.specs.declared.server.ServeFault.TheVariants as faults
 use Rattle.commands.proofs.Kept.{keeps_acknowledged}
 use Rattle.commands.proofs.OnDevice.{is_idle}
-use Rattle.commands.specs.Faults.{as_fault}
+use Rattle.commands.specs.Faults.{command_result}
 use Rattle.commands.specs.Acknowledged.{HoldsAcknowledged}
-use Rattle.commands.specs.Promise.{GoesOn, HoldsRecovered, LeavesRecovered, UnlessUnopened, known_unless_write_failed}
+use Rattle.commands.specs.Promise.{IsRestart, HoldsRecovered, LeavesRecovered, IfOpened, known_unless_write_failed}
 use Rattle.commands.specs.Serving.{EndsOnDevice, CrashesSafely, HasServedBy, HasServedUntilCrash, RecoveredTo, machine_at_start}
 use Rattle.commands.specs.declared.faults.Fault.{Fault}
 use Rattle.commands.specs.declared.faults.Fault.TheVariants as ends
@@ -48,31 +48,31 @@ write_failed : {keeps : Type 0} {s : ServeOptions} {old new : Medium} {input lef
 write_failed {keeps} {s} {input} h keep c leaves =
     let g = h.start.geometry in
     let x = committed_in h.start in
-    let taken = h.served.run.0 in
+    let consumed = h.served.run.0 in
     let log = logged_messages (machine_of (machine_at_start s h.start)) (events_of h.served.run.1) in
-    let on_device : HoldsLog g x (ticketed 0 (admitted g taken)) log c =
-    subst (λ (t : ℕ). HoldsLog g x (ticketed t (admitted g taken)) log c) h.fresh.next
-    (holds_all keeps (machine_at_start s h.start) h.now input taken h.served.run.1 (is_idle s.slots h.start h.fresh) h.fresh.no_doubt h.served.run.2 keep c
+    let on_device : RecoversToHistory g x (ticketed 0 (admitted g consumed)) log c =
+    subst (λ (t : ℕ). RecoversToHistory g x (ticketed t (admitted g consumed)) log c) h.fresh.next
+    (holds_all keeps (machine_at_start s h.start) h.now input consumed h.served.run.1 (is_idle s.slots h.start h.fresh) h.fresh.no_doubt h.served.run.2 keep c
     (subst (λ (m : Medium). IsCrashImage m c) h.given_back leaves)) in
-    let state = fold g x (loggable (log ++ on_device.more)) in
+    let state = state_after_all g x (recorded (log ++ on_device.more)) in
     record {
       geometry = g;
       start = x;
       recovered_before = record { header = λ _. h.header keep; recovered_before = λ _. h.recovered_before keep };
-      taken = taken;
+      consumed = consumed;
       first = h.served.run.2.first;
       sent = [];
       output = tt;
-      log = log;
+      history = log;
       kept = tt;
       holds = on_device;
-      header = head g c state leaves.bytes on_device.recovers;
-      not_refused = fine g c state leaves.bytes on_device.recovers;
+      header = has_header g c state leaves.bytes on_device.recovers;
+      not_refused = is_not_refused g c state leaves.bytes on_device.recovers;
     }
 
 held_at : {keeps : Type 0} {s : ServeOptions} {old new : Medium} (end : Result (Unit {0}) ServeFault) {input left before written : Option (List ℕ)}
     → HasServedBy keeps s old new end input left before written → keeps → (c : List ℕ) → IsCrashImage new c
-    → HoldsAcknowledged old input (known_unless_write_failed (as_fault end) before) written c
+    → HoldsAcknowledged old input (known_unless_write_failed (command_result end) before) written c
 held_at (Ok _) h = keeps_acknowledged (Ok tt) h
 held_at (Err faults.Device) h = keeps_acknowledged (Err faults.Device) h
 held_at (Err faults.Write) h = write_failed h
@@ -81,23 +81,22 @@ held_at (Err faults.Exhausted) h = keeps_acknowledged (Err faults.Exhausted) h
 held_at (Err faults.NoWorkers) h = keeps_acknowledged (Err faults.NoWorkers) h
 held_at (Err faults.OutOfMemory) h = keeps_acknowledged (Err faults.OutOfMemory) h
 
--- What holds all that was sent recovers to where a restart goes on.
-pub recovered : {old : Medium} {input before written : Option (List ℕ)} {c : List ℕ} → HoldsAcknowledged old input before written c
-    → HoldsRecovered old input before written c
+-- A device that holds all that was sent recovers to the state from which a restart goes on.
+pub recovered : {old : Medium} {input before written : Option (List ℕ)} {c : List ℕ} → HoldsAcknowledged old input before written c → HoldsRecovered old input before written c
 recovered {input} {before} {written} {c} h = record {
   geometry = h.geometry;
   start = h.start;
   recovered_before = h.recovered_before;
-  recovered = bytes_recover 0 h.taken h.sent h.first h.output h.kept h.holds;
+  recovered = bytes_recover 0 h.consumed h.sent h.first h.output h.kept h.holds;
 }
 
 recovered_at : {keeps : Type 0} {s : ServeOptions} {old new : Medium} (end : Result (Unit {0}) ServeFault) {input left before written : Option (List ℕ)}
     → HasServedBy keeps s old new end input left before written → keeps → (c : List ℕ) → IsCrashImage new c
-    → HoldsRecovered old input (known_unless_write_failed (as_fault end) before) written c
+    → HoldsRecovered old input (known_unless_write_failed (command_result end) before) written c
 recovered_at end h keep c leaves = recovered (held_at end h keep c leaves)
 
 pub leaves_recovered : {keeps : Type 0} {s : ServeOptions} {old new : Medium} (end : Result (Unit {0}) ServeFault) {input left before written : Option (List ℕ)}
-    → HasServedBy keeps s old new end input left before written → LeavesRecovered keeps old new (as_fault end) input before written
+    → HasServedBy keeps s old new end input left before written → LeavesRecovered keeps old new (command_result end) input before written
 leaves_recovered (Ok _) h = recovered_at (Ok tt) h
 leaves_recovered (Err faults.Device) h = recovered_at (Err faults.Device) h
 leaves_recovered (Err faults.Write) h = recovered_at (Err faults.Write) h
@@ -106,8 +105,8 @@ leaves_recovered (Err faults.Exhausted) h = recovered_at (Err faults.Exhausted) 
 leaves_recovered (Err faults.NoWorkers) h = recovered_at (Err faults.NoWorkers) h
 leaves_recovered (Err faults.OutOfMemory) h = recovered_at (Err faults.OutOfMemory) h
 
--- what follows of what is so follows of it at each end
-pub opened_then : {P Q : Type 0} (end : Result (Unit {0}) Fault) → (P → Q) → UnlessUnopened end P → UnlessUnopened end Q
+-- if P implies Q, then P, unless the device could not be opened, implies Q, unless it could not
+pub opened_then : {P Q : Type 0} (end : Result (Unit {0}) Fault) → (P → Q) → IfOpened end P → IfOpened end Q
 opened_then (Err (ends.Open fault)) f h = tt
 opened_then (Ok done) f h = f h
 opened_then (Err ends.Read) f h = f h
@@ -138,16 +137,15 @@ written_so (Some bytes) before written P Q f h = (h.0, h.1, f bytes h.0 h.2)
 -- A service that ends without fault has answered all of its input.
 module _ (g : Geometry) {x : State} (old : Medium) (recovers : recovered_state g old.now ≡ Some x) where
   serves_so : (s : ServeOptions) (new : Medium) (end : Result (Unit {0}) Fault) (input left before written : Option (List ℕ))
-      → EndsOnDevice (Unit {0}) s old new end input left before written → OnOk end (WritesOutput input before written (λ bytes out. out ≡ serial_out g x bytes))
+      → EndsOnDevice (Unit {0}) s old new end input left before written → OnOk end (WritesOutput input before written (λ bytes out. out ≡ serial_output g x bytes))
   serves_so s new (Err fault) input left before written h = tt
   serves_so s new (Ok done) input left before written h =
       let own = opened_so recovers h.1.0.before in
       written_so input before written _ _
-      (λ bytes out served. served.output ∙ (λ i. serial_out (own.0 i) (own.1 i) bytes)) h.1.3
+      (λ bytes out served. served.output ∙ (λ i. serial_output (own.0 i) (own.1 i) bytes)) h.1.3
 
 module _ (g : Geometry) (old new : Medium) (made : recovered_state g old.now ≡ Some empty) (c : List ℕ) (leaves : IsCrashImage new c) where
-  left_so : (input before written : Option (List ℕ)) → HoldsRecovered old input before written c
-      → BytesRecover g empty input before written c
+  left_so : (input before written : Option (List ℕ)) → HoldsRecovered old input before written c → BytesRecover g empty input before written c
   left_so input before written h =
       let own = opened_so made h.recovered_before in
       subst (λ (k : Geometry). BytesRecover k empty input before written c) own.0
@@ -155,18 +153,17 @@ module _ (g : Geometry) (old new : Medium) (made : recovered_state g old.now ≡
 
   -- A crash while it is opened leaves what recovers to the same.
   crashed_so : IsSynced old → OpeningCrashImages old new → recovered_state g c ≡ Some empty
-  crashed_so synced h = ⊎_elim (λ (was : IsCrashImage old c). ap (recovered_state g) (synced_left old c synced was) ∙ made) (λ (k : RecoversAs old.now c). k.same g empty made)
+  crashed_so synced h = ⊎_elim (λ (was : IsCrashImage old c). ap (recovered_state g) (synced_left old c synced was) ∙ made) (λ (k : RecoversAsBefore old.now c). k.same g empty made)
       (⊎_elim
       (λ (same : new ≡ h.synced).
-      inl (h.first.each c (counts_now h.synced (moment old) c h.first.later (subst (λ (m : Medium). IsCrashImage m c) same leaves))))
-      (λ (past : IsPastSync old h.synced new). ⊎_elim (λ (was : left_since h.synced (moment old) c). inl (h.first.each c was))
-      (λ (k : RecoversAs old.now c). inr k)
-      (past.later.before (moment old) c h.first.later
-      (counts_now new (moment old) c (let a = h.first.later in let b = past.later.later in omega (arith, a, b)) leaves))) h.rest)
+      inl (h.first.each c (counts_now h.synced (moment_number old) c h.first.later (subst (λ (m : Medium). IsCrashImage m c) same leaves))))
+      (λ (past : IsPastSync old h.synced new). ⊎_elim (λ (was : left_since h.synced (moment_number old) c). inl (h.first.each c was))
+      (λ (k : RecoversAsBefore old.now c). inr k)
+      (past.later.before (moment_number old) c h.first.later
+      (counts_now new (moment_number old) c (let a = h.first.later in let b = past.later.later in omega (arith, a, b)) leaves))) h.rest)
 
   -- where it could not be opened
-  left_unopened : (input before written : Option (List ℕ)) → IsSynced old → OpeningCrashImages old new → written ≡ before
-      → BytesRecover g empty input before written c
+  left_unopened : (input before written : Option (List ℕ)) → IsSynced old → OpeningCrashImages old new → written ≡ before → BytesRecover g empty input before written c
   left_unopened input before written synced opening unwritten =
       record { now = empty; holds_now = crashed_so synced opening; recovers = silent input }
     where
@@ -176,8 +173,7 @@ module _ (g : Geometry) (old new : Medium) (made : recovered_state g old.now ≡
           ([], subst (λ (w : Option (List ℕ)). Appends before w []) (sym unwritten) (Appends-nil before), none_written g empty bytes)
 
   module _ (s : ServeOptions) (input left before written : Option (List ℕ)) where
-    left_served : (end : Result (Unit {0}) Fault)
-        → (ended : Result (Unit {0}) ServeFault) × (end ≡ as_fault ended) × HasServedBy (Unit {0}) s old new ended input left before written
+    left_served : (end : Result (Unit {0}) Fault) → (ended : Result (Unit {0}) ServeFault) × (end ≡ command_result ended) × HasServedBy (Unit {0}) s old new ended input left before written
         → BytesRecover g empty input (known_unless_write_failed end before) written c
     left_served end h = left_so input (known_unless_write_failed end before) written
         (subst (λ (e : Result (Unit {0}) Fault). HoldsRecovered old input (known_unless_write_failed e before) written c) (sym h.1)
@@ -196,14 +192,14 @@ module _ (g : Geometry) (old new : Medium) (made : recovered_state g old.now ≡
     left_at (Err ends.NoTicketLeft) synced h e = left_served (Err ends.NoTicketLeft) h
     left_at (Err (ends.Format fault)) synced h e = left_served (Err (ends.Format fault)) h
 
--- A device that was just made was served until it was crashed, and then served again.
-pub goes_on : {g : Geometry} {s : ServeOptions} {began : Medium} {torn : Torn} {crashed : Memory} (last : Medium)
+-- A device that was just made was served until it was crashed, and then served again: what the two runs wrote is as `IsRestart` says.
+pub restart : {g : Geometry} {s : ServeOptions} {began : Medium} {torn : Torn} {crashed : Memory} (last : Medium)
     {first second : Result (Unit {0}) Fault} {input left before written next_input : Option (List ℕ)} (next_left : Option (List ℕ))
     {next_before next_written : Option (List ℕ)} → recovered_state g began.now ≡ Some empty → IsSynced began
     → HasServedUntilCrash s began torn crashed first input left before written
     → EndsOnDevice (Unit {0}) s crashed.medium last second next_input next_left next_before next_written
-    → GoesOn g first second input before written next_input next_before next_written
-goes_on {g} {s} {began} {crashed} last {first} {second} next_left made synced h ends =
+    → IsRestart g first second input before written next_input next_before next_written
+restart {g} {s} {began} {crashed} last {first} {second} next_left made synced h ends =
     let one = left_at g began h.ended.medium made crashed.medium.now h.leaves s _ _ _ _ first synced h.crash_safe h.ends in
     record {
       now = one.now;

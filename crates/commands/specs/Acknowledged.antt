@@ -10,29 +10,29 @@ use Rattle.meaning.specs.Output.{joined}
 use Rattle.meaning.specs.State.{State}
 use Rattle.serving.specs.Ends.{AreFirst}
 use Rattle.serving.specs.Lines.{admitted, ticketed}
-use Rattle.serving.specs.Logged.{AreInLog, HoldsLog}
+use Rattle.serving.specs.Logged.{AreInHistory, RecoversToHistory}
 use Rattle.commands.specs.Serving.{RecoveredTo}
 use Rattle.commands.specs.declared.faults.Fault.{Fault}
 use Rattle.commands.specs.declared.faults.Fault.TheVariants.{Write, Open}
 
--- The device recovered to a state, and the output has these lines for the first lines of the input. A log has each message whose reply
--- was sent, by its ticket, with that reply. The bytes recover to where the log leads from that state, perhaps with more of the messages
--- that were taken, and they are not refused.
+-- The device recovered to a state, and the output has these lines for the first lines of the input. A history has each message whose reply
+-- was sent, reads too, by its ticket, with that reply. The bytes recover to the state to which its changes lead from there, perhaps with
+-- more of the messages of the input, and they are not refused.
 pub record HoldsAcknowledged (old : Medium) (input before written : Option (List ℕ)) (bytes : List ℕ) : Type 0 where
   pub geometry : Geometry
   pub start : State
   pub recovered_before : RecoveredTo (Unit {0}) old geometry start
-  pub taken : List (List ℕ)
-  pub first : AreFirst input taken
+  pub consumed : List (List ℕ)
+  pub first : AreFirst input consumed
   pub sent : List (List ℕ)
   pub output : Appends before written (joined sent)
-  pub log : List Replied
-  pub kept : AreInLog geometry log 0 taken sent
-  pub holds : HoldsLog geometry start (ticketed 0 (admitted geometry taken)) log bytes
+  pub history : List Replied
+  pub kept : AreInHistory geometry history 0 consumed sent
+  pub holds : RecoversToHistory geometry start (ticketed 0 (admitted geometry consumed)) history bytes
   pub header : HasHeader geometry bytes
   pub not_refused : refused geometry bytes ≡ None
 
--- Where a write failed it is unknown what was sent, and where the device could not be opened nothing was. At each other end P holds.
+-- P holds, unless a write failed (then it is unknown what was sent) or the device could not be opened (then nothing was).
 abbrev pub UnlessWriteFailed : Result (Unit {0}) Fault → Option (List ℕ) → Option (List ℕ) → Type 0 → Type 0
 UnlessWriteFailed (Err Write) before written P = Unit {0}
 UnlessWriteFailed (Err (Open fault)) before written P = written ≡ before

@@ -1,7 +1,7 @@
 -- Statement for engineers: How a call ends, and with which status.
 use Rattle.std.specs.Prelude.{◌≡◌, ◌⊎◌, ℕ, List, Option, Result, Ok, Err}
 use Rattle.affinity.specs.declared.geometry.Geometry.{Geometry}
-use Rattle.commands.specs.Ends.{EndsMaking, EndsInMemory, EndsShowing}
+use Rattle.commands.specs.Ends.{EndsFormatting, EndsInMemory, EndsShowing}
 use Rattle.commands.specs.Faults.{status_of}
 use Rattle.commands.specs.Serving.{EndsInFile, options_in_order}
 use Rattle.commands.specs.declared.faults.Fault.{Fault}
@@ -14,50 +14,51 @@ use Rattle.arguments.specs.declared.parsing.Request.TheVariants.{Help, Plain, Fo
 use Rattle.arguments.specs.declared.parsing.ArgumentRefusal.{ArgumentRefusal}
 use Rattle.arguments.specs.declared.parsing.ArgumentRefusal.TheVariants as refusal
 
--- How a request ends, as its command does: `input` and `remaining` are what the reader had before and after, `old` and `new` what the
+-- How the command of a request ends: `input` and `remaining` are what the reader had before and after, `old` and `new` what the
 -- output had. Help and the version read nothing; their text, and whether it was written, is unknown. The server has the options given.
 abbrev pub Ends : Request → Result (Unit {0}) Fault → Option (List ℕ) → Option (List ℕ) → Option (List ℕ) → Option (List ℕ) → Type 0
 Ends (Help text) (Ok _) input remaining old new = remaining ≡ input
 Ends (Help text) (Err Write) input remaining old new = remaining ≡ input
 Ends (Help text) (Err _) input remaining old new = ⊥
 Ends (Plain g) end input remaining old new = EndsInMemory g end input remaining old new
-Ends (Format path g) end input remaining old new = (remaining ≡ input) × EndsMaking g end old new
+Ends (Format path g) end input remaining old new = (remaining ≡ input) × EndsFormatting g end old new
 Ends (Show path) end input remaining old new = (remaining ≡ input) × EndsShowing end old new
 Ends (Serve path given) end input remaining old new = (s : ServeOptions)
     × (options_in_order s ≡ with_at_most_64_workers (service_numbers given)) × EndsInFile s end input remaining old new
 
+-- the exit status at this end
 abbrev pub status_at : Result (Unit {0}) Fault → ℕ
 status_at (Ok _) = 0
 status_at (Err fault) = status_of fault
 
--- the status where the arguments give no request
+-- the exit status where the arguments give no request
 abbrev pub status_of_refusal : ArgumentRefusal → ℕ
 status_of_refusal (refusal.Words _) = 2
 status_of_refusal refusal.OutOfMemory = status_of OutOfMemory
 status_of_refusal refusal.GeometryOutOfRange = status_of GeometryOutOfRange
 
 -- The service came to an end that has this status.
-abbrev pub EndsPlain : Geometry → ℕ → Option (List ℕ) → Option (List ℕ) → Option (List ℕ) → Option (List ℕ) → Type 0
-EndsPlain g status input remaining old new =
+abbrev pub ExitsPlain : Geometry → ℕ → Option (List ℕ) → Option (List ℕ) → Option (List ℕ) → Option (List ℕ) → Type 0
+ExitsPlain g status input remaining old new =
     (end : Result (Unit {0}) Fault) × (status ≡ status_at end) × EndsInMemory g end input remaining old new
 
 -- The making of a device came to an end that has this status.
-abbrev pub EndsFormat : Geometry → ℕ → Option (List ℕ) → Option (List ℕ) → Type 0
-EndsFormat g status old new = (end : Result (Unit {0}) Fault) × (status ≡ status_at end) × EndsMaking g end old new
+abbrev pub ExitsFormat : Geometry → ℕ → Option (List ℕ) → Option (List ℕ) → Type 0
+ExitsFormat g status old new = (end : Result (Unit {0}) Fault) × (status ≡ status_at end) × EndsFormatting g end old new
 
 -- The printing of what a device holds came to an end that has this status.
-abbrev pub EndsShow : ℕ → Option (List ℕ) → Option (List ℕ) → Type 0
-EndsShow status old new = (end : Result (Unit {0}) Fault) × (status ≡ status_at end) × EndsShowing end old new
+abbrev pub ExitsShow : ℕ → Option (List ℕ) → Option (List ℕ) → Type 0
+ExitsShow status old new = (end : Result (Unit {0}) Fault) × (status ≡ status_at end) × EndsShowing end old new
 
 -- The service with a device came to an end that has this status.
-abbrev pub EndsServe : ServeOptions → ℕ → Option (List ℕ) → Option (List ℕ) → Option (List ℕ) → Option (List ℕ) → Type 0
-EndsServe s status input remaining old new =
+abbrev pub ExitsServe : ServeOptions → ℕ → Option (List ℕ) → Option (List ℕ) → Option (List ℕ) → Option (List ℕ) → Type 0
+ExitsServe s status input remaining old new =
     (end : Result (Unit {0}) Fault) × (status ≡ status_at end) × EndsInFile s end input remaining old new
 
 -- Help or the version was printed, or could not be written, or there was no memory.
-abbrev pub EndsHelp : ℕ → Type 0
-EndsHelp status = (status ≡ 0) ⊎ ((status ≡ status_of Write) ⊎ (status ≡ status_of OutOfMemory))
+abbrev pub ExitsHelp : ℕ → Type 0
+ExitsHelp status = (status ≡ 0) ⊎ ((status ≡ status_of Write) ⊎ (status ≡ status_of OutOfMemory))
 
 -- The arguments were refused, or there was no memory to read them.
-abbrev pub EndsRefused : ℕ → Type 0
-EndsRefused status = (status ≡ 2) ⊎ (status ≡ status_of OutOfMemory)
+abbrev pub ExitsRefused : ℕ → Type 0
+ExitsRefused status = (status ≡ 2) ⊎ (status ≡ status_of OutOfMemory)

@@ -3,7 +3,7 @@ use Rattle.std.specs.Prelude.{◌≡◌, ℕ, List, Option, Result, Ok, Err}
 use Rattle.std.specs.Io.KnownBytes.{Appends, IsAtEnd}
 use Rattle.affinity.specs.declared.geometry.Geometry.{Geometry}
 use Rattle.meaning.specs.State.{empty}
-use Rattle.meaning.specs.Output.{serial_out, AnswersWholeLines, IsBeginning, WritesOutput}
+use Rattle.meaning.specs.Output.{serial_output, AnswersWholeLines, IsBeginning, WritesOutput}
 use Rattle.checkpoint.specs.declared.inspecting.Shown.{Shown}
 use Rattle.checkpoint.specs.Refusals.{IsRefused}
 use Rattle.checkpoint.specs.Shown.{IsShown}
@@ -17,7 +17,7 @@ use Rattle.commands.specs.declared.faults.Fault.TheVariants.{Read, Write, OutOfM
 abbrev pub EndsInMemory : Geometry → Result (Unit {0}) Fault → Option (List ℕ) → Option (List ℕ) → Option (List ℕ) → Option (List ℕ)
     → Type 0
 EndsInMemory g (Ok _) input remaining old new =
-    WritesOutput input old new (λ read written. written ≡ serial_out g empty read) × IsAtEnd remaining
+    WritesOutput input old new (λ read written. written ≡ serial_output g empty read) × IsAtEnd remaining
 EndsInMemory g (Err Read) input remaining old new = WritesOutput input old new (AnswersWholeLines g empty remaining)
 EndsInMemory g (Err Write) input remaining old new = Unit {0}
 EndsInMemory g (Err OutOfMemory) input remaining old new = WritesOutput input old new (IsBeginning g empty)
@@ -25,14 +25,14 @@ EndsInMemory g (Err _) input remaining old new = ⊥
 
 -- A device was made and its length printed, or it was not made and nothing was written. After a failed write it is unknown what was
 -- written. What the file has is unknown.
-abbrev pub EndsMaking : Geometry → Result (Unit {0}) Fault → Option (List ℕ) → Option (List ℕ) → Type 0
-EndsMaking g (Ok _) old new = Appends old new (formatted_line g)
-EndsMaking g (Err Write) old new = Unit {0}
-EndsMaking g (Err Device) old new = new ≡ old
-EndsMaking g (Err OutOfMemory) old new = new ≡ old
-EndsMaking g (Err (Format formatting.TooShort)) old new = ⊥
-EndsMaking g (Err (Format fault)) old new = new ≡ old
-EndsMaking g (Err _) old new = ⊥
+abbrev pub EndsFormatting : Geometry → Result (Unit {0}) Fault → Option (List ℕ) → Option (List ℕ) → Type 0
+EndsFormatting g (Ok _) old new = Appends old new (formatted_line g)
+EndsFormatting g (Err Write) old new = Unit {0}
+EndsFormatting g (Err Device) old new = new ≡ old
+EndsFormatting g (Err OutOfMemory) old new = new ≡ old
+EndsFormatting g (Err (Format formatting.TooShort)) old new = ⊥
+EndsFormatting g (Err (Format fault)) old new = new ≡ old
+EndsFormatting g (Err _) old new = ⊥
 
 -- What a device holds was printed, or nothing was. After a failed write it is unknown what was written.
 abbrev pub EndsShowing : Result (Unit {0}) Fault → Option (List ℕ) → Option (List ℕ) → Type 0
@@ -43,7 +43,7 @@ EndsShowing (Err OutOfMemory) old new = new ≡ old
 EndsShowing (Err (Open fault)) old new = new ≡ old
 EndsShowing (Err _) old new = ⊥
 
--- The same where the device has these bytes: what is printed is what it holds, and a refusal is that of its bytes.
+-- How `show` ends where the device has these bytes: what is printed is what they hold, and a refusal is that of these bytes.
 abbrev pub ShowsBytes : List ℕ → Result (Unit {0}) Fault → Option (List ℕ) → Option (List ℕ) → Type 0
 ShowsBytes bytes (Ok _) old new = (shown : Shown) × IsShown bytes shown × Appends old new (shown_lines shown)
 ShowsBytes bytes (Err (Open fault)) old new = IsRefused bytes fault

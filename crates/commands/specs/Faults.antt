@@ -13,6 +13,7 @@ use Rattle.serving.specs.declared.server.ServeFault.TheVariants as serving
 use Rattle.commands.specs.declared.faults.Fault.{Fault}
 use Rattle.commands.specs.declared.faults.Fault.TheVariants.{Read, Write, GeometryOutOfRange, OutOfMemory, Device, NoWorkers, NoTicketLeft, Format, Open}
 
+-- the exit status: 3 for want of memory, 2 for arguments with which nothing can be served, 1 for any other fault
 abbrev pub status_of : Fault → ℕ
 status_of Read = 1
 status_of Write = 1
@@ -28,29 +29,29 @@ status_of (Open _) = 1
 
 -- The exit status where the arguments could not be read: 3 for want of memory, and else that of wrong arguments, since one of them is not
 -- UTF-8.
-abbrev pub status_without_words : ErrorKind → ℕ
-status_without_words kind.OutOfMemory = status_of OutOfMemory
-status_without_words _ = 2
+abbrev pub status_of_unreadable_arguments : ErrorKind → ℕ
+status_of_unreadable_arguments kind.OutOfMemory = status_of OutOfMemory
+status_of_unreadable_arguments _ = 2
 
 -- the fault of the program where the serial server ends by one of its own
-abbrev pub of_plain : PlainFault → Fault
-of_plain plain.Read = Read
-of_plain plain.Write = Write
-of_plain plain.OutOfMemory = OutOfMemory
+abbrev pub fault_of_plain : PlainFault → Fault
+fault_of_plain plain.Read = Read
+fault_of_plain plain.Write = Write
+fault_of_plain plain.OutOfMemory = OutOfMemory
 
 -- the fault of the program where the server on a device ends by one of its own
-abbrev pub of_serve : ServeFault → Fault
-of_serve serving.NoWorkers = NoWorkers
-of_serve serving.Read = Read
-of_serve serving.Write = Write
-of_serve serving.Device = Device
-of_serve serving.OutOfMemory = OutOfMemory
-of_serve serving.Exhausted = NoTicketLeft
+abbrev pub fault_of_serve : ServeFault → Fault
+fault_of_serve serving.NoWorkers = NoWorkers
+fault_of_serve serving.Read = Read
+fault_of_serve serving.Write = Write
+fault_of_serve serving.Device = Device
+fault_of_serve serving.OutOfMemory = OutOfMemory
+fault_of_serve serving.Exhausted = NoTicketLeft
 
 -- how a service on a device ends, with the fault of the program
-abbrev pub as_fault : Result (Unit {0}) ServeFault → Result (Unit {0}) Fault
-as_fault (Ok _) = Ok tt
-as_fault (Err fault) = Err (of_serve fault)
+abbrev pub command_result : Result (Unit {0}) ServeFault → Result (Unit {0}) Fault
+command_result (Ok _) = Ok tt
+command_result (Err fault) = Err (fault_of_serve fault)
 
 -- the fault of the program where the file of a device can't be made or opened
 abbrev pub fault_of_file : FileFault → Fault

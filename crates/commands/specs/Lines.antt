@@ -15,7 +15,7 @@ number_line word numbers = output_line (word ++ flat_map spaced numbers)
 abbrev pub formatted_line : Geometry → List ℕ
 formatted_line g = number_line (codes "formatted") (device_size (layout_of g) ∷ [])
 
--- what is printed of a device that is shown: the numbers of its server, the area that is named, how many records are in force, the reply to
+-- what is printed of a device that is shown: its geometry, the area that is named, how many records are in force, the reply to
 -- `summary`, and the version of the named image
 abbrev pub shown_lines : Shown → List ℕ
 shown_lines shown =

@@ -2,7 +2,7 @@
 use Rattle.std.specs.Prelude.{◌≡◌, ℕ, List, Option, None, Result, Err, OnOk}
 use Rattle.affinity.specs.declared.geometry.Geometry.{Geometry}
 use Rattle.disk.specs.Device.{IsCrashImage, Medium}
-use Rattle.meaning.specs.Output.{WritesOutput, serial_out}
+use Rattle.meaning.specs.Output.{WritesOutput, serial_output}
 use Rattle.meaning.specs.State.{State, empty}
 use Rattle.serving.specs.Restart.{RecoversTo, BytesRecover}
 use Rattle.commands.specs.Serving.{RecoveredTo}
@@ -16,18 +16,20 @@ known_unless_write_failed _ before = before
 
 -- A server ran from the empty state on one input and ended, and its device crashed. A second server ran on what the crash left, with
 -- another input.
-pub record GoesOn (g : Geometry) (first second : Result (Unit {0}) Fault)
+pub record IsRestart (g : Geometry) (first second : Result (Unit {0}) Fault)
     (input before written next_input next_before next_written : Option (List ℕ)) : Type 0 where
   -- the state that the crash left
   pub now : State
   pub recovers : WritesOutput input (known_unless_write_failed first before) written (RecoversTo g empty now)
-  -- without a fault all of the input was answered
-  pub all_answered : OnOk first (WritesOutput input before written (λ bytes out. out ≡ serial_out g empty bytes))
-  pub next : OnOk second (WritesOutput next_input next_before next_written (λ bytes out. out ≡ serial_out g now bytes))
+  -- if the first server ended without a fault, all of its input was answered
+  pub all_answered : OnOk first (WritesOutput input before written (λ bytes out. out ≡ serial_output g empty bytes))
+  pub next : OnOk second (WritesOutput next_input next_before next_written (λ bytes out. out ≡ serial_output g now bytes))
 
 -- ---- the same of the bytes of a device
 
--- The device recovered to a state, and these bytes recover to one to which a restart recovers from there.
+-- The old device recovered to the state `start`. These bytes recover to a state that a crash may leave of a server that began with
+-- `start` and had this input and output.
+-- The device keeps its bytes, so `keeps` of `RecoveredTo` is `Unit {0}`.
 pub record HoldsRecovered (old : Medium) (input before written : Option (List ℕ)) (bytes : List ℕ) : Type 0 where
   pub geometry : Geometry
   pub start : State
@@ -35,12 +37,12 @@ pub record HoldsRecovered (old : Medium) (input before written : Option (List �
   pub recovered : BytesRecover geometry start input before written bytes
 
 -- P, unless the device could not be opened
-abbrev pub UnlessUnopened : Result (Unit {0}) Fault → Type 0 → Type 0
-UnlessUnopened (Err (Open fault)) P = Unit {0}
-UnlessUnopened _ P = P
+abbrev pub IfOpened : Result (Unit {0}) Fault → Type 0 → Type 0
+IfOpened (Err (Open fault)) P = Unit {0}
+IfOpened _ P = P
 
--- What a crash leaves when a service has come to this end recovers so, unless the device could not be opened.
+-- Whatever a crash leaves when a service has come to this end recovers as `HoldsRecovered` says, unless the device could not be opened.
 abbrev pub LeavesRecovered : Type 0 → Medium → Medium → Result (Unit {0}) Fault → Option (List ℕ) → Option (List ℕ)
     → Option (List ℕ) → Type 0
-LeavesRecovered keeps old new end input before written = UnlessUnopened end
+LeavesRecovered keeps old new end input before written = IfOpened end
     (keeps → (c : List ℕ) → IsCrashImage new c → HoldsRecovered old input (known_unless_write_failed end before) written c)

@@ -12,6 +12,6 @@ with_at_most_64_workers (workers ∷ others) = min workers 64 ∷ others
 
 -- The arguments ask for service with the device in the file of this path.
 abbrev pub AsksServe : List Text → Text → ServeOptions → Type 0
-AsksServe words path s =
-    (findings words ≡ []) × IsNamed (codes "serve") (command_of words) × (path ≡ device_at (command_of words))
-    × (options_in_order s ≡ with_at_most_64_workers (service_at (command_of words)))
+AsksServe arguments path s =
+    (findings arguments ≡ []) × IsNamed (codes "serve") (command_of arguments) × (path ≡ device_at (command_of arguments))
+    × (options_in_order s ≡ with_at_most_64_workers (service_at (command_of arguments)))

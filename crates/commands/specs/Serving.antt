@@ -9,7 +9,7 @@ use Rattle.checkpoint.specs.Refusals.{IsRefused}
 use Rattle.checkpoint.specs.declared.fault.OpenFault.TheVariants as open_faults
 use Rattle.disk.specs.Device.{IsCrashImage, Medium}
 use Rattle.disk.specs.Memory.{Memory, after_crash}
-use Rattle.disk.specs.Moments.{moment}
+use Rattle.disk.specs.Moments.{moment_number}
 use Rattle.disk.specs.RealFile.{FileKeeps}
 use Rattle.disk.specs.declared.fault.FileFault.{FileFault}
 use Rattle.disk.specs.declared.torn.Torn.{Torn}
@@ -17,7 +17,7 @@ use Rattle.journal.specs.Opening.{IsRefusedUnwritten, OpeningCrashImages}
 use Rattle.legal_runs.specs.Incarnations.{Ran}
 use Rattle.runs.specs.Incarnations.{IsRunIncarnation}
 use Rattle.runs.specs.Machine.{MachineView, machine_of}
-use Rattle.runs.specs.Stages.{Stage, device_after, events_of}
+use Rattle.runs.specs.DeviceEvents.{DeviceEvent, device_after, events_of}
 use Rattle.messages.specs.Lines.{lines}
 use Rattle.device_map.specs.Layout.{layout_of}
 use Rattle.oplog.specs.Recovery.{in_force, named_area}
@@ -25,11 +25,11 @@ use Rattle.meaning.specs.Output.{IsBeginning, WritesOutput}
 use Rattle.meaning.specs.State.{State}
 use Rattle.scheduler.specs.CoreView.{IsJustOpened, CoreView, RecoversNow}
 use Rattle.serving.specs.Ends.{AreServed, HasRunLines, ServesLinesBefore, ServesWholeLines, committed_in}
-use Rattle.serving.specs.Runs.{with_lent}
+use Rattle.serving.specs.Runs.{machine_with_jobs}
 use Rattle.serving.specs.Serve.{HasRunWith, ServePromise}
 use Rattle.serving.specs.declared.server.ServeFault.{ServeFault}
 use Rattle.serving.specs.declared.server.ServeFault.TheVariants as serve_faults
-use Rattle.commands.specs.Faults.{as_fault, fault_of_file}
+use Rattle.commands.specs.Faults.{command_result, fault_of_file}
 use Rattle.commands.specs.declared.faults.Fault.{Fault}
 use Rattle.commands.specs.declared.faults.Fault.TheVariants.{Read, Write, OutOfMemory, Device, NoWorkers, NoTicketLeft, Open}
 use Rattle.commands.specs.declared.serve_options.ServeOptions.{ServeOptions}
@@ -105,31 +105,31 @@ EndsOnDevice keeps s old new (Err _) input remaining before written = ⊥
 
 -- the machine of a core that was just opened: each of the workers has a place, and all are free
 abbrev pub machine_at_start : ServeOptions → CoreView → MachineView
-machine_at_start s start = with_lent start (replicate s.workers None)
+machine_at_start s start = machine_with_jobs start (replicate s.workers None)
 
 -- the run that led to what was served, whatever the end: the lines that were taken, and the events, each with the device as it left it
 abbrev pub legal_run_of : (keeps : Type 0) (start : MachineView) (now : CoreView) (input before written : Option (List ℕ))
     (end : Result (Unit {0}) ServeFault)
     → HasRunWith keeps start now input before written end
-    → (taken : List (List ℕ)) × (stages : List Stage) × HasRunLines keeps start now input taken stages
-legal_run_of keeps start now input before written (Ok _) h = (h.served.taken, h.served.stages, h.served.run)
-legal_run_of keeps start now input before written (Err serve_faults.Device) h = (h.1.taken, h.1.stages, h.1.run)
+    → (consumed : List (List ℕ)) × (device_events : List DeviceEvent) × HasRunLines keeps start now input consumed device_events
+legal_run_of keeps start now input before written (Ok _) h = (h.served.consumed, h.served.device_events, h.served.run)
+legal_run_of keeps start now input before written (Err serve_faults.Device) h = (h.1.consumed, h.1.device_events, h.1.run)
 legal_run_of keeps start now input before written (Err serve_faults.Write) h = h
-legal_run_of keeps start now input before written (Err serve_faults.Read) h = (h.taken, h.stages, h.run)
-legal_run_of keeps start now input before written (Err serve_faults.Exhausted) h = (h.taken, h.stages, h.run)
-legal_run_of keeps start now input before written (Err serve_faults.NoWorkers) h = (h.taken, h.stages, h.run)
-legal_run_of keeps start now input before written (Err serve_faults.OutOfMemory) h = (h.taken, h.stages, h.run)
+legal_run_of keeps start now input before written (Err serve_faults.Read) h = (h.consumed, h.device_events, h.run)
+legal_run_of keeps start now input before written (Err serve_faults.Exhausted) h = (h.consumed, h.device_events, h.run)
+legal_run_of keeps start now input before written (Err serve_faults.NoWorkers) h = (h.consumed, h.device_events, h.run)
+legal_run_of keeps start now input before written (Err serve_faults.OutOfMemory) h = (h.consumed, h.device_events, h.run)
 
--- With this run it is an incarnation of the device, in the sense of the law of incarnations in `runs`, for every k: the device was opened,
--- the run was made, and the crash came at any moment since event k ended.
-abbrev pub IsIncarnation : ServeOptions → CoreView → Medium → Medium → List Stage → Type 0
-IsIncarnation s start old new stages = (k : ℕ) → k ≤ length stages → IsRunIncarnation (record {
-  began = old;
-  ended = new;
-  since = moment (device_after start.medium (take k stages));
+-- For every k, the service with this run is an incarnation of the device, in the sense of the law of incarnations in `runs`: the device
+-- was opened, the run was made, and the crash came at any moment since event number k ended.
+abbrev pub IsIncarnation : ServeOptions → CoreView → Medium → Medium → List DeviceEvent → Type 0
+IsIncarnation s start old new device_events = (k : ℕ) → k ≤ length device_events → IsRunIncarnation (record {
+  at_open = old;
+  at_end = new;
+  earliest_crash = moment_number (device_after start.medium (take k device_events));
   geometry = start.geometry;
-  incarnation = Ran (machine_of (machine_at_start s start)) (events_of stages) k;
-}) (machine_of (machine_at_start s start)) (events_of stages) k
+  incarnation = Ran (machine_of (machine_at_start s start)) (events_of device_events) k;
+}) (machine_of (machine_at_start s start)) (events_of device_events) k
 
 -- The device was opened, with no message in its core. Then the server ran and came to this end. A legal run led to what was written, and a
 -- crash meanwhile leaves what a crash of that run may leave.
@@ -153,7 +153,7 @@ abbrev pub CrashesSafely : Type 0 → ServeOptions → Medium → Medium → Res
     → Option (List ℕ) → Option (List ℕ) → Type 0
 CrashesSafely keeps s old new (Err (Open fault)) input remaining before written = keeps → OpeningCrashImages old new
 CrashesSafely keeps s old new end input remaining before written =
-    (ended : Result (Unit {0}) ServeFault) × (end ≡ as_fault ended) × HasServedBy keeps s old new ended input remaining before written
+    (ended : Result (Unit {0}) ServeFault) × (end ≡ command_result ended) × HasServedBy keeps s old new ended input remaining before written
 
 -- ---- a device in memory that is crashed
 
@@ -184,6 +184,7 @@ pub record HasServedFile (s : ServeOptions) (end : Result (Unit {0}) Fault)
   pub ends : EndsOnDevice FileKeeps s old new end input remaining before written
   pub crash_safe : CrashesSafely FileKeeps s old new end input remaining before written
 
+-- How a service on the device in a file ends: it did not begin, or it ran on a device with the file's bytes.
 abbrev pub EndsInFile : ServeOptions → Result (Unit {0}) Fault
     → Option (List ℕ) → Option (List ℕ) → Option (List ℕ) → Option (List ℕ) → Type 0
 EndsInFile s end input remaining before written =

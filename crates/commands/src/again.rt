@@ -1,11 +1,11 @@
 //! The promise of a service over a crash, in bytes alone: what went into two incarnations of a device, and what came out.
 ghost use Rattle.std.specs.Prelude.{◌≡◌, ◌≢◌, ◌<◌, IfOk, IfErr};
 ghost use Rattle.checkpoint.specs.Recovery.{recovered_state};
-ghost use Rattle.commands.specs.Promise.{GoesOn};
+ghost use Rattle.commands.specs.Promise.{IsRestart};
 ghost use Rattle.commands.specs.declared.faults.Fault.TheVariants as faults;
 ghost use Rattle.disk.specs.Device.{IsSynced};
 ghost use Rattle.disk.specs.Memory.{medium_of};
-ghost use Rattle.disk.specs.Torn.{HasBytes};
+ghost use Rattle.disk.specs.Torn.{HasPattern};
 ghost use Rattle.meaning.specs.State.{empty};
 
 use crate::faults::Fault;
@@ -49,8 +49,9 @@ pub fn serve_again<T: Threads + Wait + Sync, R: Read, W: Write, S: Read, V: Writ
     next_w: &mut V,
 ) -> Result<(Result<(), Fault>, Result<(), Fault>), Fault>
     requires call { 0 < n }
-    requires bytes { HasBytes torn }
-    ensures goes_on { IfOk result (λ ends. GoesOn geometry ends.0 ends.1 (R.remaining r.old) (W.contents w.old) (W.contents w.new)
+    // A `Torn::Mixed` has at least one byte.
+    requires bytes { HasPattern torn }
+    ensures restart { IfOk result (λ ends. IsRestart geometry ends.0 ends.1 (R.remaining r.old) (W.contents w.old) (W.contents w.new)
         (S.remaining next_r.old) (V.contents next_w.old) (V.contents next_w.new)) }
     ensures unread { IfErr result (λ _. (R.remaining r.new ≡ R.remaining r.old) × (S.remaining next_r.new ≡ S.remaining next_r.old)) }
     ensures unwritten { IfErr result (λ _. (W.contents w.new ≡ W.contents w.old) × (V.contents next_w.new ≡ V.contents next_w.old)) }

@@ -1,6 +1,6 @@
 //! What can go wrong once the arguments are parsed: the text that is printed of it, and the exit status.
 ghost use Rattle.std.specs.Prelude.{◌≡◌};
-ghost use Rattle.commands.specs.Faults.{status_of, fault_of_file, of_plain, of_serve};
+ghost use Rattle.commands.specs.Faults.{status_of, fault_of_file, fault_of_plain, fault_of_serve};
 ghost use Rattle.commands.specs.declared.faults.Fault.TheVariants.{Format, Open, OutOfMemory};
 
 use checkpoint::{FormatFault, OpenFault};
@@ -71,7 +71,7 @@ impl From<AllocError> for Fault {
 }
 
 impl From<PlainFault> for Fault {
-    ghost from_gives = { λ from fault. fault ≡ of_plain from };
+    ghost from_gives = { λ from fault. fault ≡ fault_of_plain from };
 
     fn from(fault: PlainFault) -> Fault {
         match fault {
@@ -83,7 +83,7 @@ impl From<PlainFault> for Fault {
 }
 
 impl From<ServeFault> for Fault {
-    ghost from_gives = { λ from fault. fault ≡ of_serve from };
+    ghost from_gives = { λ from fault. fault ≡ fault_of_serve from };
 
     fn from(fault: ServeFault) -> Fault {
         match fault {

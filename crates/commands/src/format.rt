@@ -1,6 +1,6 @@
 //! `waffd format`: a device of an empty state, in a file.
 ghost use Rattle.std.specs.Prelude.{◌≡◌, IfOk};
-ghost use Rattle.commands.specs.Ends.{EndsMaking};
+ghost use Rattle.commands.specs.Ends.{EndsFormatting};
 ghost use Rattle.commands.specs.Lines.{formatted_line};
 
 use crate::faults::Fault;
@@ -32,7 +32,7 @@ pub fn format_device<T: Files<File = File>, W: Write>(
     geometry: Geometry,
     w: &mut W,
 ) -> Result<(), Fault>
-    ensures { EndsMaking geometry result (W.contents w.old) (W.contents w.new) }
+    ensures { EndsFormatting geometry result (W.contents w.old) (W.contents w.new) }
 {
     let line = formatted_text(alloc, &geometry)?;
     let disk = FileDisk::create(rt, path, device_len(&geometry))?;

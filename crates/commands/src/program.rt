@@ -1,9 +1,9 @@
 //! The program over a reader and two writers.
 ghost use Rattle.std.specs.Prelude.{◌≡◌, ◌⊎◌, ℕ, List, [], ◌∷◌, codes, map, string_bytes};
 ghost use Rattle.affinity.specs.Geometry.{standard};
-ghost use Rattle.commands.specs.Calls.{Ends, EndsFormat, EndsHelp, EndsPlain, EndsRefused, EndsServe, EndsShow, status_of_refusal};
+ghost use Rattle.commands.specs.Calls.{Ends, ExitsFormat, ExitsHelp, ExitsPlain, ExitsRefused, ExitsServe, ExitsShow, status_of_refusal};
 ghost use Rattle.commands.specs.Services.{AsksServe, with_at_most_64_workers};
-ghost use Rattle.arguments.specs.Arguments.{AsksFormat, AsksHelp, AsksNoService, AsksPlain, AsksShow, AsksVersion, AreRefused, service_numbers};
+ghost use Rattle.arguments.specs.Arguments.{AsksFormat, AsksHelp, AsksNoCommand, AsksPlain, AsksShow, AsksVersion, AreRefused, service_numbers};
 ghost use Rattle.affinity.specs.declared.geometry.Geometry.{Geometry};
 ghost use Rattle.commands.specs.Serving.{options_in_order};
 ghost use Rattle.commands.specs.declared.serve_options.ServeOptions.{ServeOptions};
@@ -23,7 +23,7 @@ use std::rt::Files;
 use std::sync::Wait;
 use std::thread::Threads;
 
-/// The service that has these numbers, with 64 workers where more are given.
+/// The options of `serve` with these numbers (workers, slots, and after how many records a checkpoint is due), but 64 workers at most.
 fn service_of(numbers: ServiceNumbers) -> ServeOptions
     ensures { options_in_order result ≡ with_at_most_64_workers (service_numbers numbers) }
 {
@@ -55,7 +55,7 @@ pub fn run<T: Files<File = File> + Threads + Wait + Sync, R: Read, W: Write>(
     }
 }
 
-/// Prints on `e` why the arguments give no request, and answers the exit status. A write that fails is not looked at.
+/// Prints on `e` why the arguments give no request, and returns the exit status. A write that fails is ignored.
 fn report_refusal<E: Write>(refusal: ArgumentRefusal, e: &mut E) -> u8
     ensures { result ≡ status_of_refusal refusal }
 {
@@ -74,38 +74,38 @@ fn report_refusal<E: Write>(refusal: ArgumentRefusal, e: &mut E) -> u8
 pub fn command<T: Files<File = File> + Threads + Wait + Sync, R: Read, W: Write, E: Write>(
     rt: &T,
     alloc: Global,
-    words: &[String],
+    arguments: &[String],
     r: &mut R,
     w: &mut W,
     e: &mut E,
 ) -> u8
-    ensures served { (g : Geometry) → AsksPlain (map string_bytes words.now) g
-        → EndsPlain g result (R.remaining r.old) (R.remaining r.new)
+    ensures served_plain { (g : Geometry) → AsksPlain (map string_bytes arguments.now) g
+        → ExitsPlain g result (R.remaining r.old) (R.remaining r.new)
         (W.contents w.old) (W.contents w.new) }
-    ensures plain { (program : List ℕ) → map string_bytes words.now ≡ program ∷ codes "plain" ∷ []
-        → EndsPlain standard result (R.remaining r.old) (R.remaining r.new)
+    ensures plain { (program : List ℕ) → map string_bytes arguments.now ≡ program ∷ codes "plain" ∷ []
+        → ExitsPlain standard result (R.remaining r.old) (R.remaining r.new)
         (W.contents w.old) (W.contents w.new) }
-    ensures formatted { (path : List ℕ) → (g : Geometry) → AsksFormat (map string_bytes words.now) path g
-        → EndsFormat g result (W.contents w.old) (W.contents w.new)
+    ensures formatted { (path : List ℕ) → (g : Geometry) → AsksFormat (map string_bytes arguments.now) path g
+        → ExitsFormat g result (W.contents w.old) (W.contents w.new)
         × (R.remaining r.new ≡ R.remaining r.old) }
-    ensures shown { (path : List ℕ) → AsksShow (map string_bytes words.now) path
-        → EndsShow result (W.contents w.old) (W.contents w.new)
+    ensures shown { (path : List ℕ) → AsksShow (map string_bytes arguments.now) path
+        → ExitsShow result (W.contents w.old) (W.contents w.new)
         × (R.remaining r.new ≡ R.remaining r.old) }
-    ensures served_on { (path : List ℕ) → (s : ServeOptions) → AsksServe (map string_bytes words.now) path s
-        → EndsServe s result (R.remaining r.old) (R.remaining r.new)
+    ensures served { (path : List ℕ) → (s : ServeOptions) → AsksServe (map string_bytes arguments.now) path s
+        → ExitsServe s result (R.remaining r.old) (R.remaining r.new)
         (W.contents w.old) (W.contents w.new) }
-    ensures help { AsksHelp (map string_bytes words.now)
-        → EndsHelp result × (R.remaining r.new ≡ R.remaining r.old) }
-    ensures version { AsksVersion (map string_bytes words.now)
-        → EndsHelp result × (R.remaining r.new ≡ R.remaining r.old) }
-    ensures refused { AreRefused (map string_bytes words.now)
-        → EndsRefused result × (r.new ≡ r.old) × (w.new ≡ w.old) }
-    ensures unserved { AsksNoService (map string_bytes words.now)
-        → (EndsHelp result × (R.remaining r.new ≡ R.remaining r.old))
-        ⊎ (EndsRefused result × (r.new ≡ r.old) × (w.new ≡ w.old)) }
+    ensures help { AsksHelp (map string_bytes arguments.now)
+        → ExitsHelp result × (R.remaining r.new ≡ R.remaining r.old) }
+    ensures version { AsksVersion (map string_bytes arguments.now)
+        → ExitsHelp result × (R.remaining r.new ≡ R.remaining r.old) }
+    ensures refused { AreRefused (map string_bytes arguments.now)
+        → ExitsRefused result × (r.new ≡ r.old) × (w.new ≡ w.old) }
+    ensures unserved { AsksNoCommand (map string_bytes arguments.now)
+        → (ExitsHelp result × (R.remaining r.new ≡ R.remaining r.old))
+        ⊎ (ExitsRefused result × (r.new ≡ r.old) × (w.new ≡ w.old)) }
     ensures quiet { result ≡ 0 → e.new ≡ e.old }
 {
-    let request = match read_arguments(alloc, words) {
+    let request = match read_arguments(alloc, arguments) {
         Ok(request) => request,
         Err(refusal) => return report_refusal(refusal, e),
     };

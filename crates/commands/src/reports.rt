@@ -1,7 +1,7 @@
 //! What is printed of a fault, and the exit status.
 ghost use Rattle.std.specs.Prelude.{◌≡◌};
 ghost use Rattle.std.specs.IoError.{error_kind};
-ghost use Rattle.commands.specs.Faults.{status_of, status_without_words};
+ghost use Rattle.commands.specs.Faults.{status_of, status_of_unreadable_arguments};
 
 use crate::faults::Fault;
 use std::io;
@@ -16,7 +16,7 @@ const NOT_TEXT: &str = "error: invalid UTF-8 was detected in one or more argumen
 For more information, try '--help'.
 ";
 
-/// Prints a fault on `e`, and answers its exit status. A write that fails is not looked at.
+/// Prints a fault on `e`, and returns its exit status. A write that fails is ignored.
 pub fn report<E: Write>(fault: Fault, e: &mut E) -> u8
     ensures { result ≡ status_of fault }
 {
@@ -24,10 +24,10 @@ pub fn report<E: Write>(fault: Fault, e: &mut E) -> u8
     fault.status()
 }
 
-/// Prints on `e` why the arguments could not be read, and answers the exit status: one of them is not UTF-8, or there was no memory for
-/// them. A write that fails is not looked at.
+/// Prints on `e` why the arguments could not be read, and returns the exit status: one of them is not UTF-8, or there was no memory for
+/// them. A write that fails is ignored.
 pub fn report_unreadable_arguments<E: Write>(error: &io::Error, e: &mut E) -> u8
-    ensures { result ≡ status_without_words (error_kind error.now) }
+    ensures { result ≡ status_of_unreadable_arguments (error_kind error.now) }
 {
     if error.kind() == ErrorKind::OutOfMemory {
         return report(Fault::OutOfMemory, e);

@@ -3,7 +3,7 @@ ghost use Rattle.std.specs.Prelude.{◌≡◌, false};
 ghost use Rattle.legal_runs.specs.Laws.{IsIdle};
 ghost use Rattle.scheduler.specs.CoreView.{core_state_of};
 ghost use Rattle.serving.specs.Serve.{ServePromise};
-ghost use Rattle.commands.specs.Faults.{as_fault};
+ghost use Rattle.commands.specs.Faults.{command_result};
 ghost use Rattle.commands.specs.Acknowledged.{KeepsAcknowledged};
 ghost use Rattle.commands.specs.Promise.{LeavesRecovered};
 ghost use Rattle.commands.specs.Serving.{EndsInFile, EndsOnDevice, CrashesSafely};
@@ -22,8 +22,8 @@ use std::thread::Threads;
 use workers::OpenGate;
 
 /// The same end, with the fault of the program.
-fn as_fault(end: Result<(), ServeFault>) -> Result<(), Fault>
-    ensures { result ≡ as_fault end }
+fn command_result(end: Result<(), ServeFault>) -> Result<(), Fault>
+    ensures { result ≡ command_result end }
 {
     match end {
         Ok(()) => Ok(()),
@@ -78,7 +78,7 @@ pub fn serve_on<T: Threads + Wait + Sync, R: Read, W: Write, D: Disk + Drop>(
     };
     let (core, end) = serve_core(rt, alloc, core, service, r, w);
     core.know_recovery();
-    (core.into_disk(), as_fault(end))
+    (core.into_disk(), command_result(end))
 }
 
 /// Answers the lines of `r` on `w` with the device in the file of this path, from the state to which it recovers. The file has to be

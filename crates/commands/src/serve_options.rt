@@ -1,4 +1,4 @@
-//! The options of a server on a device.
+//! How many workers, outstanding lines and records between checkpoints a server on a device has.
 ghost use Rattle.std.specs.Prelude.{◌≤◌};
 
 /// How many workers a server has at most.
@@ -10,7 +10,8 @@ pub struct ServeOptions {
     /// Threads that run messages, 0 to 64. With none of them nothing is served.
     pub workers: u16,
 
-    /// How many lines may be outstanding: read, and not yet answered in the output. With 0 no line is read.
+    /// How many lines may be outstanding: read, and the reply not sent. At least 1: with 0 no line is read and serving never ends. No
+    /// contract excludes it; the command line does.
     pub slots: u16,
 
     /// How many records are logged before a checkpoint is made. With 0 a checkpoint is made only where the log has no room, and at the end

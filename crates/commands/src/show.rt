@@ -21,12 +21,12 @@ use std::rt::Files;
 fn add_reply(lines: &mut Vec<u8>, reply: &Reply) -> Result<(), AllocError>
     ensures { OnOk result (lines.new.items ≡ lines.old.items ++ reply_line reply.now) }
 {
-    let mut line = [0; 1031];
+    let mut line = [0; 1031]; // the longest line of a reply
     let length = write_reply(reply, &mut line);
     lines.extend_from_slice(&line[..length])
 }
 
-/// The numbers of a server.
+/// The numbers of a server's geometry.
 fn numbers(geometry: &Geometry) -> [u64; 8]
     ensures { result ≡ numbers_of geometry.now }
 {
@@ -42,6 +42,7 @@ fn shown_text(alloc: Global, shown: &Shown) -> Result<Vec<u8>, AllocError>
     add_line(&mut lines, "area", &[shown.area as u64])?;
     add_line(&mut lines, "records", &[shown.records as u64])?;
     add_reply(&mut lines, &shown.summary)?;
+    // The version of the image's format, 1 or 2.
     add_line(&mut lines, "image", &[u64::from(shown.version)])?;
     Ok(lines)
 }
@@ -49,8 +50,7 @@ fn shown_text(alloc: Global, shown: &Shown) -> Result<Vec<u8>, AllocError>
 /// Prints on `w` what a device holds. At a fault other than a write's nothing is printed.
 fn show<D: Disk + Drop, W: Write>(alloc: Global, disk: D, w: &mut W) -> Result<(), Fault>
     ensures ends { EndsShowing result (W.contents w.old) (W.contents w.new) }
-    ensures shown_text { D.keeps →
-        ShowsBytes (D.medium disk).now result (W.contents w.old) (W.contents w.new) }
+    ensures shown_text { D.keeps → ShowsBytes (D.medium disk).now result (W.contents w.old) (W.contents w.new) }
 {
     let shown = match inspect(alloc, disk) {
         Ok((shown, _disk)) => shown,

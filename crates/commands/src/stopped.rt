@@ -1,10 +1,10 @@
 //! The promise of a service, with the crash point as a variable: a device in memory that stops at any call, and then crashes.
 ghost use Rattle.std.specs.Prelude.{◌≡◌, ◌<◌};
 ghost use Rattle.disk.specs.Memory.{medium_of, memory_of};
-ghost use Rattle.disk.specs.Torn.{HasBytes};
+ghost use Rattle.disk.specs.Torn.{HasPattern};
 ghost use Rattle.disk.specs.declared.injected_fault.InjectedFault.TheVariants.{StopAt};
 ghost use Rattle.commands.specs.Acknowledged.{HoldsAcknowledged, UnlessWriteFailed};
-ghost use Rattle.commands.specs.Promise.{HoldsRecovered, UnlessUnopened, known_unless_write_failed};
+ghost use Rattle.commands.specs.Promise.{HoldsRecovered, IfOpened, known_unless_write_failed};
 ghost use Rattle.commands.specs.Serving.{HasServedUntilCrash};
 
 use crate::faults::Fault;
@@ -16,8 +16,8 @@ use std::io::{Read, Write};
 use std::sync::Wait;
 use std::thread::Threads;
 
-/// Serves with a device that stops at its n-th call from now on, and crashes it. So the condition `stops` ties n to the device that is
-/// served: no clause of the return sees the injected fault of a device that has crashed.
+/// Serves with a device that stops at its n-th call from now on, and crashes it. `_n` is there for the condition `stops` alone: the device
+/// that is served stops at call n. No `ensures` can say it, as a crash clears the injected fault.
 fn serve_and_crash<T: Threads + Wait + Sync, R: Read, W: Write>(
     rt: &T,
     alloc: Global,
@@ -29,12 +29,12 @@ fn serve_and_crash<T: Threads + Wait + Sync, R: Read, W: Write>(
     w: &mut W,
 ) -> (MemDisk, Result<(), Fault>)
     requires stops { (memory_of disk).injected_fault ≡ StopAt _n }
-    requires bytes { HasBytes torn }
+    requires bytes { HasPattern torn }
     ensures crashed { HasServedUntilCrash service (medium_of disk) torn (memory_of result.0) result.1 (R.remaining r.old)
         (R.remaining r.new) (W.contents w.old) (W.contents w.new) }
     ensures kept { UnlessWriteFailed result.1 (W.contents w.old) (W.contents w.new)
         (HoldsAcknowledged (medium_of disk) (R.remaining r.old) (W.contents w.old) (W.contents w.new) (medium_of result.0).now) }
-    ensures recovers { UnlessUnopened result.1 (HoldsRecovered (medium_of disk) (R.remaining r.old)
+    ensures recovers { IfOpened result.1 (HoldsRecovered (medium_of disk) (R.remaining r.old)
         (known_unless_write_failed result.1 (W.contents w.old)) (W.contents w.new) (medium_of result.0).now) }
 {
     let (disk, end) = serve_on(rt, alloc, disk, service, r, w);
@@ -43,7 +43,7 @@ fn serve_and_crash<T: Threads + Wait + Sync, R: Read, W: Write>(
 
 /// Answers the lines of `r` on `w` with a device that stops at its n-th call, whichever that is, and crashes it. The service ended as
 /// `serve_on` says. What the crash leaves, however it tears what was not synced, holds each change whose reply was written, unless a write
-/// of the output failed.
+/// of the output failed. The pattern of a `Mixed` tearing isn't empty.
 pub fn serve_stopped<T: Threads + Wait + Sync, R: Read, W: Write>(
     rt: &T,
     alloc: Global,
@@ -55,12 +55,12 @@ pub fn serve_stopped<T: Threads + Wait + Sync, R: Read, W: Write>(
     w: &mut W,
 ) -> (MemDisk, Result<(), Fault>)
     requires call { 0 < n }
-    requires bytes { HasBytes torn }
+    requires bytes { HasPattern torn }
     ensures crashed { HasServedUntilCrash service (medium_of disk) torn (memory_of result.0) result.1 (R.remaining r.old)
         (R.remaining r.new) (W.contents w.old) (W.contents w.new) }
     ensures kept { UnlessWriteFailed result.1 (W.contents w.old) (W.contents w.new)
         (HoldsAcknowledged (medium_of disk) (R.remaining r.old) (W.contents w.old) (W.contents w.new) (medium_of result.0).now) }
-    ensures recovers { UnlessUnopened result.1 (HoldsRecovered (medium_of disk) (R.remaining r.old)
+    ensures recovers { IfOpened result.1 (HoldsRecovered (medium_of disk) (R.remaining r.old)
         (known_unless_write_failed result.1 (W.contents w.old)) (W.contents w.new) (medium_of result.0).now) }
 {
     let mut disk = disk;

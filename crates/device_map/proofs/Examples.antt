@@ -1,7 +1,7 @@
 -- The map of a device of a small server: one volume of two stripes that hold two blocks each, and four records in a half.
 use Rattle.std.proofs.Common.{◌≡◌, refl}
 use Rattle.affinity.specs.Geometry.{small}
-use Rattle.device_map.specs.Layout.{image_size, layout_of, part_at, device_size, half, image}
+use Rattle.device_map.specs.Layout.{image_size, layout_of, part_at, device_size, half_part, image_part}
 
 image_of_small : image_size small ≡ 2208
 unfolding image_size
@@ -11,9 +11,9 @@ size_of_small : device_size (layout_of small) ≡ 8840
 unfolding image_size
 size_of_small = refl
 
-halves_of_small : (part_at (layout_of small) (half 0) ≡ 128) × (part_at (layout_of small) (half 1) ≡ 2276)
+halves_of_small : (part_at (layout_of small) (half_part 0) ≡ 128) × (part_at (layout_of small) (half_part 1) ≡ 2276)
 halves_of_small = (refl, refl)
 
-images_of_small : (part_at (layout_of small) (image 0) ≡ 4424) × (part_at (layout_of small) (image 1) ≡ 6632)
+images_of_small : (part_at (layout_of small) (image_part 0) ≡ 4424) × (part_at (layout_of small) (image_part 1) ≡ 6632)
 unfolding image_size
 images_of_small = (refl, refl)

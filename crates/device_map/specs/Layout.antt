@@ -11,14 +11,14 @@ header_size = 64
 abbrev pub root_zone_size : ℕ
 root_zone_size = 64
 
--- the chain byte of a half with the 63 bytes beside it
-abbrev pub chain_area : ℕ
-chain_area = 64
+-- what a half begins with: its chain byte and 63 more bytes
+abbrev pub chain_zone_size : ℕ
+chain_zone_size = 64
 
 abbrev pub record_size : ℕ
 record_size = 520
 
--- what an image begins with
+-- the head of an image: its version and zeros
 abbrev pub image_head_size : ℕ
 image_head_size = 64
 
@@ -31,68 +31,70 @@ abbrev pub entry_size : ℕ
 entry_size = 520
 
 -- the greatest number of records that are written at a time
-abbrev pub largest_batch : ℕ
-largest_batch = 64
+abbrev pub records_per_write : ℕ
+records_per_write = 64
 
 -- ---- the sizes of one device
 
--- how many records a half holds, and how many bytes an image has
+-- what the sizes of a device depend on: how many records a half holds, and how many bytes an image has
 pub record Layout : Type 0 where
-  pub slots : ℕ
+  pub capacity : ℕ
   pub image : ℕ
 
--- n items from a place on
+-- n items of a list, from position `at` on
 abbrev pub slice : {X : Type 0} → List X → ℕ → ℕ → List X
 slice xs at n = take n (drop at xs)
 
--- the chain area, a gate for each record, the records
+-- how many bytes a half has: its chain zone, a gate byte for each record, and the records
 abbrev pub half_size : ℕ → ℕ
-half_size slots = chain_area + (slots + slots * record_size)
+half_size capacity = chain_zone_size + (capacity + capacity * record_size)
 
--- a head, and for each volume a piece of its own and one for each stripe, with room for a quota of blocks
+-- how many bytes an image has: a head, and for each volume its own piece and one for each stripe, with room for a quota of blocks
 unfoldable pub image_size : Geometry → ℕ
 image_size g = image_head_size + g.aggregates * g.volumes * (volume_piece_size + g.stripes * (g.quota * entry_size))
 
+-- the layout of a device of this geometry
 abbrev pub layout_of : Geometry → Layout
-layout_of g = record { slots = g.half; image = image_size g }
+layout_of g = record { capacity = g.half; image = image_size g }
 
--- how many bytes each part has
+-- how many bytes each part has, in their order on the device
 abbrev pub sizes : Layout → List ℕ
-sizes g = header_size ∷ root_zone_size ∷ half_size g.slots ∷ half_size g.slots ∷ g.image ∷ g.image ∷ []
+sizes l = header_size ∷ root_zone_size ∷ half_size l.capacity ∷ half_size l.capacity ∷ l.image ∷ l.image ∷ []
 
--- where the parts of these sizes begin, when they lie in a row
+-- where part k begins, if parts of these sizes lie in a row
 abbrev pub offset : List ℕ → ℕ → ℕ
 offset [] k = 0
 offset (s ∷ ss) zero = 0
 offset (s ∷ ss) (suc k) = s + offset ss k
 
+-- where part k of a device begins, and how many bytes it has
 abbrev pub part_at : Layout → ℕ → ℕ
-part_at g k = offset (sizes g) k
+part_at l k = offset (sizes l) k
 
 abbrev pub part_size : Layout → ℕ → ℕ
-part_size g k = get_or (sizes g) k 0
+part_size l k = get_or (sizes l) k 0
 
--- the bytes of a part
+-- the bytes of part k of a device with the bytes c
 abbrev pub part_bytes : Layout → ℕ → List ℕ → List ℕ
-part_bytes g k c = slice c (part_at g k) (part_size g k)
+part_bytes l k c = slice c (part_at l k) (part_size l k)
 
 -- how many bytes all parts have
 abbrev pub device_size : Layout → ℕ
-device_size g = part_at g 6
+device_size l = part_at l 6
 
 -- ---- the numbers of the parts
 
-abbrev pub header : ℕ
-header = 0
+abbrev pub header_part : ℕ
+header_part = 0
 
-abbrev pub root : ℕ
-root = 1
+abbrev pub root_part : ℕ
+root_part = 1
 
-abbrev pub half : ℕ → ℕ
-half h = 2 + h
+abbrev pub half_part : ℕ → ℕ
+half_part h = 2 + h
 
-abbrev pub image : ℕ → ℕ
-image i = 4 + i
+abbrev pub image_part : ℕ → ℕ
+image_part i = 4 + i
 
 -- the other one of 0 and 1
 abbrev pub other : ℕ → ℕ

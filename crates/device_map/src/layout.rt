@@ -1,7 +1,7 @@
 //! The map of a device: where each of its parts begins and how long it is, all in bytes. The parts lie
 //! in a row: header, root zone, half 0, half 1, image 0, image 1.
 ghost use Rattle.std.specs.Prelude.{◌≡◌, ◌<◌, ◌≤◌};
-ghost use Rattle.device_map.specs.Layout.{layout_of, part_at, device_size, half, half_size, image, image_size};
+ghost use Rattle.device_map.specs.Layout.{layout_of, part_at, device_size, half_part, half_size, image_part, image_size};
 
 use affinity::Geometry;
 
@@ -15,7 +15,7 @@ pub const ROOT_ZONE_SIZE: usize = 64;
 pub const ROOT_ZONE_AT: u64 = HEADER_SIZE as u64;
 
 /// The size of what lies before the gates of a half: its chain byte and the bytes beside it.
-pub const CHAIN_AREA: usize = 64;
+pub const CHAIN_ZONE_SIZE: usize = 64;
 
 /// The size of a record.
 pub const RECORD_SIZE: usize = 520;
@@ -34,8 +34,8 @@ pub fn half_size(g: &Geometry) -> usize
     ensures size { result ≡ half_size g.now.half }
     ensures most { result ≤ 533568 }
 {
-    let slots = usize::from(g.half);
-    CHAIN_AREA + (slots + slots * RECORD_SIZE)
+    let capacity = usize::from(g.half);
+    CHAIN_ZONE_SIZE + (capacity + capacity * RECORD_SIZE)
 }
 
 /// The size of each image, at most some 8.5 million.
@@ -51,7 +51,7 @@ pub fn image_size(g: &Geometry) -> usize
 /// Where half 0 or 1 begins.
 pub fn half_at(g: &Geometry, number: usize) -> u64
     requires { number < 2 }
-    ensures { result ≡ part_at (layout_of g.now) (half number) }
+    ensures { result ≡ part_at (layout_of g.now) (half_part number) }
 {
     let halves = (HEADER_SIZE + ROOT_ZONE_SIZE) as u64;
     if number == 0 {
@@ -64,7 +64,7 @@ pub fn half_at(g: &Geometry, number: usize) -> u64
 /// Where image 0 or 1 begins.
 pub fn image_at(g: &Geometry, number: usize) -> u64
     requires { number < 2 }
-    ensures { result ≡ part_at (layout_of g.now) (image number) }
+    ensures { result ≡ part_at (layout_of g.now) (image_part number) }
 {
     let images = half_at(g, 1) + half_size(g) as u64;
     if number == 0 {

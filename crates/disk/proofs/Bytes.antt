@@ -1,4 +1,4 @@
--- Lists of bytes stay so by parts, and when they are written over.
+-- A part of a list of bytes is a list of bytes again, and so is one over which bytes are written.
 use Rattle.std.proofs.Common.{ℕ, zero, suc, ◌<◌, List, [], ◌∷◌, length, take, drop, get_or}
 use Rattle.std.specs.List.{AllByRecursion}
 use Rattle.std.proofs.lemmas.List.Elements.{All-cons, All-head, All-tail, All-take, All-drop, All-get_or, All-from_get_or, recursion_from_All}
@@ -16,7 +16,7 @@ byte-get_or xs i d inside are = All-get_or (λ b. b < 256) xs i d inside are
 pub bytes_fit : (xs : List ℕ) → ((i : ℕ) → get_or xs i 0 < 256) → AreBytes xs
 bytes_fit xs fits = All-from_get_or (λ b. b < 256) xs 0 (λ i inside. fits i)
 
--- the same, by recursion on the list
+-- `AreBytes`, by recursion on the list
 pub bytes_by_recursion : (xs : List ℕ) → AreBytes xs → AllByRecursion (λ b. b < 256) xs
 bytes_by_recursion xs are = recursion_from_All (λ b. b < 256) xs are
 

@@ -2,8 +2,8 @@
 use Rattle.std.proofs.Common.{◌≡◌, ◌<◌, ℕ, true, false, List, [], ◌∷◌, inl, inr, refl, slice_index, lit<, lit≤, arith}
 use Rattle.std.specs.List.{AllByRecursion}
 use Rattle.std.proofs.lemmas.List.Elements.{All-from_recursion}
-use Rattle.disk.specs.Device.{AreBytes, Medium, IsTornFrom, overlaid, marked, begun, written, synced}
-use Rattle.disk.specs.Moments.{moment, left_since}
+use Rattle.disk.specs.Device.{AreBytes, Medium, IsTornFrom, overlaid, marked, fresh_synced, written, synced}
+use Rattle.disk.specs.Moments.{moment_number, left_since}
 use Rattle.disk.specs.Torn.{torn_from}
 use Rattle.disk.proofs.Moments.{bytes_since}
 
@@ -45,9 +45,9 @@ no_longer left = left.same
 
 -- bytes 5 and 6 are written, then synced, then 5 is written over
 abbrev twice : Medium
-twice = written 0 (9 ∷ []) (synced (written 0 (5 ∷ 6 ∷ []) (begun (1 ∷ 2 ∷ []))))
+twice = written 0 (9 ∷ []) (synced (written 0 (5 ∷ 6 ∷ []) (fresh_synced (1 ∷ 2 ∷ []))))
 
-three_moments_before : moment twice ≡ 3
+three_moments_before : moment_number twice ≡ 3
 three_moments_before = refl
 
 -- at first the old bytes, or anything while both are unsynced; at the end only the first byte

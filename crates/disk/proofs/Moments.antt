@@ -1,7 +1,7 @@
 -- How what a crash leaves at each moment goes on from call to call.
 use Rattle.std.proofs.Common.{◌≡◌, ◌⊎◌, ◌≤◌, ℕ, List, [], ◌∷◌, length, inl, inr, ⊎_elim, ap, subst, arith}
 use Rattle.disk.specs.Device.{AreBytes, Moment, Medium, IsTornFrom, IsCrashImage, moments}
-use Rattle.disk.specs.Moments.{moment, LeftByMoments, left_since, CrashImagesAre}
+use Rattle.disk.specs.Moments.{moment_number, LeftByMoments, left_since, CrashImagesAre}
 
 -- no moment comes after the newest
 none_later : (ms : List Moment) (t : ℕ) (c : List ℕ) → length ms ≤ t → LeftByMoments ms t c → ⊥
@@ -10,12 +10,12 @@ none_later (m ∷ earlier) t c late since =
     ⊎_elim (λ (here : (t ≤ length earlier) × IsTornFrom m.now m.unsynced c). omega (arith, here.0, late)) (none_later earlier t c (omega (arith, late))) since
 
 -- what a crash may leave now it might have left at some moment since an earlier one
-pub counts_now : (m : Medium) (t : ℕ) (c : List ℕ) → t ≤ moment m → IsCrashImage m c → left_since m t c
+pub counts_now : (m : Medium) (t : ℕ) (c : List ℕ) → t ≤ moment_number m → IsCrashImage m c → left_since m t c
 counts_now m t c late left = inl (late, left)
 
 -- since this moment there is no other
-pub only_now : (m : Medium) (c : List ℕ) → left_since m (moment m) c → IsCrashImage m c
-only_now m c since = ⊎_elim (λ (here : (moment m ≤ moment m) × IsCrashImage m c). here.1) (λ earlier. absurd (none_later m.past (moment m) c (omega arith) earlier)) since
+pub only_now : (m : Medium) (c : List ℕ) → left_since m (moment_number m) c → IsCrashImage m c
+only_now m c since = ⊎_elim (λ (here : (moment_number m ≤ moment_number m) × IsCrashImage m c). here.1) (λ earlier. absurd (none_later m.past (moment_number m) c (omega arith) earlier)) since
 
 -- before the first call
 pub started : (m : Medium) (P : List ℕ → Type 0) → ((c : List ℕ) → IsCrashImage m c → P c) → CrashImagesAre m m P
@@ -32,7 +32,7 @@ next old mid new P so_far past here =
     λ t c left. ⊎_elim (λ (now : (t ≤ length new.past) × IsCrashImage new c). inl (here c now.1)) (λ earlier. inr (subst (λ (ms : List Moment). LeftByMoments ms t c) past earlier)) left in
     record {
       later = omega (arith, so_far.later, ap length past);
-      each = λ c left. ⊎_elim (λ (p : P c). p) (so_far.each c) (since (moment old) c left);
+      each = λ c left. ⊎_elim (λ (p : P c). p) (so_far.each c) (since (moment_number old) c left);
       before = λ t c early left. ⊎_elim (λ (p : P c). inr p) (so_far.before t c early) (since t c left);
     }
 
@@ -42,7 +42,7 @@ same old mid new P so_far unchanged =
     let since : (t : ℕ) (c : List ℕ) → left_since new t c → left_since mid t c = λ t c. subst (λ (ms : List Moment). LeftByMoments ms t c) unchanged in
     record {
       later = omega (arith, so_far.later, ap length unchanged);
-      each = λ c left. so_far.each c (since (moment old) c left);
+      each = λ c left. so_far.each c (since (moment_number old) c left);
       before = λ t c early left. so_far.before t c early (since t c left);
     }
 
@@ -58,13 +58,13 @@ weaker old new P Q so_far enough = record {
 pub then : (old mid new : Medium) (P : List ℕ → Type 0) → CrashImagesAre old mid P → CrashImagesAre mid new P → CrashImagesAre old new P
 then old mid new P first second = record {
   later = omega (arith, first.later, second.later);
-  each = λ c left. ⊎_elim (first.each c) (λ (p : P c). p) (second.before (moment old) c first.later left);
+  each = λ c left. ⊎_elim (first.each c) (λ (p : P c). p) (second.before (moment_number old) c first.later left);
   before = λ t c early left. ⊎_elim (first.before t c early) (λ (p : P c). inr p) (second.before t c (omega (arith, early, first.later)) left);
 }
 
 -- what a crash leaves at the end
 pub leaves_now : (old new : Medium) (P : List ℕ → Type 0) → CrashImagesAre old new P → (c : List ℕ) → IsCrashImage new c → P c
-leaves_now old new P so_far c left = so_far.each c (counts_now new (moment old) c so_far.later left)
+leaves_now old new P so_far c left = so_far.each c (counts_now new (moment_number old) c so_far.later left)
 
 some_bytes : (ms : List Moment) (t : ℕ) (c : List ℕ) → LeftByMoments ms t c → AreBytes c
 some_bytes [] t c since = absurd since

@@ -65,24 +65,24 @@ pub record SameOutside {X : Type 0} (at n : ℕ) (old new : List X) : Type 0 whe
 abbrev pub moments : Medium → List Moment
 moments m = record { now = m.now; unsynced = m.unsynced } ∷ m.past
 
--- a device that has just been made, with these bytes
-abbrev pub begun : List ℕ → Medium
-begun bytes = record { now = bytes; unsynced = replicate (length bytes) false; past = []; faults = 0 }
+-- a device with these bytes, all of them synced, without an earlier moment or a failure
+abbrev pub fresh_synced : List ℕ → Medium
+fresh_synced bytes = record { now = bytes; unsynced = replicate (length bytes) false; past = []; faults = 0 }
 
--- a device that was found with these bytes, none of which counts as synced
-abbrev pub found : List ℕ → Medium
-found bytes = record { now = bytes; unsynced = replicate (length bytes) true; past = []; faults = 0 }
+-- a device with these bytes, none of which counts as synced, without an earlier moment or a failure
+abbrev pub fresh_unsynced : List ℕ → Medium
+fresh_unsynced bytes = record { now = bytes; unsynced = replicate (length bytes) true; past = []; faults = 0 }
 
--- after a write
+-- a device after a write of these bytes from offset `at` on
 abbrev pub written : ℕ → List ℕ → Medium → Medium
 written at bytes m =
     record { now = overlaid m.now at bytes; unsynced = marked m.unsynced at (length bytes); past = moments m; faults = m.faults }
 
--- after a sync: a crash leaves what a read gives
+-- a device after a sync: a crash leaves what a read gives
 abbrev pub synced : Medium → Medium
 synced m = record { now = m.now; unsynced = replicate (length m.now) false; past = moments m; faults = m.faults }
 
--- after a read or a sync that failed
+-- a device after a read or a sync that failed
 abbrev pub failed : Medium → Medium
 failed m = record { now = m.now; unsynced = m.unsynced; past = m.past; faults = m.faults + 1 }
 
@@ -93,19 +93,19 @@ pub record FailsToWrite (at n : ℕ) (old new : Medium) : Type 0 where
   pub past : new.past ≡ moments old
   pub faults : new.faults ≡ old.faults + 1
 
--- a read into `out`, of a device that keeps its bytes
+-- what a read into `out` answers and does, of a device that keeps its bytes
 pub record Reads (at : ℕ) (out : List ℕ) (result : Result (Unit {0}) DiskFault) (old new : Medium) : Type 0 where
   pub ok : OnOk result ((new ≡ old) × (out ≡ slice_range old.now at (at + length out)))
   pub outside : IsErrOf result OutOfRange → new ≡ old
   pub device : IsErrOf result Device → new ≡ failed old
 
--- a write, of a device that keeps its bytes
+-- what a write answers and does, of a device that keeps its bytes
 pub record Writes (at : ℕ) (bytes : List ℕ) (result : Result (Unit {0}) DiskFault) (old new : Medium) : Type 0 where
   pub ok : OnOk result (new ≡ written at bytes old)
   pub outside : IsErrOf result OutOfRange → new ≡ old
   pub device : IsErrOf result Device → FailsToWrite at (length bytes) old new
 
--- a sync, of a device that keeps its bytes
+-- what a sync answers and does, of a device that keeps its bytes
 pub record Syncs (result : Result (Unit {0}) DiskFault) (old new : Medium) : Type 0 where
   pub ok : OnOk result (new ≡ synced old)
   pub outside : IsErrOf result OutOfRange → ⊥

@@ -1,33 +1,35 @@
 -- Inner: What the calls of a device make of its ghost device.
 use Rattle.std.specs.Prelude.{ℕ, ◌+◌, List, [], ◌∷◌, ◌++◌, length, replicate}
 use Rattle.disk.specs.declared.ghost_device.Call.{Call}
-use Rattle.disk.specs.declared.ghost_device.Call.TheVariants.{Begun, Wrote, FailedWrite, Synced, Failed, Zeroed, Found}
+use Rattle.disk.specs.declared.ghost_device.Call.TheVariants.{Created, Wrote, FailedWrite, Synced, Failed, OpenedSynced, OpenedUnsynced}
 use Rattle.disk.specs.declared.ghost_device.ByteList.{ByteList, Empty, More'}
 use Rattle.disk.specs.declared.ghost_device.CallList.{CallList, Nothing, After'}
-use Rattle.disk.specs.Device.{Medium, moments, marked, begun, found, written, synced, failed}
+use Rattle.disk.specs.Device.{Medium, moments, marked, fresh_synced, fresh_unsynced, written, synced, failed}
 
--- a write that failed and that a read sees nothing of
+-- a device after a failed write of n bytes of which a read shows nothing
 abbrev pub failed_write : ℕ → ℕ → Medium → Medium
 failed_write at n m = record { now = m.now; unsynced = marked m.unsynced at n; past = moments m; faults = m.faults + 1 }
 
--- A device after a call that was given these bytes.
+-- a device after this call, which was given these bytes
 abbrev pub medium_after : Call → List ℕ → Medium → Medium
-medium_after Begun bytes m = begun bytes
+medium_after Created bytes m = fresh_synced bytes
 medium_after (Wrote at) bytes m = written at bytes m
 medium_after (FailedWrite at) bytes m = failed_write at (length bytes) m
 medium_after Synced bytes m = synced m
 medium_after Failed bytes m = failed m
-medium_after (Zeroed size) bytes m = begun (replicate size 0)
-medium_after (Found size) bytes m = found (replicate size 0)
+medium_after (OpenedSynced size) bytes m = fresh_synced (replicate size 0)
+medium_after (OpenedUnsynced size) bytes m = fresh_unsynced (replicate size 0)
 
+-- the bytes of a list that has the last one first, in order
 abbrev pub bytes_of : ByteList → List ℕ
 bytes_of Empty = []
 bytes_of (More' byte shape before) = bytes_of before ++ byte ∷ []
 
+-- a ghost device as contracts see it
 pub record GhostDeviceView : Type 0 where
   pub medium : Medium
 
 -- a device after these calls
 abbrev pub medium_after_all : CallList → Medium
-medium_after_all Nothing = begun []
+medium_after_all Nothing = fresh_synced []
 medium_after_all (After' call bytes shape before) = medium_after call (bytes_of bytes.value) (medium_after_all before)

@@ -9,12 +9,12 @@ use Rattle.disk.specs.declared.fault.FileFault.{FileFault}
 use Rattle.disk.specs.declared.fault.FileFault.TheVariants.{Device, OutOfMemory}
 use Rattle.disk.specs.Device.{Medium}
 
--- Whether files keep their bytes as a device does. No contract can say so: this is no fact that anything here or above
--- could ever have, so what is promised under it is promised of no real file.
+-- That files keep their bytes as a device does. No contract can show it, so it is defined as false: what is promised under this condition
+-- is promised of no real file.
 pub FileKeeps : Type 0
 FileKeeps = ⊥
 
--- If they do, a read gives what was written there.
+-- If files keep their bytes, a read gives what was written there.
 pub read_gives : FileKeeps → (at : ℕ) (out now : List ℕ) → out ≡ slice_range now at (at + length out)
 unfolding FileKeeps
 read_gives keeps at out now = absurd keeps

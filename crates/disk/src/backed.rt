@@ -3,7 +3,7 @@ ghost use Rattle.std.specs.Prelude.{◌≡◌};
 ghost use Rattle.disk.specs.BackingFile.{device_result};
 
 use crate::backing::BackingFile;
-use crate::ranges::start_of;
+use crate::ranges::check_range;
 use crate::{Disk, DiskFault};
 use std::io;
 
@@ -22,7 +22,7 @@ impl<F: BackingFile + Drop> FileBacked<F> {
     }
 }
 
-/// The device's answer for this answer of its file.
+/// The device's result for this result of its file.
 fn as_fault(answer: io::Result<()>) -> Result<(), DiskFault>
     ensures { result ≡ device_result answer }
 {
@@ -39,12 +39,12 @@ impl<F: BackingFile + Drop> Disk for FileBacked<F> {
     }
 
     fn read_at(&mut self, at: u64, out: &mut [u8]) -> Result<(), DiskFault> {
-        start_of(self.len(), at, out.len())?;
+        check_range(self.len(), at, out.len())?;
         as_fault(self.file.read_exact_at(out, at))
     }
 
     fn write_at(&mut self, at: u64, bytes: &[u8]) -> Result<(), DiskFault> {
-        start_of(self.len(), at, bytes.len())?;
+        check_range(self.len(), at, bytes.len())?;
         as_fault(self.file.write_all_at(bytes, at))
     }
 
@@ -52,7 +52,9 @@ impl<F: BackingFile + Drop> Disk for FileBacked<F> {
         as_fault(self.file.sync_data())
     }
 
+    // The file's length is a u64.
     ghost fits = { λ d. F.BackingFile.fits d.file };
 
+    // Each of its bytes is below 256.
     ghost bytes = { λ d. F.BackingFile.bytes d.file };
 }

@@ -14,7 +14,7 @@ pub trait BackingFile {
     /// Whether the file keeps its bytes.
     ghost keeps: { Type 0 };
 
-    /// How many bytes it has: always as many.
+    /// How many bytes it has. The length never changes.
     fn len(&self) -> u64
         ensures { result ≡ length (medium self.now).now };
 

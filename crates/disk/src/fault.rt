@@ -1,5 +1,5 @@
-//! Faults: what a device or a file answers where a call fails.
-/// What a call of a device answers where it fails. A write that answers `Device` may have changed its range.
+//! Faults: why a call of a device or a file failed.
+/// Why a call of a device failed. A write that returns `Device` may have changed its range.
 #[derive(Clone, Copy, Debug, PartialEq, Eq)]
 pub enum DiskFault {
     /// The range leaves the device, which was not touched.

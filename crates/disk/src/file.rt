@@ -1,7 +1,7 @@
 //! Trusted: a file of the system as a device.
 ghost use Rattle.std.specs.Prelude.{◌≡◌, IfOk, replicate};
 ghost use Rattle.std.specs.IoError.{error_kind};
-ghost use Rattle.disk.specs.Device.{begun, found};
+ghost use Rattle.disk.specs.Device.{fresh_synced, fresh_unsynced};
 ghost use Rattle.disk.specs.RealFile.{file_medium};
 
 use crate::FileFault;
@@ -36,7 +36,7 @@ impl FileBacked<HostFile<File>> {
         path: &str,
         len: u64,
     ) -> Result<FileDisk, FileFault>
-        ensures { IfOk result (λ d. file_medium d ≡ begun (replicate len 0)) }
+        ensures { IfOk result (λ d. file_medium d ≡ fresh_synced (replicate len 0)) }
     {
         let file = OpenOptions::new()
             .read(true)
@@ -46,26 +46,25 @@ impl FileBacked<HostFile<File>> {
             .open(rt, path)?;
         file.set_len(len)?;
         file.sync_all()?;
-        Ok(FileBacked::new(HostFile::synced(file, len)))
+        Ok(FileBacked::new(HostFile::opened_synced(file, len)))
     }
 
-    /// Opens a file that is there, at the length that it has. What a read gives of it is synced
-    /// first. `OutOfMemory` where the system has no memory for it, and `Device` where it refuses for
-    /// anything else.
+    /// Opens an existing file, at the length that it has, and syncs it first, so that all its bytes count as synced. `OutOfMemory` where
+    /// the system has no memory for it, and `Device` where it refuses for anything else.
     pub fn open<R: Files<File = File>>(rt: &R, path: &str) -> Result<FileDisk, FileFault>
-        ensures { IfOk result (λ d. file_medium d ≡ begun (file_medium d).now) }
+        ensures { IfOk result (λ d. file_medium d ≡ fresh_synced (file_medium d).now) }
     {
         let file = OpenOptions::new().read(true).write(true).open(rt, path)?;
         file.sync_data()?;
         let size = file.metadata()?.len();
-        Ok(FileBacked::new(HostFile::synced(file, size)))
+        Ok(FileBacked::new(HostFile::opened_synced(file, size)))
     }
 
-    /// Opens a file that is there for reading alone, at the length that it has. It is not synced, so none of its bytes counts as
+    /// Opens an existing file read-only, at the length that it has. It is not synced, so none of its bytes counts as
     /// synced. Each write of it answers `Device`, as the system refuses it. `OutOfMemory` where the system has no memory for it, and
     /// `Device` where it refuses for anything else, or the path names something other than a file.
     pub fn open_read_only<R: Files<File = File>>(rt: &R, path: &str) -> Result<FileDisk, FileFault>
-        ensures { IfOk result (λ d. file_medium d ≡ found (file_medium d).now) }
+        ensures { IfOk result (λ d. file_medium d ≡ fresh_unsynced (file_medium d).now) }
     {
         // The system also opens a folder to be read, and may wait where it opens a pipe.
         if !rt.metadata(path)?.is_file() {
@@ -73,6 +72,6 @@ impl FileBacked<HostFile<File>> {
         }
         let file = OpenOptions::new().read(true).open(rt, path)?;
         let size = file.metadata()?.len();
-        Ok(FileBacked::new(HostFile::found(file, size)))
+        Ok(FileBacked::new(HostFile::opened_unsynced(file, size)))
     }
 }

@@ -1,6 +1,6 @@
-//! What contracts know of a device and no memory holds: its moments so far, and how often it failed.
+//! What contracts know of a device, though it takes no memory: its moments so far, and how often it failed.
 ghost use Rattle.std.specs.Prelude.{◌≡◌, []};
-ghost use Rattle.disk.specs.Device.{begun};
+ghost use Rattle.disk.specs.Device.{fresh_synced};
 ghost use Rattle.disk.specs.GhostDevice.{medium_after, bytes_of};
 
 use std::marker::Model;
@@ -10,19 +10,19 @@ use std::snapshot::Snapshot;
 /// What a device reports of a call.
 #[derive(Clone, Copy, Debug)]
 pub(crate) enum Call {
-    /// It was made, with the given bytes.
-    Begun,
+    /// A device in memory was made, with the given bytes.
+    Created,
     /// The bytes were written from this offset on.
     Wrote(u64),
-    /// The bytes were to be written from this offset on, and a read gives what it gave before.
+    /// A write from this offset on failed: in this model a read gives what it gave before.
     FailedWrite(u64),
     Synced,
     /// A read or a sync failed.
     Failed,
-    /// It was made, with this number of zeros.
-    Zeroed(u64),
-    /// It was found, with this number of bytes.
-    Found(u64),
+    /// A file of this length was opened and synced. Contracts see zeros for its bytes.
+    OpenedSynced(u64),
+    /// A file of this length was opened read-only, and not synced.
+    OpenedUnsynced(u64),
 }
 
 /// The bytes of a call, the last one first.
@@ -68,7 +68,7 @@ impl Model for GhostDevice {
 
 impl GhostDevice {
     pub(crate) fn new() -> GhostDevice
-        ensures { result.medium ≡ begun [] }
+        ensures { result.medium ≡ fresh_synced [] }
     {
         GhostDevice {
             last: Snapshot::of(&CallList::Nothing),

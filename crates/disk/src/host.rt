@@ -1,6 +1,6 @@
 //! Trusted: a file of the system.
 ghost use Rattle.std.specs.Prelude.{◌≡◌, ◌<◌, ◌^◌, length, replicate};
-ghost use Rattle.disk.specs.Device.{AreBytes, begun, found};
+ghost use Rattle.disk.specs.Device.{AreBytes, fresh_synced, fresh_unsynced};
 
 use crate::backing::BackingFile;
 use crate::ghost_device::{Call, GhostDevice};
@@ -20,12 +20,13 @@ pub struct HostFile<T: FileExt + OpenFile + Drop> {
 }
 
 impl<T: FileExt + OpenFile + Drop> HostFile<T> {
-    /// A file of this length, which is synced. What contracts see of its bytes are zeros, whatever it holds: see `FileKeeps`.
-    pub fn synced(file: T, size: u64) -> HostFile<T>
-        ensures { result.ghost_device.medium ≡ begun (replicate size 0) }
+    /// A file of this length, which is synced. Contracts see zeros for its bytes, whatever it holds. That promises nothing wrong: what they
+    /// say of the bytes that a read gives has the condition `FileKeeps`, which is false.
+    pub fn opened_synced(file: T, size: u64) -> HostFile<T>
+        ensures { result.ghost_device.medium ≡ fresh_synced (replicate size 0) }
     {
         let mut ghost_device = GhostDevice::new();
-        ghost_device.note(&Call::Zeroed(size), &[]);
+        ghost_device.note(&Call::OpenedSynced(size), &[]);
         HostFile {
             file,
             size,
@@ -34,11 +35,11 @@ impl<T: FileExt + OpenFile + Drop> HostFile<T> {
     }
 
     /// A file of this length, of which nothing counts as synced.
-    pub fn found(file: T, size: u64) -> HostFile<T>
-        ensures { result.ghost_device.medium ≡ found (replicate size 0) }
+    pub fn opened_unsynced(file: T, size: u64) -> HostFile<T>
+        ensures { result.ghost_device.medium ≡ fresh_unsynced (replicate size 0) }
     {
         let mut ghost_device = GhostDevice::new();
-        ghost_device.note(&Call::Found(size), &[]);
+        ghost_device.note(&Call::OpenedUnsynced(size), &[]);
         HostFile {
             file,
             size,

@@ -1,36 +1,36 @@
-//! Injected faults, by which a test lets calls of a device in memory fail, and the count of these calls.
+//! Injected faults, by which a test lets calls of a device in memory fail, and the count of all calls.
 ghost use Rattle.std.specs.Prelude.{◌≡◌, ◌+◌, ◌-◌, ◌^◌, min};
 ghost use Rattle.disk.specs.declared.injected_fault.InjectedFault.TheVariants.{Off};
 
 #[derive(Clone, Copy, Debug)]
 pub(crate) enum InjectedFault {
     Off,
-    /// The call of this number from now on fails, and later ones go on.
+    /// The n-th call, counted from now, fails; later ones succeed.
     FailAt(u64),
-    /// The call of this number from now on fails, and so do all later ones.
+    /// The n-th call, counted from now, fails, and so do all later ones.
     StopAt(u64),
 }
 
 #[derive(Clone, Copy, Debug)]
-pub(crate) struct Meter {
+pub(crate) struct CallCounter {
     pub(crate) injected_fault: InjectedFault,
     pub(crate) calls: u64,
 }
 
-impl Meter {
+impl CallCounter {
     ghost use Rattle.disk.specs.InjectedFault.{fails_next, counted_down};
 
-    pub(crate) fn new() -> Meter
+    pub(crate) fn new() -> CallCounter
         ensures { result ≡ record { injected_fault = Off; calls = 0 } }
     {
-        Meter {
+        CallCounter {
             injected_fault: InjectedFault::Off,
             calls: 0,
         }
     }
 
     /// Counts a call, and returns whether it is to fail.
-    pub(crate) fn spend(&mut self) -> bool
+    pub(crate) fn count_call(&mut self) -> bool
         ensures fails { result ≡ fails_next self.old.injected_fault }
         ensures after { self.new
             ≡ record { injected_fault = counted_down self.old.injected_fault; calls = min (self.old.calls + 1) (2 ^ 64 - 1) } }

@@ -4,11 +4,11 @@ ghost use Rattle.disk.specs.declared.fault.DiskFault.TheVariants.{OutOfRange};
 ghost use Rattle.disk.specs.declared.injected_fault.InjectedFault.TheVariants.{FailAt, StopAt};
 ghost use Rattle.disk.specs.Device.{AreBytes, IsCrashImage, Reads, Writes, Syncs, IsDeviceCall};
 ghost use Rattle.disk.specs.Span.{HoldsUnsynced};
-ghost use Rattle.disk.specs.Torn.{HasBytes};
+ghost use Rattle.disk.specs.Torn.{HasPattern};
 
 use crate::ghost_device::{Call, GhostDevice};
-use crate::injected_fault::{InjectedFault, Meter};
-use crate::ranges::{clear, mark, overlay, refresh, start_of};
+use crate::injected_fault::{CallCounter, InjectedFault};
+use crate::ranges::{check_range, clear, mark_unsynced, overlay, refresh};
 use crate::span::Span;
 use crate::torn::tear;
 use crate::{Disk, DiskFault, Torn};
@@ -19,20 +19,20 @@ use std::alloc::{AllocError, Global};
 pub struct MemDisk {
     bytes: Vec<u8>,
     // What the last sync left.
-    kept: Vec<u8>,
+    last_synced: Vec<u8>,
     // At an unsynced offset, the byte of the last write there, even if it failed.
-    asked: Vec<u8>,
+    last_written: Vec<u8>,
     unsynced: Vec<bool>,
-    // Outside it nothing is unsynced, and `kept` has the same bytes.
+    // Outside it nothing is unsynced, and `last_synced` has the same bytes.
     span: Span,
-    meter: Meter,
+    call_counter: CallCounter,
     ghost_device: GhostDevice,
     ghost now_is: { ghost_device.medium.now ≡ bytes.items },
     ghost unsynced_is: { ghost_device.medium.unsynced ≡ unsynced.items },
-    ghost kept_size: { length kept.items ≡ length bytes.items },
-    ghost asked_size: { length asked.items ≡ length bytes.items },
+    ghost last_synced_size: { length last_synced.items ≡ length bytes.items },
+    ghost last_written_size: { length last_written.items ≡ length bytes.items },
     ghost unsynced_size: { length unsynced.items ≡ length bytes.items },
-    ghost holds_unsynced: { HoldsUnsynced span.start span.end ghost_device.medium kept.items },
+    ghost holds_unsynced: { HoldsUnsynced span.start span.end ghost_device.medium last_synced.items },
     ghost fits: { length ghost_device.medium.now < 2 ^ 64 },
     ghost are_bytes: { AreBytes ghost_device.medium.now },
 }
@@ -51,18 +51,18 @@ impl MemDisk {
     pub fn of_bytes(alloc: Global, bytes: Vec<u8>) -> Result<MemDisk, AllocError>
         ensures { IfOk result (λ d. memory_of d ≡ made bytes.items) }
     {
-        let kept = bytes.to_vec(alloc)?;
-        let asked = bytes.to_vec(alloc)?;
+        let last_synced = bytes.to_vec(alloc)?;
+        let last_written = bytes.to_vec(alloc)?;
         let unsynced = vec![in alloc; false; bytes.len()]?;
         let mut ghost_device = GhostDevice::new();
-        ghost_device.note(&Call::Begun, &bytes);
+        ghost_device.note(&Call::Created, &bytes);
         Ok(MemDisk {
             bytes,
-            kept,
-            asked,
+            last_synced,
+            last_written,
             unsynced,
             span: Span::none(),
-            meter: Meter::new(),
+            call_counter: CallCounter::new(),
             ghost_device,
         })
     }
@@ -79,7 +79,7 @@ impl MemDisk {
         requires { 0 < n }
         ensures { memory_of self.new ≡ record (memory_of self.old) { injected_fault = FailAt n } }
     {
-        self.meter.injected_fault = InjectedFault::FailAt(n);
+        self.call_counter.injected_fault = InjectedFault::FailAt(n);
     }
 
     /// Makes the n-th call from now fail, and all later ones. It replaces a fault injected before.
@@ -87,36 +87,36 @@ impl MemDisk {
         requires { 0 < n }
         ensures { memory_of self.new ≡ record (memory_of self.old) { injected_fault = StopAt n } }
     {
-        self.meter.injected_fault = InjectedFault::StopAt(n);
+        self.call_counter.injected_fault = InjectedFault::StopAt(n);
     }
 
     /// The device after a crash, with no injected fault and no calls. It takes no memory.
     pub fn crash(self, torn: Torn) -> MemDisk
-        requires { HasBytes torn }
+        requires { HasPattern torn }
         ensures after { memory_of result ≡ after_crash torn (memory_of self) }
         ensures may { IsCrashImage (medium_of self) (medium_of result).now }
     {
         let MemDisk {
             mut bytes,
-            mut kept,
-            asked,
+            mut last_synced,
+            last_written,
             mut unsynced,
             span: _,
-            meter: _,
+            call_counter: _,
             ghost_device: _,
         } = self;
-        tear(&torn, &kept, &asked, &unsynced, &mut bytes);
-        kept.copy_from_slice(&bytes);
+        tear(&torn, &last_synced, &last_written, &unsynced, &mut bytes);
+        last_synced.copy_from_slice(&bytes);
         unsynced.fill(false);
         let mut ghost_device = GhostDevice::new();
-        ghost_device.note(&Call::Begun, &bytes);
+        ghost_device.note(&Call::Created, &bytes);
         MemDisk {
             bytes,
-            kept,
-            asked,
+            last_synced,
+            last_written,
             unsynced,
             span: Span::none(),
-            meter: Meter::new(),
+            call_counter: CallCounter::new(),
             ghost_device,
         }
     }
@@ -124,12 +124,18 @@ impl MemDisk {
     /// A device as a crash would leave this one now, with no injected fault and no calls. This one goes on. `AllocError` where
     /// there is no memory.
     pub fn crashed(&self, alloc: Global, torn: &Torn) -> Result<MemDisk, AllocError>
-        requires { HasBytes torn.now }
+        requires { HasPattern torn.now }
         ensures after { IfOk result (λ d. memory_of d ≡ made (crashed torn.now (memory_of self.now))) }
         ensures may { IfOk result (λ d. IsCrashImage (medium_of self.now) (medium_of d).now) }
     {
         let mut bytes = self.bytes.to_vec(alloc)?;
-        tear(torn, &self.kept, &self.asked, &self.unsynced, &mut bytes);
+        tear(
+            torn,
+            &self.last_synced,
+            &self.last_written,
+            &self.unsynced,
+            &mut bytes,
+        );
         let after = MemDisk::of_bytes(alloc, bytes)?;
         Ok(after)
     }
@@ -139,7 +145,7 @@ impl MemDisk {
     pub fn calls(&self) -> u64
         ensures { result ≡ (memory_of self.now).calls }
     {
-        self.meter.calls
+        self.call_counter.calls
     }
 }
 
@@ -163,8 +169,8 @@ impl Disk for MemDisk {
         ensures answer { result ≡ call_result at (length out.old) (memory_of self.old) }
         ensures after { memory_of self.new ≡ after_read result (memory_of self.old) }
     {
-        let start = start_of(self.len(), at, out.len())?;
-        if self.meter.spend() {
+        let start = check_range(self.len(), at, out.len())?;
+        if self.call_counter.count_call() {
             self.ghost_device.note(&Call::Failed, &[]);
             return Err(DiskFault::Device);
         }
@@ -180,11 +186,11 @@ impl Disk for MemDisk {
         ensures answer { result ≡ call_result at (length bytes.now) (memory_of self.old) }
         ensures after { memory_of self.new ≡ after_write result at bytes.now (memory_of self.old) }
     {
-        let start = start_of(self.len(), at, bytes.len())?;
-        let fails = self.meter.spend();
+        let start = check_range(self.len(), at, bytes.len())?;
+        let fails = self.call_counter.count_call();
         self.span = self.span.with(start, start + bytes.len());
-        overlay(&mut self.asked, start, bytes);
-        mark(&mut self.unsynced, start, bytes.len());
+        overlay(&mut self.last_written, start, bytes);
+        mark_unsynced(&mut self.unsynced, start, bytes.len());
         if fails {
             self.ghost_device.note(&Call::FailedWrite(at), bytes);
             return Err(DiskFault::Device);
@@ -201,11 +207,11 @@ impl Disk for MemDisk {
         ensures answer { result ≡ call_result 0 0 (memory_of self.old) }
         ensures after { memory_of self.new ≡ after_sync result (memory_of self.old) }
     {
-        if self.meter.spend() {
+        if self.call_counter.count_call() {
             self.ghost_device.note(&Call::Failed, &[]);
             return Err(DiskFault::Device);
         }
-        refresh(&mut self.kept, &self.bytes, self.span);
+        refresh(&mut self.last_synced, &self.bytes, self.span);
         clear(&mut self.unsynced, self.span);
         self.span = Span::none();
         self.ghost_device.note(&Call::Synced, &[]);

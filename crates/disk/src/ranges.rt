@@ -6,8 +6,8 @@ ghost use Rattle.disk.specs.Device.{SameOutside, overlaid, marked};
 use crate::DiskFault;
 use crate::span::Span;
 
-/// The index of a range of n bytes from `at` on, where a device of this length has it.
-pub(crate) fn start_of(len: u64, at: u64, n: usize) -> Result<usize, DiskFault>
+/// `OutOfRange` where a device of this length doesn't have n bytes from `at` on; else `at` as an index.
+pub(crate) fn check_range(len: u64, at: u64, n: usize) -> Result<usize, DiskFault>
     ensures outside { IsErrOf result OutOfRange ↔ len < at + n }
     ensures only { IsErrOf result Device → ⊥ }
     ensures start { IfOk result (λ start. start ≡ at) }
@@ -28,8 +28,8 @@ pub(crate) fn overlay(bytes: &mut [u8], start: usize, new: &[u8])
     bytes[start..start + new.len()].copy_from_slice(new);
 }
 
-/// Marks n bytes from this offset on.
-pub(crate) fn mark(marks: &mut [bool], start: usize, n: usize)
+/// Marks n bytes from this offset on as unsynced.
+pub(crate) fn mark_unsynced(marks: &mut [bool], start: usize, n: usize)
     requires { start + n ≤ length marks.old }
     ensures len { length marks.new ≡ length marks.old }
     ensures marked { marks.new ≡ marked marks.old start n }
@@ -38,15 +38,15 @@ pub(crate) fn mark(marks: &mut [bool], start: usize, n: usize)
 }
 
 /// Makes one row of bytes equal to another, from which it differs in this range alone.
-pub(crate) fn refresh(kept: &mut [u8], bytes: &[u8], span: Span)
+pub(crate) fn refresh(last_synced: &mut [u8], bytes: &[u8], span: Span)
     requires inside { span.end ≤ length bytes.now }
-    requires outside { SameOutside span.start (span.end - span.start) bytes.now kept.old }
-    ensures { kept.new ≡ bytes.now }
+    requires outside { SameOutside span.start (span.end - span.start) bytes.now last_synced.old }
+    ensures { last_synced.new ≡ bytes.now }
 {
-    kept[span.start..span.end].copy_from_slice(&bytes[span.start..span.end]);
+    last_synced[span.start..span.end].copy_from_slice(&bytes[span.start..span.end]);
 }
 
-/// Takes away all marks, of which none lies outside this range.
+/// Takes away all marks of unsynced bytes, of which none lies outside this range.
 pub(crate) fn clear(marks: &mut [bool], span: Span)
     requires inside { span.end ≤ length marks.old }
     requires outside { SameOutside span.start (span.end - span.start) (replicate (length marks.old) false) marks.old }

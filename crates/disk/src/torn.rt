@@ -1,6 +1,6 @@
 //! Kinds of crash, and what each leaves of what was not synced.
 ghost use Rattle.std.specs.Prelude.{◌≡◌, ◌<◌, length};
-ghost use Rattle.disk.specs.Torn.{HasBytes, torn_byte, torn_from};
+ghost use Rattle.disk.specs.Torn.{HasPattern, torn_byte, torn_from};
 
 /// What a crash leaves at the offsets that were written, also by a write that failed, and not synced since.
 #[derive(Debug, Drop)]
@@ -17,15 +17,15 @@ pub enum Torn {
 
 impl Torn {
     /// The byte that it puts at the unsynced offset i, with k unsynced ones below it.
-    fn byte(&self, kept: &[u8], asked: &[u8], i: usize, k: usize) -> u8
-        requires has_bytes { HasBytes self.now }
-        requires in_kept { i < length kept.now }
-        requires in_asked { i < length asked.now }
-        ensures { result ≡ torn_byte self.now kept.now asked.now i k }
+    fn byte(&self, last_synced: &[u8], last_written: &[u8], i: usize, k: usize) -> u8
+        requires has_bytes { HasPattern self.now }
+        requires in_last_synced { i < length last_synced.now }
+        requires in_last_written { i < length last_written.now }
+        ensures { result ≡ torn_byte self.now last_synced.now last_written.now i k }
     {
         match self {
-            Torn::Old => kept[i],
-            Torn::New => asked[i],
+            Torn::Old => last_synced[i],
+            Torn::New => last_written[i],
             Torn::Fill(byte) => *byte,
             Torn::Mixed(pattern) => pattern[k % pattern.len()],
         }
@@ -33,17 +33,23 @@ impl Torn {
 }
 
 /// Puts at each unsynced offset of these bytes what such a crash leaves there.
-pub(crate) fn tear(kind: &Torn, kept: &[u8], asked: &[u8], unsynced: &[bool], bytes: &mut [u8])
-    requires has_bytes { HasBytes kind.now }
-    requires kept { length kept.now ≡ length bytes.old }
-    requires asked { length asked.now ≡ length bytes.old }
+pub(crate) fn tear(
+    kind: &Torn,
+    last_synced: &[u8],
+    last_written: &[u8],
+    unsynced: &[bool],
+    bytes: &mut [u8],
+)
+    requires has_bytes { HasPattern kind.now }
+    requires last_synced { length last_synced.now ≡ length bytes.old }
+    requires last_written { length last_written.now ≡ length bytes.old }
     requires unsynced { length unsynced.now ≡ length bytes.old }
-    ensures { bytes.new ≡ torn_from (torn_byte kind.now kept.now asked.now) 0 0 unsynced.now bytes.old }
+    ensures { bytes.new ≡ torn_from (torn_byte kind.now last_synced.now last_written.now) 0 0 unsynced.now bytes.old }
 {
     let mut below = 0;
     for (i, is_unsynced) in unsynced.iter().enumerate() {
         if *is_unsynced {
-            bytes[i] = kind.byte(kept, asked, i, below);
+            bytes[i] = kind.byte(last_synced, last_written, i, below);
             below += 1;
         }
     }

@@ -14,9 +14,9 @@ use std::test::Fail;
 const CALLS: u64 = 8;
 
 /// The formatted device with other bytes at some places.
-fn device(alloc: Global, changes: &[(usize, u8)]) -> Result<MemDisk, AllocError> {
+fn device(alloc: Global, patches: &[(usize, u8)]) -> Result<MemDisk, AllocError> {
     let mut bytes = new_bytes(alloc, LEN, 0)?;
-    for (at, byte) in changes {
+    for (at, byte) in patches {
         put(&mut bytes, *at, *byte);
     }
     MemDisk::of_bytes(alloc, bytes)
@@ -42,9 +42,9 @@ fn expect_empty(rt: &impl Abort, alloc: Global, disk: MemDisk) -> Result<(), Fai
     let calls = disk.calls();
     let want = shown(0, 0, 0, 2)?;
     match inspect(alloc, disk) {
-        Ok(told) => {
-            holds(rt, told.0 == want);
-            holds(rt, calls.checked_add(CALLS) == Some(told.1.calls()));
+        Ok(report) => {
+            holds(rt, report.0 == want);
+            holds(rt, calls.checked_add(CALLS) == Some(report.1.calls()));
         }
         Err(_) => holds(rt, false),
     }
@@ -83,20 +83,20 @@ const SHOWN: [(&[(usize, u8)], usize, u32, u32, u8); 7] = [
 ];
 
 #[test]
-fn records_and_images_are_told(rt: HostRuntime) -> Result<(), Fail> {
-    for &(changes, records, volumes, files, version) in &SHOWN {
+fn records_and_images_are_reported(rt: HostRuntime) -> Result<(), Fail> {
+    for &(patches, records, volumes, files, version) in &SHOWN {
         let want = shown(records, volumes, files, version)?;
-        match inspect(rt.alloc(), device(rt.alloc(), changes)?) {
-            Ok((told, _)) => holds(&rt, told == want),
+        match inspect(rt.alloc(), device(rt.alloc(), patches)?) {
+            Ok((report, _)) => holds(&rt, report == want),
             Err(_) => holds(&rt, false),
         }
     }
     Ok(())
 }
 
-/// After a cut a record that is none: nothing is changed where it is reported.
+/// The first record after a cut is bad: where that is reported, nothing is changed.
 #[test]
-fn a_bad_record_behind_a_cut_is_told(rt: HostRuntime) -> Result<(), Fail> {
+fn a_bad_record_behind_a_cut_is_reported(rt: HostRuntime) -> Result<(), Fail> {
     let device = device(rt.alloc(), &[(128, 1), (2340, 1)])?;
     let bytes = device.bytes().to_vec(rt.alloc())?;
     match inspect(rt.alloc(), device) {
@@ -116,15 +116,15 @@ fn a_device_is_inspected_at_the_next_try(rt: HostRuntime) -> Result<(), Fail> {
     let alloc = rt.alloc();
     let disk = device(alloc, &[(192, 1), (196, 1)])?;
     let bytes = disk.bytes().to_vec(alloc)?;
-    let (told, disk) = match inspect(alloc, disk) {
-        Ok(told) => told,
+    let (report, disk) = match inspect(alloc, disk) {
+        Ok(report) => report,
         Err(e) => {
             let is_read = e.disk.calls() == 1 && e.disk.bytes() == bytes.as_slice();
             holds(&rt, e.fault == OpenFault::OutOfMemory && is_read);
             inspect(alloc, e.disk).map_err(|e| e.fault)?
         }
     };
-    holds(&rt, told == shown(1, 1, 0, 2)?);
+    holds(&rt, report == shown(1, 1, 0, 2)?);
     holds(&rt, disk.bytes() == bytes.as_slice());
     Ok(())
 }

@@ -1,4 +1,4 @@
-//! What tests share: a small server, and assertions that are called with rows.
+//! What tests share: a small server, and assertions, called for each row of a test's table: as functions they are proved once.
 
 use std::process::Abort;
 
@@ -10,6 +10,6 @@ pub(crate) fn holds(rt: &impl Abort, fact: bool) {
     assert!(rt; fact);
 }
 
-pub(crate) fn counts(rt: &impl Abort, got: u64, want: u64) {
+pub(crate) fn equals(rt: &impl Abort, got: u64, want: u64) {
     assert_eq!(rt; got, want);
 }

@@ -1,5 +1,5 @@
 //! How often each call of a journal calls the device, and how many bytes it writes.
-use crate::common::{SMALL, counts, holds};
+use crate::common::{SMALL, equals, holds};
 use checkpoint::inspect;
 use disk::MemDisk;
 use harness::{Act, Counts, Halt, NEW, OLD, Server, Wrong, device_with, messages_of, torn};
@@ -29,7 +29,7 @@ const ACTS: [(Act, [u64; 3]); 18] = [
         [2, 2, 1042],
     ),
     (Act::Point, [4, 3, 68 + 128 + 1040 + 1]),
-    // All pieces: the one that is written now lies between those two, which this area lacks too.
+    // All three pieces in one write: this area lacks the volume's and the last stripe's too, and the first stripe's lies between them.
     (Act::Log(&["write 0 0 0 0 62"]), [2, 2, 521]),
     (Act::Point, [3, 3, 68 + 2208 + 1]),
     (Act::Cut, [2, 2, 68 + 1]),
@@ -46,10 +46,10 @@ const ACTS: [(Act, [u64; 3]); 18] = [
 /// There are `reads` more reads, and `more` writes, syncs and bytes.
 fn are_more(rt: &impl Abort, before: &Counts, after: &Counts, reads: u64, more: [u64; 3]) {
     let [writes, syncs, written] = more;
-    counts(rt, after.reads, before.reads.saturating_add(reads));
-    counts(rt, after.writes, before.writes.saturating_add(writes));
-    counts(rt, after.syncs, before.syncs.saturating_add(syncs));
-    counts(rt, after.written, before.written.saturating_add(written));
+    equals(rt, after.reads, before.reads.saturating_add(reads));
+    equals(rt, after.writes, before.writes.saturating_add(writes));
+    equals(rt, after.syncs, before.syncs.saturating_add(syncs));
+    equals(rt, after.written, before.written.saturating_add(written));
 }
 
 /// An act takes this many more writes, syncs and bytes.
@@ -84,11 +84,11 @@ fn each_act_takes_few_calls(rt: HostRuntime) -> Result<(), Fail> {
 fn opening_cost(
     rt: &impl Abort,
     alloc: Global,
-    changes: &[(usize, u8)],
+    patches: &[(usize, u8)],
     reads: u64,
     want: [u64; 3],
 ) -> Result<(), Wrong> {
-    let Ok(server) = Server::open(alloc, device_with(alloc, SMALL, changes)?) else {
+    let Ok(server) = Server::open(alloc, device_with(alloc, SMALL, patches)?) else {
         return Err(Wrong::Unfit);
     };
     let (_, after) = server.into_device();
@@ -104,10 +104,11 @@ fn opening_cost(
 
 #[test]
 fn opening_takes_few_calls(rt: HostRuntime) -> Result<(), Fail> {
-    // A sync, and a point of the whole image. Read are the header, the root byte, the image's head and its three pieces,
-    // the chain byte and the gates.
+    // A sync, and a checkpoint of the whole image. It reads the header, the root byte, the image's head and its three pieces, the chain
+    // byte and the gates.
     opening_cost(&rt, rt.alloc(), &[], 8, [3, 4, 68 + 2208 + 1])?;
-    // A cut is ended before, by an image and the root byte. Read are the other half's chain byte and its gates too.
+    // Byte 128, the chain byte of half 0, says that a cut was in progress: it is finished before, by an image and the root byte. The
+    // chain byte and the gates of the other half are read too.
     let ended = 2 * (2208 + 1) + 68;
     opening_cost(&rt, rt.alloc(), &[(128, 1)], 10, [5, 6, ended])?;
     Ok(())
@@ -133,7 +134,7 @@ fn calls_of_opening(alloc: Global) -> Result<u64, Wrong> {
     }
 }
 
-/// Whether these messages are logged by one call on a device that stops at the n-th call of that, and the device.
+/// Logs these messages by one `log`, on a device that stops at the n-th device call of that. Gives whether it succeeded, and the device.
 fn logged_until(alloc: Global, messages: &[Msg], n: u64) -> Result<(bool, MemDisk), Wrong> {
     let mut device = device_with(alloc, LONG, &[])?;
     device.stop_at(calls_of_opening(alloc)?.saturating_add(n.max(1)));
@@ -141,9 +142,10 @@ fn logged_until(alloc: Global, messages: &[Msg], n: u64) -> Result<(bool, MemDis
         return Err(Wrong::Unfit);
     };
     let logged = server.log(messages);
-    let is_told = logged != Err(Halt::Unfit) && logged.is_err() == server.failed();
+    // The server took the call, and it failed exactly if the journal has failed.
+    let is_reported = logged != Err(Halt::Unfit) && logged.is_err() == server.failed();
     let (device, _) = server.into_device();
-    if is_told {
+    if is_reported {
         Ok((logged.is_ok(), device))
     } else {
         Err(Wrong::Unfit)

@@ -1,6 +1,10 @@
 //! Devices that are opened, and such as are refused.
+//!
+//! Where the parts of the small device begin: magic 0, geometry 8 (records in a half: 22), root byte 64; half 0: chain byte 128, gates 192,
+//! records (of 520 bytes) 196; half 1: the same at 2276, 2340, 2344; image 0: format version 4424, the volume's piece 4488 (files +8, label
+//! +16), the stripes' pieces 4552 and 5592; image 1: 6632; end 8840. A new device has no image 1. Version 1 of an image has no labels.
 use crate::common::{SMALL, holds};
-use crate::journal_acting::left_by_acts;
+use crate::journal_trials::left_by_acts;
 use affinity::Geometry;
 use checkpoint::{OpenFault, inspect};
 use disk::MemDisk;
@@ -37,7 +41,7 @@ const REFUSED: [(&[(usize, u8)], OpenFault); 21] = [
         &[(192, 1), (193, 1), (196, 1), (716, 1)],
         OpenFault::BadRecord(0, 1),
     ),
-    // The first fault in the order of the tests is reported.
+    // The first fault in the order of the checks is reported.
     (&[(4488, 2), (128, 1), (2276, 1)], OpenFault::BadPiece(0)),
     (&[(128, 1), (2276, 1), (192, 1)], OpenFault::BadChain),
 ];
@@ -55,8 +59,8 @@ fn is_refused(
             let _device = server.into_device();
             return Err(Wrong::Unfit);
         }
-        Err((device, told)) => {
-            holds(rt, told == fault);
+        Err((device, reported)) => {
+            holds(rt, reported == fault);
             device
         }
     };
@@ -72,9 +76,9 @@ fn is_refused(
 }
 
 #[test]
-fn damage_is_told(rt: HostRuntime) -> Result<(), Fail> {
-    for &(changes, fault) in &REFUSED {
-        let device = device_with(rt.alloc(), SMALL, changes)?;
+fn damage_is_reported(rt: HostRuntime) -> Result<(), Fail> {
+    for &(patches, fault) in &REFUSED {
+        let device = device_with(rt.alloc(), SMALL, patches)?;
         is_refused(&rt, rt.alloc(), device, fault)?;
     }
     Ok(())
@@ -92,7 +96,7 @@ fn a_short_device_is_refused(rt: HostRuntime) -> Result<(), Fail> {
 }
 
 /// The length of a device of zeros, the call of it that fails, and what is reported. The sync comes before anything is looked
-/// at, and then one read shows that there are no marks.
+/// at, and then one read shows that there is no magic.
 const SYNCED_FIRST: [(u64, u64, OpenFault); 4] = [
     (127, 1, OpenFault::Device),
     (127, 2, OpenFault::TooShort),
@@ -110,14 +114,14 @@ fn the_sync_comes_first(rt: HostRuntime) -> Result<(), Fail> {
                 let _device = server.into_device();
                 holds(&rt, false);
             }
-            Err((_device, told)) => holds(&rt, told == fault),
+            Err((_device, reported)) => holds(&rt, reported == fault),
         }
     }
     Ok(())
 }
 
-/// Where a device isn't as it was formatted, what leads to the state to which it recovers, and the area that is named once
-/// it is opened: the one that wasn't before, but after a cut the same.
+/// Patches of a formatted device, messages that lead to the state to which it recovers, and the area that is named once it is opened: the
+/// other one, or the same one if a cut was finished first (two flips).
 const OPENED: [(&[(usize, u8)], &[&str], usize); 11] = [
     (&[], &[], 1),
     (&[(64, 7)], &[], 1),
@@ -131,7 +135,7 @@ const OPENED: [(&[(usize, u8)], &[&str], usize); 11] = [
     (&[(192, 1), (196, 1)], &["makevol 0 0"], 1),
     // A gate that isn't open ends the front.
     (&[(192, 77), (193, 1), (196, 1), (716, 1)], &[], 1),
-    // The other half counts after a chain alone.
+    // The other half counts only if the chain byte of the named one is set.
     (&[(2340, 1), (2344, 1)], &[], 1),
     (&[(128, 1), (2340, 1), (2344, 1)], &["makevol 0 0"], 0),
     (&[(128, 1)], &[], 0),
@@ -150,7 +154,7 @@ const OPENED: [(&[(usize, u8)], &[&str], usize); 11] = [
     ),
 ];
 
-/// What a server tells that is opened on a device, and the device. Nothing is in its log.
+/// What a server that is opened on a device answers, and the device. Nothing is in its log.
 fn opened(
     rt: &impl Abort,
     alloc: Global,
@@ -160,20 +164,20 @@ fn opened(
     let Ok(mut server) = Server::open(alloc, device) else {
         return Err(Wrong::Unfit);
     };
-    let told = server.told(alloc, questions);
+    let answers = server.reply_lines(alloc, questions);
     holds(
         rt,
-        !server.failed() && server.left().is_none() && server.room() == 4,
+        !server.failed() && server.pieces_left().is_none() && server.room() == 4,
     );
     let (device, _) = server.into_device();
-    Ok((told?, device))
+    Ok((answers?, device))
 }
 
 /// A device is opened, and holds that.
 fn is_opened(
     rt: &impl Abort,
     alloc: Global,
-    changes: &[(usize, u8)],
+    patches: &[(usize, u8)],
     lines: &[&str],
     area: usize,
 ) -> Result<(), Wrong> {
@@ -182,9 +186,9 @@ fn is_opened(
     };
     let questions = Questions::new(alloc, &g)?;
     let wanted = expected(alloc, &g, lines, &questions)?;
-    let device = device_with(alloc, SMALL, changes)?;
-    let (told, device) = opened(rt, alloc, device, &questions)?;
-    holds(rt, told == wanted);
+    let device = device_with(alloc, SMALL, patches)?;
+    let (answers, device) = opened(rt, alloc, device, &questions)?;
+    holds(rt, answers == wanted);
     let image = if area == 0 { 4424 } else { 6632 };
     holds(rt, (device.bytes().get(64) == Some(&1)) == (area == 1));
     holds(rt, device.bytes().get(image) == Some(&2));
@@ -201,14 +205,14 @@ fn is_opened(
 
 #[test]
 fn what_a_device_recovers_for_is_opened(rt: HostRuntime) -> Result<(), Fail> {
-    for &(changes, lines, area) in &OPENED {
-        is_opened(&rt, rt.alloc(), changes, lines, area)?;
+    for &(patches, lines, area) in &OPENED {
+        is_opened(&rt, rt.alloc(), patches, lines, area)?;
     }
     Ok(())
 }
 
-/// A cut was in progress, and the record after it is none. Then the first bytes of the volume's piece in image 1 once it is
-/// refused: whether the volume is made, and of which files.
+/// A cut was in progress, and the first record behind it is bad. Then, of the volume's piece in image 1 after the refusal: its made byte,
+/// and the first byte of its bitmap of files.
 const BAD_BEHIND: [(&[(usize, u8)], [u8; 2]); 2] = [
     (&[(128, 1), (2340, 1)], [0, 0]),
     // Image 0 has the volume, and the record of half 0 makes its file 1.
@@ -222,7 +226,7 @@ const BAD_BEHIND: [(&[(usize, u8)], [u8; 2]); 2] = [
 #[derive(Drop)]
 struct Refusal {
     questions: Questions,
-    changes: &'static [(usize, u8)],
+    patches: &'static [(usize, u8)],
 }
 
 impl Trial for Refusal {
@@ -231,15 +235,15 @@ impl Trial for Refusal {
     }
 
     fn device(&self, alloc: Global) -> Result<MemDisk, Wrong> {
-        device_with(alloc, SMALL, self.changes)
+        device_with(alloc, SMALL, self.patches)
     }
 
     fn run(&self, alloc: Global, device: MemDisk) -> Result<Ended, Wrong> {
         let (found, device) = find(alloc, device, &self.questions)?;
         let progress = Progress {
             answered: 0,
-            begun: 0,
-            is_whole: found != OpenedDevice::Refuses(OpenFault::Device),
+            attempted: 0,
+            is_faultless: found != OpenedDevice::Refuses(OpenFault::Device),
         };
         Ok(Ended { device, progress })
     }
@@ -259,7 +263,7 @@ fn stays_refused(
     sweep(alloc, trial)?;
     let Ended { device, progress } = trial.run(alloc, trial.device(alloc)?)?;
     let [made, files] = volume;
-    holds(rt, progress.is_whole);
+    holds(rt, progress.is_faultless);
     holds(rt, device.bytes().get(64) == Some(&1));
     holds(rt, device.bytes().get(6632) == Some(&2));
     holds(rt, device.bytes().get(6632 + 64) == Some(&made));
@@ -269,15 +273,15 @@ fn stays_refused(
 
 #[test]
 fn a_bad_record_behind_a_cut_stays_one(rt: HostRuntime) -> Result<(), Fail> {
-    for &(changes, volume) in &BAD_BEHIND {
+    for &(patches, volume) in &BAD_BEHIND {
         let questions = Questions::new(rt.alloc(), &Geometry::new(SMALL)?)?;
-        let trial = Refusal { questions, changes };
+        let trial = Refusal { questions, patches };
         stays_refused(&rt, rt.alloc(), &trial, volume)?;
     }
     Ok(())
 }
 
-/// It passes too where any one request for memory is refused.
+/// The test passes also if any one request for memory in it is refused.
 #[test]
 fn a_device_is_opened_at_the_next_try(rt: HostRuntime) -> Result<(), Fail> {
     let alloc = rt.alloc();

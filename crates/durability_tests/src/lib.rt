@@ -8,20 +8,20 @@ mod checkpoint_inspecting;
 #[cfg(test)]
 mod common;
 #[cfg(test)]
-mod journal_acting;
-#[cfg(test)]
 mod journal_counting;
 #[cfg(test)]
-mod journal_living;
+mod journal_examples;
+#[cfg(test)]
+mod journal_incarnations;
 #[cfg(test)]
 mod journal_opening;
 #[cfg(test)]
-mod journal_worked;
+mod journal_trials;
 #[cfg(test)]
 mod oplog_common;
 #[cfg(test)]
 mod oplog_crashes;
 #[cfg(test)]
-mod oplog_layout;
+mod oplog_examples;
 #[cfg(test)]
-mod oplog_worked;
+mod oplog_layout;

@@ -1,7 +1,7 @@
-//! What tests share: a small server with its log and its device, and assertions that are called with rows.
+//! What tests share: a small server with its log and its device, and assertions, called for each row of a test's table.
 ghost use Rattle.std.specs.Prelude.{◌≡◌, ◌<◌, false, length, OnOk, IsTrue};
 ghost use Rattle.disk.specs.Memory.{medium_of};
-ghost use Rattle.oplog.specs.Calls.{HasParts, IsReadyFor};
+ghost use Rattle.oplog.specs.Calls.{IsLongEnough, IsReadyFor};
 ghost use Rattle.oplog.specs.Changing.{AreChangesInRange, IsChangeInRange};
 
 use affinity::{Geometry, changing, place_of};
@@ -36,7 +36,7 @@ fn are_changes_in_range(g: &Geometry, messages: &[Msg]) -> bool
 fn change_halves<D: Disk>(disk: &mut D, log: &mut Halves) -> Result<(), LogFault>
     requires not_failed { log.old.failed ≡ false }
     requires current_is_named { log.old.current ≡ log.old.named }
-    requires long_enough { HasParts log.old (D.medium disk.old) }
+    requires long_enough { IsLongEnough log.old (D.medium disk.old) }
     ensures ready { OnOk result (D.keeps → IsReadyFor log.new (D.medium disk.new)) }
     ensures geometry { log.new.geometry ≡ log.old.geometry }
     ensures not_failed { OnOk result (log.new.failed ≡ false) }
@@ -52,7 +52,7 @@ fn chain_halves<D: Disk>(disk: &mut D, log: &mut Halves) -> Result<(), LogFault>
     requires not_failed { log.old.failed ≡ false }
     requires current_is_named { log.old.current ≡ log.old.named }
     requires half { log.old.named < 2 }
-    requires long_enough { HasParts log.old (D.medium disk.old) }
+    requires long_enough { IsLongEnough log.old (D.medium disk.old) }
     ensures ready { OnOk result (D.keeps → IsReadyFor log.new (D.medium disk.new)) }
     ensures geometry { log.new.geometry ≡ log.old.geometry }
     ensures not_failed { OnOk result (log.new.failed ≡ false) }
@@ -66,7 +66,7 @@ fn chain_halves<D: Disk>(disk: &mut D, log: &mut Halves) -> Result<(), LogFault>
 /// Appends these, if there is room and the log keeps them, and gives whether it did.
 fn appends<D: Disk>(disk: &mut D, log: &mut Halves, messages: &[Msg]) -> bool
     requires not_failed { log.old.failed ≡ false }
-    requires long_enough { HasParts log.old (D.medium disk.old) }
+    requires long_enough { IsLongEnough log.old (D.medium disk.old) }
     requires ready { D.keeps → IsReadyFor log.old (D.medium disk.old) }
     ensures geometry { log.new.geometry ≡ log.old.geometry }
     ensures len { length (D.medium disk.new).now ≡ length (D.medium disk.old).now }
@@ -106,7 +106,7 @@ pub(crate) const UNFIT: LogFault = LogFault::BadRecord(9, 9);
 pub(crate) struct Server {
     pub(crate) disk: MemDisk,
     pub(crate) log: Halves,
-    ghost whole: { HasParts log (medium_of disk) },
+    ghost whole: { IsLongEnough log (medium_of disk) },
 }
 
 impl Server {

@@ -9,7 +9,7 @@ use std::test::Fail;
 
 const MESSAGES: [Msg; 3] = [Msg::MakeVol(0, 0), Msg::Seal(0, 0), Msg::Unseal(0, 0)];
 
-/// What a crash leaves of a server for a half of four records.
+/// What a crash leaves of a server whose halves have four records.
 #[derive(Drop)]
 struct Left {
     /// Whether the messages were taken.
@@ -25,7 +25,7 @@ struct Left {
 fn recovered(alloc: Global, way: Way, server: Server, went_well: bool) -> Result<Left, Fail> {
     let mut server = server;
     let (root, chain) = (server.byte(64), server.byte(128));
-    // A half that isn't named may hold anything while it is cleared; and after a chain that isn't there, the other one counts for nothing.
+    // A half that isn't named may hold anything while it is cleared; and unless the chain byte of half 0 is 1, half 1 doesn't count.
     let last = match way {
         Way::Named => root,
         Way::Chained => chain,
@@ -53,10 +53,10 @@ fn is_beginning(rt: &impl Abort, read: &[Msg], n: u64, kind: usize) {
     let count = read.len();
     holds(rt, count <= MESSAGES.len());
     same_messages(rt, read, &MESSAGES[..count.min(MESSAGES.len())]);
-    // Before the gates are written none is there, and after their sync all are.
+    // The seventh call writes the gates and the eighth syncs them: before, no record is there, and afterwards all are.
     holds(rt, n > 6 || count == 0);
     holds(rt, n < 9 || count == 3);
-    // The write of the gates failed, and they are 1, 77, 1.
+    // `MIXED` leaves 1, 77, 1 in turn in unsynced bytes: here the three gates, whose write failed. A gate of 77 is shut.
     holds(rt, n != 7 || kind != MIXED || count == 1);
 }
 

@@ -4,6 +4,6 @@ use Rattle.affinity.specs.declared.geometry.Geometry.{Geometry}
 use Rattle.parcel.specs.Run.{JobView}
 use Rattle.workers.specs.Rule.{lent_at}
 
--- Each job that is lent is one of this geometry.
+-- Each job that is lent is of geometry g.
 abbrev pub AreOfGeometry : Geometry → List (Option JobView) → Type 0
 AreOfGeometry g lent = (k : ℕ) → IfSome (lent_at lent k) (λ job. job.geometry ≡ g)

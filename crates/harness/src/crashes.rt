@@ -1,6 +1,6 @@
 //! The kinds of crash that tests try.
 ghost use Rattle.std.specs.Prelude.{IfOk};
-ghost use Rattle.disk.specs.Torn.{HasBytes};
+ghost use Rattle.disk.specs.Torn.{HasPattern};
 
 use disk::Torn;
 use std::alloc::{AllocError, Global};
@@ -20,7 +20,7 @@ pub const MIXED: usize = 5;
 /// One of the kinds of crash, by its number below `KINDS`. The first two put different bytes wherever something is unsynced,
 /// so where they leave the same, each kind does.
 pub fn torn(alloc: Global, kind: usize) -> Result<Torn, AllocError>
-    ensures { IfOk result HasBytes }
+    ensures { IfOk result HasPattern }
 {
     Ok(match kind {
         0 => Torn::Fill(0),

@@ -7,12 +7,12 @@
 
 mod counting;
 mod crashes;
+mod questions;
 mod server;
-mod telling;
 mod trials;
 
 pub use counting::{Counting, Counts};
 pub use crashes::{KINDS, MIXED, NEW, OLD, torn};
+pub use questions::{Questions, answers_and_replies, expected, messages_of, reply_lines};
 pub use server::{Act, Halt, Server, device_with};
-pub use telling::{Questions, answers_and_told, expected, messages_of, told};
 pub use trials::{Crash, Ended, OpenedDevice, Progress, Seen, Trial, Wrong, find, reopen, sweep};

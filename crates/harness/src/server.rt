@@ -4,7 +4,7 @@ ghost use Rattle.std.proofs.Props.{props};
 ghost use Rattle.oplog.specs.Changing.{AreChangesInRange, IsChangeInRange};
 ghost use Rattle.parcel.specs.Tree.{IsWholeTree};
 
-use crate::{Counting, Counts, Questions, Wrong, told};
+use crate::{Counting, Counts, Questions, Wrong, reply_lines};
 use affinity::{Geometry, changing, place_of};
 use checkpoint::{OpenFault, device_len, format, step};
 use disk::{Disk, MemDisk};
@@ -45,7 +45,7 @@ fn is_change_in_range(g: &Geometry, m: &Msg) -> bool
     changing(m.kind()) && place_of(g, m.kind(), m.numbers()).is_some()
 }
 
-/// Whether the log keeps each of these.
+/// Whether each of these is a change in range.
 fn are_changes_in_range(g: &Geometry, messages: &[Msg]) -> bool
     ensures { IsTrue result → AreChangesInRange g.now messages.now }
 {
@@ -80,6 +80,7 @@ fn halted<T>(answer: Result<T, LogFault>) -> Result<T, Halt> {
 pub struct Server<D: Disk> {
     journal: Journal<Counting<D>>,
     tree: Tree,
+    // The tree is whole. What follows `by` is for the prover alone.
     ghost whole: { IsWholeTree tree } by { Prim.hlevel props },
     ghost same: { tree.geometry ≡ journal.geometry },
 }
@@ -103,9 +104,9 @@ impl<D: Disk> Server<D> {
         halted(self.journal.log(messages))
     }
 
-    /// Makes a point in Serial.
+    /// Makes a point: the whole image in one call, while nothing is in flight.
     pub fn point(&mut self) -> Result<(), Halt> {
-        if self.journal.failed() || self.journal.left().is_some() {
+        if self.journal.failed() || self.journal.pieces_left().is_some() {
             return Err(Halt::Unfit);
         }
         halted(self.journal.point(&self.tree))
@@ -113,7 +114,7 @@ impl<D: Disk> Server<D> {
 
     /// Begins a cut.
     pub fn cut(&mut self) -> Result<(), Halt> {
-        if self.journal.failed() || self.journal.left().is_some() {
+        if self.journal.failed() || self.journal.pieces_left().is_some() {
             return Err(Halt::Unfit);
         }
         halted(self.journal.cut(&self.tree))
@@ -121,7 +122,7 @@ impl<D: Disk> Server<D> {
 
     /// Writes a piece of a cut, and gives how many are left.
     pub fn piece(&mut self) -> Result<usize, Halt> {
-        if self.journal.failed() || self.journal.left().is_none() {
+        if self.journal.failed() || self.journal.pieces_left().is_none() {
             return Err(Halt::Unfit);
         }
         halted(self.journal.piece())
@@ -129,7 +130,7 @@ impl<D: Disk> Server<D> {
 
     /// Ends a cut of which no piece is left.
     pub fn flip(&mut self) -> Result<(), Halt> {
-        if self.journal.failed() || self.journal.left() != Some(0) {
+        if self.journal.failed() || self.journal.pieces_left() != Some(0) {
             return Err(Halt::Unfit);
         }
         halted(self.journal.flip())
@@ -137,10 +138,10 @@ impl<D: Disk> Server<D> {
 
     /// Writes what is left of a cut, and ends it.
     pub fn end(&mut self) -> Result<(), Halt> {
-        let Some(left) = self.journal.left() else {
+        let Some(pieces_left) = self.journal.pieces_left() else {
             return Err(Halt::Unfit);
         };
-        for _ in 0..left {
+        for _ in 0..pieces_left {
             self.piece()?;
         }
         self.flip()
@@ -166,8 +167,8 @@ impl<D: Disk> Server<D> {
     }
 
     /// How many pieces of a cut are left, while one is in progress.
-    pub fn left(&self) -> Option<usize> {
-        self.journal.left()
+    pub fn pieces_left(&self) -> Option<usize> {
+        self.journal.pieces_left()
     }
 
     /// Whether the device has failed in a call.
@@ -181,8 +182,12 @@ impl<D: Disk> Server<D> {
     }
 
     /// The reply lines to these questions.
-    pub fn told(&mut self, alloc: Global, questions: &Questions) -> Result<Vec<u8>, AllocError> {
-        told(alloc, &mut self.tree, questions)
+    pub fn reply_lines(
+        &mut self,
+        alloc: Global,
+        questions: &Questions,
+    ) -> Result<Vec<u8>, AllocError> {
+        reply_lines(alloc, &mut self.tree, questions)
     }
 
     /// The device, and how often it was called since it was opened.
@@ -209,8 +214,8 @@ fn carry_out(tree: &mut Tree, messages: &[Msg]) -> bool
 }
 
 /// Sets bytes, where there are any at these places.
-fn set(bytes: &mut [u8], changes: &[(usize, u8)]) {
-    for (at, byte) in changes {
+fn set(bytes: &mut [u8], patches: &[(usize, u8)]) {
+    for (at, byte) in patches {
         if let Some(there) = bytes.get_mut(*at) {
             *there = *byte;
         }
@@ -230,12 +235,12 @@ fn formatted(alloc: Global, g: Geometry) -> Result<MemDisk, Wrong> {
 pub fn device_with(
     alloc: Global,
     numbers: [u16; 8],
-    changes: &[(usize, u8)],
+    patches: &[(usize, u8)],
 ) -> Result<MemDisk, Wrong> {
     let Ok(g) = Geometry::new(numbers) else {
         return Err(Wrong::Unfit);
     };
     let mut bytes = formatted(alloc, g)?.bytes().to_vec(alloc)?;
-    set(&mut bytes, changes);
+    set(&mut bytes, patches);
     Ok(MemDisk::of_bytes(alloc, bytes)?)
 }

@@ -2,7 +2,7 @@
 ghost use Rattle.std.specs.Prelude.{◌<◌};
 
 use crate::crashes::{KINDS, torn};
-use crate::telling::{Questions, told};
+use crate::questions::{Questions, reply_lines};
 use checkpoint::{OpenFault, Shown, inspect};
 use disk::MemDisk;
 use journal::open;
@@ -19,10 +19,10 @@ pub struct Progress {
     pub answered: usize,
 
     /// How many of its changes may be there.
-    pub begun: usize,
+    pub attempted: usize,
 
     /// Whether it ended with no fault of the device.
-    pub is_whole: bool,
+    pub is_faultless: bool,
 }
 
 /// What a trial leaves.
@@ -36,8 +36,8 @@ pub struct Ended {
 /// What is found on a device that is opened.
 #[derive(Drop, PartialEq, Eq)]
 pub enum OpenedDevice {
-    /// It is opened, and the server answers this.
-    Tells(Vec<u8>),
+    /// It is opened, and the server answers the questions so.
+    Answers(Vec<u8>),
     /// It is refused.
     Refuses(OpenFault),
 }
@@ -73,14 +73,15 @@ pub enum Wrong {
     /// There was no memory.
     OutOfMemory,
 
-    /// The trial does not fit this server.
+    /// The trial didn't go as it was written: a line is no message or isn't done, or a call or an opening was refused though the device
+    /// didn't fail. The trial is wrong, or the server is.
     Unfit,
 
     /// It doesn't end.
     Endless,
 
     /// A device fault was not reported, or one was reported that did not happen.
-    Untold(Crash),
+    Unreported(Crash),
 
     /// After the crash something was found that isn't allowed.
     Found(Crash),
@@ -113,8 +114,8 @@ pub fn find(
     match open(alloc, device) {
         Ok((journal, mut tree)) => {
             let device = journal.into_disk();
-            let told = told(alloc, &mut tree, questions)?;
-            Ok((OpenedDevice::Tells(told), device))
+            let reply_lines = reply_lines(alloc, &mut tree, questions)?;
+            Ok((OpenedDevice::Answers(reply_lines), device))
         }
         Err(e) if e.fault == OpenFault::OutOfMemory => Err(Wrong::OutOfMemory),
         Err(e) => Ok((OpenedDevice::Refuses(e.fault), e.disk)),
@@ -127,10 +128,10 @@ fn device_of(alloc: Global, bytes: &[u8]) -> Result<MemDisk, AllocError> {
 }
 
 /// Whether what `inspect` reports agrees with what an opened server answers.
-fn agrees(shown: &Shown, told: &[u8]) -> bool {
+fn agrees(shown: &Shown, reply_lines: &[u8]) -> bool {
     let mut line = [0; LONGEST_REPLY];
     let size = write_reply(&shown.summary, &mut line);
-    told.starts_with(&line[..size])
+    reply_lines.starts_with(&line[..size])
 }
 
 /// What `inspect` reports of a device of these bytes.
@@ -151,9 +152,11 @@ fn is_shown(
     let before = inspected(alloc, bytes)?;
     let after = inspected(alloc, opened)?;
     Ok(match (before, after, found) {
-        (Ok(before), Ok(after), OpenedDevice::Tells(told)) => {
+        (Ok(before), Ok(after), OpenedDevice::Answers(reply_lines)) => {
             let is_new = after.records == 0 && after.version == 2;
-            is_new && agrees(&before, told.as_slice()) && agrees(&after, told.as_slice())
+            is_new
+                && agrees(&before, reply_lines.as_slice())
+                && agrees(&after, reply_lines.as_slice())
         }
         (Err(before), _, OpenedDevice::Refuses(fault)) => before == *fault,
         _ => false,
@@ -321,32 +324,32 @@ impl<T: Trial> Stops<'_, T> {
             device.fail_at(first.call);
         }
         let ended = self.trial.run(self.alloc, device)?;
-        if ended.progress.is_whole == (ended.device.calls() < first.call) {
+        if ended.progress.is_faultless == (ended.device.calls() < first.call) {
             Ok(ended)
         } else {
-            Err(Wrong::Untold(first))
+            Err(Wrong::Unreported(first))
         }
     }
 
-    /// Makes the trial on a device that stops at this call, and crashes it: whether it ended before that call.
+    /// Makes the trial on a device that stops at this call, and crashes it. Returns whether it ended before that call.
     fn crash(&mut self, first: Crash) -> Result<bool, Wrong>
         requires { 0 < first.call }
     {
         let Ended { device, progress } = self.make(first)?;
         let device = device.crash(torn(self.alloc, first.kind)?);
         self.look(&progress, first, device)?;
-        Ok(progress.is_whole)
+        Ok(progress.is_faultless)
     }
 
     /// The same with a crash of each kind.
     fn stop(&mut self, call: u64) -> Result<bool, Wrong>
         requires { 0 < call }
     {
-        let mut is_whole = false;
+        let mut is_faultless = false;
         for kind in 0..KINDS {
-            is_whole = self.crash(Crash { call, kind })?;
+            is_faultless = self.crash(Crash { call, kind })?;
         }
-        Ok(is_whole)
+        Ok(is_faultless)
     }
 
     /// Makes the trial on a device of which this call fails alone, and opens it with no crash.

@@ -2,7 +2,7 @@
 use Rattle.std.proofs.Common.{◌≡◌, ℕ, zero, suc, ◌+◌, ◌*◌, ◌-◌, ◌≤◌, Bool, true, false, ◌&&◌, List, [], ◌++◌, replicate, Option, None, refl, sym, ◌∙◌, ap, arith}
 use Rattle.std.specs.Prelude.{◌==◌, if◌then◌else◌}
 use Rattle.std.proofs.lemmas.Bool.{eqb-true}
-use Rattle.affinity.specs.Geometry.{group}
+use Rattle.affinity.specs.Geometry.{stripe_of}
 use Rattle.affinity.specs.declared.geometry.Geometry.{Geometry}
 use Rattle.messages.specs.declared.Block.{Block}
 use Rattle.meaning.specs.State.{State, empty}
@@ -25,19 +25,16 @@ and_true true = refl
 and_true false = refl
 
 -- the entries of a stripe, by what there is of each block that lies in it
-pub entries_same : (g : Geometry) (x y : State) (a v s : ℕ)
-    → ((f b : ℕ) → group g f b ≡ s → entry_if (x.files (a, v, f)) f b (x.blocks (a, v, f, b))
+pub entries_same : (g : Geometry) (x y : State) (a v s : ℕ) → ((f b : ℕ) → stripe_of g f b ≡ s → entry_if (x.files (a, v, f)) f b (x.blocks (a, v, f, b))
     ≡ entry_if (y.files (a, v, f)) f b (y.blocks (a, v, f, b)))
     → stripe_entries g x a v s ≡ stripe_entries g y a v s
-entries_same g x y a v s same = λ i. joined_below g.files (λ f. joined_below g.blocks (λ b. each f b (group g f b == s) refl i))
+entries_same g x y a v s same = λ i. joined_below g.files (λ f. joined_below g.blocks (λ b. each f b (stripe_of g f b == s) refl i))
   where
-    each : (f b : ℕ) (t : Bool) → (group g f b == s) ≡ t
-        → entry_if (x.files (a, v, f) && t) f b (x.blocks (a, v, f, b)) ≡ entry_if (y.files (a, v, f) && t) f b (y.blocks (a, v, f, b))
+    each : (f b : ℕ) (t : Bool) → (stripe_of g f b == s) ≡ t → entry_if (x.files (a, v, f) && t) f b (x.blocks (a, v, f, b)) ≡ entry_if (y.files (a, v, f) && t) f b (y.blocks (a, v, f, b))
     each f b true on =
-        ap (λ (t : Bool). entry_if t f b (x.blocks (a, v, f, b))) (and_true (x.files (a, v, f))) ∙ same f b (eqb-true (group g f b) s on)
+        ap (λ (t : Bool). entry_if t f b (x.blocks (a, v, f, b))) (and_true (x.files (a, v, f))) ∙ same f b (eqb-true (stripe_of g f b) s on)
         ∙ sym (ap (λ (t : Bool). entry_if t f b (y.blocks (a, v, f, b))) (and_true (y.files (a, v, f))))
-    each f b false off = no_entry_if (x.files (a, v, f)) f b (x.blocks (a, v, f, b))
-        ∙ sym (no_entry_if (y.files (a, v, f)) f b (y.blocks (a, v, f, b)))
+    each f b false off = no_entry_if (x.files (a, v, f)) f b (x.blocks (a, v, f, b)) ∙ sym (no_entry_if (y.files (a, v, f)) f b (y.blocks (a, v, f, b)))
 
 -- ---- what pieces decode to
 
@@ -46,21 +43,19 @@ module _ (version : ℕ) (g : Geometry) (ps qs : ℕ → List ℕ) where
       → volume_piece version g (decoded_by version g ps) a v ≡ volume_piece version g (decoded_by version g qs) a v
   volume_same a v same = ap (λ (l : List ℕ). volume_piece version g (decoded_by version g (λ j. l)) a v) same
 
-  stripe_same : (a v s : ℕ) → ps (volume_piece_number g a v) ≡ qs (volume_piece_number g a v)
-      → ps (stripe_piece_number g a v s) ≡ qs (stripe_piece_number g a v s)
+  stripe_same : (a v s : ℕ) → ps (volume_piece_number g a v) ≡ qs (volume_piece_number g a v) → ps (stripe_piece_number g a v s) ≡ qs (stripe_piece_number g a v s)
       → stripe_piece g (decoded_by version g ps) a v s ≡ stripe_piece g (decoded_by version g qs) a v s
   stripe_same a v s first here =
       ap (stripe_bytes g.quota)
       (entries_same g (decoded_by version g ps) (decoded_by version g qs) a v s
       (λ f b on.
-      let there : ps (stripe_piece_number g a v (group g f b)) ≡ qs (stripe_piece_number g a v (group g f b)) =
+      let there : ps (stripe_piece_number g a v (stripe_of g f b)) ≡ qs (stripe_piece_number g a v (stripe_of g f b)) =
       ap (λ (j : ℕ). ps (stripe_piece_number g a v j)) on ∙ here ∙ sym (ap (λ (j : ℕ). qs (stripe_piece_number g a v j)) on) in
       (λ i. entry_if (has_volume g (a, v) && has_file_in (first i) f) f b
       (if has_volume g (a, v) then block_in g (there i) f b else None))))
 
   -- a piece depends on what it and its volume's piece decode to
-  pub piece_same : (n : ℕ) → ps (volume_piece_number g (aggregate_of g n) (volume_of g n))
-      ≡ qs (volume_piece_number g (aggregate_of g n) (volume_of g n)) → ps n ≡ qs n
+  pub piece_same : (n : ℕ) → ps (volume_piece_number g (aggregate_of g n) (volume_of g n)) ≡ qs (volume_piece_number g (aggregate_of g n) (volume_of g n)) → ps n ≡ qs n
       → piece_of version g (decoded_by version g ps) n ≡ piece_of version g (decoded_by version g qs) n
   piece_same n first here = by (part_of g n) refl
     where
@@ -103,9 +98,9 @@ module _ (version : ℕ) (g : Geometry) (pieces : ℕ → List ℕ) (n i : ℕ) 
           let v : ℕ = volume_of g i in
           let number = number_there g i in
           let x : State = decoded_by version g (first_of g pieces n) in
-          let none : (f b : ℕ) → group g f b ≡ s → x.blocks (a, v, f, b) ≡ None =
+          let none : (f b : ℕ) → stripe_of g f b ≡ s → x.blocks (a, v, f, b) ≡ None =
           λ f b on. if_none (has_volume g (a, v)) _
-          (no_block_in_zeros g pieces n (stripe_piece_number g a v (group g f b)) f b (omega (arith, number, part, on, behind))) in
+          (no_block_in_zeros g pieces n (stripe_piece_number g a v (stripe_of g f b)) f b (omega (arith, number, part, on, behind))) in
           let nothing : stripe_entries g x a v s ≡ [] =
           entries_same g x empty a v s (λ f b on. ap (entry_if (x.files (a, v, f)) f b) (none f b on)
           ∙ no_entry_of_none (x.files (a, v, f)) f b)

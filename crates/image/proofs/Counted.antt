@@ -1,9 +1,9 @@
--- What entries hold is of as many blocks as there are entries, at most, and of each all that holds of them.
+-- Entries hold at most as many blocks as there are entries, and what holds of each entry holds of its block.
 use Rattle.std.proofs.Common.{◌≡◌, ℕ, zero, suc, ◌+◌, ◌*◌, ◌<◌, ◌≤◌, Bool, true, false, ◌&&◌, List, [], ◌∷◌, length, take, drop, get_or, Option, Some, IfSome, is_some, refl, sym, ◌∙◌, ap, arith, ⊎_elim, true≢false, length-take, length-drop}
 use Rattle.std.specs.Prelude.{◌==◌, if◌then◌else◌}
 use Rattle.std.specs.List.{AllByRecursion}
 use Rattle.std.proofs.lemmas.Bool.{cases_lt, cases_eq, ne_eqb, eqb-true, and_parts}
-use Rattle.affinity.specs.Geometry.{group}
+use Rattle.affinity.specs.Geometry.{stripe_of}
 use Rattle.affinity.specs.declared.geometry.Geometry.{Geometry}
 use Rattle.messages.specs.Messages.{IsBlock}
 use Rattle.messages.specs.declared.Block.{Block}
@@ -15,8 +15,7 @@ use Rattle.image.proofs.Measures.{all-take, all-drop}
 
 -- ---- what bytes decode to are blocks, and not too many
 
-pub entries_are_blocks : (n : ℕ) (bytes : List ℕ) → length bytes ≡ n * 520 → AllByRecursion (λ b. b < 256) bytes
-    → AllByRecursion (λ (e : BlockEntry). IsBlock e.content) (entries_in n bytes)
+pub entries_are_blocks : (n : ℕ) (bytes : List ℕ) → length bytes ≡ n * 520 → AllByRecursion (λ b. b < 256) bytes → AllByRecursion (λ (e : BlockEntry). IsBlock e.content) (entries_in n bytes)
 entries_are_blocks zero bytes long small = tt
 entries_are_blocks (suc n) bytes long small =
     elim (get_or bytes 0 0 == 1) as (λ t. AllByRecursion (λ (e : BlockEntry). IsBlock e.content)
@@ -43,8 +42,7 @@ entries_few (suc n) bytes =
 
 -- ---- what holds of all entries holds of what they hold
 
-pub content_is : (P : Block → Type 0) (f b : ℕ) (es : List BlockEntry) → AllByRecursion (λ (e : BlockEntry). P e.content) es
-    → IfSome (content_at es f b) P
+pub content_is : (P : Block → Type 0) (f b : ℕ) (es : List BlockEntry) → AllByRecursion (λ (e : BlockEntry). P e.content) es → IfSome (content_at es f b) P
 content_is P f b [] all = tt
 content_is P f b (e ∷ es) all =
     elim ((f == e.file) && (b == e.block)) as (λ t. IfSome (if t then Some e.content else content_at es f b) P) [
@@ -52,8 +50,7 @@ content_is P f b (e ∷ es) all =
       | false ↦ content_is P f b es all.1
     ]
 
-pub content_of : (Q : ℕ → ℕ → Type 0) (f b : ℕ) (es : List BlockEntry) → AllByRecursion (λ (e : BlockEntry). Q e.file e.block) es
-    → is_some (content_at es f b) ≡ true → Q f b
+pub content_of : (Q : ℕ → ℕ → Type 0) (f b : ℕ) (es : List BlockEntry) → AllByRecursion (λ (e : BlockEntry). Q e.file e.block) es → is_some (content_at es f b) ≡ true → Q f b
 content_of Q f b [] all some = absurd (true≢false (sym some))
 content_of Q f b (e ∷ es) all some = by ((f == e.file) && (b == e.block)) refl (content_of Q f b es all.1)
   where
@@ -94,8 +91,7 @@ block_once n m i j =
     let row : sum_below n (λ f. one_if (f == i)) ≤ 1 = picked_once n i true in
     omega (arith, rows, row)
 
-one_more : (t : Bool) (content : Block) (o : Option Block)
-    → one_if (is_some (if t then Some content else o)) ≤ one_if t + one_if (is_some o)
+one_more : (t : Bool) (content : Block) (o : Option Block) → one_if (is_some (if t then Some content else o)) ≤ one_if t + one_if (is_some o)
 one_more true content o = omega arith
 one_more false content o = omega arith
 
@@ -126,28 +122,27 @@ few_held n m (e ∷ es) =
     omega (arith, rest, once, more, apart)
 
 -- what entries hold of one stripe
-pub few_of_stripe : (g : Geometry) (s : ℕ) (held : ℕ → ℕ → Option Block) (es : List BlockEntry)
-    → ((f b : ℕ) → group g f b ≡ s → held f b ≡ content_at es f b)
-    → sum_below g.files (λ f. count_below g.blocks (λ b. (group g f b == s) && is_some (held f b))) ≤ length es
+pub few_of_stripe : (g : Geometry) (s : ℕ) (held : ℕ → ℕ → Option Block) (es : List BlockEntry) → ((f b : ℕ) → stripe_of g f b ≡ s → held f b ≡ content_at es f b)
+    → sum_below g.files (λ f. count_below g.blocks (λ b. (stripe_of g f b == s) && is_some (held f b))) ≤ length es
 few_of_stripe g s held es same =
     let few = few_held g.files g.blocks es in
-    let less : sum_below g.files (λ f. count_below g.blocks (λ b. (group g f b == s) && is_some (held f b)))
+    let less : sum_below g.files (λ f. count_below g.blocks (λ b. (stripe_of g f b == s) && is_some (held f b)))
     ≤ sum_below g.files (λ f. count_below g.blocks (λ b. is_some (content_at es f b))) =
     sum_below-le g.files _ _ (λ f below. sum_below-le g.blocks _ _ (λ b small. each f b)) in
     omega (arith, few, less)
   where
-    each : (f b : ℕ) → one_if ((group g f b == s) && is_some (held f b)) ≤ one_if (is_some (content_at es f b))
+    each : (f b : ℕ) → one_if ((stripe_of g f b == s) && is_some (held f b)) ≤ one_if (is_some (content_at es f b))
     each f b =
         ⊎_elim
-        (λ (on : group g f b ≡ s).
-        let most = part (group g f b == s) (is_some (held f b)) in
+        (λ (on : stripe_of g f b ≡ s).
+        let most = part (stripe_of g f b == s) (is_some (held f b)) in
         let now : one_if (is_some (held f b)) ≡ one_if (is_some (content_at es f b)) = ap (λ (o : Option Block). one_if (is_some o)) (same f b on) in
         omega (arith, most, now))
         (λ off.
-        let none : one_if ((group g f b == s) && is_some (held f b)) ≡ 0 =
-        ap (λ (t : Bool). one_if (t && is_some (held f b))) (ne_eqb (group g f b) s off) in
+        let none : one_if ((stripe_of g f b == s) && is_some (held f b)) ≡ 0 =
+        ap (λ (t : Bool). one_if (t && is_some (held f b))) (ne_eqb (stripe_of g f b) s off) in
         omega (arith, none))
-        (cases_eq (group g f b) s)
+        (cases_eq (stripe_of g f b) s)
       where
         part : (p q : Bool) → one_if (p && q) ≤ one_if q
         part true q = omega arith

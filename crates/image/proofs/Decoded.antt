@@ -1,11 +1,11 @@
--- Pieces decode to a state of the right sizes, whatever they are; and it is a state where each of them is that of what they decode to.
+-- Any pieces decode to something of a state's sizes, which is a state if each piece is that of what the pieces decode to.
 use Rattle.std.proofs.Common.{◌≡◌, ℕ, suc, ◌+◌, ◌*◌, ◌-◌, ◌^◌, ◌<◌, ◌≤◌, Bool, true, false, ◌&&◌, List, [], length, drop, Option, Some, None, is_some, IfSome, refl, sym, ◌∙◌, ap, subst, arith, ⊎_elim, true≢false, length-take, length-drop}
 use Rattle.std.specs.Prelude.{◌==◌, nat_lt, if◌then◌else◌}
 use Rattle.std.specs.List.{AllByRecursion, flat_map}
 use Rattle.std.proofs.lemmas.Bool.{cases_lt, and_parts, ltb-true}
 use Rattle.std.proofs.Math.Nat.{pow-le-pow_right}
 use Rattle.std.proofs.lemmas.Nat.Bits.{bit_at_above}
-use Rattle.affinity.specs.Geometry.{group}
+use Rattle.affinity.specs.Geometry.{stripe_of}
 use Rattle.affinity.specs.declared.geometry.Geometry.{Geometry}
 use Rattle.affinity.proofs.Placed.{group_below}
 use Rattle.byteorder.specs.Endian.{little_bytes, little_number}
@@ -13,7 +13,7 @@ use Rattle.messages.specs.Messages.{IsBlock, AreSizedBytes}
 use Rattle.messages.specs.Replies.{has_file}
 use Rattle.messages.specs.declared.Block.{Block}
 use Rattle.meaning.specs.Serial.{file_bits, no_label}
-use Rattle.meaning.specs.State.{State, VolumeKey, FileKey, BlockKey, IsState, group_count}
+use Rattle.meaning.specs.State.{State, VolumeKey, FileKey, BlockKey, IsState, blocks_in_stripe}
 use Rattle.stripe.specs.Entries.{entry_bytes, entries_in}
 use Rattle.stripe.specs.Stripe.{BlockEntry, content_at}
 use Rattle.stripe.proofs.EntryBytes.{entries_again}
@@ -50,8 +50,7 @@ label_is version bytes are = by (is_made_in bytes) (version == 2)
 
 module _ (version : ℕ) (g : Geometry) (pieces : ℕ → List ℕ)
     (sized : (n : ℕ) → n < piece_count g → AreSizedBytes (piece_size g n) (pieces n)) where
-  bytes_of_part : (k : VolumeKey) → has_volume g k ≡ true → (p : ℕ) → p < pieces_of_volume g
-      → AreSizedBytes (piece_part_size g p) (pieces (volume_piece_number g k.0 k.1 + p))
+  bytes_of_part : (k : VolumeKey) → has_volume g k ≡ true → (p : ℕ) → p < pieces_of_volume g → AreSizedBytes (piece_part_size g p) (pieces (volume_piece_number g k.0 k.1 + p))
   bytes_of_part k there p part =
       let within = is_volume_there g k there in
       subst (λ (size : ℕ). AreSizedBytes size (pieces (volume_piece_number g k.0 k.1 + p))) (size_there g k.0 k.1 p part)
@@ -62,27 +61,25 @@ module _ (version : ℕ) (g : Geometry) (pieces : ℕ → List ℕ)
       let first : volume_piece_number g k.0 k.1 + 0 ≡ volume_piece_number g k.0 k.1 = omega arith in
       subst (λ (n : ℕ). AreSizedBytes 64 (pieces n)) first (bytes_of_part k there 0 (omega arith))
 
-  bytes_of_stripe : (k : VolumeKey) → has_volume g k ≡ true → (s : ℕ) → s < g.stripes
-      → AreSizedBytes (g.quota * 520) (pieces (stripe_piece_number g k.0 k.1 s))
+  bytes_of_stripe : (k : VolumeKey) → has_volume g k ≡ true → (s : ℕ) → s < g.stripes → AreSizedBytes (g.quota * 520) (pieces (stripe_piece_number g k.0 k.1 s))
   bytes_of_stripe k there s below = bytes_of_part k there (suc s) (omega (arith, below))
 
-  blocks_told : (a v s f b : ℕ) (t : Bool) → has_volume g (a, v) ≡ t → group g f b ≡ s
-      → (decoded_by version g pieces).blocks (a, v, f, b)
+  blocks_decoded : (a v s f b : ℕ) (t : Bool) → has_volume g (a, v) ≡ t → stripe_of g f b ≡ s → (decoded_by version g pieces).blocks (a, v, f, b)
       ≡ content_at (if t then entries_in g.quota (pieces (stripe_piece_number g a v s)) else []) f b
-  blocks_told a v s f b true there on =
-      ap (λ (t : Bool). if t then block_in g (pieces (stripe_piece_number g a v (group g f b))) f b else None) there
+  blocks_decoded a v s f b true there on =
+      ap (λ (t : Bool). if t then block_in g (pieces (stripe_piece_number g a v (stripe_of g f b))) f b else None) there
       ∙ ap (λ (j : ℕ). block_in g (pieces (stripe_piece_number g a v j)) f b) on
-  blocks_told a v s f b false out on = ap (λ (t : Bool).
-      if t then block_in g (pieces (stripe_piece_number g a v (group g f b))) f b else None) out
+  blocks_decoded a v s f b false out on = ap (λ (t : Bool).
+      if t then block_in g (pieces (stripe_piece_number g a v (stripe_of g f b))) f b else None) out
 
-  few_blocks : (a v s : ℕ) → group_count g (decoded_by version g pieces) a v s ≤ g.quota
+  few_blocks : (a v s : ℕ) → blocks_in_stripe g (decoded_by version g pieces) a v s ≤ g.quota
   few_blocks a v s = by (has_volume g (a, v)) refl
     where
-      by : (t : Bool) → has_volume g (a, v) ≡ t → group_count g (decoded_by version g pieces) a v s ≤ g.quota
+      by : (t : Bool) → has_volume g (a, v) ≡ t → blocks_in_stripe g (decoded_by version g pieces) a v s ≤ g.quota
       by t is =
           let es : List BlockEntry = if t then entries_in g.quota (pieces (stripe_piece_number g a v s)) else [] in
           let held = few_of_stripe g s (λ f b. (decoded_by version g pieces).blocks (a, v, f, b)) es
-          (λ f b on. blocks_told a v s f b t is on) in
+          (λ f b on. blocks_decoded a v s f b t is on) in
           let few : length es ≤ g.quota = elim t as
           (λ t. length (if t then entries_in g.quota (pieces (stripe_piece_number g a v s)) else []) ≤ g.quota) [
             | true ↦ entries_few g.quota (pieces (stripe_piece_number g a v s))
@@ -90,23 +87,23 @@ module _ (version : ℕ) (g : Geometry) (pieces : ℕ → List ℕ)
           ] in
           omega (arith, held, few)
 
-  content_told : (k : BlockKey) → IfSome ((decoded_by version g pieces).blocks k) IsBlock
-  content_told k =
-      let s : ℕ = group g k.2 k.3 in
+  content_decoded : (k : BlockKey) → IfSome ((decoded_by version g pieces).blocks k) IsBlock
+  content_decoded k =
+      let s : ℕ = stripe_of g k.2 k.3 in
       if_is IsBlock (has_volume g (k.0, k.1)) _
       (λ there.
       let are = bytes_of_stripe (k.0, k.1) there s (group_below g k.2 k.3) in
       content_is IsBlock k.2 k.3 (entries_in g.quota (pieces (stripe_piece_number g k.0 k.1 s)))
       (entries_are_blocks g.quota (pieces (stripe_piece_number g k.0 k.1 s)) are.0 are.1))
 
-  label_told : (k : VolumeKey) → IfSome ((decoded_by version g pieces).labels k) (AreSizedBytes 32)
-  label_told k = if_is (AreSizedBytes 32) (has_volume g k) _
+  label_decoded : (k : VolumeKey) → IfSome ((decoded_by version g pieces).labels k) (AreSizedBytes 32)
+  label_decoded k = if_is (AreSizedBytes 32) (has_volume g k) _
       (λ there. label_is version (pieces (volume_piece_number g k.0 k.1)) (bytes_of_volume k there))
 
   pub is_measured : IsMeasured g (decoded_by version g pieces)
   is_measured = record {
-    content = content_told;
-    label_content = label_told;
+    content = content_decoded;
+    label_content = label_decoded;
     quota = λ a v s. let most = entries_most g (decoded_by version g pieces) a v s in let few = few_blocks a v s in omega (arith, most, few);
   }
 
@@ -122,21 +119,18 @@ bit_within n t f on =
 
 module _ (version : ℕ) (g : Geometry) (pieces : ℕ → List ℕ) (sized : (n : ℕ) → n < piece_count g → AreSizedBytes (piece_size g n) (pieces n))
     (good : (n : ℕ) → n < piece_count g → pieces n ≡ piece_of version g (decoded_by version g pieces) n) where
-  part_spelled : (k : VolumeKey) → has_volume g k ≡ true → (p : ℕ) → p < pieces_of_volume g
-      → pieces (volume_piece_number g k.0 k.1 + p) ≡ part_piece version g (decoded_by version g pieces) k.0 k.1 p
+  part_spelled : (k : VolumeKey) → has_volume g k ≡ true → (p : ℕ) → p < pieces_of_volume g → pieces (volume_piece_number g k.0 k.1 + p) ≡ part_piece version g (decoded_by version g pieces) k.0 k.1 p
   part_spelled k there p part =
       let within = is_volume_there g k there in
       good (volume_piece_number g k.0 k.1 + p) (is_piece g k.0 k.1 within.0 within.1 p part)
       ∙ piece_there g k.0 k.1 within.0 within.1 version (decoded_by version g pieces) p part
 
-  volume_spelled : (k : VolumeKey) → has_volume g k ≡ true
-      → pieces (volume_piece_number g k.0 k.1) ≡ volume_piece version g (decoded_by version g pieces) k.0 k.1
+  volume_spelled : (k : VolumeKey) → has_volume g k ≡ true → pieces (volume_piece_number g k.0 k.1) ≡ volume_piece version g (decoded_by version g pieces) k.0 k.1
   volume_spelled k there =
       let first : volume_piece_number g k.0 k.1 ≡ volume_piece_number g k.0 k.1 + 0 = omega arith in
       ap pieces first ∙ part_spelled k there 0 (omega arith)
 
-  stripe_spelled : (k : VolumeKey) → has_volume g k ≡ true → (s : ℕ) → s < g.stripes
-      → pieces (stripe_piece_number g k.0 k.1 s) ≡ stripe_piece g (decoded_by version g pieces) k.0 k.1 s
+  stripe_spelled : (k : VolumeKey) → has_volume g k ≡ true → (s : ℕ) → s < g.stripes → pieces (stripe_piece_number g k.0 k.1 s) ≡ stripe_piece g (decoded_by version g pieces) k.0 k.1 s
   stripe_spelled k there s below = part_spelled k there (suc s) (omega (arith, below))
 
   made_in_range : (k : VolumeKey) → (decoded_by version g pieces).made k ≡ true → (k.0 < g.aggregates) × (k.1 < g.volumes)
@@ -150,8 +144,7 @@ module _ (version : ℕ) (g : Geometry) (pieces : ℕ → List ℕ) (sized : (n 
       sym (ap is_sealed_in (volume_spelled k parts.0) ∙ sealed_decoded g x k.0 k.1 version) ∙ parts.1 in
       (and_parts (x.made k) (x.sealed k) spelled).0
 
-  files_in_range : (k : FileKey) → (decoded_by version g pieces).files k ≡ true
-      → (k.2 < g.files) × ((decoded_by version g pieces).made (k.0, k.1) ≡ true)
+  files_in_range : (k : FileKey) → (decoded_by version g pieces).files k ≡ true → (k.2 < g.files) × ((decoded_by version g pieces).made (k.0, k.1) ≡ true)
   files_in_range k there =
       let x : State = decoded_by version g pieces in
       let parts = and_parts (has_volume g (k.0, k.1)) (has_file_in (pieces (volume_piece_number g k.0 k.1)) k.2) there in
@@ -160,8 +153,7 @@ module _ (version : ℕ) (g : Geometry) (pieces : ℕ → List ℕ) (sized : (n 
       ap (λ (l : List ℕ). bytes_at 8 8 l) (volume_spelled (k.0, k.1) parts.0) ∙ number_decoded g x k.0 k.1 version in
       by (x.made (k.0, k.1)) refl (sym (ap (λ (l : List ℕ). has_file (little_number 8 l) k.2) number) ∙ parts.1)
     where
-      by : (t : Bool) → (decoded_by version g pieces).made (k.0, k.1) ≡ t
-          → has_file (little_number 8 (little_bytes 8 (if t then file_bits g (decoded_by version g pieces) k.0 k.1 else 0))) k.2 ≡ true
+      by : (t : Bool) → (decoded_by version g pieces).made (k.0, k.1) ≡ t → has_file (little_number 8 (little_bytes 8 (if t then file_bits g (decoded_by version g pieces) k.0 k.1 else 0))) k.2 ≡ true
           → (k.2 < g.files) × ((decoded_by version g pieces).made (k.0, k.1) ≡ true)
       by true made on =
           let picks : ℕ → Bool = λ f. (decoded_by version g pieces).files (k.0, k.1, f) in
@@ -185,32 +177,30 @@ module _ (version : ℕ) (g : Geometry) (pieces : ℕ → List ℕ) (sized : (n 
     where
       by : (f b : ℕ) → b < g.blocks → (t : Bool) → (decoded_by version g pieces).files (a, v, f) ≡ t
           → AllByRecursion (λ (e : BlockEntry). (e.block < g.blocks) × ((decoded_by version g pieces).files (a, v, e.file) ≡ true))
-          (entry_if (t && (group g f b == s)) f b ((decoded_by version g pieces).blocks (a, v, f, b)))
+          (entry_if (t && (stripe_of g f b == s)) f b ((decoded_by version g pieces).blocks (a, v, f, b)))
       by f b below true there =
-          one_of (λ (e : BlockEntry). (e.block < g.blocks) × ((decoded_by version g pieces).files (a, v, e.file) ≡ true)) (group g f b == s) f b
+          one_of (λ (e : BlockEntry). (e.block < g.blocks) × ((decoded_by version g pieces).files (a, v, e.file) ≡ true)) (stripe_of g f b == s) f b
           ((decoded_by version g pieces).blocks (a, v, f, b)) (λ content. (below, there))
       by f b below false out = tt
 
-  blocks_in_range : (k : BlockKey) → is_some ((decoded_by version g pieces).blocks k) ≡ true
-      → (k.3 < g.blocks) × ((decoded_by version g pieces).files (k.0, k.1, k.2) ≡ true)
+  blocks_in_range : (k : BlockKey) → is_some ((decoded_by version g pieces).blocks k) ≡ true → (k.3 < g.blocks) × ((decoded_by version g pieces).files (k.0, k.1, k.2) ≡ true)
   blocks_in_range k some = by (has_volume g (k.0, k.1)) refl
     where
       by : (t : Bool) → has_volume g (k.0, k.1) ≡ t → (k.3 < g.blocks) × ((decoded_by version g pieces).files (k.0, k.1, k.2) ≡ true)
       by true there =
           let x : State = decoded_by version g pieces in
-          let s : ℕ = group g k.2 k.3 in
+          let s : ℕ = stripe_of g k.2 k.3 in
           let measured = is_measured version g pieces sized in
           let entries : entries_in g.quota (pieces (stripe_piece_number g k.0 k.1 s)) ≡ stripe_entries g x k.0 k.1 s =
           ap (λ (l : List ℕ). entries_in g.quota l) (stripe_spelled (k.0, k.1) there s (group_below g k.2 k.3))
           ∙ entries_again (stripe_entries g x k.0 k.1 s) (entries_good g x measured k.0 k.1 s) g.quota
           (g.quota * 520 - length (flat_map entry_bytes (stripe_entries g x k.0 k.1 s))) (measured.quota k.0 k.1 s) in
           let held : x.blocks k ≡ content_at (stripe_entries g x k.0 k.1 s) k.2 k.3 =
-          blocks_told version g pieces sized k.0 k.1 s k.2 k.3 true there refl ∙ ap (λ (es : List BlockEntry). content_at es k.2 k.3) entries in
+          blocks_decoded version g pieces sized k.0 k.1 s k.2 k.3 true there refl ∙ ap (λ (es : List BlockEntry). content_at es k.2 k.3) entries in
           content_of (λ f b. (b < g.blocks) × (x.files (k.0, k.1, f) ≡ true)) k.2 k.3 (stripe_entries g x k.0 k.1 s)
           (entry_within k.0 k.1 s)
           (sym (ap (λ (o : Option Block). is_some o) held) ∙ some)
-      by false out = absurd (true≢false (sym some
-          ∙ ap (λ (o : Option Block). is_some o) (blocks_told version g pieces sized k.0 k.1 (group g k.2 k.3) k.2 k.3 false out refl)))
+      by false out = absurd (true≢false (sym some ∙ ap (λ (o : Option Block). is_some o) (blocks_decoded version g pieces sized k.0 k.1 (stripe_of g k.2 k.3) k.2 k.3 false out refl)))
 
   labels_of_made : (k : VolumeKey) → is_some ((decoded_by version g pieces).labels k) ≡ (decoded_by version g pieces).made k
   labels_of_made k = by (has_volume g k) (is_made_in (pieces (volume_piece_number g k.0 k.1)))
@@ -229,7 +219,7 @@ module _ (version : ℕ) (g : Geometry) (pieces : ℕ → List ℕ) (sized : (n 
     files = files_in_range;
     blocks = blocks_in_range;
     labels = labels_of_made;
-    content = content_told version g pieces sized;
-    label_content = label_told version g pieces sized;
+    content = content_decoded version g pieces sized;
+    label_content = label_decoded version g pieces sized;
     quota = few_blocks version g pieces sized;
   }

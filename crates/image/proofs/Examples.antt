@@ -6,7 +6,7 @@ use Rattle.messages.specs.declared.Msg.{Msg}
 use Rattle.messages.specs.declared.Msg.TheVariants.{MakeVol, DropVol, Create, Delete, Seal, Unseal, Write, Punch, Read, List as ListFiles, Usage as AskUsage, Summary as AskSummary, SetLabel, Label as AskLabel}
 use Rattle.messages.specs.declared.Reply.TheVariants.{Summary}
 use Rattle.messages.specs.declared.Reply.{Reply}
-use Rattle.meaning.specs.Serial.{fold, reply_to}
+use Rattle.meaning.specs.Serial.{state_after_all, reply_to}
 use Rattle.meaning.specs.State.{State, empty}
 use Rattle.image.specs.Pieces.{piece_of}
 use Rattle.image.specs.Touched.{may_change}
@@ -20,7 +20,7 @@ abbrev label_of : ℕ → List ℕ
 label_of b = b ∷ replicate 31 0
 
 abbrev one_file : State
-one_file = fold small empty (MakeVol 0 0 ∷ Create 0 0 0 ∷ Create 0 0 1 ∷ Seal 0 0 ∷ [])
+one_file = state_after_all small empty (MakeVol 0 0 ∷ Create 0 0 0 ∷ Create 0 0 1 ∷ Seal 0 0 ∷ [])
 
 -- ---- pieces
 
@@ -28,7 +28,7 @@ marks_of_a_sealed_volume : piece_of 2 small one_file 0 ≡ 1 ∷ 1 ∷ 0 ∷ 0 �
 marks_of_a_sealed_volume = refl
 
 abbrev two_blocks : State
-two_blocks = fold small empty (MakeVol 0 0 ∷ Create 0 0 0 ∷ Create 0 0 1 ∷ Write 0 0 1 1 (block_of 97) ∷ Write 0 0 0 0 (block_of 98) ∷ SetLabel 0 0 (label_of 99) ∷ [])
+two_blocks = state_after_all small empty (MakeVol 0 0 ∷ Create 0 0 0 ∷ Create 0 0 1 ∷ Write 0 0 1 1 (block_of 97) ∷ Write 0 0 0 0 (block_of 98) ∷ SetLabel 0 0 (label_of 99) ∷ [])
 
 first_stripe : piece_of 2 small two_blocks 1 ≡ 1 ∷ 0 ∷ 0 ∷ 0 ∷ 0 ∷ 0 ∷ 0 ∷ 0 ∷ 98 ∷ replicate 511 0 ++ 1 ∷ 1 ∷ 1 ∷ 0 ∷ 0 ∷ 0 ∷ 0 ∷ 0 ∷ 97 ∷ replicate 511 0
 first_stripe = refl

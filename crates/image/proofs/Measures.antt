@@ -3,14 +3,14 @@ use Rattle.std.proofs.Common.{◌≡◌, ℕ, zero, suc, ◌*◌, ◌-◌, ◌<�
 use Rattle.std.specs.Prelude.{◌==◌, if◌then◌else◌}
 use Rattle.std.specs.List.{AllByRecursion, flat_map}
 use Rattle.std.proofs.lemmas.List.{length-replicate}
-use Rattle.affinity.specs.Geometry.{group}
+use Rattle.affinity.specs.Geometry.{stripe_of}
 use Rattle.affinity.specs.declared.geometry.Geometry.{Geometry}
 use Rattle.messages.specs.Messages.{IsBlock, AreSizedBytes}
 use Rattle.messages.specs.declared.Block.{Block}
 use Rattle.stripe.specs.Stripe.{BlockEntry}
 use Rattle.byteorder.specs.Endian.{little_bytes}
 use Rattle.meaning.specs.Serial.{no_label, file_bits}
-use Rattle.meaning.specs.State.{State, VolumeKey, BlockKey, IsState, sum_below, one_if, group_count}
+use Rattle.meaning.specs.State.{State, VolumeKey, BlockKey, IsState, sum_below, one_if, blocks_in_stripe}
 use Rattle.stripe.specs.Entries.{entry_bytes, stripe_bytes}
 use Rattle.image.specs.Pieces.{joined_below, entry_if, stripe_entries, volume_piece, label_bytes, part_piece, piece_part_size, piece_of, piece_size, part_of, aggregate_of, volume_of}
 use Rattle.stripe.proofs.EntryBytes.{IsSpellable, length-entries}
@@ -61,10 +61,10 @@ one_entry true true f b None = omega arith
 one_entry true false f b o = omega arith
 one_entry false q f b o = omega arith
 
-pub entries_most : (g : Geometry) (x : State) (a v s : ℕ) → length (stripe_entries g x a v s) ≤ group_count g x a v s
+pub entries_most : (g : Geometry) (x : State) (a v s : ℕ) → length (stripe_entries g x a v s) ≤ blocks_in_stripe g x a v s
 entries_most g x a v s =
     length-joined-le g.files _ _
-    (λ f. length-joined-le g.blocks _ _ (λ b. one_entry (x.files (a, v, f)) (group g f b == s) f b (x.blocks (a, v, f, b))))
+    (λ f. length-joined-le g.blocks _ _ (λ b. one_entry (x.files (a, v, f)) (stripe_of g f b == s) f b (x.blocks (a, v, f, b))))
 
 good_entry : (g : Geometry) (p : Bool) (f b : ℕ) (o : Option Block) → b < g.blocks → IfSome o IsBlock → AllByRecursion IsSpellable (entry_if p f b o)
 good_entry g true f b (Some content) below is = let most = g.blocks_range.1 in (record { long = is.0; small = omega (arith, below, most) }, tt)
@@ -75,7 +75,7 @@ pub entries_good : (g : Geometry) (x : State) → IsMeasured g x → (a v s : �
 entries_good g x is a v s =
     all_joined IsSpellable g.files _
     (λ f in_files.
-    all_joined IsSpellable g.blocks _ (λ b below. good_entry g (x.files (a, v, f) && (group g f b == s)) f b (x.blocks (a, v, f, b)) below (is.content (a, v, f, b))))
+    all_joined IsSpellable g.blocks _ (λ b below. good_entry g (x.files (a, v, f) && (stripe_of g f b == s)) f b (x.blocks (a, v, f, b)) below (is.content (a, v, f, b))))
 
 pub state_is_measured : (g : Geometry) (x : State) → IsState g x → IsMeasured g x
 state_is_measured g x is = record {

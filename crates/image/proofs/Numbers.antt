@@ -22,8 +22,7 @@ module _ (g : Geometry) (a v p : ℕ) (part : p < pieces_of_volume g) where
 
 module _ (g : Geometry) (n : ℕ) where
   pub number_there : volume_piece_number g (aggregate_of g n) (volume_of g n) + part_of g n ≡ n
-  number_there = ap (λ (k : ℕ). k * pieces_of_volume g + n % pieces_of_volume g) (div-add-mod' (n / pieces_of_volume g) g.volumes)
-      ∙ div-add-mod' n (pieces_of_volume g)
+  number_there = ap (λ (k : ℕ). k * pieces_of_volume g + n % pieces_of_volume g) (div-add-mod' (n / pieces_of_volume g) g.volumes) ∙ div-add-mod' n (pieces_of_volume g)
 
   pub in_parts : part_of g n < pieces_of_volume g
   in_parts = mod-lt n (omega arith)

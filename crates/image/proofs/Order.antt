@@ -3,7 +3,7 @@ use Rattle.std.proofs.Common.{◌≡◌, ◌≢◌, ℕ, zero, suc, ◌<◌, Boo
 use Rattle.std.specs.Prelude.{◌==◌, if◌then◌else◌}
 use Rattle.std.specs.List.{AllByRecursion}
 use Rattle.std.proofs.lemmas.Bool.{eq-eqb, eqb-true, ne_eqb, cases_eq, and_parts}
-use Rattle.affinity.specs.Geometry.{group}
+use Rattle.affinity.specs.Geometry.{stripe_of}
 use Rattle.affinity.specs.declared.geometry.Geometry.{Geometry}
 use Rattle.messages.specs.declared.Block.{Block}
 use Rattle.meaning.specs.State.{State, IsState}
@@ -44,18 +44,18 @@ one_ascends false f b o = tt
 
 module _ (g : Geometry) (x : State) (a v s : ℕ) where
   abbrev row : ℕ → ℕ → List BlockEntry
-  row f b = entry_if (x.files (a, v, f) && (group g f b == s)) f b (x.blocks (a, v, f, b))
+  row f b = entry_if (x.files (a, v, f) && (stripe_of g f b == s)) f b (x.blocks (a, v, f, b))
 
   of_file : (f : ℕ) → AllByRecursion (λ (e : BlockEntry). Unit {0} × (e.file ≡ f)) (joined_below g.blocks (row f))
   of_file f = all_joined (λ (e : BlockEntry). Unit {0} × (e.file ≡ f)) g.blocks (row f)
-      (λ b few. one_of (λ (e : BlockEntry). Unit {0} × (e.file ≡ f)) (x.files (a, v, f) && (group g f b == s)) f b (x.blocks (a, v, f, b))
+      (λ b few. one_of (λ (e : BlockEntry). Unit {0} × (e.file ≡ f)) (x.files (a, v, f) && (stripe_of g f b == s)) f b (x.blocks (a, v, f, b))
       (λ content. (tt, refl)))
 
   file_ascends : (f : ℕ) → IsAscending (joined_below g.blocks (row f))
   file_ascends f =
       rows_ascend (λ (e : BlockEntry). e.file ≡ f) (λ (e : BlockEntry). e.block) (row f)
-      (λ b. one_of (λ (e : BlockEntry). (e.file ≡ f) × (e.block ≡ b)) (x.files (a, v, f) && (group g f b == s)) f b (x.blocks (a, v, f, b)) (λ content. (refl, refl)))
-      (λ b. one_ascends (x.files (a, v, f) && (group g f b == s)) f b (x.blocks (a, v, f, b)))
+      (λ b. one_of (λ (e : BlockEntry). (e.file ≡ f) × (e.block ≡ b)) (x.files (a, v, f) && (stripe_of g f b == s)) f b (x.blocks (a, v, f, b)) (λ content. (refl, refl)))
+      (λ b. one_ascends (x.files (a, v, f) && (stripe_of g f b == s)) f b (x.blocks (a, v, f, b)))
       (λ d e of_d of_e less. inr (of_d ∙ sym of_e, less))
       g.blocks
 
@@ -65,28 +65,28 @@ module _ (g : Geometry) (x : State) (a v s : ℕ) where
 
 -- what the entries of a stripe hold, of any block
 module _ (g : Geometry) (x : State) (is : IsState g x) (a v s f b : ℕ) where
-  pub stripe_holds : content_at (stripe_entries g x a v s) f b ≡ (if group g f b == s then x.blocks (a, v, f, b) else None)
+  pub stripe_holds : content_at (stripe_entries g x a v s) f b ≡ (if stripe_of g f b == s then x.blocks (a, v, f, b) else None)
   stripe_holds =
       ⊎_elim
-      (λ (same : group g f b ≡ s).
+      (λ (same : stripe_of g f b ≡ s).
       ap (λ (k : ℕ). content_at (stripe_entries g x a v k) f b) (sym same) ∙ entries_hold g x is a v f b
-      ∙ sym (ap (λ (t : Bool). if t then x.blocks (a, v, f, b) else None) (eq-eqb (group g f b) s same)))
-      (λ (other : group g f b ≢ s).
+      ∙ sym (ap (λ (t : Bool). if t then x.blocks (a, v, f, b) else None) (eq-eqb (stripe_of g f b) s same)))
+      (λ (other : stripe_of g f b ≢ s).
       none_joined f b g.files (λ i. joined_below g.blocks (row g x a v s i)) (λ i few. none_joined f b g.blocks (row g x a v s i) (λ j below. not_here i j other))
-      ∙ sym (ap (λ (t : Bool). if t then x.blocks (a, v, f, b) else None) (ne_eqb (group g f b) s other)))
-      (cases_eq (group g f b) s)
+      ∙ sym (ap (λ (t : Bool). if t then x.blocks (a, v, f, b) else None) (ne_eqb (stripe_of g f b) s other)))
+      (cases_eq (stripe_of g f b) s)
     where
-      not_here : (i j : ℕ) → group g f b ≢ s → content_at (row g x a v s i j) f b ≡ None
+      not_here : (i j : ℕ) → stripe_of g f b ≢ s → content_at (row g x a v s i j) f b ≡ None
       not_here i j other = by ((f == i) && (b == j)) refl
         where
           by : (t : Bool) → ((f == i) && (b == j)) ≡ t → content_at (row g x a v s i j) f b ≡ None
-          by false off = elsewhere f b (x.files (a, v, i) && (group g i j == s)) i j (x.blocks (a, v, i, j)) off
+          by false off = elsewhere f b (x.files (a, v, i) && (stripe_of g i j == s)) i j (x.blocks (a, v, i, j)) off
           by true on =
               let parts = and_parts (f == i) (b == j) on in
               let file : f ≡ i = eqb-true f i parts.0 in
               let block : b ≡ j = eqb-true b j parts.1 in
-              let off : (x.files (a, v, i) && (group g i j == s)) ≡ false = no_part (x.files (a, v, i)) (group g i j == s)
-              (ne_eqb (group g i j) s (λ same. other ((λ k. group g (file k) (block k)) ∙ same))) in
+              let off : (x.files (a, v, i) && (stripe_of g i j == s)) ≡ false = no_part (x.files (a, v, i)) (stripe_of g i j == s)
+              (ne_eqb (stripe_of g i j) s (λ same. other ((λ k. stripe_of g (file k) (block k)) ∙ same))) in
               ap (λ (t : Bool). content_at (entry_if t i j (x.blocks (a, v, i, j))) f b) off
             where
               no_part : (p q : Bool) → q ≡ false → (p && q) ≡ false
@@ -95,5 +95,5 @@ module _ (g : Geometry) (x : State) (is : IsState g x) (a v s f b : ℕ) where
 
 -- Entries that ascend and hold the blocks of a stripe are those that spell it.
 pub spelled : {g : Geometry} {x : State} → IsState g x → (a v s : ℕ) (es : List BlockEntry) → IsAscending es
-    → ((f b : ℕ) → content_at es f b ≡ (if group g f b == s then x.blocks (a, v, f, b) else None)) → es ≡ stripe_entries g x a v s
+    → ((f b : ℕ) → content_at es f b ≡ (if stripe_of g f b == s then x.blocks (a, v, f, b) else None)) → es ≡ stripe_entries g x a v s
 spelled {g} {x} is a v s es up holds = ascending_same es (stripe_entries g x a v s) up (entries_ascend g x a v s) (λ f b. holds f b ∙ sym (stripe_holds g x is a v s f b))

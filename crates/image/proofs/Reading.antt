@@ -7,7 +7,7 @@ use Rattle.std.proofs.lemmas.Bool.{cases_lt, eq-eqb, ne_eqb, and_parts, and_from
 use Rattle.std.proofs.Math.Nat.{pow-le-pow_right}
 use Rattle.std.proofs.lemmas.List.{take_at}
 use Rattle.std.proofs.lemmas.Slice.Eq.{bytes_eq-Decides}
-use Rattle.affinity.specs.Geometry.{group}
+use Rattle.affinity.specs.Geometry.{stripe_of}
 use Rattle.affinity.specs.declared.geometry.Geometry.{Geometry}
 use Rattle.byteorder.specs.Endian.{little_bytes, little_number}
 use Rattle.messages.specs.Messages.{AreSizedBytes}
@@ -84,31 +84,31 @@ module _ (g : Geometry) (x : State) (is : IsState g x) where
   only_files a v f b None false has there = refl
   only_files a v f b (Some content) false has there = absurd (true≢false (sym ((is.blocks (a, v, f, b) (ap (λ (o : Option Block). is_some o) has)).1) ∙ there))
 
-  pub entries_hold : (a v f b : ℕ) → content_at (stripe_entries g x a v (group g f b)) f b ≡ x.blocks (a, v, f, b)
+  pub entries_hold : (a v f b : ℕ) → content_at (stripe_entries g x a v (stripe_of g f b)) f b ≡ x.blocks (a, v, f, b)
   entries_hold a v f b =
-      let s : ℕ = group g f b in
-      let row : ℕ → ℕ → List BlockEntry = λ i j. entry_if (x.files (a, v, i) && (group g i j == s)) i j (x.blocks (a, v, i, j)) in
+      let s : ℕ = stripe_of g f b in
+      let row : ℕ → ℕ → List BlockEntry = λ i j. entry_if (x.files (a, v, i) && (stripe_of g i j == s)) i j (x.blocks (a, v, i, j)) in
       let none_out : (b < g.blocks → ⊥) ⊎ (f < g.files → ⊥) → None ≡ x.blocks (a, v, f, b) = λ out. absent (x.blocks (a, v, f, b)) refl out in
       ⊎_elim
       (λ (file : f < g.files).
       one_joined f b g.files f (λ i. joined_below g.blocks (row i)) (λ i other. none_joined f b g.blocks (row i)
-      (λ j few. elsewhere f b (x.files (a, v, i) && (group g i j == s)) i j (x.blocks (a, v, i, j))
+      (λ j few. elsewhere f b (x.files (a, v, i) && (stripe_of g i j == s)) i j (x.blocks (a, v, i, j))
       (ap (λ (t : Bool). t && (b == j)) (ne_eqb f i (λ same. other (sym same)))))) file
       ∙ ⊎_elim
       (λ (block : b < g.blocks).
-      one_joined f b g.blocks b (row f) (λ j other. elsewhere f b (x.files (a, v, f) && (group g f j == s)) f j (x.blocks (a, v, f, j))
+      one_joined f b g.blocks b (row f) (λ j other. elsewhere f b (x.files (a, v, f) && (stripe_of g f j == s)) f j (x.blocks (a, v, f, j))
       (and_right' (f == f) (b == j) (ne_eqb b j (λ same. other (sym same))))) block
-      ∙ here f b (x.files (a, v, f) && (group g f b == s)) (x.blocks (a, v, f, b))
+      ∙ here f b (x.files (a, v, f) && (stripe_of g f b == s)) (x.blocks (a, v, f, b))
       ∙ ap (λ (t : Bool). if x.files (a, v, f) && t then x.blocks (a, v, f, b) else None) (eq-eqb s s refl)
       ∙ only_files a v f b (x.blocks (a, v, f, b)) (x.files (a, v, f)) refl refl)
       (λ (no_block : g.blocks ≤ b).
-      none_joined f b g.blocks (row f) (λ j few. elsewhere f b (x.files (a, v, f) && (group g f j == s)) f j (x.blocks (a, v, f, j))
+      none_joined f b g.blocks (row f) (λ j few. elsewhere f b (x.files (a, v, f) && (stripe_of g f j == s)) f j (x.blocks (a, v, f, j))
       (and_right' (f == f) (b == j) (ne_eqb b j (λ same. omega (arith, same, few, no_block)))))
       ∙ none_out (inl (λ small. omega (arith, small, no_block))))
       (cases_lt b g.blocks))
       (λ (no_file : g.files ≤ f).
       none_joined f b g.files (λ i. joined_below g.blocks (row i)) (λ i few. none_joined f b g.blocks (row i)
-      (λ j below. elsewhere f b (x.files (a, v, i) && (group g i j == s)) i j (x.blocks (a, v, i, j))
+      (λ j below. elsewhere f b (x.files (a, v, i) && (stripe_of g i j == s)) i j (x.blocks (a, v, i, j))
       (ap (λ (t : Bool). t && (b == j)) (ne_eqb f i (λ same. omega (arith, same, few, no_file))))))
       ∙ none_out (inr (λ small. omega (arith, small, no_file))))
       (cases_lt f g.files)
@@ -218,7 +218,7 @@ module _ (g : Geometry) (x : State) (is : IsState g x) where
 
   blocks_again : (k : BlockKey) → (decoded_state 2 g (image_of 2 g x)).blocks k ≡ x.blocks k
   blocks_again k =
-      let s : ℕ = group g k.2 k.3 in
+      let s : ℕ = stripe_of g k.2 k.3 in
       if_there (has_volume g (k.0, k.1)) _ (x.blocks k)
       (λ there.
       let parts = and_parts (nat_lt k.0 g.aggregates) (nat_lt k.1 g.volumes) there in

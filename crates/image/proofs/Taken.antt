@@ -2,7 +2,7 @@
 use Rattle.std.proofs.Common.{◌≡◌, ◌≢◌, ℕ, zero, suc, ◌+◌, ◌<◌, ◌≤◌, Bool, true, false, ◌&&◌, List, [], replicate, Option, None, refl, sym, ◌∙◌, ap, arith, ⊎_elim, true≢false}
 use Rattle.std.specs.Prelude.{◌==◌, nat_lt, if◌then◌else◌}
 use Rattle.std.proofs.lemmas.Bool.{cases_lt, and_parts, and_from, lt-ltb, ltb-true, eqb-true, eq-eqb, false_from_ne_true}
-use Rattle.affinity.specs.Geometry.{group}
+use Rattle.affinity.specs.Geometry.{stripe_of}
 use Rattle.affinity.specs.declared.geometry.Geometry.{Geometry}
 use Rattle.affinity.proofs.Placed.{group_below}
 use Rattle.meaning.specs.State.{State, VolumeKey, BlockKey, empty, is_volume, is_block_of}
@@ -44,8 +44,7 @@ first_more g pieces n i other =
 
 -- ---- zeros decode to nothing
 
-pub zeros_of_volume : (g : Geometry) (pieces : ℕ → List ℕ) (n a v : ℕ) → n ≤ volume_piece_number g a v
-    → first_of g pieces n (volume_piece_number g a v) ≡ replicate 64 0
+pub zeros_of_volume : (g : Geometry) (pieces : ℕ → List ℕ) (n a v : ℕ) → n ≤ volume_piece_number g a v → first_of g pieces n (volume_piece_number g a v) ≡ replicate 64 0
 zeros_of_volume g pieces n a v behind =
     let first : volume_piece_number g a v ≡ volume_piece_number g a v + 0 = omega arith in
     let size : piece_size g (volume_piece_number g a v) ≡ 64 = ap (piece_size g) first ∙ size_there g a v 0 (omega arith) in
@@ -61,9 +60,9 @@ pub if_same : {X : Type 0} (h : Bool) (p q : Option X) → (h ≡ true → p ≡
 if_same true p q same = same refl
 if_same false p q same = refl
 
-none_told : (h p : Bool) → p ≡ false → false ≡ (h && p)
-none_told true p off = sym off
-none_told false p off = refl
+none_decoded : (h p : Bool) → p ≡ false → false ≡ (h && p)
+none_decoded true p off = sym off
+none_decoded false p off = refl
 
 no_value : {X : Type 0} (h : Bool) (o : Option X) → o ≡ None → None ≡ (if h then o else None)
 no_value true o off = sym off
@@ -71,10 +70,10 @@ no_value false o off = refl
 
 pub none_before : (version : ℕ) (g : Geometry) (pieces : ℕ → List ℕ) → empty ≡ decoded_by version g (first_of g pieces 0)
 none_before version g pieces = λ i. record {
-  made = λ k. none_told (has_volume g k) _ (ap is_made_in (zeros k)) i;
-  sealed = λ k. none_told (has_volume g k) _ (ap is_sealed_in (zeros k)) i;
-  files = λ k. none_told (has_volume g (k.0, k.1)) _ (ap (λ (l : List ℕ). has_file_in l k.2) (zeros (k.0, k.1)) ∙ no_file k.2) i;
-  blocks = λ k. no_value (has_volume g (k.0, k.1)) _ (no_block_in_zeros g pieces 0 (stripe_piece_number g k.0 k.1 (group g k.2 k.3)) k.2 k.3 (omega arith)) i;
+  made = λ k. none_decoded (has_volume g k) _ (ap is_made_in (zeros k)) i;
+  sealed = λ k. none_decoded (has_volume g k) _ (ap is_sealed_in (zeros k)) i;
+  files = λ k. none_decoded (has_volume g (k.0, k.1)) _ (ap (λ (l : List ℕ). has_file_in l k.2) (zeros (k.0, k.1)) ∙ no_file k.2) i;
+  blocks = λ k. no_value (has_volume g (k.0, k.1)) _ (no_block_in_zeros g pieces 0 (stripe_piece_number g k.0 k.1 (stripe_of g k.2 k.3)) k.2 k.3 (omega arith)) i;
   labels = λ k. no_value (has_volume g k) _ (ap (label_in version) (zeros k)) i;
 }
   where
@@ -100,8 +99,7 @@ module _ (version : ℕ) (g : Geometry) (pieces : ℕ → List ℕ) (n : ℕ) (b
   there_is : (k : VolumeKey) → is_volume (aggregate_of g n) (volume_of g n) k ≡ true → has_volume g k ≡ true
   there_is k on = let same = same_volume k on in sym (λ i. has_volume g (same.0 i, same.1 i)) ∙ its_volume
 
-  now_there : (k : VolumeKey) (p : ℕ) → is_volume (aggregate_of g n) (volume_of g n) k ≡ true → part_of g n ≡ p
-      → first_of g pieces (suc n) (volume_piece_number g k.0 k.1 + p) ≡ pieces n
+  now_there : (k : VolumeKey) (p : ℕ) → is_volume (aggregate_of g n) (volume_of g n) k ≡ true → part_of g n ≡ p → first_of g pieces (suc n) (volume_piece_number g k.0 k.1 + p) ≡ pieces n
   now_there k p on part =
       let same = same_volume k on in
       let number : volume_piece_number g k.0 k.1 + p ≡ n =
@@ -109,14 +107,12 @@ module _ (version : ℕ) (g : Geometry) (pieces : ℕ → List ℕ) (n : ℕ) (b
       ap (first_of g pieces (suc n)) number ∙ first_there g pieces (suc n) n (omega arith)
 
   -- where the part is another one
-  other_part : (a v p : ℕ) → p < pieces_of_volume g → part_of g n ≢ p
-      → first_of g pieces n (volume_piece_number g a v + p) ≡ first_of g pieces (suc n) (volume_piece_number g a v + p)
+  other_part : (a v p : ℕ) → p < pieces_of_volume g → part_of g n ≢ p → first_of g pieces n (volume_piece_number g a v + p) ≡ first_of g pieces (suc n) (volume_piece_number g a v + p)
   other_part a v p few other = first_more g pieces n (volume_piece_number g a v + p)
       (λ same. other (sym (ap (part_of g) same) ∙ part_there g a v p few))
 
   -- where the volume is another one
-  other_volume : (k : VolumeKey) (p : ℕ) → p < pieces_of_volume g → is_volume (aggregate_of g n) (volume_of g n) k ≡ false
-      → has_volume g k ≡ true
+  other_volume : (k : VolumeKey) (p : ℕ) → p < pieces_of_volume g → is_volume (aggregate_of g n) (volume_of g n) k ≡ false → has_volume g k ≡ true
       → first_of g pieces n (volume_piece_number g k.0 k.1 + p) ≡ first_of g pieces (suc n) (volume_piece_number g k.0 k.1 + p)
   other_volume k p few off there =
       first_more g pieces n (volume_piece_number g k.0 k.1 + p)
@@ -128,100 +124,89 @@ module _ (version : ℕ) (g : Geometry) (pieces : ℕ → List ℕ) (n : ℕ) (b
       and_from _ _ (eq-eqb (aggregate_of g n) k.0 aggregate) (eq-eqb (volume_of g n) k.1 volume) in
       true≢false (sym on ∙ off))
 
-  first_number : (l : ℕ) (k : VolumeKey) → first_of g pieces l (volume_piece_number g k.0 k.1 + 0)
-      ≡ first_of g pieces l (volume_piece_number g k.0 k.1)
+  first_number : (l : ℕ) (k : VolumeKey) → first_of g pieces l (volume_piece_number g k.0 k.1 + 0) ≡ first_of g pieces l (volume_piece_number g k.0 k.1)
   first_number l k =
       let same : volume_piece_number g k.0 k.1 + 0 ≡ volume_piece_number g k.0 k.1 = omega arith in
       ap (first_of g pieces l) same
 
-  mark_told : (F : List ℕ → Bool) (k : VolumeKey) → part_of g n ≡ 0
-      → (if is_volume (aggregate_of g n) (volume_of g n) k then F (pieces n) else
+  mark_decoded : (F : List ℕ → Bool) (k : VolumeKey) → part_of g n ≡ 0 → (if is_volume (aggregate_of g n) (volume_of g n) k then F (pieces n) else
       (has_volume g k && F (first_of g pieces n (volume_piece_number g k.0 k.1))))
       ≡ (has_volume g k && F (first_of g pieces (suc n) (volume_piece_number g k.0 k.1)))
-  mark_told F k part = by (is_volume (aggregate_of g n) (volume_of g n) k) refl
+  mark_decoded F k part = by (is_volume (aggregate_of g n) (volume_of g n) k) refl
     where
-      by : (t : Bool) → is_volume (aggregate_of g n) (volume_of g n) k ≡ t
-          → (if t then F (pieces n) else (has_volume g k && F (first_of g pieces n (volume_piece_number g k.0 k.1))))
+      by : (t : Bool) → is_volume (aggregate_of g n) (volume_of g n) k ≡ t → (if t then F (pieces n) else (has_volume g k && F (first_of g pieces n (volume_piece_number g k.0 k.1))))
           ≡ (has_volume g k && F (first_of g pieces (suc n) (volume_piece_number g k.0 k.1)))
       by true on = sym (λ i. there_is k on i && F ((sym (first_number (suc n) k) ∙ now_there k 0 on part) i))
       by false off = and_same (has_volume g k) _ _
           (λ there. ap F (sym (first_number n k) ∙ other_volume k 0 (omega arith) off there ∙ first_number (suc n) k))
 
-  label_told : (k : VolumeKey) → part_of g n ≡ 0
-      → (if is_volume (aggregate_of g n) (volume_of g n) k then label_in version (pieces n) else
+  label_decoded : (k : VolumeKey) → part_of g n ≡ 0 → (if is_volume (aggregate_of g n) (volume_of g n) k then label_in version (pieces n) else
       (if has_volume g k then label_in version (first_of g pieces n (volume_piece_number g k.0 k.1)) else None))
       ≡ (if has_volume g k then label_in version (first_of g pieces (suc n) (volume_piece_number g k.0 k.1)) else None)
-  label_told k part = by (is_volume (aggregate_of g n) (volume_of g n) k) refl
+  label_decoded k part = by (is_volume (aggregate_of g n) (volume_of g n) k) refl
     where
-      by : (t : Bool) → is_volume (aggregate_of g n) (volume_of g n) k ≡ t
-          → (if t then label_in version (pieces n) else
+      by : (t : Bool) → is_volume (aggregate_of g n) (volume_of g n) k ≡ t → (if t then label_in version (pieces n) else
           (if has_volume g k then label_in version (first_of g pieces n (volume_piece_number g k.0 k.1)) else None))
           ≡ (if has_volume g k then label_in version (first_of g pieces (suc n) (volume_piece_number g k.0 k.1)) else None)
       by true on = sym (λ i. if there_is k on i then label_in version ((sym (first_number (suc n) k) ∙ now_there k 0 on part) i) else None)
       by false off = if_same (has_volume g k) _ _
           (λ there. ap (label_in version) (sym (first_number n k) ∙ other_volume k 0 (omega arith) off there ∙ first_number (suc n) k))
 
-  block_told : (s : ℕ) (k : BlockKey) → part_of g n ≡ suc s
-      → (if is_block_of (aggregate_of g n) (volume_of g n) k && (group g k.2 k.3 == s) then block_in g (pieces n) k.2 k.3 else
+  block_decoded : (s : ℕ) (k : BlockKey) → part_of g n ≡ suc s → (if is_block_of (aggregate_of g n) (volume_of g n) k && (stripe_of g k.2 k.3 == s) then block_in g (pieces n) k.2 k.3 else
       (if has_volume g (k.0, k.1) then block_in g
-      (first_of g pieces n (stripe_piece_number g k.0 k.1 (group g k.2 k.3))) k.2 k.3 else None))
+      (first_of g pieces n (stripe_piece_number g k.0 k.1 (stripe_of g k.2 k.3))) k.2 k.3 else None))
       ≡ (if has_volume g (k.0, k.1) then block_in g
-      (first_of g pieces (suc n) (stripe_piece_number g k.0 k.1 (group g k.2 k.3))) k.2 k.3 else None)
-  block_told s k part = by (is_block_of (aggregate_of g n) (volume_of g n) k) (group g k.2 k.3 == s) refl refl
+      (first_of g pieces (suc n) (stripe_piece_number g k.0 k.1 (stripe_of g k.2 k.3))) k.2 k.3 else None)
+  block_decoded s k part = by (is_block_of (aggregate_of g n) (volume_of g n) k) (stripe_of g k.2 k.3 == s) refl refl
     where
-      few : suc (group g k.2 k.3) < pieces_of_volume g
+      few : suc (stripe_of g k.2 k.3) < pieces_of_volume g
       few = let below = group_below g k.2 k.3 in omega (arith, below)
 
-      by : (t u : Bool) → is_block_of (aggregate_of g n) (volume_of g n) k ≡ t → (group g k.2 k.3 == s) ≡ u
-          → (if t && u then block_in g (pieces n) k.2 k.3 else
+      by : (t u : Bool) → is_block_of (aggregate_of g n) (volume_of g n) k ≡ t → (stripe_of g k.2 k.3 == s) ≡ u → (if t && u then block_in g (pieces n) k.2 k.3 else
           (if has_volume g (k.0, k.1) then block_in g
-          (first_of g pieces n (stripe_piece_number g k.0 k.1 (group g k.2 k.3))) k.2 k.3 else None))
+          (first_of g pieces n (stripe_piece_number g k.0 k.1 (stripe_of g k.2 k.3))) k.2 k.3 else None))
           ≡ (if has_volume g (k.0, k.1) then block_in g
-          (first_of g pieces (suc n) (stripe_piece_number g k.0 k.1 (group g k.2 k.3))) k.2 k.3 else None)
+          (first_of g pieces (suc n) (stripe_piece_number g k.0 k.1 (stripe_of g k.2 k.3))) k.2 k.3 else None)
       by true true on same =
-          let its : part_of g n ≡ suc (group g k.2 k.3) = part ∙ sym (ap suc (eqb-true (group g k.2 k.3) s same)) in
-          sym (λ i. if there_is (k.0, k.1) on i then block_in g (now_there (k.0, k.1) (suc (group g k.2 k.3)) on its i) k.2 k.3 else None)
+          let its : part_of g n ≡ suc (stripe_of g k.2 k.3) = part ∙ sym (ap suc (eqb-true (stripe_of g k.2 k.3) s same)) in
+          sym (λ i. if there_is (k.0, k.1) on i then block_in g (now_there (k.0, k.1) (suc (stripe_of g k.2 k.3)) on its i) k.2 k.3 else None)
       by true false on off =
           if_same (has_volume g (k.0, k.1)) _ _
           (λ there. ap (λ (l : List ℕ). block_in g l k.2 k.3)
-          (other_part k.0 k.1 (suc (group g k.2 k.3)) few
-          (λ same. true≢false (sym (eq-eqb (group g k.2 k.3) s (omega (arith, same, part))) ∙ off))))
+          (other_part k.0 k.1 (suc (stripe_of g k.2 k.3)) few
+          (λ same. true≢false (sym (eq-eqb (stripe_of g k.2 k.3) s (omega (arith, same, part))) ∙ off))))
       by false u off _ = if_same (has_volume g (k.0, k.1)) _ _
-          (λ there. ap (λ (l : List ℕ). block_in g l k.2 k.3) (other_volume (k.0, k.1) (suc (group g k.2 k.3)) few off there))
+          (λ there. ap (λ (l : List ℕ). block_in g l k.2 k.3) (other_volume (k.0, k.1) (suc (stripe_of g k.2 k.3)) few off there))
 
-  pub one_more_piece : with_piece version g (decoded_by version g (first_of g pieces n)) n (pieces n)
-      ≡ decoded_by version g (first_of g pieces (suc n))
+  pub one_more_piece : with_piece version g (decoded_by version g (first_of g pieces n)) n (pieces n) ≡ decoded_by version g (first_of g pieces (suc n))
   one_more_piece = by (part_of g n) refl
     where
-      same_first : (s : ℕ) (k : VolumeKey) → part_of g n ≡ suc s
-          → first_of g pieces n (volume_piece_number g k.0 k.1) ≡ first_of g pieces (suc n) (volume_piece_number g k.0 k.1)
-      same_first s k part = sym (first_number n k) ∙ other_part k.0 k.1 0 (omega arith) (λ first. omega (arith, part, first))
-          ∙ first_number (suc n) k
+      same_first : (s : ℕ) (k : VolumeKey) → part_of g n ≡ suc s → first_of g pieces n (volume_piece_number g k.0 k.1) ≡ first_of g pieces (suc n) (volume_piece_number g k.0 k.1)
+      same_first s k part = sym (first_number n k) ∙ other_part k.0 k.1 0 (omega arith) (λ first. omega (arith, part, first)) ∙ first_number (suc n) k
 
       by : (p : ℕ) → part_of g n ≡ p → with_part version g (decoded_by version g (first_of g pieces n)) (aggregate_of g n)
           (volume_of g n) p (pieces n) ≡ decoded_by version g (first_of g pieces (suc n))
       by zero part = λ i. record {
-        made = λ k. mark_told is_made_in k part i;
-        sealed = λ k. mark_told is_sealed_in k part i;
-        files = λ k. mark_told (λ l. has_file_in l k.2) (k.0, k.1) part i;
+        made = λ k. mark_decoded is_made_in k part i;
+        sealed = λ k. mark_decoded is_sealed_in k part i;
+        files = λ k. mark_decoded (λ l. has_file_in l k.2) (k.0, k.1) part i;
         blocks = λ k.
             if has_volume g (k.0, k.1)
-            then block_in g (other_part k.0 k.1 (suc (group g k.2 k.3)) (let below = group_below g k.2 k.3 in omega (arith, below))
+            then block_in g (other_part k.0 k.1 (suc (stripe_of g k.2 k.3)) (let below = group_below g k.2 k.3 in omega (arith, below))
             (λ same. omega (arith, same, part)) i) k.2 k.3
             else None;
-        labels = λ k. label_told k part i;
+        labels = λ k. label_decoded k part i;
       }
       by (suc s) part = λ i. record {
         made = λ k. has_volume g k && is_made_in (same_first s k part i);
         sealed = λ k. has_volume g k && is_sealed_in (same_first s k part i);
         files = λ k. has_volume g (k.0, k.1) && has_file_in (same_first s (k.0, k.1) part i) k.2;
-        blocks = λ k. block_told s k part i;
+        blocks = λ k. block_decoded s k part i;
         labels = λ k. if has_volume g k then label_in version (same_first s k part i) else None;
       }
 
 -- what the first n pieces decode to, taken in one after the other
-pub taken : (version : ℕ) (g : Geometry) (bytes : List ℕ) (n : ℕ) → n ≤ piece_count g
-    → decoded_before version g bytes n ≡ decoded_by version g (first_of g (piece_in g bytes) n)
+pub taken : (version : ℕ) (g : Geometry) (bytes : List ℕ) (n : ℕ) → n ≤ piece_count g → decoded_before version g bytes n ≡ decoded_by version g (first_of g (piece_in g bytes) n)
 taken version g bytes zero few = none_before version g (piece_in g bytes)
 taken version g bytes (suc n) few =
     ap (λ (x : State). with_piece version g x n (piece_in g bytes n)) (taken version g bytes n (omega (arith, few)))

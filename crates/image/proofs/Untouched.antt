@@ -2,14 +2,14 @@
 use Rattle.std.proofs.Common.{◌≡◌, ◌≢◌, ℕ, zero, suc, ◌^◌, Bool, true, false, ◌&&◌, ◌||◌, not, [], ◌∷◌, ◌++◌, replicate, Option, Some, None, is_some, refl, sym, ◌∙◌, ap, true≢false}
 use Rattle.std.specs.Prelude.{◌==◌, if◌then◌else◌}
 use Rattle.std.proofs.lemmas.Bool.{eqb-true, eq-eqb}
-use Rattle.affinity.specs.Geometry.{group}
+use Rattle.affinity.specs.Geometry.{stripe_of}
 use Rattle.affinity.specs.declared.geometry.Geometry.{Geometry}
 use Rattle.byteorder.specs.Endian.{little_bytes}
 use Rattle.messages.specs.declared.Block.{Block}
 use Rattle.messages.specs.declared.Msg.{Msg}
 use Rattle.messages.specs.declared.Msg.TheVariants.{MakeVol, DropVol, Create, Delete, Seal, Unseal, Write, Punch, Read, List as ListFiles, Usage as AskUsage, Summary as AskSummary, SetLabel, Label as AskLabel}
 use Rattle.messages.specs.declared.Refusal.{Refusal}
-use Rattle.meaning.specs.Serial.{key, effect, outcome, accepted_reply, refusal, next_state, no_label}
+use Rattle.meaning.specs.Serial.{key, effect, reply_and_state, accepted_reply, refusal, next_state, no_label}
 use Rattle.meaning.specs.State.{State, BlockKey, IsState, sum_below, one_if, is_volume, is_file, is_block}
 use Rattle.stripe.specs.Entries.{stripe_bytes}
 use Rattle.image.specs.Pieces.{aggregate_of, volume_of, part_of, piece_of, part_piece, label_bytes, stripe_piece, entry_if}
@@ -26,8 +26,7 @@ record AgreeAt (x y : State) (a v : ℕ) : Type 0 where
   blocks : (f b : ℕ) → x.blocks (a, v, f, b) ≡ y.blocks (a, v, f, b)
   labels : x.labels (a, v) ≡ y.labels (a, v)
 
-agreeing : (version : ℕ) (g : Geometry) (x y : State) (a v : ℕ) → AgreeAt x y a v → (p : ℕ)
-    → part_piece version g x a v p ≡ part_piece version g y a v p
+agreeing : (version : ℕ) (g : Geometry) (x y : State) (a v : ℕ) → AgreeAt x y a v → (p : ℕ) → part_piece version g x a v p ≡ part_piece version g y a v p
 agreeing version g x y a v same zero = λ i.
     if same.made i
     then 1 ∷ one_if (same.sealed i) ∷ [] ++ replicate 6 0 ++ little_bytes 8
@@ -126,8 +125,7 @@ module _ (g : Geometry) (x : State) (is : IsState g x) (a v s : ℕ) where
   created i j k = ap (stripe_bytes g.quota)
       (entries_same g (effect x (Create i j k)) x a v s (λ f b on. by f b (x.files (a, v, f)) (x.blocks (a, v, f, b)) refl refl))
     where
-      by : (f b : ℕ) (t : Bool) (o : Option Block) → x.files (a, v, f) ≡ t → x.blocks (a, v, f, b) ≡ o
-          → entry_if (is_file i j k (a, v, f) || t) f b o ≡ entry_if t f b o
+      by : (f b : ℕ) (t : Bool) (o : Option Block) → x.files (a, v, f) ≡ t → x.blocks (a, v, f, b) ≡ o → entry_if (is_file i j k (a, v, f) || t) f b o ≡ entry_if t f b o
       by f b true o there has = ap (λ (t : Bool). entry_if t f b o) (or_true (is_file i j k (a, v, f)))
         where
           or_true : (p : Bool) → (p || true) ≡ true
@@ -138,10 +136,10 @@ module _ (g : Geometry) (x : State) (is : IsState g x) (a v s : ℕ) where
           (true≢false (sym (is.blocks (a, v, f, b) (ap (λ (o : Option Block). is_some o) has)).1 ∙ out))
 
 -- one block of another stripe
-block_elsewhere : (g : Geometry) {s : ℕ} (i j k l : ℕ) (q : BlockKey) → s ≢ group g k l → group g q.2 q.3 ≡ s → is_block i j k l q ≡ false
+block_elsewhere : (g : Geometry) {s : ℕ} (i j k l : ℕ) (q : BlockKey) → s ≢ stripe_of g k l → stripe_of g q.2 q.3 ≡ s → is_block i j k l q ≡ false
 block_elsewhere g i j k l q other on =
     by (i == q.0) (j == q.1) (k == q.2) (l == q.3) (λ file block.
-    other (sym on ∙ sym (λ n. group g (eqb-true k q.2 file n) (eqb-true l q.3 block n))))
+    other (sym on ∙ sym (λ n. stripe_of g (eqb-true k q.2 file n) (eqb-true l q.3 block n))))
   where
     by : (p q r t : Bool) → (r ≡ true → t ≡ true → ⊥) → (p && q && r && t) ≡ false
     by true true true true none = absurd (none refl refl)
@@ -164,14 +162,14 @@ module _ (version : ℕ) (g : Geometry) (x : State) (is : IsState g x) (i j : �
   part_untouched (Unseal a v) (suc s) off = refl
   part_untouched (Write a v f b content) zero off = refl
   part_untouched (Write a v f b content) (suc s) off =
-      let other : s ≢ group g f b = λ same. true≢false (sym (eq-eqb (suc s) (suc (group g f b)) (ap suc same)) ∙ off) in
+      let other : s ≢ stripe_of g f b = λ same. true≢false (sym (eq-eqb (suc s) (suc (stripe_of g f b)) (ap suc same)) ∙ off) in
       ap (stripe_bytes g.quota)
       (entries_same g (effect x (Write a v f b content)) x i j s
       (λ k l on. ap (λ (t : Bool). entry_if (x.files (i, j, k)) k l (if t then Some content else x.blocks (i, j, k, l)))
       (block_elsewhere g a v f b (i, j, k, l) other on)))
   part_untouched (Punch a v f b) zero off = refl
   part_untouched (Punch a v f b) (suc s) off =
-      let other : s ≢ group g f b = λ same. true≢false (sym (eq-eqb (suc s) (suc (group g f b)) (ap suc same)) ∙ off) in
+      let other : s ≢ stripe_of g f b = λ same. true≢false (sym (eq-eqb (suc s) (suc (stripe_of g f b)) (ap suc same)) ∙ off) in
       ap (stripe_bytes g.quota)
       (entries_same g (effect x (Punch a v f b)) x i j s
       (λ k l on. ap (λ (t : Bool). entry_if (x.files (i, j, k)) k l (if t then None else x.blocks (i, j, k, l)))
@@ -197,6 +195,6 @@ module _ (version : ℕ) (g : Geometry) (x : State) (is : IsState g x) (m : Msg)
   pub piece_stays : piece_of version g (next_state g x m) n ≡ piece_of version g x n
   piece_stays = by (refusal g x m)
     where
-      by : (o : Option Refusal) → piece_of version g (outcome o (accepted_reply g x m) (effect x m) x).1 n ≡ piece_of version g x n
+      by : (o : Option Refusal) → piece_of version g (reply_and_state o (accepted_reply g x m) (effect x m) x).1 n ≡ piece_of version g x n
       by None = effect_leaves
       by (Some why) = refl

@@ -5,7 +5,7 @@ use Rattle.std.specs.Str.{bytes_eq}
 use Rattle.std.proofs.lemmas.Bool.{cases_lt, and_parts, and_from}
 use Rattle.std.proofs.lemmas.List.{length-replicate}
 use Rattle.std.proofs.lemmas.Slice.Eq.{bytes_eq-Decides}
-use Rattle.affinity.specs.Geometry.{group}
+use Rattle.affinity.specs.Geometry.{stripe_of}
 use Rattle.affinity.specs.declared.geometry.Geometry.{Geometry}
 use Rattle.affinity.proofs.Placed.{group_below}
 use Rattle.messages.specs.Messages.{AreSizedBytes}
@@ -55,21 +55,19 @@ module _ (g : Geometry) (bytes : List ℕ) (are : AreSizedBytes (piece_at g (pie
 
 module _ (version : ℕ) (g : Geometry) (bytes : List ℕ) where
   -- A piece is that of what the image decodes to where it is that of what is decoded so far.
-  so_far : (n i : ℕ) → i < n → piece_of version g (decoded_state version g bytes) i
-      ≡ piece_of version g (decoded_by version g (first_of g (piece_in g bytes) n)) i
+  so_far : (n i : ℕ) → i < n → piece_of version g (decoded_state version g bytes) i ≡ piece_of version g (decoded_by version g (first_of g (piece_in g bytes) n)) i
   so_far n i less =
       let number = number_there g i in
       piece_same version g (piece_in g bytes) (first_of g (piece_in g bytes) n) i
       (sym (first_there g (piece_in g bytes) n (volume_piece_number g (aggregate_of g i) (volume_of g i)) (omega (arith, number, less))))
       (sym (first_there g (piece_in g bytes) n i less))
 
-  pub no_blocks_yet : (n : ℕ) → n < piece_count g → part_of g n ≡ 0 → (f b : ℕ)
-      → (decoded_before version g bytes n).blocks (aggregate_of g n, volume_of g n, f, b) ≡ None
+  pub no_blocks_yet : (n : ℕ) → n < piece_count g → part_of g n ≡ 0 → (f b : ℕ) → (decoded_before version g bytes n).blocks (aggregate_of g n, volume_of g n, f, b) ≡ None
   no_blocks_yet n below part f b =
       let number = number_there g n in
       ap (λ (x : State). x.blocks (aggregate_of g n, volume_of g n, f, b)) (taken version g bytes n (omega (arith, below)))
       ∙ if_none (has_volume g (aggregate_of g n, volume_of g n)) _
-      (no_block_in_zeros g (piece_in g bytes) n (stripe_piece_number g (aggregate_of g n) (volume_of g n) (group g f b)) f b (omega (arith, number, part)))
+      (no_block_in_zeros g (piece_in g bytes) n (stripe_piece_number g (aggregate_of g n) (volume_of g n) (stripe_of g f b)) f b (omega (arith, number, part)))
     where
       if_none : (h : Bool) (o : Option Block) → o ≡ None → (if h then o else None) ≡ None
       if_none true o off = off
@@ -86,7 +84,7 @@ module _ (version : ℕ) (g : Geometry) (bytes : List ℕ) where
         blocks = λ k.
             if_same (has_volume g (k.0, k.1)) _ _
             (λ there. ap (λ (l : List ℕ). block_in g l k.2 k.3)
-            (part (k.0, k.1) (suc (group g k.2 k.3)) (let below = group_below g k.2 k.3 in omega (arith, below)) there)) i;
+            (part (k.0, k.1) (suc (stripe_of g k.2 k.3)) (let below = group_below g k.2 k.3 in omega (arith, below)) there)) i;
         labels = λ k. if_same (has_volume g k) _ _ (λ there. ap (label_in version) (first k there)) i;
       })
     where

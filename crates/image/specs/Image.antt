@@ -1,5 +1,5 @@
--- Format for operators: An image: a head with the version, then the pieces of a state. A state is written in one way, and bytes are an
--- image exactly where they are the image of what they decode to.
+-- Format for operators: An image: a head with the version, then the pieces of a state. In each version a state has one
+-- encoding, and bytes are an image exactly where they are the image of what they decode to.
 use Rattle.std.specs.Prelude.{◌≡◌, ℕ, zero, suc, ◌<◌, Bool, true, ◌&&◌, ◌||◌, ◌==◌, if◌then◌else◌, List, ◌∷◌, ◌++◌, get_or, replicate, Option, Some, None}
 use Rattle.std.specs.Str.{bytes_eq}
 use Rattle.affinity.specs.declared.geometry.Geometry.{Geometry}
@@ -9,6 +9,7 @@ use Rattle.image.specs.Pieces.{piece_count, piece_at, piece_size, piece_of, join
 
 -- ---- writing
 
+-- the head of an image: its version and 63 zeros
 abbrev pub image_head : ℕ → List ℕ
 image_head version = version ∷ replicate 63 0
 
@@ -18,6 +19,7 @@ image_of version g x = image_head version ++ joined_below (piece_count g) (piece
 
 -- ---- reading
 
+-- the version of an image: its first byte
 abbrev pub version_in : List ℕ → ℕ
 version_in bytes = get_or bytes 0 0
 
@@ -29,10 +31,11 @@ piece_in g bytes n = bytes_at (piece_at g n) (piece_size g n) bytes
 abbrev pub decoded_state : ℕ → Geometry → List ℕ → State
 decoded_state version g bytes = decoded_by version g (piece_in g bytes)
 
+-- whether images of this version are read
 abbrev pub is_version : ℕ → Bool
 is_version version = (version == 1) || (version == 2)
 
--- They are the image of what they decode to.
+-- The bytes are of a version that is read, and the image of what they decode to.
 abbrev pub is_image : Geometry → List ℕ → Bool
 is_image g bytes = let version = version_in bytes in is_version version
     && bytes_eq bytes (image_of version g (decoded_state version g bytes))

@@ -1,6 +1,6 @@
--- Format for operators: The pieces of an image: for each volume one of its flags, files and label, and one for each of its stripes.
+-- Format for operators: The pieces of an image: for each volume one piece with its flags, files and label, and one for each of its stripes.
 use Rattle.std.specs.Prelude.{ℕ, zero, suc, ◌+◌, ◌*◌, ◌/◌, ◌%◌, Bool, true, ◌&&◌, ◌==◌, nat_lt, if◌then◌else◌, List, [], ◌∷◌, ◌++◌, take, drop, get_or, replicate, unwrap_or, Option, Some, None}
-use Rattle.affinity.specs.Geometry.{group}
+use Rattle.affinity.specs.Geometry.{stripe_of}
 use Rattle.affinity.specs.declared.geometry.Geometry.{Geometry}
 use Rattle.byteorder.specs.Endian.{little_bytes, little_number}
 use Rattle.messages.specs.Replies.{has_file}
@@ -56,6 +56,7 @@ abbrev pub joined_below : {X : Type 0} → ℕ → (ℕ → List X) → List X
 joined_below zero f = []
 joined_below (suc n) f = joined_below n f ++ f n
 
+-- the entry of block b of file f, if the test holds and there is a block; else none
 abbrev pub entry_if : Bool → ℕ → ℕ → Option Block → List BlockEntry
 entry_if true f b (Some content) = record { file = f; block = b; content = content } ∷ []
 entry_if _ f b _ = []
@@ -63,8 +64,9 @@ entry_if _ f b _ = []
 -- the blocks of a stripe, by file and then by block; only a file that is there has blocks
 abbrev pub stripe_entries : Geometry → State → ℕ → ℕ → ℕ → List BlockEntry
 stripe_entries g x a v s = joined_below g.files
-    (λ f. joined_below g.blocks (λ b. entry_if (x.files (a, v, f) && (group g f b == s)) f b (x.blocks (a, v, f, b))))
+    (λ f. joined_below g.blocks (λ b. entry_if (x.files (a, v, f) && (stripe_of g f b == s)) f b (x.blocks (a, v, f, b))))
 
+-- the piece of a stripe, as bytes
 abbrev pub stripe_piece : Geometry → State → ℕ → ℕ → ℕ → List ℕ
 stripe_piece g x a v s = stripe_bytes g.quota (stripe_entries g x a v s)
 
@@ -80,6 +82,7 @@ volume_piece version g x a v =
     ++ replicate 16 0
     else replicate volume_piece_size 0
 
+-- a volume's own piece, or for `suc s` that of stripe s
 abbrev pub part_piece : ℕ → Geometry → State → ℕ → ℕ → ℕ → List ℕ
 part_piece version g x a v zero = volume_piece version g x a v
 part_piece version g x a v (suc s) = stripe_piece g x a v s
@@ -90,10 +93,11 @@ piece_of version g x n = part_piece version g x (aggregate_of g n) (volume_of g 
 
 -- ---- what bytes decode to, whatever else they spell
 
--- n bytes from a place on
+-- n bytes from position `at` on
 abbrev pub bytes_at : ℕ → ℕ → List ℕ → List ℕ
 bytes_at at n bytes = take n (drop at bytes)
 
+-- whether there is this volume in a server of this geometry
 abbrev pub has_volume : Geometry → VolumeKey → Bool
 has_volume g k = nat_lt k.0 g.aggregates && nat_lt k.1 g.volumes
 
@@ -122,31 +126,30 @@ decoded_by version g pieces =
       made = λ k. has_volume g k && is_made_in (of_volume k);
       sealed = λ k. has_volume g k && is_sealed_in (of_volume k);
       files = λ k. has_volume g (k.0, k.1) && has_file_in (of_volume (k.0, k.1)) k.2;
-      blocks = λ k. if has_volume g (k.0, k.1) then block_in g (pieces (stripe_piece_number g k.0 k.1 (group g k.2 k.3))) k.2 k.3 else None;
+      blocks = λ k. if has_volume g (k.0, k.1)
+          then block_in g (pieces (stripe_piece_number g k.0 k.1 (stripe_of g k.2 k.3))) k.2 k.3 else None;
       labels = λ k. if has_volume g k then label_in version (of_volume k) else None;
     }
 
 -- ---- a state with what the bytes of one piece decode to, in the place of what it had there
 
 abbrev pub with_volume_piece : ℕ → State → ℕ → ℕ → List ℕ → State
-with_volume_piece version x a v bytes =
-    record {
-      made = λ k. if is_volume a v k then is_made_in bytes else x.made k;
-      sealed = λ k. if is_volume a v k then is_sealed_in bytes else x.sealed k;
-      files = λ k. if is_file_of a v k then has_file_in bytes k.2 else x.files k;
-      blocks = x.blocks;
-      labels = λ k. if is_volume a v k then label_in version bytes else x.labels k;
-    }
+with_volume_piece version x a v bytes = record {
+  made = λ k. if is_volume a v k then is_made_in bytes else x.made k;
+  sealed = λ k. if is_volume a v k then is_sealed_in bytes else x.sealed k;
+  files = λ k. if is_file_of a v k then has_file_in bytes k.2 else x.files k;
+  blocks = x.blocks;
+  labels = λ k. if is_volume a v k then label_in version bytes else x.labels k;
+}
 
 abbrev pub with_stripe_piece : Geometry → State → ℕ → ℕ → ℕ → List ℕ → State
-with_stripe_piece g x a v s bytes =
-    record {
-      made = x.made;
-      sealed = x.sealed;
-      files = x.files;
-      blocks = λ k. if is_block_of a v k && (group g k.2 k.3 == s) then block_in g bytes k.2 k.3 else x.blocks k;
-      labels = x.labels;
-    }
+with_stripe_piece g x a v s bytes = record {
+  made = x.made;
+  sealed = x.sealed;
+  files = x.files;
+  blocks = λ k. if is_block_of a v k && (stripe_of g k.2 k.3 == s) then block_in g bytes k.2 k.3 else x.blocks k;
+  labels = x.labels;
+}
 
 abbrev pub with_part : ℕ → Geometry → State → ℕ → ℕ → ℕ → List ℕ → State
 with_part version g x a v zero bytes = with_volume_piece version x a v bytes

@@ -2,7 +2,7 @@
 //! No function here does anything; its contract is the law.
 
 ghost use Rattle.std.specs.Prelude.{◌≡◌, ◌<◌, ◌≤◌, ◌↔◌, ℕ, suc, true, false, List, Some, None, is_some, length, if◌then◌else◌, ◌==◌};
-ghost use Rattle.affinity.specs.Geometry.{group};
+ghost use Rattle.affinity.specs.Geometry.{stripe_of};
 ghost use Rattle.affinity.specs.declared.geometry.Geometry.{Geometry};
 ghost use Rattle.image.specs.Image.{AreGood, has_head, image_of, is_good, read, decoded_before, version_in, piece_in};
 ghost use Rattle.image.specs.Pieces.{aggregate_of, part_of, piece_at, piece_count, piece_of, piece_size, stripe_entries, volume_of};
@@ -58,7 +58,7 @@ pub fn an_image_is_cut_into_its_pieces()
 /// Entries that ascend and hold the blocks of a stripe are those that spell it.
 pub fn entries_of_a_stripe_are_spelled()
     ensures { (g : Geometry) (x : State) → IsState g x → (a v s : ℕ) (es : List BlockEntry) → IsAscending es
-        → ((f b : ℕ) → content_at es f b ≡ (if group g f b == s then x.blocks (a, v, f, b) else None)) → es ≡ stripe_entries g x a v s }
+        → ((f b : ℕ) → content_at es f b ≡ (if stripe_of g f b == s then x.blocks (a, v, f, b) else None)) → es ≡ stripe_entries g x a v s }
 {}
 
 /// A piece that a message doesn't touch is the same before it and after it.

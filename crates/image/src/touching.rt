@@ -12,12 +12,12 @@ pub fn touched(g: &Geometry, m: &Msg, n: usize) -> bool
 {
     let pieces_of_volume = usize::from(g.stripes) + 1;
     let volumes = usize::from(g.volumes);
-    let place = n / pieces_of_volume;
+    let volume_index = n / pieces_of_volume;
     let [aggregate, volume, _, _] = m.numbers();
-    if usize::from(aggregate) != place / volumes {
+    if usize::from(aggregate) != volume_index / volumes {
         return false;
     }
-    if usize::from(volume) != place % volumes {
+    if usize::from(volume) != volume_index % volumes {
         return false;
     }
     touches_part(g, m, n % pieces_of_volume)

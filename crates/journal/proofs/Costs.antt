@@ -8,7 +8,7 @@ use Rattle.affinity.specs.declared.geometry.Geometry.{Geometry}
 use Rattle.checkpoint.specs.declared.fault.OpenFault.{OpenFault}
 use Rattle.checkpoint.specs.Loading.{NamedHolds}
 use Rattle.disk.specs.Device.{Medium, Moment, moments}
-use Rattle.disk.specs.Moments.{moment}
+use Rattle.disk.specs.Moments.{moment_number}
 use Rattle.image.specs.Pieces.{piece_count}
 use Rattle.journal.specs.declared.opening.Parts.{Parts}
 use Rattle.journal.specs.Costs.{count_runs, finish_cost, opening_cost, runs_after}
@@ -125,16 +125,16 @@ one_run g dirty size all =
     whole_run dirty (omega (arith, size, some)) (λ n few. all n (omega (arith, size, few)))
 
 -- ---- a call
-pub takes_most : {T E : Type 0} (r : Result T E) (n : ℕ) (old new : Medium) → Costs r n old new → moment new ≤ moment old + n
+pub takes_most : {T E : Type 0} (r : Result T E) (n : ℕ) (old new : Medium) → Costs r n old new → moment_number new ≤ moment_number old + n
 takes_most (Ok x) n old new takes = omega (arith, takes)
 takes_most (Err e) n old new takes = takes
 
-pub takes_all : {T E : Type 0} (r : Result T E) (n : ℕ) (old new : Medium) → is_err r ≡ false → Costs r n old new → moment new ≡ moment old + n
+pub takes_all : {T E : Type 0} (r : Result T E) (n : ℕ) (old new : Medium) → is_err r ≡ false → Costs r n old new → moment_number new ≡ moment_number old + n
 takes_all (Ok x) n old new fine takes = takes
 takes_all (Err e) n old new fine takes = absurd (true≢false fine)
 
 -- one that only reads
-pub no_call : (old new : Medium) → moments new ≡ moments old → moment new ≡ moment old
+pub no_call : (old new : Medium) → moments new ≡ moments old → moment_number new ≡ moment_number old
 no_call old new same = let all = ap (λ (ms : List Moment). length ms) same in omega (arith, all)
 
 -- ---- an opening
@@ -151,9 +151,9 @@ finish_is g c area told chained x is held =
     sym (ap (λ (b : Bool). if b then 4 else 0) (held.chain ∙ ap (λ (n : ℕ). chain (layout_of g) n c == 1) held.named)) ∙ ap (λ (b : Bool). if b then 4 else 0) is
 
 -- after the first sync
-pub opening_after : (r : Result Parts OpenFault) (w0 w1 w2 : Medium) → w1.now ≡ w0.now → moment w1 ≡ moment w0 + 1
-    → MatchResult r (λ p. moment w2 ≡ moment w1 + (finish_cost p.halves.geometry w1.now + 6)) (λ e. moment w2 ≤ moment w1 + 10)
-    → MatchResult r (λ p. moment w2 ≡ moment w0 + opening_cost p.halves.geometry w0.now) (λ e. moment w2 ≤ moment w0 + 11)
+pub opening_after : (r : Result Parts OpenFault) (w0 w1 w2 : Medium) → w1.now ≡ w0.now → moment_number w1 ≡ moment_number w0 + 1
+    → MatchResult r (λ p. moment_number w2 ≡ moment_number w1 + (finish_cost p.halves.geometry w1.now + 6)) (λ e. moment_number w2 ≤ moment_number w1 + 10)
+    → MatchResult r (λ p. moment_number w2 ≡ moment_number w0 + opening_cost p.halves.geometry w0.now) (λ e. moment_number w2 ≤ moment_number w0 + 11)
 opening_after (Ok p) w0 w1 w2 same one rest = let is : finish_cost p.halves.geometry w1.now
     ≡ finish_cost p.halves.geometry w0.now = ap (finish_cost p.halves.geometry) same in omega (arith, is, one, rest)
 opening_after (Err e) w0 w1 w2 same one rest = omega (arith, one, rest)

@@ -6,23 +6,23 @@ use Rattle.disk.specs.Device.{AreBytes, Medium}
 use Rattle.disk.proofs.Leaves.{itself}
 use Rattle.image.specs.Image.{version_in}
 use Rattle.image.specs.Pieces.{piece_count}
-use Rattle.journal.specs.Keeping.{IsFresh, IsCutState, IsSoundJournal}
-use Rattle.journal.specs.Steps.{IsFlipped, IsWritten, RecoversByArea, named_now}
+use Rattle.journal.specs.Keeping.{IsUpToDate, IsCutState, IsSoundJournal}
+use Rattle.journal.specs.Steps.{IsFlipped, IsCutWritten, RecoversByArea, flipped_log}
 use Rattle.journal.specs.Extents.{image_in}
 use Rattle.journal.proofs.Cutting.{named_below}
 use Rattle.journal.proofs.Forced.{forced_synced, front_count}
 use Rattle.journal.proofs.Patches.{image_long}
 use Rattle.journal.proofs.Rows.{all_agree, no_dirty}
 use Rattle.journal.proofs.Recovering.{holds_now}
-use Rattle.oplog.specs.Calls.{HasParts}
+use Rattle.oplog.specs.Calls.{IsLongEnough}
 use Rattle.oplog.specs.Changes.{IsReady}
 use Rattle.device_map.specs.Layout.{layout_of, image_size, other}
 use Rattle.oplog.specs.Log.{Log}
 use Rattle.meaning.specs.State.{State}
 
-module _ {log : Log} {snapshot : List ℕ} {named others pending : List Bool} {left : Option ℕ} {w0 : Medium} (none_left : left ≡ Some 0) where
-  pub flip_asks : HasParts log w0 → length snapshot ≡ image_size log.geometry → length pending ≡ piece_count log.geometry → AreBytes w0.now
-      → IsCutState log pending left → IsSoundJournal log snapshot named others pending left w0 → IsWritten log snapshot w0
+module _ {log : Log} {snapshot : List ℕ} {named others pending : List Bool} {pieces_left : Option ℕ} {w0 : Medium} (none_left : pieces_left ≡ Some 0) where
+  pub flip_asks : IsLongEnough log w0 → length snapshot ≡ image_size log.geometry → length pending ≡ piece_count log.geometry → AreBytes w0.now
+      → IsCutState log pending pieces_left → IsSoundJournal log snapshot named others pending pieces_left w0 → IsCutWritten log snapshot w0
   flip_asks whole size size' are placed' sound =
       let placed = subst (λ (l : Option ℕ). IsCutState log pending l) none_left placed' in
       let sound' = subst (λ (l : Option ℕ). IsSoundJournal log snapshot named others pending l w0) none_left sound in
@@ -37,8 +37,8 @@ module _ {log : Log} {snapshot : List ℕ} {named others pending : List Bool} {l
         behind = sound'.by_cut.behind;
       }
 
-  pub flip_sound : {w1 : Medium} → AreBytes w0.now → AreBytes w1.now → IsCutState log pending left → IsWritten log snapshot w0
-      → IsSoundJournal log snapshot named others pending left w0 → IsFlipped log w0 w1 → IsSoundJournal (named_now log) snapshot others named pending None w1
+  pub flip_sound : {w1 : Medium} → AreBytes w0.now → AreBytes w1.now → IsCutState log pending pieces_left → IsCutWritten log snapshot w0
+      → IsSoundJournal log snapshot named others pending pieces_left w0 → IsFlipped log w0 w1 → IsSoundJournal (flipped_log log) snapshot others named pending None w1
   flip_sound {w1} are are' placed' written sound flipped =
       let placed = subst (λ (l : Option ℕ). IsCutState log pending l) none_left placed' in
       let sound' = subst (λ (l : Option ℕ). IsSoundJournal log snapshot named others pending l w0) none_left sound in
@@ -51,21 +51,22 @@ module _ {log : Log} {snapshot : List ℕ} {named others pending : List Bool} {l
             subst (λ (h : ℕ). RecoversByArea log.geometry (other log.named) h (recovered_state log.geometry w1.now) w1) (sym placed.0)
             (subst (λ (o : Option State). RecoversByArea log.geometry (other log.named) (other log.named) o w1) (sym same) flipped.at.recovers);
         ready = subst (λ (h : ℕ). IsReady (layout_of log.geometry) h log.used w1) (sym placed.0) flipped.at.ready;
-        forced = forced_synced log.geometry w1 flipped.at.synced;
+        same_records = forced_synced log.geometry w1 flipped.at.synced;
         count = λ none. ap length flipped.alone ∙ front_count (layout_of log.geometry) (other log.named) log.used w1 flipped.at.ready;
         state = λ x is. sound.state x (sym same ∙ is);
-        named_fresh =
-            subst (λ (o : Option State). IsFresh log.geometry o others (image_in log.geometry (other log.named) w1)) (sym same)
-            (subst (λ (l : List ℕ). IsFresh log.geometry (recovered_state log.geometry w0.now) others l) (sym (flipped.images (other log.named) (omega arith) ∙ written.is)) sound'.others_fresh);
-        snapshot_fresh = λ none. subst (λ (o : Option State). IsFresh log.geometry o others snapshot) (sym same) sound'.others_fresh;
-        others_fresh =
-            subst (λ (o : Option State). IsFresh log.geometry o named (image_in log.geometry (other (other log.named)) w1)) (sym same)
-            (subst (λ (n : ℕ). IsFresh log.geometry (recovered_state log.geometry w0.now) named (image_in log.geometry n w1)) (sym back)
-            (subst (λ (l : List ℕ). IsFresh log.geometry (recovered_state log.geometry w0.now) named l) (sym (flipped.images log.named is_area)) sound.named_fresh));
+        named_up_to_date =
+            subst (λ (o : Option State). IsUpToDate log.geometry o others (image_in log.geometry (other log.named) w1)) (sym same)
+            (subst (λ (l : List ℕ). IsUpToDate log.geometry (recovered_state log.geometry w0.now) others l) (sym (flipped.images (other log.named) (omega arith) ∙ written.is))
+            sound'.other_up_to_date);
+        snapshot_up_to_date = λ none. subst (λ (o : Option State). IsUpToDate log.geometry o others snapshot) (sym same) sound'.other_up_to_date;
+        other_up_to_date =
+            subst (λ (o : Option State). IsUpToDate log.geometry o named (image_in log.geometry (other (other log.named)) w1)) (sym same)
+            (subst (λ (n : ℕ). IsUpToDate log.geometry (recovered_state log.geometry w0.now) named (image_in log.geometry n w1)) (sym back)
+            (subst (λ (l : List ℕ). IsUpToDate log.geometry (recovered_state log.geometry w0.now) named l) (sym (flipped.images log.named is_area)) sound.named_up_to_date));
         by_cut = tt;
       }
 
-  pub flip_version : {w1 : Medium} → AreBytes w1.now → IsWritten log snapshot w0 → IsSoundJournal log snapshot named others pending left w0 → IsFlipped log w0 w1
+  pub flip_version : {w1 : Medium} → AreBytes w1.now → IsCutWritten log snapshot w0 → IsSoundJournal log snapshot named others pending pieces_left w0 → IsFlipped log w0 w1
       → named_version log.geometry w1.now ≡ 2
   flip_version {w1} are' written sound flipped =
       let sound' = subst (λ (l : Option ℕ). IsSoundJournal log snapshot named others pending l w0) none_left sound in

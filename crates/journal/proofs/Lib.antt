@@ -11,7 +11,7 @@ mod Rows
 mod Logging
 mod Flipping
 mod Piecing
-mod FrozenBytes
+mod SnapshotBytes
 mod Saving
 mod Finishing
 mod Loaded

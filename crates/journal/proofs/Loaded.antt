@@ -6,8 +6,8 @@ use Rattle.std.proofs.lemmas.Slice.Eq.{bytes_eq-Decides}
 use Rattle.affinity.specs.declared.geometry.Geometry.{Geometry}
 use Rattle.checkpoint.specs.declared.fault.OpenFault.{OpenFault}
 use Rattle.checkpoint.specs.Header.{HasHeader, header_of, is_header}
-use Rattle.checkpoint.specs.Loading.{IsFaultOfBytes, NamedHolds, records_fault}
-use Rattle.checkpoint.specs.Recovery.{recovered_state, means}
+use Rattle.checkpoint.specs.Loading.{IsConsistentFault, NamedHolds, records_fault}
+use Rattle.checkpoint.specs.Recovery.{recovered_state, decoding}
 use Rattle.checkpoint.specs.Refusals.{IsRefused, refused}
 use Rattle.checkpoint.specs.Version.{named_version}
 use Rattle.checkpoint.proofs.Replays.{same_bytes}
@@ -23,15 +23,15 @@ use Rattle.journal.specs.DirtyPieces.{opened_dirty}
 use Rattle.journal.specs.Keeping.{journal_view_of}
 use Rattle.journal.specs.Opening.{IsOpened}
 use Rattle.journal.specs.Parts.{AreLoaded, AreUnloaded, IsMade, IsMadeOf, KeepsBuffers}
-use Rattle.journal.specs.Steps.{IsAlone, IsPointed, IsUnfinished, pointed, run_on}
+use Rattle.journal.specs.Steps.{RecoversByNamedAlone, IsPointed, IsCutUnfinished, pointed_log, run_on}
 use Rattle.journal.specs.Extents.{AreAllDirty}
 use Rattle.journal.proofs.Logging.{recoverable_of, sound_along}
 use Rattle.journal.proofs.Saving.{HoldsAlone, opened_sound, pointed_version}
 use Rattle.journal.proofs.Recovering.{holds_now, shut_current}
 use Rattle.oplog.specs.Front.{chain, front}
-use Rattle.device_map.specs.Layout.{layout_of, device_size, header, image_size, other, part_bytes}
-use Rattle.oplog.specs.Log.{Log, new_log, renamed}
-use Rattle.oplog.specs.Recovery.{in_force, is_laid_out, named_area, run, recovers_as}
+use Rattle.device_map.specs.Layout.{layout_of, device_size, header_part, image_size, other, part_bytes}
+use Rattle.oplog.specs.Log.{Log, new_log, with_half_named}
+use Rattle.oplog.specs.Recovery.{in_force, is_laid_out, named_area, run, recovers_by_area}
 use Rattle.parcel.specs.Tree.{IsWholeTree, state_in}
 use Rattle.meaning.specs.State.{State, IsState}
 
@@ -47,7 +47,7 @@ module _ (g : Geometry) (c : List ℕ) (n : ℕ) (x : State) (is : NamedHolds g 
   pub alone_fine : refused g c ≡ None
   alone_fine = not_refused g c is.header is.long_enough n is.named is.sound is.first is.decoded is.one (alone_sound g is.first n c x is.ran shut)
 
-pub alone_recovers : (log : Log) (m : Medium) (x : State) → NamedHolds log.geometry m.now log.named false x → IsSynced m → IsAlone log m
+pub alone_recovers : (log : Log) (m : Medium) (x : State) → NamedHolds log.geometry m.now log.named false x → IsSynced m → RecoversByNamedAlone log m
 alone_recovers log m x is synced = record {
   some = ap is_some (alone_holds log.geometry m.now log.named x is);
   recovers = λ c left.
@@ -55,7 +55,7 @@ alone_recovers log m x is synced = record {
       record {
         named = ap (λ (l : List ℕ). named_area (layout_of log.geometry) l) same ∙ sym is.named;
         current = shut_current (layout_of log.geometry) log.named c (ap (λ (l : List ℕ). chain (layout_of log.geometry) log.named l == 1) same ∙ sym is.chain);
-        is = λ i. recovers_as (means log.geometry) (layout_of log.geometry) (is.named i) (same i);
+        is = λ i. recovers_by_area (decoding log.geometry) (layout_of log.geometry) (is.named i) (same i);
       };
 }
 
@@ -65,17 +65,17 @@ module _ (g : Geometry) (c : List ℕ) (n : ℕ) (x : State) (is : NamedHolds g 
   follows : (chain (layout_of g) n c == 1) ≡ true
   follows = sym is.chain
 
-  pub laid_out : is_laid_out (means g) (layout_of g) c ≡ true
+  pub laid_out : is_laid_out (decoding g) (layout_of g) c ≡ true
   laid_out =
-      let is_head : is_header g (part_bytes (layout_of g) header c) ≡ true = (bytes_eq-Decides (part_bytes (layout_of g) header c) (header_of g)).1 is.header in
+      let is_head : is_header g (part_bytes (layout_of g) header_part c) ≡ true = (bytes_eq-Decides (part_bytes (layout_of g) header_part c) (header_of g)).1 is.header in
       let whole : nat_le (device_size (layout_of g)) (length c) ≡ true = le-leb (device_size (layout_of g)) (length c) is.long_enough in
       λ i. is_head i && whole i && not (is.one i)
 
-  pub behind_refused : (e : OpenFault) → IsFaultOfBytes (records_fault g x (other n) (front (layout_of g) (other n) c)) e → IsRefused c e
+  pub behind_refused : (e : OpenFault) → IsConsistentFault (records_fault g x (other n) (front (layout_of g) (other n) c)) e → IsRefused c e
   behind_refused e fault =
       records_refused g c is.header is.long_enough n is.named is.sound is.first is.decoded is.one e (other_refused g is.first n c x is.ran follows e fault)
 
-  module _ (y : State) (more : run (means g) (Some x) (front (layout_of g) (other n) c) ≡ Some y) where
+  module _ (y : State) (more : run (decoding g) (Some x) (front (layout_of g) (other n) c) ≡ Some y) where
     pub behind_holds : recovered_state g c ≡ Some y
     behind_holds = recovers_for g c is.header is.long_enough n is.named is.sound is.first is.decoded is.one y (both_ran g is.first n c x is.ran follows y more)
 
@@ -83,7 +83,7 @@ module _ (g : Geometry) (c : List ℕ) (n : ℕ) (x : State) (is : NamedHolds g 
     behind_fine = not_refused g c is.header is.long_enough n is.named is.sound is.first is.decoded is.one (both_sound g is.first n c x is.ran follows y more)
 
 pub unfinished_cut : (log : Log) (m : Medium) (x : State) (bytes : List ℕ) → NamedHolds log.geometry m.now log.named true x → IsSynced m
-    → IsState log.geometry x → bytes ≡ image_of 2 log.geometry x → IsUnfinished log bytes m
+    → IsState log.geometry x → bytes ≡ image_of 2 log.geometry x → IsCutUnfinished log bytes m
 unfinished_cut log m x bytes is synced is_state spelled = record {
   synced = synced;
   laid = laid_out log.geometry m.now log.named x is;
@@ -107,7 +107,7 @@ not_off false is = absurd (true≢false is)
 -- ---- as the log has it, on the device that was only read
 
 abbrev pub loaded_log : Geometry → ℕ → Log
-loaded_log g n = renamed n (new_log g)
+loaded_log g n = with_half_named n (new_log g)
 
 pub held_after : {g : Geometry} {log : Log} {n : ℕ} {t u : Bool} {x : State} → (w0 w1 : Medium) → log ≡ loaded_log g n → t ≡ u → moments w1
     ≡ moments w0 → NamedHolds g w0.now n t x → NamedHolds log.geometry w1.now log.named u x
@@ -153,7 +153,7 @@ are_loaded {q} {log} {m} is_log not_failed current_is_named tree geometry kept r
 
 -- once the last point is made
 pub made : {p q r : Parts} {w2 w3 : Medium} → AreUnloaded p → q.halves.geometry ≡ p.tree.geometry → KeepsBuffers p q → AreLoaded q w2 → KeepsBuffers q r
-    → r.tree ≡ q.tree → r.halves ≡ pointed q.halves → length w3.now ≡ length w2.now → IsMade r w3
+    → r.tree ≡ q.tree → r.halves ≡ pointed_log q.halves → length w3.now ≡ length w2.now → IsMade r w3
 made {p} {q} {r} {w3} taken same room loaded room' tree log long =
     let is : r.halves.geometry ≡ q.halves.geometry = ap (λ (l : Log). l.geometry) log in
     let kept = kept_then p q r room room' in
@@ -168,7 +168,7 @@ made {p} {q} {r} {w3} taken same room loaded room' tree log long =
       snapshot = kept.snapshot ∙ taken.snapshot ∙ sym (ap image_size (is ∙ same));
       named_dirty = (λ i. length (kept.named_dirty i).items) ∙ taken.named_dirty ∙ sym (ap piece_count (is ∙ same));
       other_dirty = (λ i. length (kept.other_dirty i).items) ∙ taken.other_dirty ∙ sym (ap piece_count (is ∙ same));
-      dirty = (λ i. record { named = (kept.named_dirty i).items; others = (kept.other_dirty i).items }) ∙ taken.dirty ∙ sym (ap opened_dirty (is ∙ same));
+      dirty = (λ i. record { named = (kept.named_dirty i).items; other = (kept.other_dirty i).items }) ∙ taken.dirty ∙ sym (ap opened_dirty (is ∙ same));
       pending = (λ i. length (kept.pending i).items) ∙ taken.pending ∙ sym (ap piece_count (is ∙ same));
     }
 
@@ -197,7 +197,7 @@ pub record RecoversTo (g : Geometry) (c : List ℕ) (x : State) : Type 0 where
   pub was : recovered_state g c ≡ Some x
 
 pub made_of : {p : Parts} {log : Log} {c : List ℕ} {w2 w3 : Medium} → AreBytes w3.now → RecoversTo p.tree.geometry c (state_in p.tree)
-    → p.halves ≡ pointed log → p.tree.geometry ≡ log.geometry → p.snapshot.items ≡ image_of 2 p.tree.geometry (state_in p.tree)
+    → p.halves ≡ pointed_log log → p.tree.geometry ≡ log.geometry → p.snapshot.items ≡ image_of 2 p.tree.geometry (state_in p.tree)
     → AreAllDirty log.geometry p.other_dirty.items → HoldsAlone log (state_in p.tree) w2 → IsPointed log p.snapshot.items w2 w3 → IsMadeOf c p w3
 made_of {p} {log} {w2} {w3} are before is_log geometry spelled all alone made =
     let same : p.halves.geometry ≡ log.geometry = ap (λ (l : Log). l.geometry) is_log in

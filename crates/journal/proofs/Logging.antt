@@ -4,7 +4,7 @@ use Rattle.std.proofs.lemmas.List.{length-map, take-map}
 use Rattle.std.proofs.lemmas.Slice.Eq.{bytes_eq-Decides}
 use Rattle.std.specs.Str.{bytes_eq}
 use Rattle.affinity.specs.declared.geometry.Geometry.{Geometry}
-use Rattle.checkpoint.specs.Recovery.{apply, apply_decoded, recovered_state, means}
+use Rattle.checkpoint.specs.Recovery.{apply, apply_decoded, recovered_state, decoding}
 use Rattle.disk.specs.Device.{AreBytes, IsCrashImage, Medium}
 use Rattle.disk.specs.Moments.{CrashImagesAre}
 use Rattle.disk.proofs.Leaves.{itself}
@@ -15,7 +15,7 @@ use Rattle.image.proofs.Untouched.{piece_stays}
 use Rattle.meaning.proofs.Kept.{step_kept}
 use Rattle.std.specs.List.{AllByRecursion}
 use Rattle.journal.specs.Journal.{AreCarriedOut, RecoversWithPrefix, IsRecoverable, records_in}
-use Rattle.journal.specs.Keeping.{IsCutOr, IsFresh, IsCutState, IsSoundJournal, coming, journal_view_of}
+use Rattle.journal.specs.Keeping.{IsCutOr, IsUpToDate, IsCutState, IsSoundJournal, image_after_cut, journal_view_of}
 use Rattle.journal.specs.DirtyPieces.{AreBothTouched, DirtiesTouched}
 use Rattle.journal.specs.Steps.{RecoversByArea, run_on}
 use Rattle.journal.specs.Extents.{AgreeOnClean, image_in, extent_of}
@@ -29,28 +29,28 @@ use Rattle.message.proofs.RecordLemmas.{record_says}
 use Rattle.oplog.specs.Calls.{Grows, HasAdded}
 use Rattle.oplog.specs.Changes.{IsReady}
 use Rattle.oplog.specs.Front.{chain, front}
-use Rattle.device_map.specs.Layout.{layout_of, image, other}
+use Rattle.device_map.specs.Layout.{layout_of, image_part, other}
 use Rattle.oplog.specs.Log.{Log}
 use Rattle.oplog.specs.Changing.{records_of}
 use Rattle.oplog.specs.Recovery.{run}
 use Rattle.oplog.proofs.AfterCrash.{append_recovers, all_by_area}
 use Rattle.oplog.proofs.Kept.{run-append}
-use Rattle.meaning.specs.Serial.{fold, is_loggable, next_state, reply_to}
+use Rattle.meaning.specs.Serial.{state_after_all, is_recorded, next_state, reply_to}
 use Rattle.meaning.specs.State.{State, IsState}
 
 -- ---- messages and their records
 
 -- the record of a message that is carried out leads to the state after it
-applied : (g : Geometry) (x : State) (m : Msg) → message_in_fields (record_of m) ≡ Some m → is_in_range g m ≡ true → is_loggable m (reply_to g x m)
+applied : (g : Geometry) (x : State) (m : Msg) → message_in_fields (record_of m) ≡ Some m → is_in_range g m ≡ true → is_recorded m (reply_to g x m)
     ≡ true → apply g x (record_of m) ≡ Some (next_state g x m)
-applied g x m says in_range loggable =
+applied g x m says in_range recorded =
     let same : bytes_eq (record_of m) (record_of m) ≡ true = (bytes_eq-Decides (record_of m) (record_of m)).1 refl in
-    ap (apply_decoded g x (record_of m)) says ∙ (λ i. cond (same i && in_range i && loggable i) (Some (next_state g x m)) None)
+    ap (apply_decoded g x (record_of m)) says ∙ (λ i. cond (same i && in_range i && recorded i) (Some (next_state g x m)) None)
 
-pub run_records : (g : Geometry) (x : State) (ms : List Msg) → AreCarriedOut g x ms → run_on g (Some x) (records_of ms) ≡ Some (fold g x ms)
+pub run_records : (g : Geometry) (x : State) (ms : List Msg) → AreCarriedOut g x ms → run_on g (Some x) (records_of ms) ≡ Some (state_after_all g x ms)
 run_records g x [] out = refl
 run_records g x (m ∷ ms) out =
-    ap (λ (o : Option State). run (means g) o (records_of ms)) (applied g x m (record_says g m out.0 out.1.1) out.1.1 out.2)
+    ap (λ (o : Option State). run (decoding g) o (records_of ms)) (applied g x m (record_says g m out.0 out.1.1) out.1.1 out.2)
     ∙ run_records g (next_state g x m) ms out.3
 
 pub first_carried : (g : Geometry) (n : ℕ) (x : State) (ms : List Msg) → AreCarriedOut g x ms → AreCarriedOut g x (take n ms)
@@ -78,27 +78,28 @@ one_stays : (g : Geometry) (x : State) (m : Msg) (n : ℕ) → IsState g x → m
 one_stays g x m zero is off = ap (λ (l : List ℕ). image_head 2 ++ l) (piece_stays 2 g x is m 0 off)
 one_stays g x m (suc n) is off = piece_stays 2 g x is m (suc n) off
 
-all_stay : (g : Geometry) (x : State) (ms : List Msg) (n : ℕ) → IsState g x → AreCarriedOut g x ms → AllByRecursion (λ m. may_change g m n ≡ false) ms → extent_of g (fold g x ms) n ≡ extent_of g x n
+all_stay : (g : Geometry) (x : State) (ms : List Msg) (n : ℕ) → IsState g x → AreCarriedOut g x ms → AllByRecursion (λ m. may_change g m n ≡ false) ms → extent_of g (state_after_all g x ms) n
+    ≡ extent_of g x n
 all_stay g x [] n is out off = refl
 all_stay g x (m ∷ ms) n is out off = all_stay g (next_state g x m) ms n (step_kept g x m is out.0) out.3 off.1 ∙ one_stays g x m n is off.0
 
-carried_state : (g : Geometry) (x : State) (ms : List Msg) → IsState g x → AreCarriedOut g x ms → IsState g (fold g x ms)
+carried_state : (g : Geometry) (x : State) (ms : List Msg) → IsState g x → AreCarriedOut g x ms → IsState g (state_after_all g x ms)
 carried_state g x [] is out = is
 carried_state g x (m ∷ ms) is out = carried_state g (next_state g x m) ms (step_kept g x m is out.0) out.3
 
 pub fresh_more : {g : Geometry} {x : State} → (ms : List Msg) (old new : List Bool) (bytes : List ℕ) → IsState g x → AreCarriedOut g x ms
-    → DirtiesTouched g ms old new → IsFresh g (Some x) old bytes → IsFresh g (Some (fold g x ms)) new bytes
+    → DirtiesTouched g ms old new → IsUpToDate g (Some x) old bytes → IsUpToDate g (Some (state_after_all g x ms)) new bytes
 fresh_more {g} {x} ms old new bytes is_state out touched fresh y is n few clean =
     let kept = (touched n few).0 clean in
     fresh x refl n few kept.0 ∙ sym (all_stay g x ms n is_state out kept.1) ∙ ap (λ (o : Option State). extent_of g (unwrap_or o x) n) is
 
 -- the journal's facts, in the words of contracts
-pub recoverable_of : {log : Log} {snapshot : List ℕ} {named others pending a b : List Bool} {left : Option ℕ} {failed : Bool} {m : Medium}
-    → IsSoundJournal log snapshot named others pending left m → IsRecoverable (journal_view_of log a b left failed m)
+pub recoverable_of : {log : Log} {snapshot : List ℕ} {named others pending a b : List Bool} {pieces_left : Option ℕ} {failed : Bool} {m : Medium}
+    → IsSoundJournal log snapshot named others pending pieces_left m → IsRecoverable (journal_view_of log a b pieces_left failed m)
 recoverable_of {log} {m} sound = record {
   some = sound.some;
   each = λ c gone. holds_by log.geometry log.named log.current (recovered_state log.geometry m.now) c (sound.recovers c gone);
-  forced = sound.forced;
+  same_records = sound.same_records;
   room = λ none.
       let count = sound.count none in
       let most = used_most (layout_of log.geometry) log.current log.used m sound.ready in
@@ -106,24 +107,26 @@ recoverable_of {log} {m} sound = record {
 }
 
 -- the same of a log, a snapshot and flags that are equal to these
-pub sound_along : {log log' : Log} {snapshot snapshot' : List ℕ} {named named' others others' pending : List Bool} {left left' : Option ℕ} {m : Medium} → log' ≡ log → snapshot' ≡ snapshot
-    → named' ≡ named → others' ≡ others → left' ≡ left → IsSoundJournal log snapshot named others pending left m → IsSoundJournal log' snapshot' named' others' pending left' m
-sound_along {pending} {m} log bytes row row' left sound = subst (λ (t : Type 0). t) (sym (λ i. IsSoundJournal (log i) (bytes i) (row i) (row' i) pending (left i) m)) sound
+pub sound_along : {log log' : Log} {snapshot snapshot' : List ℕ} {named named' others others' pending : List Bool} {pieces_left pieces_left' : Option ℕ} {m : Medium} → log' ≡ log
+    → snapshot' ≡ snapshot → named' ≡ named → others' ≡ others → pieces_left' ≡ pieces_left → IsSoundJournal log snapshot named others pending pieces_left m
+    → IsSoundJournal log' snapshot' named' others' pending pieces_left' m
+sound_along {pending} {m} log bytes row row' pieces_left sound = subst (λ (t : Type 0). t) (sym (λ i. IsSoundJournal (log i) (bytes i) (row i) (row' i) pending (pieces_left i) m)) sound
 
 -- how many records there are is no fact of a cut
-cut_used : (log : Log) (used : ℕ) (snapshot : List ℕ) (pending : List Bool) (left : Option ℕ) (m : Medium) → IsCutOr log snapshot pending left m
-    → IsCutOr (record log { used = used }) snapshot pending left m
+cut_used : (log : Log) (used : ℕ) (snapshot : List ℕ) (pending : List Bool) (pieces_left : Option ℕ) (m : Medium) → IsCutOr log snapshot pending pieces_left m
+    → IsCutOr (record log { used = used }) snapshot pending pieces_left m
 cut_used log used snapshot pending None m cut = tt
 cut_used log used snapshot pending (Some k) m cut = record { behind = cut.behind; written = cut.written; version = cut.version }
 
-coming_used : (log : Log) (used : ℕ) (snapshot : List ℕ) (left : Option ℕ) (m : Medium) → coming (record log { used = used }) snapshot left m ≡ coming log snapshot left m
+coming_used : (log : Log) (used : ℕ) (snapshot : List ℕ) (pieces_left : Option ℕ) (m : Medium) → image_after_cut (record log { used = used }) snapshot pieces_left m
+    ≡ image_after_cut log snapshot pieces_left m
 coming_used log used snapshot None m = refl
 coming_used log used snapshot (Some k) m = refl
 
 -- ---- logging
 
-module _ {log : Log} {snapshot : List ℕ} {named others pending : List Bool} {left : Option ℕ} (ms : List Msg) {w0 : Medium} (w1 : Medium) (are : AreBytes w0.now)
-    (sound : IsSoundJournal log snapshot named others pending left w0) where
+module _ {log : Log} {snapshot : List ℕ} {named others pending : List Bool} {pieces_left : Option ℕ} (ms : List Msg) {w0 : Medium} (w1 : Medium) (are : AreBytes w0.now)
+    (sound : IsSoundJournal log snapshot named others pending pieces_left w0) where
   is_area : log.named < 2
   is_area = named_below log.geometry log.named log.current (recovered_state log.geometry w0.now) w0 are sound.recovers
 
@@ -132,7 +135,7 @@ module _ {log : Log} {snapshot : List ℕ} {named others pending : List Bool} {l
 
   pub log_moments : Grows log ms w0 w1 → (x : State) → recovered_state log.geometry w0.now ≡ Some x → AreCarriedOut log.geometry x ms → CrashImagesAre w0 w1 (RecoversWithPrefix log.geometry x ms)
   log_moments grows x is out =
-      weaker w0 w1 _ _ (append_recovers (means log.geometry) (layout_of log.geometry) log.named log.current (recovered_state log.geometry w0.now)
+      weaker w0 w1 _ _ (append_recovers (decoding log.geometry) (layout_of log.geometry) log.named log.current (recovered_state log.geometry w0.now)
       (records_of ms) w0 w1 is_area is_half sound.recovers grows)
       (λ c some. record {
         added = some.added;
@@ -150,79 +153,79 @@ module _ {log : Log} {snapshot : List ℕ} {named others pending : List Bool} {l
   log_forced has c left =
       let after = has.left c left in
       forced_more log.geometry is_area is_half (sound.recovers after.old after.left) after.change
-      ∙ ap (λ rs. rs ++ records_of ms) (sound.forced after.old after.left) ∙ sym (log_records has)
+      ∙ ap (λ rs. rs ++ records_of ms) (sound.same_records after.old after.left) ∙ sym (log_records has)
 
-  log_count : HasAdded log ms w0 w1 → left ≡ None → length (records_in log.geometry w1.now) ≡ log.used + length ms
+  log_count : HasAdded log ms w0 w1 → pieces_left ≡ None → length (records_in log.geometry w1.now) ≡ log.used + length ms
   log_count has none =
       let before = sound.count none in
       let more = ap length (log_records has) ∙ length-append (records_in log.geometry w0.now) (records_of ms) in
       omega (arith, before, more, length-map ms record_of)
 
   module _ (x : State) (is : recovered_state log.geometry w0.now ≡ Some x) (out : AreCarriedOut log.geometry x ms) (has : HasAdded log ms w0 w1) (are' : AreBytes w1.now) where
-    leads : run_on log.geometry (recovered_state log.geometry w0.now) (records_of ms) ≡ Some (fold log.geometry x ms)
+    leads : run_on log.geometry (recovered_state log.geometry w0.now) (records_of ms) ≡ Some (state_after_all log.geometry x ms)
     leads = ap (λ (o : Option State). run_on log.geometry o (records_of ms)) is ∙ run_records log.geometry x ms out
 
-    recovers : RecoversByArea log.geometry log.named log.current (Some (fold log.geometry x ms)) w1
+    recovers : RecoversByArea log.geometry log.named log.current (Some (state_after_all log.geometry x ms)) w1
     recovers =
         subst (λ (o : Option State). RecoversByArea log.geometry log.named log.current o w1) leads
-        (all_by_area (means log.geometry) (layout_of log.geometry) log.named log.current log.used (recovered_state log.geometry w0.now) (records_of ms) w0 w1 is_area is_half sound.recovers has)
+        (all_by_area (decoding log.geometry) (layout_of log.geometry) log.named log.current log.used (recovered_state log.geometry w0.now) (records_of ms) w0 w1 is_area is_half sound.recovers has)
 
-    pub log_committed : recovered_state log.geometry w1.now ≡ Some (fold log.geometry x ms)
-    log_committed = holds_now log.geometry log.named log.current (Some (fold log.geometry x ms)) w1 are' recovers
+    pub log_committed : recovered_state log.geometry w1.now ≡ Some (state_after_all log.geometry x ms)
+    log_committed = holds_now log.geometry log.named log.current (Some (state_after_all log.geometry x ms)) w1 are' recovers
 
     images : (i : ℕ) → i < 2 → image_in log.geometry i w1 ≡ image_in log.geometry i w0
-    images i is_image = has.has.same.others (image i) (λ same. omega (arith, same, is_half))
+    images i is_image = has.has.same.others (image_part i) (λ same. omega (arith, same, is_half))
 
     -- whichever image it is
-    still_coming : (left : Option ℕ) → coming log snapshot left w1 ≡ coming log snapshot left w0
+    still_coming : (pieces_left : Option ℕ) → image_after_cut log snapshot pieces_left w1 ≡ image_after_cut log snapshot pieces_left w0
     still_coming None = images (other log.named) (omega arith)
     still_coming (Some k) = refl
 
-    cut_more : (left : Option ℕ) → IsCutState log pending left → IsCutOr log snapshot pending left w0 → IsCutOr log snapshot pending left w1
+    cut_more : (pieces_left : Option ℕ) → IsCutState log pending pieces_left → IsCutOr log snapshot pending pieces_left w0 → IsCutOr log snapshot pending pieces_left w1
     cut_more None placed cut = tt
     cut_more (Some k) placed cut = record {
       behind =
           ap (λ (rs : List (List ℕ)). run_on log.geometry (read log.geometry snapshot) rs)
           (subst (λ (h : ℕ). front (layout_of log.geometry) h w1.now ≡ front (layout_of log.geometry) h w0.now ++ records_of ms) placed.0 has.has.front)
-          ∙ run-append (means log.geometry) (read log.geometry snapshot) (front (layout_of log.geometry) (other log.named) w0.now) (records_of ms)
+          ∙ run-append (decoding log.geometry) (read log.geometry snapshot) (front (layout_of log.geometry) (other log.named) w0.now) (records_of ms)
           ∙ ap (λ (o : Option State). run_on log.geometry o (records_of ms)) cut.behind ∙ leads ∙ sym log_committed;
       written = subst (λ (l : List ℕ). AgreeOnClean log.geometry pending l snapshot) (sym (images (other log.named) (omega arith))) cut.written;
       version = cut.version;
     }
 
-    pub log_sound : {named' others' : List Bool} → IsCutState log pending left
-        → AreBothTouched log.geometry ms (record { named = named; others = others }) (record { named = named'; others = others' })
-        → IsSoundJournal (record log { used = log.used + length ms }) snapshot named' others' pending left w1
+    pub log_sound : {named' others' : List Bool} → IsCutState log pending pieces_left
+        → AreBothTouched log.geometry ms (record { named = named; other = others }) (record { named = named'; other = others' })
+        → IsSoundJournal (record log { used = log.used + length ms }) snapshot named' others' pending pieces_left w1
     log_sound {named'} {others'} placed touched =
         let used : log.used + length (records_of ms) ≡ log.used + length ms = ap (λ (n : ℕ). log.used + n) (length-map ms record_of) in
         record {
           some = ap is_some log_committed;
           recovers = subst (λ (o : Option State). RecoversByArea log.geometry log.named log.current o w1) (sym log_committed) recovers;
           ready = subst (λ (n : ℕ). IsReady (layout_of log.geometry) log.current n w1) used has.ready;
-          forced = log_forced has;
+          same_records = log_forced has;
           count = log_count has;
           state = λ z is'. subst (λ (s : State). IsState log.geometry s) (ap (λ (o : Option State). unwrap_or o x) (sym log_committed ∙ is')) (carried_state log.geometry x ms (sound.state x is) out);
-          named_fresh =
-              subst (λ (o : Option State). IsFresh log.geometry o named' (image_in log.geometry log.named w1)) (sym log_committed)
+          named_up_to_date =
+              subst (λ (o : Option State). IsUpToDate log.geometry o named' (image_in log.geometry log.named w1)) (sym log_committed)
               (fresh_more ms named named' (image_in log.geometry log.named w1) (sound.state x is) out touched.named
-              (subst (λ (l : List ℕ). IsFresh log.geometry (Some x) named l) (sym (images log.named is_area))
-              (subst (λ (o : Option State). IsFresh log.geometry o named (image_in log.geometry log.named w0)) is sound.named_fresh)));
-          snapshot_fresh = λ none.
-              subst (λ (o : Option State). IsFresh log.geometry o named' snapshot) (sym log_committed)
+              (subst (λ (l : List ℕ). IsUpToDate log.geometry (Some x) named l) (sym (images log.named is_area))
+              (subst (λ (o : Option State). IsUpToDate log.geometry o named (image_in log.geometry log.named w0)) is sound.named_up_to_date)));
+          snapshot_up_to_date = λ none.
+              subst (λ (o : Option State). IsUpToDate log.geometry o named' snapshot) (sym log_committed)
               (fresh_more ms named named' snapshot (sound.state x is) out touched.named
-              (subst (λ (o : Option State). IsFresh log.geometry o named snapshot) is (sound.snapshot_fresh none)));
-          others_fresh =
-              subst (λ (l : List ℕ). IsFresh log.geometry (recovered_state log.geometry w1.now) others' l) (sym (coming_used log (log.used + length ms) snapshot left w1))
-              (subst (λ (o : Option State). IsFresh log.geometry o others' (coming log snapshot left w1)) (sym log_committed)
-              (fresh_more ms others others' (coming log snapshot left w1) (sound.state x is) out touched.others
-              (subst (λ (l : List ℕ). IsFresh log.geometry (Some x) others l) (sym (still_coming left))
-              (subst (λ (o : Option State). IsFresh log.geometry o others (coming log snapshot left w0)) is sound.others_fresh))));
-          by_cut = cut_used log (log.used + length ms) snapshot pending left w1 (cut_more left placed sound.by_cut);
+              (subst (λ (o : Option State). IsUpToDate log.geometry o named snapshot) is (sound.snapshot_up_to_date none)));
+          other_up_to_date =
+              subst (λ (l : List ℕ). IsUpToDate log.geometry (recovered_state log.geometry w1.now) others' l) (sym (coming_used log (log.used + length ms) snapshot pieces_left w1))
+              (subst (λ (o : Option State). IsUpToDate log.geometry o others' (image_after_cut log snapshot pieces_left w1)) (sym log_committed)
+              (fresh_more ms others others' (image_after_cut log snapshot pieces_left w1) (sound.state x is) out touched.other
+              (subst (λ (l : List ℕ). IsUpToDate log.geometry (Some x) others l) (sym (still_coming pieces_left))
+              (subst (λ (o : Option State). IsUpToDate log.geometry o others (image_after_cut log snapshot pieces_left w0)) is sound.other_up_to_date))));
+          by_cut = cut_used log (log.used + length ms) snapshot pending pieces_left w1 (cut_more pieces_left placed sound.by_cut);
         }
 
 -- ---- the same in the words of the code
 
-pub placed_used : (log : Log) (used : ℕ) (pending : List Bool) (left : Option ℕ) → IsCutState log pending left → IsCutState (record log { used = used }) pending left
+pub placed_used : (log : Log) (used : ℕ) (pending : List Bool) (pieces_left : Option ℕ) → IsCutState log pending pieces_left → IsCutState (record log { used = used }) pending pieces_left
 placed_used log used pending None placed = placed
 placed_used log used pending (Some k) placed = placed
 
@@ -230,20 +233,20 @@ pub touched_along : {g g' : Geometry} → (ms : List Msg) → {old old' new new'
 touched_along {g} ms {old} {old'} {new'} same was is touched =
     subst (λ (x : Geometry). DirtiesTouched x ms old' new') same (subst (λ (l : List Bool). DirtiesTouched g ms l new') was (subst (λ (l : List Bool). DirtiesTouched g ms old l) (sym is) touched))
 
-pub log_kept : {log : Log} {snapshot : List ℕ} {named others pending named' others' : List Bool} {left : Option ℕ} → (ms : List Msg) → {w0 w1 : Medium} → AreBytes w0.now
-    → AreBytes w1.now → IsSoundJournal log snapshot named others pending left w0
-    → ((x : State) → recovered_state log.geometry w0.now ≡ Some x → AreCarriedOut log.geometry x ms) → HasAdded log ms w0 w1 → IsCutState log pending left
-    → AreBothTouched log.geometry ms (record { named = named; others = others }) (record { named = named'; others = others' })
-    → IsSoundJournal (record log { used = log.used + length ms }) snapshot named' others' pending left w1
+pub log_kept : {log : Log} {snapshot : List ℕ} {named others pending named' others' : List Bool} {pieces_left : Option ℕ} → (ms : List Msg) → {w0 w1 : Medium} → AreBytes w0.now
+    → AreBytes w1.now → IsSoundJournal log snapshot named others pending pieces_left w0
+    → ((x : State) → recovered_state log.geometry w0.now ≡ Some x → AreCarriedOut log.geometry x ms) → HasAdded log ms w0 w1 → IsCutState log pending pieces_left
+    → AreBothTouched log.geometry ms (record { named = named; other = others }) (record { named = named'; other = others' })
+    → IsSoundJournal (record log { used = log.used + length ms }) snapshot named' others' pending pieces_left w1
 log_kept {log} ms {w0} {w1} are are' sound out has placed touched =
     let value = some_value (recovered_state log.geometry w0.now) sound.some in
     log_sound ms w1 are sound value.0 value.1 (out value.0 value.1) has are' placed touched
 
-pub log_told : {log : Log} {snapshot : List ℕ} {named others pending : List Bool} {left : Option ℕ} → (ms : List Msg) → {w0 w1 : Medium} → AreBytes w0.now
-    → AreBytes w1.now → IsSoundJournal log snapshot named others pending left w0
+pub log_told : {log : Log} {snapshot : List ℕ} {named others pending : List Bool} {pieces_left : Option ℕ} → (ms : List Msg) → {w0 w1 : Medium} → AreBytes w0.now
+    → AreBytes w1.now → IsSoundJournal log snapshot named others pending pieces_left w0
     → ((x : State) → recovered_state log.geometry w0.now ≡ Some x → AreCarriedOut log.geometry x ms) → HasAdded log ms w0 w1 → recovered_state log.geometry w1.now
-    ≡ option_map (λ x. fold log.geometry x ms) (recovered_state log.geometry w0.now)
+    ≡ option_map (λ x. state_after_all log.geometry x ms) (recovered_state log.geometry w0.now)
 log_told {log} ms {w0} {w1} are are' sound out has =
     let value = some_value (recovered_state log.geometry w0.now) sound.some in
     log_committed ms w1 are sound value.0 value.1 (out value.0 value.1) has are'
-    ∙ sym (ap (λ (o : Option State). option_map (λ x. fold log.geometry x ms) o) value.1)
+    ∙ sym (ap (λ (o : Option State). option_map (λ x. state_after_all log.geometry x ms) o) value.1)

@@ -5,7 +5,7 @@ use Rattle.checkpoint.specs.declared.fault.OpenFault.{OpenFault}
 use Rattle.checkpoint.specs.declared.fault.OpenFault.TheVariants.{Device, TooShort, NotFormatted, BadGeometry, OutOfMemory, BadVersion, BadPiece, BadChain, BadRecord}
 use Rattle.checkpoint.specs.Header.{HasHeader}
 use Rattle.checkpoint.specs.Recovery.{recovered_state}
-use Rattle.checkpoint.specs.Loading.{IsFaultOfBytes, IsOfHalf}
+use Rattle.checkpoint.specs.Loading.{IsConsistentFault, IsOfHalf}
 use Rattle.checkpoint.specs.Refusals.{IsRefused, fault_or_later, refused}
 use Rattle.checkpoint.proofs.OneGeometry.{one_geometry, same_geometry}
 use Rattle.checkpoint.proofs.Refusing.{records_half}
@@ -15,9 +15,9 @@ use Rattle.disk.specs.Moments.{CrashImagesAre, left_since}
 use Rattle.disk.proofs.Leaves.{synced_left, itself}
 use Rattle.disk.proofs.Moments.{leaves_now, same, started, then, weaker}
 use Rattle.image.specs.Image.{read}
-use Rattle.journal.specs.Opening.{area_state, IsRefusedBehind, IsRefusedUnwritten, IsUnwritten, OpeningCrashImages, RecoversAs}
-use Rattle.journal.specs.Parts.{IsBad, IsRefusedAlike}
-use Rattle.journal.specs.Steps.{IsAlone, IsFinished, RecoversByArea, RecoversStill, finished_now}
+use Rattle.journal.specs.Opening.{area_state, IsBadAfterCut, IsRefusedUnwritten, IsUnwritten, OpeningCrashImages, RecoversAsBefore}
+use Rattle.journal.specs.Parts.{IsFaultAfterCut, IsRefusedAlike}
+use Rattle.journal.specs.Steps.{RecoversByNamedAlone, IsCutFinished, RecoversByArea, RecoversStill, finished_log}
 use Rattle.journal.specs.Extents.{image_in}
 use Rattle.device_map.specs.Layout.{device_size, layout_of, other}
 use Rattle.oplog.specs.Log.{Log}
@@ -41,9 +41,9 @@ pub still_now : (g : Geometry) (w0 w1 : Medium) → AreBytes w1.now → Recovers
 still_now g w0 w1 are moments = leaves_now w0 w1 _ moments w1.now (itself w1.now w1.unsynced are)
 
 -- what recovers to the same by the geometry of the header, and is refused alike
-recovers_as : (g : Geometry) (before c : List ℕ) → HasHeader g before → device_size (layout_of g) ≤ length before → recovered_state g c ≡ recovered_state g before
-    → ((fault : OpenFault) → refused g before ≡ Some fault → HasHeader g c × (refused g c ≡ Some fault)) → RecoversAs before c
-recovers_as g before c head fits is alike = record {
+recovers_by_area : (g : Geometry) (before c : List ℕ) → HasHeader g before → device_size (layout_of g) ≤ length before → recovered_state g c ≡ recovered_state g before
+    → ((fault : OpenFault) → refused g before ≡ Some fault → HasHeader g c × (refused g c ≡ Some fault)) → RecoversAsBefore before c
+recovers_by_area g before c head fits is alike = record {
   same = λ h x held.
       let one = one_geometry g h before head x held in
       ap (λ (k : Geometry). recovered_state k c) (sym one) ∙ is ∙ ap (λ (k : Geometry). recovered_state k before) one ∙ held;
@@ -62,7 +62,7 @@ both_leave w0 w1 P Q first second = record {
 }
 
 -- a device that is only read
-pub as_before : (w0 w1 : Medium) → IsSynced w0 → moments w1 ≡ moments w0 → CrashImagesAre w0 w1 (RecoversAs w0.now)
+pub as_before : (w0 w1 : Medium) → IsSynced w0 → moments w1 ≡ moments w0 → CrashImagesAre w0 w1 (RecoversAsBefore w0.now)
 as_before w0 w1 synced only =
     same w0 w0 w1 _
     (started w0 _
@@ -92,14 +92,14 @@ alike_after g w0 w1 w2 head synced only later =
 
 -- one that is refused or not
 pub as_alike : (g : Geometry) (w0 w1 : Medium) → HasHeader g w0.now → device_size (layout_of g) ≤ length w0.now → RecoversStill g w0 w1
-    → CrashImagesAre w0 w1 (IsRefusedAlike g w0.now) → CrashImagesAre w0 w1 (RecoversAs w0.now)
+    → CrashImagesAre w0 w1 (IsRefusedAlike g w0.now) → CrashImagesAre w0 w1 (RecoversAsBefore w0.now)
 as_alike g w0 w1 head fits still alike =
-    weaker w0 w1 _ _ (both_leave w0 w1 _ _ still alike) (λ c is. recovers_as g w0.now c head fits is.0 (λ fault was. (is.1.header, is.1.refused ∙ was)))
+    weaker w0 w1 _ _ (both_leave w0 w1 _ _ still alike) (λ c is. recovers_by_area g w0.now c head fits is.0 (λ fault was. (is.1.header, is.1.refused ∙ was)))
 
 -- one that isn't
 pub as_still : (g : Geometry) (w0 w1 : Medium) → HasHeader g w0.now → device_size (layout_of g) ≤ length w0.now → refused g w0.now ≡ None
-    → RecoversStill g w0 w1 → CrashImagesAre w0 w1 (RecoversAs w0.now)
-as_still g w0 w1 head fits fine still = weaker w0 w1 _ _ still (λ c is. recovers_as g w0.now c head fits is (λ fault was. none_some (sym fine ∙ was)))
+    → RecoversStill g w0 w1 → CrashImagesAre w0 w1 (RecoversAsBefore w0.now)
+as_still g w0 w1 head fits fine still = weaker w0 w1 _ _ still (λ c is. recovers_by_area g w0.now c head fits is (λ fault was. none_some (sym fine ∙ was)))
   where
     none_some : {T : Type 0} {fault : OpenFault} → None ≡ Some fault → T
     none_some is = cc
@@ -129,7 +129,7 @@ all_unwritten BadChain w0 w1 is own = is
 all_unwritten (BadRecord h i) w0 w1 is own = λ g head. ((λ named. is), (λ behind. absurd (behind (own g))))
 
 -- what was refused behind, seen from before
-pub behind_from : (g : Geometry) (h i : ℕ) (w0 w1 w2 : Medium) → w1.now ≡ w0.now → IsRefusedBehind g h i w1 w2 → IsRefusedBehind g h i w0 w2
+pub behind_from : (g : Geometry) (h i : ℕ) (w0 w1 w2 : Medium) → w1.now ≡ w0.now → IsBadAfterCut g h i w1 w2 → IsBadAfterCut g h i w0 w2
 behind_from g h i w0 w1 w2 now b = record {
   named = b.named;
   image = b.image ∙ ap (λ (c : List ℕ). area_state g (named_area (layout_of g) c) c) now;
@@ -139,7 +139,7 @@ behind_from g h i w0 w1 w2 now b = record {
 }
 
 -- what is bad, seen from before
-pub bad_from : (g : Geometry) (h : ℕ) (e : OpenFault) (w0 w1 w2 : Medium) → w1.now ≡ w0.now → IsBad g h w1 w2 e → IsBad g h w0 w2 e
+pub bad_from : (g : Geometry) (h : ℕ) (e : OpenFault) (w0 w1 w2 : Medium) → w1.now ≡ w0.now → IsFaultAfterCut g h w1 w2 e → IsFaultAfterCut g h w0 w2 e
 bad_from g h Device w0 w1 w2 now bad = tt
 bad_from g h (BadRecord k i) w0 w1 w2 now bad = (bad.0, behind_from g k i w0 w1 w2 now bad.1)
 bad_from g h TooShort w0 w1 w2 now bad = bad
@@ -151,10 +151,11 @@ bad_from g h (BadPiece n) w0 w1 w2 now bad = bad
 bad_from g h BadChain w0 w1 w2 now bad = bad
 
 -- a bad record of the other half
-pub bad_behind : {n : ℕ} → (e : OpenFault) (w0 w1 : Medium) (g : Geometry) → n < 2 → n ≡ named_area (layout_of g) w0.now → HasHeader g w0.now → IsBad g (other n) w0 w1 e → IsRefusedUnwritten w0 e w1
+pub bad_behind : {n : ℕ} → (e : OpenFault) (w0 w1 : Medium) (g : Geometry) → n < 2 → n ≡ named_area (layout_of g) w0.now → HasHeader g w0.now → IsFaultAfterCut g (other n) w0 w1 e
+    → IsRefusedUnwritten w0 e w1
 bad_behind Device w0 w1 g is_area named head bad = tt
 bad_behind (BadRecord h i) w0 w1 g is_area named head bad =
-    λ k head'. ((λ here. absurd (omega (arith, is_area, bad.0, here, named))), (λ behind. subst (λ (x : Geometry). IsRefusedBehind x h i w0 w1) (same_geometry g k (sym head ∙ head')) bad.1))
+    λ k head'. ((λ here. absurd (omega (arith, is_area, bad.0, here, named))), (λ behind. subst (λ (x : Geometry). IsBadAfterCut x h i w0 w1) (same_geometry g k (sym head ∙ head')) bad.1))
 bad_behind TooShort w0 w1 g is_area named head bad = absurd bad
 bad_behind NotFormatted w0 w1 g is_area named head bad = absurd bad
 bad_behind BadGeometry w0 w1 g is_area named head bad = absurd bad
@@ -164,7 +165,7 @@ bad_behind (BadPiece k) w0 w1 g is_area named head bad = absurd bad
 bad_behind BadChain w0 w1 g is_area named head bad = absurd bad
 
 -- nothing is unsynced then
-pub bad_synced : (g : Geometry) (h : ℕ) (e : OpenFault) (w0 w1 : Medium) → e ≢ Device → IsBad g h w0 w1 e → IsSynced w1
+pub bad_synced : (g : Geometry) (h : ℕ) (e : OpenFault) (w0 w1 : Medium) → e ≢ Device → IsFaultAfterCut g h w0 w1 e → IsSynced w1
 bad_synced g h Device w0 w1 other bad = absurd (other refl)
 bad_synced g h (BadRecord k i) w0 w1 other bad = bad.1.synced
 bad_synced g h TooShort w0 w1 other bad = absurd bad
@@ -204,11 +205,11 @@ unwritten_then w0 w1 w2 are synced now first is = record {
 pub never_synced : (w0 w1 : Medium) → CrashImagesAre w0 w1 (IsCrashImage w0) → OpeningCrashImages w0 w1
 never_synced w0 w1 first = record { synced = w1; first = first; rest = inl refl }
 
-pub synced_then : (w0 w1 w2 : Medium) → IsSynced w1 → w1.now ≡ w0.now → CrashImagesAre w0 w1 (IsCrashImage w0) → CrashImagesAre w1 w2 (RecoversAs w1.now) → OpeningCrashImages w0 w2
+pub synced_then : (w0 w1 w2 : Medium) → IsSynced w1 → w1.now ≡ w0.now → CrashImagesAre w0 w1 (IsCrashImage w0) → CrashImagesAre w1 w2 (RecoversAsBefore w1.now) → OpeningCrashImages w0 w2
 synced_then w0 w1 w2 synced now first later = record {
   synced = w1;
   first = first;
-  rest = inr (record { is_synced = synced; now = now; later = subst (λ (c : List ℕ). CrashImagesAre w1 w2 (RecoversAs c)) now later });
+  rest = inr (record { is_synced = synced; now = now; later = subst (λ (c : List ℕ). CrashImagesAre w1 w2 (RecoversAsBefore c)) now later });
 }
 
 -- ---- what a read leaves
@@ -230,7 +231,7 @@ leaves_read w0 w1 only c left = subst (λ (l : List Bool). IsTornFrom w0.now l c
 
 -- once a cut was finished and the records behind it were run
 pub alone_finished : {log : Log} {w0 w1 w2 : Medium} {y : State} → AreBytes w2.now → RecoversStill log.geometry w0 w2 → recovered_state log.geometry w0.now
-    ≡ Some y → IsFinished log w0 w1 → moments w2 ≡ moments w1 → IsAlone (finished_now log) w2
+    ≡ Some y → IsCutFinished log w0 w1 → moments w2 ≡ moments w1 → RecoversByNamedAlone (finished_log log) w2
 alone_finished {log} {w0} {w1} {w2} are still held finished only =
     let now = still_now log.geometry w0 w2 are still in
     record {
@@ -250,7 +251,7 @@ if_err (Err e) P Q gives held = gives e held
 
 -- A cut was finished: the area of half h is named, with the image of what the area named before had by itself, nothing is unsynced,
 -- and the device is refused as it was.
-pub record IsFinishedCut (g : Geometry) (h : ℕ) (old new : Medium) : Type 0 where
+pub record FinishedAndRefused (g : Geometry) (h : ℕ) (old new : Medium) : Type 0 where
   pub alike : IsRefusedAlike g old.now new.now
   pub named : named_area (layout_of g) new.now ≡ h
   pub image : read g (image_in g h new) ≡ area_state g (named_area (layout_of g) old.now) old.now
@@ -259,7 +260,7 @@ pub record IsFinishedCut (g : Geometry) (h : ℕ) (old new : Medium) : Type 0 wh
 -- A record that can't be run is one of the half whose records are run, once the cut before it is finished: its area is named,
 -- and the device is refused for it as it was.
 pub bad_half : {g : Geometry} {h : ℕ} → (o : Option ℕ) → {w0 w2 : Medium} → (e : OpenFault) → e ≢ OutOfMemory
-    → IsFaultOfBytes (fault_or_later (BadRecord h) o None) e → HasHeader g w0.now → IsRefused w0.now e → IsFinishedCut g h w0 w2 → IsBad g h w0 w2 e
+    → IsConsistentFault (fault_or_later (BadRecord h) o None) e → HasHeader g w0.now → IsRefused w0.now e → FinishedAndRefused g h w0 w2 → IsFaultAfterCut g h w0 w2 e
 bad_half o Device some is head why done = tt
 bad_half o OutOfMemory some is head why done = absurd (some refl)
 bad_half o NotFormatted some is head why done = absurd is

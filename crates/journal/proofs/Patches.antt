@@ -11,8 +11,8 @@ use Rattle.image.specs.Pieces.{piece_count}
 use Rattle.journal.specs.Extents.{AgreeOnClean, Imaged, IsPatchedAt, image_in, extent_at, extent_size}
 use Rattle.journal.proofs.Places.{extent_inside, extent_next, extent_rises}
 use Rattle.journal.proofs.Runs.{part_begun, part_then}
-use Rattle.oplog.specs.Changes.{ChangesOnly, IsSameBut}
-use Rattle.device_map.specs.Layout.{slice, layout_of, image, image_size, part_at, part_size, device_size}
+use Rattle.oplog.specs.Changes.{CrashesChangeOnly, IsSameBut}
+use Rattle.device_map.specs.Layout.{slice, layout_of, image_part, image_size, part_at, part_size, device_size}
 use Rattle.oplog.proofs.Slices.{same_but_both, same_but_none, image_sized, part_inside}
 
 -- ---- lists of bytes
@@ -66,37 +66,37 @@ all_done n bytes old new long long' so_far = sym (take_all n new (omega (arith, 
 pub image_long : (g : Geometry) (area : ℕ) (m : Medium) → area < 2 → device_size (layout_of g) ≤ length m.now → length (image_in g area m) ≡ image_size g
 image_long g area m is_area whole =
     let sized = image_sized (layout_of g) area is_area in
-    let inside = part_inside (layout_of g) (image area) in
-    length-take-le (part_size (layout_of g) (image area)) (drop (part_at (layout_of g) (image area)) m.now)
-    (omega (arith, inside, whole, length-drop (part_at (layout_of g) (image area)) m.now)) ∙ sized
+    let inside = part_inside (layout_of g) (image_part area) in
+    length-take-le (part_size (layout_of g) (image_part area)) (drop (part_at (layout_of g) (image_part area)) m.now)
+    (omega (arith, inside, whole, length-drop (part_at (layout_of g) (image_part area)) m.now)) ∙ sized
 
 -- So many bytes of the image are written, and nothing else has changed.
 pub record IsPatched (g : Geometry) (area from : ℕ) (bytes : List ℕ) (old new : Medium) : Type 0 where
-  pub moments : ChangesOnly old new (IsSameBut (layout_of g) (image area))
-  pub same : IsSameBut (layout_of g) (image area) old.now new.now
+  pub moments : CrashesChangeOnly old new (IsSameBut (layout_of g) (image_part area))
+  pub same : IsSameBut (layout_of g) (image_part area) old.now new.now
   pub up_to : UpTo from bytes (image_in g area old) (image_in g area new)
 
 pub patch_begun : (g : Geometry) (area : ℕ) (bytes : List ℕ) (m : Medium) → IsPatched g area 0 bytes m m
 patch_begun g area bytes m = record {
-  moments = part_begun (layout_of g) (image area) m;
-  same = same_but_none (layout_of g) (image area) m.now;
+  moments = part_begun (layout_of g) (image_part area) m;
+  same = same_but_none (layout_of g) (image_part area) m.now;
   up_to = none_yet bytes (image_in g area m);
 }
 
 module _ {g : Geometry} {area from : ℕ} {bytes : List ℕ} {w0 w w1 : Medium} (so_far : IsPatched g area from bytes w0 w)
-    (moments : ChangesOnly w w1 (IsSameBut (layout_of g) (image area))) where
-  pub patch_moments : ChangesOnly w0 w1 (IsSameBut (layout_of g) (image area))
-  patch_moments = part_then (layout_of g) (image area) w0 w w1 so_far.moments moments
+    (moments : CrashesChangeOnly w w1 (IsSameBut (layout_of g) (image_part area))) where
+  pub patch_moments : CrashesChangeOnly w0 w1 (IsSameBut (layout_of g) (image_part area))
+  patch_moments = part_then (layout_of g) (image_part area) w0 w w1 so_far.moments moments
 
   module _ {at : ℕ} (is_area : area < 2) (size : length bytes ≡ image_size g) (whole : device_size (layout_of g) ≤ length w0.now)
-      (order : from ≤ at) (inside : at ≤ image_size g) (same : IsSameBut (layout_of g) (image area) w.now w1.now)
+      (order : from ≤ at) (inside : at ≤ image_size g) (same : IsSameBut (layout_of g) (image_part area) w.now w1.now)
       (written : image_in g area w1 ≡ overlaid (image_in g area w) from (slice bytes from (at - from))) where
     pub patched : IsPatched g area at bytes w0 w1
     patched =
         let long = image_long g area w is_area (omega (arith, whole, so_far.same.size)) in
         record {
           moments = patch_moments;
-          same = same_but_both (layout_of g) (image area) w0.now w.now w1.now so_far.same same;
+          same = same_but_both (layout_of g) (image_part area) w0.now w.now w1.now so_far.same same;
           up_to = run_done order (omega (arith, inside, size)) (omega (arith, inside, long)) so_far.up_to written;
         }
 

@@ -3,14 +3,14 @@ use Rattle.std.proofs.Common.{◌≡◌, ◌≢◌, ◌<◌, ◌-◌, ℕ, Bool,
 use Rattle.std.proofs.lemmas.Bool.{cases_eq}
 use Rattle.std.proofs.lemmas.List.{get_or-set_other}
 use Rattle.affinity.specs.declared.geometry.Geometry.{Geometry}
-use Rattle.checkpoint.specs.Recovery.{recovered_state, means}
+use Rattle.checkpoint.specs.Recovery.{recovered_state, decoding}
 use Rattle.disk.specs.Device.{AreBytes, IsCrashImage, Medium}
 use Rattle.disk.specs.Moments.{CrashImagesAre}
 use Rattle.disk.proofs.Leaves.{itself}
 use Rattle.disk.proofs.Moments.{leaves_now}
 use Rattle.image.specs.Image.{read}
-use Rattle.journal.specs.Images.{PatchesAt, PatchesOne}
-use Rattle.journal.specs.Keeping.{IsFresh, IsCutState, IsSoundJournal}
+use Rattle.journal.specs.Images.{PatchesAt, PatchesUnnamed}
+use Rattle.journal.specs.Keeping.{IsUpToDate, IsCutState, IsSoundJournal}
 use Rattle.journal.specs.DirtyPieces.{count_dirty}
 use Rattle.journal.specs.Steps.{RecoversByArea, run_on}
 use Rattle.journal.specs.Extents.{IsPatchedAt, image_in, extent_in}
@@ -20,18 +20,18 @@ use Rattle.journal.proofs.Forced.{forced_kept}
 use Rattle.journal.proofs.Logging.{half_below}
 use Rattle.journal.proofs.Rows.{count_cleared}
 use Rattle.journal.proofs.Recovering.{half_same, holds_moments, holds_now}
-use Rattle.oplog.specs.Changes.{ChangesOnly, IsReady, IsSameBut}
+use Rattle.oplog.specs.Changes.{CrashesChangeOnly, IsReady, IsSameBut}
 use Rattle.oplog.specs.Crash.{RecoversBy}
 use Rattle.oplog.specs.Recovery.{named_area}
-use Rattle.device_map.specs.Layout.{layout_of, half, image, other}
+use Rattle.device_map.specs.Layout.{layout_of, half_part, image_part, other}
 use Rattle.oplog.specs.Log.{Log}
 use Rattle.oplog.proofs.AfterCrash.{image_by_area}
 use Rattle.meaning.specs.State.{State}
 
 -- ---- how many are left
 
-pub piece_left : (log : Log) (pending : List Bool) (left : Option ℕ) (n : ℕ) → {count : ℕ} → is_some left ≡ true → IsCutState log pending left
-    → get_or pending n false ≡ true → count ≡ count_dirty (set pending n false) → option_map (λ l. l - 1) left ≡ Some count
+pub piece_left : (log : Log) (pending : List Bool) (pieces_left : Option ℕ) (n : ℕ) → {count : ℕ} → is_some pieces_left ≡ true → IsCutState log pending pieces_left
+    → get_or pending n false ≡ true → count ≡ count_dirty (set pending n false) → option_map (λ l. l - 1) pieces_left ≡ Some count
 piece_left log pending None n some placed dirty_at is = absurd (true≢false (sym some))
 piece_left log pending (Some l) n {count} some placed dirty_at is =
     let fewer = count_cleared pending n dirty_at in
@@ -39,18 +39,18 @@ piece_left log pending (Some l) n {count} some placed dirty_at is =
     ap (λ (k : ℕ). Some k) one
 
 -- one fewer, and those are the ones that are pending then
-pub piece_counted : (log : Log) (pending : List Bool) (left : Option ℕ) (n : ℕ) → {fewer : ℕ} → is_some left ≡ true → IsCutState log pending left
-    → get_or pending n false ≡ true → fewer ≡ unwrap_or left 0 - 1 → fewer ≡ count_dirty (set pending n false)
+pub piece_counted : (log : Log) (pending : List Bool) (pieces_left : Option ℕ) (n : ℕ) → {fewer : ℕ} → is_some pieces_left ≡ true → IsCutState log pending pieces_left
+    → get_or pending n false ≡ true → fewer ≡ unwrap_or pieces_left 0 - 1 → fewer ≡ count_dirty (set pending n false)
 piece_counted log pending None n some placed dirty_at is = absurd (true≢false (sym some))
 piece_counted log pending (Some l) n some placed dirty_at is = let one = count_cleared pending n dirty_at in omega (arith, one, is, placed.1)
 
 -- where none is pending, none is left
-pub none_due : (log : Log) (pending : List Bool) (left : Option ℕ) → is_some left ≡ true → IsCutState log pending left → count_dirty pending ≡ 0 → left ≡ Some 0
+pub none_due : (log : Log) (pending : List Bool) (pieces_left : Option ℕ) → is_some pieces_left ≡ true → IsCutState log pending pieces_left → count_dirty pending ≡ 0 → pieces_left ≡ Some 0
 none_due log pending None some placed none = absurd (true≢false (sym some))
 none_due log pending (Some l) some placed none = ap (λ (k : ℕ). Some k) (sym placed.1 ∙ none)
 
-pub piece_some : (log : Log) (pending : List Bool) (left : Option ℕ) (n : ℕ) → IsCutState log pending left → get_or pending n false ≡ true → left ≡ Some 0 → ⊥
-piece_some log pending left n placed dirty_at none =
+pub piece_some : (log : Log) (pending : List Bool) (pieces_left : Option ℕ) (n : ℕ) → IsCutState log pending pieces_left → get_or pending n false ≡ true → pieces_left ≡ Some 0 → ⊥
+piece_some log pending pieces_left n placed dirty_at none =
     let placed' = subst (λ (l : Option ℕ). IsCutState log pending l) none placed in
     let fewer = count_cleared pending n dirty_at in
     omega (arith, fewer, placed'.1)
@@ -58,8 +58,8 @@ piece_some log pending left n placed dirty_at none =
 -- ---- the write of one extent
 
 pub record IsPieced (g : Geometry) (area n : ℕ) (bytes : List ℕ) (old new : Medium) : Type 0 where
-  pub moments : ChangesOnly old new (IsSameBut (layout_of g) (image area))
-  pub same : IsSameBut (layout_of g) (image area) old.now new.now
+  pub moments : CrashesChangeOnly old new (IsSameBut (layout_of g) (image_part area))
+  pub same : IsSameBut (layout_of g) (image_part area) old.now new.now
   pub is : IsPatchedAt g n bytes (image_in g area old) (image_in g area new)
   pub ready : (h k : ℕ) → h < 2 → IsReady (layout_of g) h k old → IsReady (layout_of g) h k new
 
@@ -68,53 +68,55 @@ pub pieced_along : {g g' : Geometry} {a a' n : ℕ} {bytes bytes' : List ℕ} {w
 pieced_along {g'} {a} {a'} {n} {bytes} {w0} {w1} same same' are held =
     subst (λ (l : List ℕ). IsPieced g' (other a') n l w0 w1) are (subst (λ (b : ℕ). IsPieced g' (other b) n bytes w0 w1) same' (subst (λ (x : Geometry). IsPieced x (other a) n bytes w0 w1) same held))
 
-module _ {log : Log} {snapshot : List ℕ} {named others pending : List Bool} {left : Option ℕ} {w0 : Medium} (w1 : Medium) (are : AreBytes w0.now)
-    (sound : IsSoundJournal log snapshot named others pending left w0) where
+module _ {log : Log} {snapshot : List ℕ} {named others pending : List Bool} {pieces_left : Option ℕ} {w0 : Medium} (w1 : Medium) (are : AreBytes w0.now)
+    (sound : IsSoundJournal log snapshot named others pending pieces_left w0) where
   is_area : log.named < 2
   is_area = named_below log.geometry log.named log.current (recovered_state log.geometry w0.now) w0 are sound.recovers
 
-  by_piece : ChangesOnly w0 w1 (IsSameBut (layout_of log.geometry) (image (other log.named)))
-      → CrashImagesAre w0 w1 (RecoversBy (means log.geometry) (layout_of log.geometry) log.named log.current (recovered_state log.geometry w0.now))
-  by_piece moments = image_by_area (means log.geometry) (layout_of log.geometry) log.named log.current (recovered_state log.geometry w0.now) w0 w1 is_area sound.recovers moments
+  by_piece : CrashesChangeOnly w0 w1 (IsSameBut (layout_of log.geometry) (image_part (other log.named)))
+      → CrashImagesAre w0 w1 (RecoversBy (decoding log.geometry) (layout_of log.geometry) log.named log.current (recovered_state log.geometry w0.now))
+  by_piece moments = image_by_area (decoding log.geometry) (layout_of log.geometry) log.named log.current (recovered_state log.geometry w0.now) w0 w1 is_area sound.recovers moments
 
-  pub piece_moments : ChangesOnly w0 w1 (IsSameBut (layout_of log.geometry) (image (other log.named)))
+  pub piece_moments : CrashesChangeOnly w0 w1 (IsSameBut (layout_of log.geometry) (image_part (other log.named)))
       → CrashImagesAre w0 w1 (λ c. recovered_state log.geometry c ≡ recovered_state log.geometry w0.now)
   piece_moments moments = holds_moments log.geometry log.named log.current (recovered_state log.geometry w0.now) w0 w1 (by_piece moments)
 
   module _ (are' : AreBytes w1.now) where
-    recovers : ChangesOnly w0 w1 (IsSameBut (layout_of log.geometry) (image (other log.named))) → RecoversByArea log.geometry log.named log.current (recovered_state log.geometry w0.now) w1
+    recovers : CrashesChangeOnly w0 w1 (IsSameBut (layout_of log.geometry) (image_part (other log.named))) → RecoversByArea log.geometry log.named log.current (recovered_state log.geometry w0.now) w1
     recovers moments = leaves_now w0 w1 _ (by_piece moments)
 
-    pub piece_same : ChangesOnly w0 w1 (IsSameBut (layout_of log.geometry) (image (other log.named))) → recovered_state log.geometry w1.now ≡ recovered_state log.geometry w0.now
+    pub piece_same : CrashesChangeOnly w0 w1 (IsSameBut (layout_of log.geometry) (image_part (other log.named))) → recovered_state log.geometry w1.now ≡ recovered_state log.geometry w0.now
     piece_same moments = holds_now log.geometry log.named log.current (recovered_state log.geometry w0.now) w1 are' (recovers moments)
 
-    each_forced : ChangesOnly w0 w1 (IsSameBut (layout_of log.geometry) (image (other log.named))) → (c : List ℕ) → IsCrashImage w1 c → records_in log.geometry c ≡ records_in log.geometry w0.now
+    each_forced : CrashesChangeOnly w0 w1 (IsSameBut (layout_of log.geometry) (image_part (other log.named))) → (c : List ℕ)
+        → IsCrashImage w1 c → records_in log.geometry c ≡ records_in log.geometry w0.now
     each_forced moments c left =
         let after = leaves_now w0 w1 _ moments c left in
-        forced_kept log.geometry (image (other log.named)) after.old c (λ is. omega (arith, is)) (λ h is_half is. omega (arith, is, is_half)) after.change ∙ sound.forced after.old after.left
+        forced_kept log.geometry (image_part (other log.named)) after.old c (λ is. omega (arith, is)) (λ h is_half is. omega (arith, is, is_half)) after.change
+        ∙ sound.same_records after.old after.left
 
-    pub piece_records : ChangesOnly w0 w1 (IsSameBut (layout_of log.geometry) (image (other log.named))) → records_in log.geometry w1.now ≡ records_in log.geometry w0.now
+    pub piece_records : CrashesChangeOnly w0 w1 (IsSameBut (layout_of log.geometry) (image_part (other log.named))) → records_in log.geometry w1.now ≡ records_in log.geometry w0.now
     piece_records moments = each_forced moments w1.now (itself w1.now w1.unsynced are')
 
-    pub piece_sound : (n l count : ℕ) → left ≡ Some l → n < length pending → IsPieced log.geometry (other log.named) n snapshot w0 w1
+    pub piece_sound : (n l count : ℕ) → pieces_left ≡ Some l → n < length pending → IsPieced log.geometry (other log.named) n snapshot w0 w1
         → IsSoundJournal log snapshot named others (set pending n false) (Some count) w1
     piece_sound n l count is_left few pieced =
         let same = piece_same pieced.moments in
         let sound' = subst (λ (o : Option ℕ). IsSoundJournal log snapshot named others pending o w0) is_left sound in
-        let other_half = half_same (layout_of log.geometry) (other log.named) w0.now w1.now (pieced.same.others (half (other log.named)) (λ is. omega (arith, is))) in
+        let other_half = half_same (layout_of log.geometry) (other log.named) w0.now w1.now (pieced.same.others (half_part (other log.named)) (λ is. omega (arith, is))) in
         record {
           some = ap is_some same ∙ sound.some;
           recovers = subst (λ (o : Option State). RecoversByArea log.geometry log.named log.current o w1) (sym same) (recovers pieced.moments);
           ready = pieced.ready log.current log.used (half_below log.geometry log.named log.current (recovered_state log.geometry w0.now) w0 are sound.recovers) sound.ready;
-          forced = λ c left. each_forced pieced.moments c left ∙ sym (piece_records pieced.moments);
+          same_records = λ c left. each_forced pieced.moments c left ∙ sym (piece_records pieced.moments);
           count = λ none. absurd (true≢false (ap is_some none));
           state = λ x is. sound.state x (sym same ∙ is);
-          named_fresh =
-              subst (λ (o : Option State). IsFresh log.geometry o named (image_in log.geometry log.named w1)) (sym same)
-              (subst (λ (l : List ℕ). IsFresh log.geometry (recovered_state log.geometry w0.now) named l)
-              (sym (pieced.same.others (image log.named) (λ is. omega (arith, is, is_area)))) sound.named_fresh);
-          snapshot_fresh = λ none. absurd (true≢false (ap is_some none));
-          others_fresh = subst (λ (o : Option State). IsFresh log.geometry o others snapshot) (sym same) sound'.others_fresh;
+          named_up_to_date =
+              subst (λ (o : Option State). IsUpToDate log.geometry o named (image_in log.geometry log.named w1)) (sym same)
+              (subst (λ (l : List ℕ). IsUpToDate log.geometry (recovered_state log.geometry w0.now) named l)
+              (sym (pieced.same.others (image_part log.named) (λ is. omega (arith, is, is_area)))) sound.named_up_to_date);
+          snapshot_up_to_date = λ none. absurd (true≢false (ap is_some none));
+          other_up_to_date = subst (λ (o : Option State). IsUpToDate log.geometry o others snapshot) (sym same) sound'.other_up_to_date;
           by_cut = record {
             behind = ap (λ (rs : List (List ℕ)). run_on log.geometry (read log.geometry snapshot) rs) other_half.0 ∙ sound'.by_cut.behind ∙ sym same;
             written = λ i few' clean.
@@ -129,7 +131,7 @@ module _ {log : Log} {snapshot : List ℕ} {named others pending : List Bool} {l
 
 -- what it changes, in the words of contracts
 pub patches_one : {g : Geometry} {n k : ℕ} {bytes : List ℕ} {w0 w1 : Medium} → named_area (layout_of g) w0.now ≡ n → IsPieced g (other n) k bytes w0 w1
-    → PatchesOne g w0.now w1.now
+    → PatchesUnnamed g w0.now w1.now
 patches_one {g} {k} {w0} {w1} named pieced =
     subst (λ (m : ℕ). PatchesAt g (other m) w0.now w1.now) (sym named) (record { piece = k; same = pieced.same; others = pieced.is.others })
 

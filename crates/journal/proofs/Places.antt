@@ -18,9 +18,9 @@ part_some g zero = omega arith
 part_some g (suc s) = let some : 1 ≤ g.quota = g.quota_range.0 in omega (arith, some)
 
 -- It has some bytes.
-pub stretch_some : (g : Geometry) (n : ℕ) → 0 < extent_size g n
-stretch_some g zero = omega arith
-stretch_some g (suc n) = part_some g (part_of g (suc n))
+pub extent_some : (g : Geometry) (n : ℕ) → 0 < extent_size g n
+extent_some g zero = omega arith
+extent_some g (suc n) = part_some g (part_of g (suc n))
 
 pub extent_after : (g : Geometry) (n : ℕ) → extent_at g (n + 1) ≡ extent_at g n + extent_size g n
 extent_after g n = let next : n + 1 ≡ suc n = omega arith in ap (extent_at g) next ∙ extent_next g n

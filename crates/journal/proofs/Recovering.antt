@@ -2,7 +2,7 @@
 use Rattle.std.proofs.Common.{◌≡◌, ◌<◌, ℕ, zero, suc, Bool, true, false, not, ◌&&◌, cond, eqb, nat_le, ◌+◌, List, [], ◌++◌, length, drop, get_or, Option, Some, None, is_some, refl, sym, ◌∙◌, ap, arith, true≢false}
 use Rattle.affinity.specs.declared.geometry.Geometry.{Geometry}
 use Rattle.checkpoint.specs.Header.{is_header}
-use Rattle.checkpoint.specs.Recovery.{recovered_state, means}
+use Rattle.checkpoint.specs.Recovery.{recovered_state, decoding}
 use Rattle.disk.specs.Device.{AreBytes, Medium}
 use Rattle.disk.specs.Moments.{CrashImagesAre}
 use Rattle.disk.proofs.Leaves.{itself}
@@ -12,16 +12,17 @@ use Rattle.journal.specs.Steps.{RecoversByArea, run_on}
 use Rattle.oplog.specs.Changes.{IsReady}
 use Rattle.oplog.specs.Crash.{RecoversBy}
 use Rattle.oplog.specs.Front.{chain, front, front_in, rows}
-use Rattle.device_map.specs.Layout.{Layout, layout_of, part_bytes, device_size, header, half, image, other}
-use Rattle.oplog.specs.Recovery.{current_of, in_force, is_laid_out, run, recovers_as}
+use Rattle.device_map.specs.Layout.{Layout, layout_of, part_bytes, device_size, header_part, half_part, image_part, other}
+use Rattle.oplog.specs.Recovery.{current_of, in_force, is_laid_out, run, recovers_by_area}
 use Rattle.meaning.specs.State.{State}
 
 -- ---- by the area that it names
 
-pub holds_by : (g : Geometry) (n h : ℕ) (x : Option State) (c : List ℕ) → RecoversBy (means g) (layout_of g) n h x c → recovered_state g c ≡ x
-holds_by g n h x c recovered_before = ap (λ (k : ℕ). recovers_as (means g) (layout_of g) k c) recovered_before.named ∙ recovered_before.is
+pub holds_by : (g : Geometry) (n h : ℕ) (x : Option State) (c : List ℕ) → RecoversBy (decoding g) (layout_of g) n h x c → recovered_state g c ≡ x
+holds_by g n h x c recovered_before = ap (λ (k : ℕ). recovers_by_area (decoding g) (layout_of g) k c) recovered_before.named ∙ recovered_before.is
 
-pub holds_moments : (g : Geometry) (n h : ℕ) (x : Option State) (w0 w1 : Medium) → CrashImagesAre w0 w1 (RecoversBy (means g) (layout_of g) n h x) → CrashImagesAre w0 w1 (λ c. recovered_state g c ≡ x)
+pub holds_moments : (g : Geometry) (n h : ℕ) (x : Option State) (w0 w1 : Medium) → CrashImagesAre w0 w1 (RecoversBy (decoding g) (layout_of g) n h x)
+    → CrashImagesAre w0 w1 (λ c. recovered_state g c ≡ x)
 holds_moments g n h x w0 w1 moments = weaker w0 w1 _ _ moments (holds_by g n h x)
 
 pub holds_now : (g : Geometry) (n h : ℕ) (x : Option State) (m : Medium) → AreBytes m.now → RecoversByArea g n h x m → recovered_state g m.now ≡ x
@@ -33,13 +34,13 @@ laid_if : (t : Bool) (y x : Option State) → cond t y None ≡ x → is_some x 
 laid_if true y x is some = refl
 laid_if false y x is some = absurd (true≢false (sym some ∙ ap is_some (sym is)))
 
-pub laid_by : (g : Geometry) (n : ℕ) (x : Option State) (c : List ℕ) → recovers_as (means g) (layout_of g) n c ≡ x → is_some x ≡ true → is_laid_out (means g) (layout_of g) c ≡ true
-laid_by g n x c is some = laid_if (is_laid_out (means g) (layout_of g) c) _ x is some
+pub laid_by : (g : Geometry) (n : ℕ) (x : Option State) (c : List ℕ) → recovers_by_area (decoding g) (layout_of g) n c ≡ x → is_some x ≡ true → is_laid_out (decoding g) (layout_of g) c ≡ true
+laid_by g n x c is some = laid_if (is_laid_out (decoding g) (layout_of g) c) _ x is some
 
-pub as_other : (g : Geometry) (q : ℕ) (c : List ℕ) → {x : Option State} {bytes : List ℕ} {rs : List (List ℕ)} → is_laid_out (means g) (layout_of g) c ≡ true
-    → part_bytes (layout_of g) (image q) c ≡ bytes → in_force (layout_of g) q c ≡ rs → run_on g (read g bytes) rs ≡ x
-    → recovers_as (means g) (layout_of g) q c ≡ x
-as_other g q c laid is force leads = (λ i. cond (laid i) (run (means g) (read g (is i)) (force i)) None) ∙ leads
+pub as_other : (g : Geometry) (q : ℕ) (c : List ℕ) → {x : Option State} {bytes : List ℕ} {rs : List (List ℕ)} → is_laid_out (decoding g) (layout_of g) c ≡ true
+    → part_bytes (layout_of g) (image_part q) c ≡ bytes → in_force (layout_of g) q c ≡ rs → run_on g (read g bytes) rs ≡ x
+    → recovers_by_area (decoding g) (layout_of g) q c ≡ x
+as_other g q c laid is force leads = (λ i. cond (laid i) (run (decoding g) (read g (is i)) (force i)) None) ∙ leads
 
 -- ---- chains
 
@@ -74,10 +75,11 @@ and_last true false c is = absurd (true≢false (sym is))
 and_last false b c is = absurd (true≢false (sym is))
 
 -- where the named half has a chain, the other one has none
-pub chain_other : (g : Geometry) (n : ℕ) (c : List ℕ) → n < 2 → is_laid_out (means g) (layout_of g) c ≡ true → current_of (layout_of g) n c ≡ other n → eqb (chain (layout_of g) (other n) c) 1 ≡ false
+pub chain_other : (g : Geometry) (n : ℕ) (c : List ℕ) → n < 2 → is_laid_out (decoding g) (layout_of g) c ≡ true → current_of (layout_of g) n c ≡ other n → eqb (chain (layout_of g) (other n) c) 1
+    ≡ false
 chain_other g n c is_area laid follows =
     let one : not (eqb (chain (layout_of g) 0 c) 1 && eqb (chain (layout_of g) 1 c) 1)
-    ≡ true = and_last (is_header g (part_bytes (layout_of g) header c)) (nat_le (device_size (layout_of g)) (length c)) _ laid in
+    ≡ true = and_last (is_header g (part_bytes (layout_of g) header_part c)) (nat_le (device_size (layout_of g)) (length c)) _ laid in
     by n is_area one (open_by n (eqb (chain (layout_of g) n c) 1) is_area follows)
   where
     by : (n : ℕ) → n < 2 → not (eqb (chain (layout_of g) 0 c) 1 && eqb (chain (layout_of g) 1 c) 1) ≡ true → eqb (chain (layout_of g) n c) 1 ≡ true → eqb (chain (layout_of g) (other n) c) 1 ≡ false
@@ -92,11 +94,11 @@ not_one n zero' = ap (λ (m : ℕ). eqb m 1) zero'
 
 -- a half that is ready with no record has none in its front
 pub ready_none : (l : Layout) (h : ℕ) (m : Medium) → IsReady l h 0 m → front l h m.now ≡ []
-ready_none l h m ready = ap (λ (n : ℕ). rows 520 n (drop (64 + l.slots) (part_bytes l (half h) m.now))) ready.used
+ready_none l h m ready = ap (λ (n : ℕ). rows 520 n (drop (64 + l.capacity) (part_bytes l (half_part h) m.now))) ready.used
 
 -- what the half holds decides its front and its chain
-pub half_same : (l : Layout) (h : ℕ) (a c : List ℕ) → part_bytes l (half h) c ≡ part_bytes l (half h) a → (front l h c ≡ front l h a) × (chain l h c ≡ chain l h a)
-half_same l h a c same = (ap (λ (bytes : List ℕ). front_in l.slots bytes) same, ap (λ (bytes : List ℕ). get_or bytes 0 0) same)
+pub half_same : (l : Layout) (h : ℕ) (a c : List ℕ) → part_bytes l (half_part h) c ≡ part_bytes l (half_part h) a → (front l h c ≡ front l h a) × (chain l h c ≡ chain l h a)
+half_same l h a c same = (ap (λ (bytes : List ℕ). front_in l.capacity bytes) same, ap (λ (bytes : List ℕ). get_or bytes 0 0) same)
 
 pub run_none : (g : Geometry) (x : Option State) → run_on g x [] ≡ x
 run_none g None = refl

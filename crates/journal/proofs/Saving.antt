@@ -12,9 +12,9 @@ use Rattle.image.specs.Pieces.{joined_below, piece_count, piece_of, piece_size}
 use Rattle.image.proofs.Cuts.{piece_again}
 use Rattle.image.proofs.Measures.{state_is_measured}
 use Rattle.image.proofs.Reading.{read_again}
-use Rattle.journal.specs.Keeping.{IsFresh, IsCutState, IsSoundJournal}
-use Rattle.journal.specs.Steps.{IsAlone, IsBegun, IsPointed, RecoversByArea, cut_now, pointed, run_on}
-use Rattle.journal.specs.Extents.{AgreeOnClean, AreAllDirty, AreSpelled, image_in, extent_in, extent_of}
+use Rattle.journal.specs.Keeping.{IsUpToDate, IsCutState, IsSoundJournal}
+use Rattle.journal.specs.Steps.{RecoversByNamedAlone, IsCutBegun, IsPointed, RecoversByArea, cut_log, pointed_log, run_on}
+use Rattle.journal.specs.Extents.{AgreeOnClean, AreAllDirty, AreCleanPiecesOf, image_in, extent_in, extent_of}
 use Rattle.journal.proofs.Cutting.{named_below}
 use Rattle.journal.proofs.Forced.{forced_synced}
 use Rattle.journal.proofs.Recovering.{holds_now, run_none}
@@ -24,41 +24,41 @@ use Rattle.meaning.specs.State.{State, IsState}
 
 -- ---- the image of a state
 
-pub frozen_is : (g : Geometry) (y : State) → IsState g y → (n : ℕ) → n < piece_count g → extent_in g (image_of 2 g y) n ≡ extent_of g y n
-frozen_is g y is zero few =
+pub snapshot_is : (g : Geometry) (y : State) → IsState g y → (n : ℕ) → n < piece_count g → extent_in g (image_of 2 g y) n ≡ extent_of g y n
+snapshot_is g y is zero few =
     take-add 64 (piece_size g 0) (image_of 2 g y)
     ∙ (λ i. take_at (image_head 2) (joined_below (piece_count g) (piece_of 2 g y)) 64 refl i ++ piece_again 2 g y (state_is_measured g y is) 0 few i)
-frozen_is g y is (suc n) few = piece_again 2 g y (state_is_measured g y is) (suc n) few
+snapshot_is g y is (suc n) few = piece_again 2 g y (state_is_measured g y is) (suc n) few
 
 module _ (g : Geometry) (x : Option State) (y : State) (snapshot : List ℕ) (is : x ≡ Some y) (is_state : IsState g y) (spelled : snapshot ≡ image_of 2 g y) where
-  pub frozen_reads : read g snapshot ≡ x
-  frozen_reads = ap (read g) spelled ∙ read_again g y is_state ∙ sym is
+  pub snapshot_reads : read g snapshot ≡ x
+  snapshot_reads = ap (read g) spelled ∙ read_again g y is_state ∙ sym is
 
-  pub snapshot_fresh : (dirty : List Bool) → IsFresh g x dirty snapshot
-  snapshot_fresh dirty z is' n few clean =
+  pub snapshot_up_to_date : (dirty : List Bool) → IsUpToDate g x dirty snapshot
+  snapshot_up_to_date dirty z is' n few clean =
       let same : y ≡ z = ap (λ (o : Option State). unwrap_or o y) (sym is ∙ is') in
-      ap (λ (l : List ℕ). extent_in g l n) spelled ∙ frozen_is g y is_state n few ∙ ap (λ (s : State). extent_of g s n) same
+      ap (λ (l : List ℕ). extent_in g l n) spelled ∙ snapshot_is g y is_state n few ∙ ap (λ (s : State). extent_of g s n) same
 
-  pub frozen_agrees : (dirty : List Bool) (bytes : List ℕ) → IsFresh g x dirty bytes → AgreeOnClean g dirty bytes snapshot
-  frozen_agrees dirty bytes fresh n few clean = fresh y is n few clean ∙ sym (frozen_is g y is_state n few) ∙ sym (ap (λ (l : List ℕ). extent_in g l n) spelled)
+  pub snapshot_agrees : (dirty : List Bool) (bytes : List ℕ) → IsUpToDate g x dirty bytes → AgreeOnClean g dirty bytes snapshot
+  snapshot_agrees dirty bytes fresh n few clean = fresh y is n few clean ∙ sym (snapshot_is g y is_state n few) ∙ sym (ap (λ (l : List ℕ). extent_in g l n) spelled)
 
 -- where all is dirty there is nothing that has to be right
-pub all_right : (g h : Geometry) (y : State) (dirty : List Bool) (bytes : List ℕ) → g ≡ h → AreAllDirty h dirty → AreSpelled g y dirty bytes
+pub all_right : (g h : Geometry) (y : State) (dirty : List Bool) (bytes : List ℕ) → g ≡ h → AreAllDirty h dirty → AreCleanPiecesOf g y dirty bytes
 all_right g h y dirty bytes same all =
-    subst (λ (z : Geometry). AreSpelled z y dirty bytes) (sym same) (λ n few clean. absurd (true≢false (sym (all n few) ∙ clean)))
+    subst (λ (z : Geometry). AreCleanPiecesOf z y dirty bytes) (sym same) (λ n few clean. absurd (true≢false (sym (all n few) ∙ clean)))
 
 -- ---- of a journal with no cut in progress
 
 -- the last snapshot, where it is clean
-pub frozen_right : {log : Log} {snapshot : List ℕ} {named others pending : List Bool} {left : Option ℕ} {w0 : Medium} {y : State} {g : Geometry} {dirty : List Bool} {bytes : List ℕ}
-    → left ≡ None → IsSoundJournal log snapshot named others pending left w0 → recovered_state log.geometry w0.now ≡ Some y
-    → g ≡ log.geometry → dirty ≡ named → bytes ≡ snapshot → AreSpelled g y dirty bytes
-frozen_right {log} {named} {y} {dirty} {bytes} alone sound is same same' same'' =
-    subst (λ (h : Geometry). AreSpelled h y dirty bytes) (sym same) (subst (λ (row : List Bool). AreSpelled log.geometry y row bytes) (sym same')
-    (subst (λ (l : List ℕ). AreSpelled log.geometry y named l) (sym same'') (sound.snapshot_fresh alone y is)))
+pub snapshot_right : {log : Log} {snapshot : List ℕ} {named others pending : List Bool} {pieces_left : Option ℕ} {w0 : Medium} {y : State} {g : Geometry} {dirty : List Bool} {bytes : List ℕ}
+    → pieces_left ≡ None → IsSoundJournal log snapshot named others pending pieces_left w0 → recovered_state log.geometry w0.now ≡ Some y
+    → g ≡ log.geometry → dirty ≡ named → bytes ≡ snapshot → AreCleanPiecesOf g y dirty bytes
+snapshot_right {log} {named} {y} {dirty} {bytes} alone sound is same same' same'' =
+    subst (λ (h : Geometry). AreCleanPiecesOf h y dirty bytes) (sym same) (subst (λ (row : List Bool). AreCleanPiecesOf log.geometry y row bytes) (sym same')
+    (subst (λ (l : List ℕ). AreCleanPiecesOf log.geometry y named l) (sym same'') (sound.snapshot_up_to_date alone y is)))
 
-module _ {log : Log} {snapshot snapshot' : List ℕ} {named others pending : List Bool} {left : Option ℕ} {w0 : Medium} {y : State} (alone : left ≡ None)
-    (placed' : IsCutState log pending left) (sound' : IsSoundJournal log snapshot named others pending left w0)
+module _ {log : Log} {snapshot snapshot' : List ℕ} {named others pending : List Bool} {pieces_left : Option ℕ} {w0 : Medium} {y : State} (alone : pieces_left ≡ None)
+    (placed' : IsCutState log pending pieces_left) (sound' : IsSoundJournal log snapshot named others pending pieces_left w0)
     (is : recovered_state log.geometry w0.now ≡ Some y) (is_state : IsState log.geometry y) (spelled : snapshot' ≡ image_of 2 log.geometry y) (are : AreBytes w0.now) where
   pub current_is_named : log.current ≡ log.named
   current_is_named = subst (λ (l : Option ℕ). IsCutState log pending l) alone placed'
@@ -69,23 +69,23 @@ module _ {log : Log} {snapshot snapshot' : List ℕ} {named others pending : Lis
   is_area : log.named < 2
   is_area = named_below log.geometry log.named log.current (recovered_state log.geometry w0.now) w0 are sound.recovers
 
-  pub is_alone : IsAlone log w0
+  pub is_alone : RecoversByNamedAlone log w0
   is_alone = record {
     some = sound.some;
     recovers = subst (λ (h : ℕ). RecoversByArea log.geometry log.named h (recovered_state log.geometry w0.now) w0) current_is_named sound.recovers;
   }
 
   pub reads : read log.geometry snapshot' ≡ recovered_state log.geometry w0.now
-  reads = frozen_reads log.geometry (recovered_state log.geometry w0.now) y snapshot' is is_state spelled
+  reads = snapshot_reads log.geometry (recovered_state log.geometry w0.now) y snapshot' is is_state spelled
 
   pub agrees : AgreeOnClean log.geometry others (image_in log.geometry (other log.named) w0) snapshot'
-  agrees = frozen_agrees log.geometry (recovered_state log.geometry w0.now) y snapshot' is is_state spelled others (image_in log.geometry (other log.named) w0) sound.others_fresh
+  agrees = snapshot_agrees log.geometry (recovered_state log.geometry w0.now) y snapshot' is is_state spelled others (image_in log.geometry (other log.named) w0) sound.other_up_to_date
 
   module _ {w1 : Medium} (are' : AreBytes w1.now) where
     pub point_committed : IsPointed log snapshot' w0 w1 → recovered_state log.geometry w1.now ≡ recovered_state log.geometry w0.now
     point_committed made = holds_now log.geometry (other log.named) (other log.named) (recovered_state log.geometry w0.now) w1 are' made.at.recovers
 
-    pub point_sound : {named' others' : List Bool} → others' ≡ named → IsPointed log snapshot' w0 w1 → IsSoundJournal (pointed log) snapshot' named' others' pending None w1
+    pub point_sound : {named' others' : List Bool} → others' ≡ named → IsPointed log snapshot' w0 w1 → IsSoundJournal (pointed_log log) snapshot' named' others' pending None w1
     point_sound {named'} {others'} same_dirty made =
         let same = point_committed made in
         let back : other (other log.named) ≡ log.named = omega (arith, is_area) in
@@ -93,43 +93,43 @@ module _ {log : Log} {snapshot snapshot' : List ℕ} {named others pending : Lis
           some = ap is_some same ∙ sound.some;
           recovers = subst (λ (o : Option State). RecoversByArea log.geometry (other log.named) (other log.named) o w1) (sym same) made.at.recovers;
           ready = made.at.ready;
-          forced = forced_synced log.geometry w1 made.at.synced;
+          same_records = forced_synced log.geometry w1 made.at.synced;
           count = λ none. ap length made.emptied;
           state = λ x is'. sound.state x (sym same ∙ is');
-          named_fresh =
-              subst (λ (o : Option State). IsFresh log.geometry o named' (image_in log.geometry (other log.named) w1)) (sym same)
-              (subst (λ (l : List ℕ). IsFresh log.geometry (recovered_state log.geometry w0.now) named' l) (sym made.is)
-              (snapshot_fresh log.geometry (recovered_state log.geometry w0.now) y snapshot' is is_state spelled named'));
-          snapshot_fresh = λ none.
-              subst (λ (o : Option State). IsFresh log.geometry o named' snapshot') (sym same)
-              (snapshot_fresh log.geometry (recovered_state log.geometry w0.now) y snapshot' is is_state spelled named');
-          others_fresh =
-              subst (λ (o : Option State). IsFresh log.geometry o others' (image_in log.geometry (other (other log.named)) w1)) (sym same)
-              (subst (λ (n : ℕ). IsFresh log.geometry (recovered_state log.geometry w0.now) others' (image_in log.geometry n w1)) (sym back)
-              (subst (λ (l : List ℕ). IsFresh log.geometry (recovered_state log.geometry w0.now) others' l) (sym made.kept)
-              (subst (λ (row : List Bool). IsFresh log.geometry (recovered_state log.geometry w0.now) row (image_in log.geometry log.named w0)) (sym same_dirty) sound.named_fresh)));
+          named_up_to_date =
+              subst (λ (o : Option State). IsUpToDate log.geometry o named' (image_in log.geometry (other log.named) w1)) (sym same)
+              (subst (λ (l : List ℕ). IsUpToDate log.geometry (recovered_state log.geometry w0.now) named' l) (sym made.is)
+              (snapshot_up_to_date log.geometry (recovered_state log.geometry w0.now) y snapshot' is is_state spelled named'));
+          snapshot_up_to_date = λ none.
+              subst (λ (o : Option State). IsUpToDate log.geometry o named' snapshot') (sym same)
+              (snapshot_up_to_date log.geometry (recovered_state log.geometry w0.now) y snapshot' is is_state spelled named');
+          other_up_to_date =
+              subst (λ (o : Option State). IsUpToDate log.geometry o others' (image_in log.geometry (other (other log.named)) w1)) (sym same)
+              (subst (λ (n : ℕ). IsUpToDate log.geometry (recovered_state log.geometry w0.now) others' (image_in log.geometry n w1)) (sym back)
+              (subst (λ (l : List ℕ). IsUpToDate log.geometry (recovered_state log.geometry w0.now) others' l) (sym made.kept)
+              (subst (λ (row : List Bool). IsUpToDate log.geometry (recovered_state log.geometry w0.now) row (image_in log.geometry log.named w0)) (sym same_dirty) sound.named_up_to_date)));
           by_cut = tt;
         }
 
-    pub cut_committed : IsBegun log w0 w1 → recovered_state log.geometry w1.now ≡ recovered_state log.geometry w0.now
+    pub cut_committed : IsCutBegun log w0 w1 → recovered_state log.geometry w1.now ≡ recovered_state log.geometry w0.now
     cut_committed begun = holds_now log.geometry log.named (other log.named) (recovered_state log.geometry w0.now) w1 are' begun.at.recovers
 
-    pub cut_sound : {others' pending' : List Bool} {count : ℕ} → pending' ≡ others → IsBegun log w0 w1 → IsSoundJournal (cut_now log) snapshot' named others' pending' (Some count) w1
+    pub cut_sound : {others' pending' : List Bool} {count : ℕ} → pending' ≡ others → IsCutBegun log w0 w1 → IsSoundJournal (cut_log log) snapshot' named others' pending' (Some count) w1
     cut_sound {others'} same_dirty begun =
         let same = cut_committed begun in
         record {
           some = ap is_some same ∙ sound.some;
           recovers = subst (λ (o : Option State). RecoversByArea log.geometry log.named (other log.named) o w1) (sym same) begun.at.recovers;
           ready = begun.at.ready;
-          forced = forced_synced log.geometry w1 begun.at.synced;
+          same_records = forced_synced log.geometry w1 begun.at.synced;
           count = λ none. absurd (true≢false (ap is_some none));
           state = λ x is'. sound.state x (sym same ∙ is');
-          named_fresh =
-              subst (λ (o : Option State). IsFresh log.geometry o named (image_in log.geometry log.named w1)) (sym same)
-              (subst (λ (l : List ℕ). IsFresh log.geometry (recovered_state log.geometry w0.now) named l) (sym (begun.images log.named is_area)) sound.named_fresh);
-          snapshot_fresh = λ none. absurd (true≢false (ap is_some none));
-          others_fresh = subst (λ (o : Option State). IsFresh log.geometry o others' snapshot') (sym same)
-              (snapshot_fresh log.geometry (recovered_state log.geometry w0.now) y snapshot' is is_state spelled others');
+          named_up_to_date =
+              subst (λ (o : Option State). IsUpToDate log.geometry o named (image_in log.geometry log.named w1)) (sym same)
+              (subst (λ (l : List ℕ). IsUpToDate log.geometry (recovered_state log.geometry w0.now) named l) (sym (begun.images log.named is_area)) sound.named_up_to_date);
+          snapshot_up_to_date = λ none. absurd (true≢false (ap is_some none));
+          other_up_to_date = subst (λ (o : Option State). IsUpToDate log.geometry o others' snapshot') (sym same)
+              (snapshot_up_to_date log.geometry (recovered_state log.geometry w0.now) y snapshot' is is_state spelled others');
           by_cut = record {
             behind = ap (λ (rs : List (List ℕ)). run_on log.geometry (read log.geometry snapshot') rs) begun.none ∙ run_none log.geometry (read log.geometry snapshot') ∙ reads ∙ sym same;
             written =
@@ -150,29 +150,29 @@ pointed_version log bytes w0 w1 y are spelled made =
 
 -- A device recovers to this state by the named area and its half alone.
 pub record HoldsAlone (log : Log) (x : State) (m : Medium) : Type 0 where
-  pub alone : IsAlone log m
+  pub alone : RecoversByNamedAlone log m
   pub is : recovered_state log.geometry m.now ≡ Some x
   pub state : IsState log.geometry x
 
 -- The last point of an opening wrote the whole image; nothing is known of the other one, whose pieces are all dirty.
 pub opened_sound : {log : Log} {snapshot : List ℕ} {named others pending : List Bool} {w0 w1 : Medium} {y : State} → HoldsAlone log y w0 → snapshot ≡ image_of 2 log.geometry y
-    → ((n : ℕ) → n < piece_count log.geometry → get_or others n true ≡ true) → AreBytes w1.now → IsPointed log snapshot w0 w1 → IsSoundJournal (pointed log) snapshot named others pending None w1
+    → ((n : ℕ) → n < piece_count log.geometry → get_or others n true ≡ true) → AreBytes w1.now → IsPointed log snapshot w0 w1 → IsSoundJournal (pointed_log log) snapshot named others pending None w1
 opened_sound {log} {snapshot} {named} {w0} {w1} {y} held spelled all are made =
     let same = holds_now log.geometry (other log.named) (other log.named) (recovered_state log.geometry w0.now) w1 are made.at.recovers in
     record {
       some = ap is_some same ∙ held.alone.some;
       recovers = subst (λ (o : Option State). RecoversByArea log.geometry (other log.named) (other log.named) o w1) (sym same) made.at.recovers;
       ready = made.at.ready;
-      forced = forced_synced log.geometry w1 made.at.synced;
+      same_records = forced_synced log.geometry w1 made.at.synced;
       count = λ none. ap length made.emptied;
       state = λ x is. subst (λ (s : State). IsState log.geometry s) (ap (λ (o : Option State). unwrap_or o y) (sym held.is ∙ sym same ∙ is)) held.state;
-      named_fresh =
-          subst (λ (o : Option State). IsFresh log.geometry o named (image_in log.geometry (other log.named) w1)) (sym same)
-          (subst (λ (l : List ℕ). IsFresh log.geometry (recovered_state log.geometry w0.now) named l) (sym made.is)
-          (snapshot_fresh log.geometry (recovered_state log.geometry w0.now) y snapshot held.is held.state spelled named));
-      snapshot_fresh = λ none.
-          subst (λ (o : Option State). IsFresh log.geometry o named snapshot) (sym same)
-          (snapshot_fresh log.geometry (recovered_state log.geometry w0.now) y snapshot held.is held.state spelled named);
-      others_fresh = λ z is' n few clean. absurd (true≢false (sym (all n few) ∙ clean));
+      named_up_to_date =
+          subst (λ (o : Option State). IsUpToDate log.geometry o named (image_in log.geometry (other log.named) w1)) (sym same)
+          (subst (λ (l : List ℕ). IsUpToDate log.geometry (recovered_state log.geometry w0.now) named l) (sym made.is)
+          (snapshot_up_to_date log.geometry (recovered_state log.geometry w0.now) y snapshot held.is held.state spelled named));
+      snapshot_up_to_date = λ none.
+          subst (λ (o : Option State). IsUpToDate log.geometry o named snapshot) (sym same)
+          (snapshot_up_to_date log.geometry (recovered_state log.geometry w0.now) y snapshot held.is held.state spelled named);
+      other_up_to_date = λ z is' n few clean. absurd (true≢false (sym (all n few) ∙ clean));
       by_cut = tt;
     }

@@ -17,19 +17,18 @@ runs_after true (true ∷ dirty) = runs_after true dirty
 abbrev pub count_runs : List Bool → ℕ
 count_runs dirty = runs_after false dirty
 
--- A point writes these and syncs once; a write and a sync clear the other half before, and two more name the image.
+-- how many writes and syncs a point takes: two that clear the other half, the writes of dirty pieces, a sync, and two that name the image
 abbrev pub point_cost : List Bool → ℕ
 point_cost dirty = count_runs dirty + 5
 
--- the most that it takes: where every other piece is dirty, from the first one on
+-- the most writes and syncs that a point takes: where every other piece is dirty, from the first one on
 abbrev pub longest_point : Geometry → ℕ
 longest_point g = (piece_count g + 1) / 2 + 5
 
--- A cut in progress, of which the named half is chained, is finished by a write and a sync of the whole image, and by two
--- calls that name it.
+-- how many writes and syncs finish a cut in progress, which a chained named half shows: two for the whole image, and two that name it
 abbrev pub finish_cost : Geometry → List ℕ → ℕ
 finish_cost g c = if chain (layout_of g) (named_area (layout_of g) c) c == 1 then 4 else 0
 
--- An opening syncs before that, and makes a point of the whole image after it.
+-- how many writes and syncs an opening takes: a sync, those that finish a cut, and a point of the whole image
 abbrev pub opening_cost : Geometry → List ℕ → ℕ
 opening_cost g c = finish_cost g c + 7

@@ -11,7 +11,7 @@ pub record DirtyPieces : Type 0 where
   -- of the image that is named
   pub named : List Bool
   -- of the other one, as it is or will be once a cut is written
-  pub others : List Bool
+  pub other : List Bool
 
 -- how many are dirty
 abbrev pub count_dirty : List Bool → ℕ
@@ -24,12 +24,12 @@ abbrev pub DirtiesTouched : Geometry → List Msg → List Bool → List Bool �
 DirtiesTouched g ms old new = (n : ℕ) → n < piece_count g
     → (get_or new n true ≡ false) ↔ ((get_or old n true ≡ false) × AllByRecursion (λ m. may_change g m n ≡ false) ms)
 
--- the same in both images
+-- the flags of both images after these messages
 pub record AreBothTouched (g : Geometry) (ms : List Msg) (old new : DirtyPieces) : Type 0 where
   pub named : DirtiesTouched g ms old.named new.named
-  pub others : DirtiesTouched g ms old.others new.others
+  pub other : DirtiesTouched g ms old.other new.other
 
--- as many flags, none of them set
+-- these flags, with none of them set
 abbrev pub all_clean : List Bool → List Bool
 all_clean dirty = replicate (length dirty) false
 
@@ -37,16 +37,16 @@ all_clean dirty = replicate (length dirty) false
 
 -- The other image was written and named: none of its pieces is dirty. The image that was named keeps its flags.
 abbrev pub pointed_dirty : DirtyPieces → DirtyPieces
-pointed_dirty dirty = record { named = all_clean dirty.others; others = dirty.named }
+pointed_dirty dirty = record { named = all_clean dirty.other; other = dirty.named }
 
 -- A cut has begun: the pieces of the other image that were dirty are pending, and no piece of it is dirty now.
 abbrev pub cut_dirty : DirtyPieces → DirtyPieces
-cut_dirty dirty = record { named = dirty.named; others = all_clean dirty.others }
+cut_dirty dirty = record { named = dirty.named; other = all_clean dirty.other }
 
 -- The other image is named from now on: each keeps its flags.
 abbrev pub flipped_dirty : DirtyPieces → DirtyPieces
-flipped_dirty dirty = record { named = dirty.others; others = dirty.named }
+flipped_dirty dirty = record { named = dirty.other; other = dirty.named }
 
 -- A device was just opened: the named image is that of its state, and of the other one nothing is known.
 abbrev pub opened_dirty : Geometry → DirtyPieces
-opened_dirty g = record { named = replicate (piece_count g) false; others = replicate (piece_count g) true }
+opened_dirty g = record { named = replicate (piece_count g) false; other = replicate (piece_count g) true }

@@ -5,10 +5,10 @@ use Rattle.disk.specs.Device.{Medium, IsSynced}
 use Rattle.image.specs.Image.{image_head}
 use Rattle.image.specs.Pieces.{piece_at, piece_count, piece_of, piece_size}
 use Rattle.oplog.specs.Changes.{IsSameBut}
-use Rattle.device_map.specs.Layout.{slice, layout_of, part_bytes, image}
+use Rattle.device_map.specs.Layout.{slice, layout_of, part_bytes, image_part}
 use Rattle.meaning.specs.State.{State}
 
--- where an extent begins in its image, and how many bytes it has
+-- where extent n begins in its image, and how many bytes it has
 abbrev pub extent_at : Geometry → ℕ → ℕ
 extent_at g zero = 0
 extent_at g (suc n) = piece_at g (suc n)
@@ -17,11 +17,11 @@ abbrev pub extent_size : Geometry → ℕ → ℕ
 extent_size g zero = 64 + piece_size g 0
 extent_size g (suc n) = piece_size g (suc n)
 
--- the bytes of an extent
+-- the bytes of extent n of an image
 abbrev pub extent_in : Geometry → List ℕ → ℕ → List ℕ
 extent_in g bytes n = slice bytes (extent_at g n) (extent_size g n)
 
--- the extent of a state
+-- extent n of the image of a state, in version 2
 abbrev pub extent_of : Geometry → State → ℕ → List ℕ
 extent_of g x zero = image_head 2 ++ piece_of 2 g x 0
 extent_of g x (suc n) = piece_of 2 g x (suc n)
@@ -31,8 +31,8 @@ abbrev pub AgreeOnClean : Geometry → List Bool → List ℕ → List ℕ → T
 AgreeOnClean g dirty xs ys = (n : ℕ) → n < piece_count g → get_or dirty n true ≡ false → extent_in g xs n ≡ extent_in g ys n
 
 -- Each clean extent is the one of this state.
-abbrev pub AreSpelled : Geometry → State → List Bool → List ℕ → Type 0
-AreSpelled g x dirty bytes = (n : ℕ) → n < piece_count g → get_or dirty n true ≡ false → extent_in g bytes n ≡ extent_of g x n
+abbrev pub AreCleanPiecesOf : Geometry → State → List Bool → List ℕ → Type 0
+AreCleanPiecesOf g x dirty bytes = (n : ℕ) → n < piece_count g → get_or dirty n true ≡ false → extent_in g bytes n ≡ extent_of g x n
 
 -- Every extent is dirty.
 abbrev pub AreAllDirty : Geometry → List Bool → Type 0
@@ -40,11 +40,11 @@ AreAllDirty g dirty = (n : ℕ) → n < piece_count g → get_or dirty n true �
 
 -- the bytes of the image of an area
 abbrev pub image_in : Geometry → ℕ → Medium → List ℕ
-image_in g area m = part_bytes (layout_of g) (image area) m.now
+image_in g area m = part_bytes (layout_of g) (image_part area) m.now
 
 -- The image of an area has these bytes, nothing else has changed, and nothing is unsynced.
 pub record Imaged (g : Geometry) (area : ℕ) (bytes : List ℕ) (old new : Medium) : Type 0 where
-  pub same : IsSameBut (layout_of g) (image area) old.now new.now
+  pub same : IsSameBut (layout_of g) (image_part area) old.now new.now
   pub is : image_in g area new ≡ bytes
   pub synced : IsSynced new
 

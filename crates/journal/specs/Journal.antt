@@ -9,7 +9,7 @@ use Rattle.messages.specs.Messages.{IsMessage}
 use Rattle.device_map.specs.Layout.{layout_of}
 use Rattle.oplog.specs.Changing.{IsChangeInRange}
 use Rattle.oplog.specs.Recovery.{in_force, named_area}
-use Rattle.meaning.specs.Serial.{fold, is_loggable, next_state, reply_to}
+use Rattle.meaning.specs.Serial.{state_after_all, is_recorded, next_state, reply_to}
 use Rattle.meaning.specs.State.{State}
 
 pub record JournalView : Type 0 where
@@ -17,7 +17,7 @@ pub record JournalView : Type 0 where
   -- how many more records the current half takes
   pub room : ℕ
   -- how many pieces of a cut are still to be written, while one is in progress
-  pub left : Option ℕ
+  pub pieces_left : Option ℕ
   -- which pieces of each image may differ from those of what is committed
   pub dirty : DirtyPieces
   -- whether the device has failed in a call
@@ -32,30 +32,31 @@ committed j = recovered_state j.geometry j.medium.now
 abbrev pub records_in : Geometry → List ℕ → List (List ℕ)
 records_in g c = in_force (layout_of g) (named_area (layout_of g) c) c
 
+-- the records in force on the device of a journal
 abbrev pub records : JournalView → List (List ℕ)
 records j = records_in j.geometry j.medium.now
 
--- It recovers to a state, and so does whatever a crash leaves now, with the same records in force. While no cut is in
+-- The device recovers to a state, and so does whatever a crash leaves now, with the same records in force. While no cut is in
 -- progress, these records and the room for more make up exactly one half.
 pub record IsRecoverable (j : JournalView) : Type 0 where
   pub some : is_some (committed j) ≡ true
   pub each : (c : List ℕ) → IsCrashImage j.medium c → recovered_state j.geometry c ≡ committed j
-  pub forced : (c : List ℕ) → IsCrashImage j.medium c → records_in j.geometry c ≡ records j
-  pub room : j.left ≡ None → length (records j) + j.room ≡ j.geometry.half
+  pub same_records : (c : List ℕ) → IsCrashImage j.medium c → records_in j.geometry c ≡ records j
+  pub room : j.pieces_left ≡ None → length (records j) + j.room ≡ j.geometry.half
 
--- Run from x on, one after the other, each of the messages is logged: it is changing, in range, and carried out.
+-- Run from x on, one after the other, each of the messages gets a record in the log: it is changing, in range, and carried out.
 abbrev pub AreCarriedOut : Geometry → State → List Msg → Type 0
 AreCarriedOut g x [] = Unit {0}
-AreCarriedOut g x (m ∷ ms) = IsMessage m × IsChangeInRange g m × (is_loggable m (reply_to g x m) ≡ true)
+AreCarriedOut g x (m ∷ ms) = IsMessage m × IsChangeInRange g m × (is_recorded m (reply_to g x m) ≡ true)
     × AreCarriedOut g (next_state g x m) ms
 
 -- These bytes recover to x with a prefix of these messages run on it.
 pub record RecoversWithPrefix (g : Geometry) (x : State) (ms : List Msg) (c : List ℕ) : Type 0 where
   pub added : ℕ
   pub at_most : added ≤ length ms
-  pub is : recovered_state g c ≡ Some (fold g x (take added ms))
+  pub is : recovered_state g c ≡ Some (state_after_all g x (take added ms))
 
--- after a call with this result: at `Ok` as given, and else failed
+-- a journal after a call with this result: at `Ok` as given, and else as before but for its device, and failed
 abbrev pub after_call : {T E : Type 0} → Result T E → JournalView → JournalView → JournalView
 after_call (Ok _) done old = done
 after_call (Err _) done old = record old { failed = true; medium = done.medium }

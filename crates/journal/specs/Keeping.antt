@@ -7,7 +7,7 @@ use Rattle.image.specs.Image.{read, version_in}
 use Rattle.journal.specs.Journal.{JournalView, records_in}
 use Rattle.journal.specs.DirtyPieces.{count_dirty}
 use Rattle.journal.specs.Steps.{RecoversByArea, run_on}
-use Rattle.journal.specs.Extents.{AgreeOnClean, AreSpelled, image_in}
+use Rattle.journal.specs.Extents.{AgreeOnClean, AreCleanPiecesOf, image_in}
 use Rattle.oplog.specs.Calls.{IsReadyFor}
 use Rattle.oplog.specs.Front.{front}
 use Rattle.device_map.specs.Layout.{layout_of, other}
@@ -16,9 +16,9 @@ use Rattle.meaning.specs.State.{State, IsState}
 
 -- ---- dirty flags
 
--- Each clean extent is the one of a state, where there is one.
-abbrev pub IsFresh : Geometry → Option State → List Bool → List ℕ → Type 0
-IsFresh g x dirty bytes = (y : State) → x ≡ Some y → AreSpelled g y dirty bytes
+-- Each clean extent of these bytes is that of the state x, if x is one.
+abbrev pub IsUpToDate : Geometry → Option State → List Bool → List ℕ → Type 0
+IsUpToDate g x dirty bytes = (y : State) → x ≡ Some y → AreCleanPiecesOf g y dirty bytes
 
 -- ---- a cut
 
@@ -34,43 +34,45 @@ pub record IsCut (log : Log) (snapshot : List ℕ) (pending : List Bool) (m : Me
   pub written : AgreeOnClean log.geometry pending (image_in log.geometry (other log.named) m) snapshot
   pub version : version_in snapshot ≡ 2
 
+-- While a cut is in progress, its snapshot and records lead to what the device recovers to (`IsCut`).
 abbrev pub IsCutOr : Log → List ℕ → List Bool → Option ℕ → Medium → Type 0
 IsCutOr log snapshot pending None m = Unit {0}
-IsCutOr log snapshot pending (Some left) m = IsCut log snapshot pending m
+IsCutOr log snapshot pending (Some pieces_left) m = IsCut log snapshot pending m
 
 -- which half is current, and how many extents are pending
 abbrev pub IsCutState : Log → List Bool → Option ℕ → Type 0
 IsCutState log pending None = log.current ≡ log.named
-IsCutState log pending (Some left) = (log.current ≡ other log.named) × (count_dirty pending ≡ left)
+IsCutState log pending (Some pieces_left) = (log.current ≡ other log.named) × (count_dirty pending ≡ pieces_left)
 
 -- the image that the area that isn't named has, or will have once the cut is written
-abbrev pub coming : Log → List ℕ → Option ℕ → Medium → List ℕ
-coming log snapshot None m = image_in log.geometry (other log.named) m
-coming log snapshot (Some left) m = snapshot
+abbrev pub image_after_cut : Log → List ℕ → Option ℕ → Medium → List ℕ
+image_after_cut log snapshot None m = image_in log.geometry (other log.named) m
+image_after_cut log snapshot (Some pieces_left) m = snapshot
 
 -- ---- the journal
 
 -- What holds of a journal whose device has not failed and keeps its bytes. The lists are the dirty flags of the named area and
 -- of the other one, and the flags of what is pending.
-pub record IsSoundJournal (log : Log) (snapshot : List ℕ) (named others pending : List Bool) (left : Option ℕ) (m : Medium) : Type 0 where
+pub record IsSoundJournal (log : Log) (snapshot : List ℕ) (named others pending : List Bool)
+    (pieces_left : Option ℕ) (m : Medium) : Type 0 where
   pub some : is_some (recovered_state log.geometry m.now) ≡ true
   pub recovers : RecoversByArea log.geometry log.named log.current (recovered_state log.geometry m.now) m
   pub ready : IsReadyFor log m
-  pub forced : (c : List ℕ) → IsCrashImage m c → records_in log.geometry c ≡ records_in log.geometry m.now
-  pub count : left ≡ None → length (records_in log.geometry m.now) ≡ log.used
+  pub same_records : (c : List ℕ) → IsCrashImage m c → records_in log.geometry c ≡ records_in log.geometry m.now
+  pub count : pieces_left ≡ None → length (records_in log.geometry m.now) ≡ log.used
   pub state : (x : State) → recovered_state log.geometry m.now ≡ Some x → IsState log.geometry x
-  pub named_fresh : IsFresh log.geometry (recovered_state log.geometry m.now) named (image_in log.geometry log.named m)
+  pub named_up_to_date : IsUpToDate log.geometry (recovered_state log.geometry m.now) named (image_in log.geometry log.named m)
   -- while no cut is in progress, the last snapshot is the named image, so that the same flags hold of it
-  pub snapshot_fresh : left ≡ None → IsFresh log.geometry (recovered_state log.geometry m.now) named snapshot
-  pub others_fresh : IsFresh log.geometry (recovered_state log.geometry m.now) others (coming log snapshot left m)
-  pub by_cut : IsCutOr log snapshot pending left m
+  pub snapshot_up_to_date : pieces_left ≡ None → IsUpToDate log.geometry (recovered_state log.geometry m.now) named snapshot
+  pub other_up_to_date : IsUpToDate log.geometry (recovered_state log.geometry m.now) others (image_after_cut log snapshot pieces_left m)
+  pub by_cut : IsCutOr log snapshot pending pieces_left m
 
 abbrev pub journal_view_of : Log → List Bool → List Bool → Option ℕ → Bool → Medium → JournalView
-journal_view_of log named others left failed m = record {
+journal_view_of log named others pieces_left failed m = record {
   geometry = log.geometry;
   room = log.geometry.half - log.used;
-  left = left;
-  dirty = record { named = named; others = others };
+  pieces_left = pieces_left;
+  dirty = record { named = named; other = others };
   failed = failed;
   medium = m;
 }

@@ -4,8 +4,8 @@ use Rattle.affinity.specs.declared.geometry.Geometry.{Geometry}
 use Rattle.checkpoint.specs.declared.fault.OpenFault.{OpenFault}
 use Rattle.checkpoint.specs.declared.fault.OpenFault.TheVariants.{Device, BadRecord}
 use Rattle.checkpoint.specs.Header.{HasHeader}
-use Rattle.checkpoint.specs.Recovery.{recovered_state, means}
-use Rattle.checkpoint.specs.Refusals.{IsDevice, refused}
+use Rattle.checkpoint.specs.Recovery.{recovered_state, decoding}
+use Rattle.checkpoint.specs.Refusals.{IsWholeDevice, refused}
 use Rattle.checkpoint.specs.Version.{named_version}
 use Rattle.disk.specs.Device.{Medium, IsCrashImage, IsSynced}
 use Rattle.disk.specs.Moments.{CrashImagesAre}
@@ -13,7 +13,7 @@ use Rattle.journal.specs.Journal.{JournalView, IsRecoverable, records, committed
 use Rattle.journal.specs.DirtyPieces.{opened_dirty}
 use Rattle.image.specs.Image.{read}
 use Rattle.oplog.specs.Front.{front}
-use Rattle.device_map.specs.Layout.{image, layout_of, part_bytes}
+use Rattle.device_map.specs.Layout.{image_part, layout_of, part_bytes}
 use Rattle.oplog.specs.Recovery.{named_area, run}
 use Rattle.meaning.specs.State.{State, IsState}
 
@@ -34,20 +34,20 @@ pub record IsOpened (old : Medium) (j : JournalView) (x : State) : Type 0 where
 
 -- These bytes recover to what those before recovered to, or are refused for the same fault as they were. Bytes that were no
 -- device with a header and all its parts are as they were.
-pub record RecoversAs (before c : List ℕ) : Type 0 where
+pub record RecoversAsBefore (before c : List ℕ) : Type 0 where
   pub same : (g : Geometry) (x : State) → recovered_state g before ≡ Some x → recovered_state g c ≡ Some x
   pub alike : (g : Geometry) (fault : OpenFault) → HasHeader g before → refused g before ≡ Some fault
       → HasHeader g c × (refused g c ≡ Some fault)
-  pub kept : (IsDevice before → ⊥) → c ≡ before
+  pub kept : (IsWholeDevice before → ⊥) → c ≡ before
 
 -- The first sync is over: nothing was unsynced then, and from then on a crash leaves what recovers to the same, or is refused
 -- for the same fault.
 pub record IsPastSync (old synced new : Medium) : Type 0 where
   pub is_synced : IsSynced synced
   pub now : synced.now ≡ old.now
-  pub later : CrashImagesAre synced new (RecoversAs old.now)
+  pub later : CrashImagesAre synced new (RecoversAsBefore old.now)
 
--- A crash at any moment from `old` to `new` leaves what a crash before might have left, until the first sync is over; and
+-- A crash at any moment from `old` to `new` leaves what a crash of `old` might have left, until the first sync is over; and
 -- from then on what recovers to the same as the device did, or is refused for the same fault.
 pub record OpeningCrashImages (old new : Medium) : Type 0 where
   pub synced : Medium
@@ -56,21 +56,21 @@ pub record OpeningCrashImages (old new : Medium) : Type 0 where
 
 -- ---- what a refusal leaves
 
--- Nothing was written: the bytes are as they were, and a crash leaves only what a crash before might have left.
+-- Nothing was written: the bytes are as they were, and a crash leaves only what a crash of `old` might have left.
 pub record IsUnwritten (old new : Medium) : Type 0 where
   pub now : new.now ≡ old.now
   pub later : CrashImagesAre old new (IsCrashImage old)
 
 -- the state of area n of a device with these bytes by itself: its image, with the records of its half run on it
 abbrev pub area_state : Geometry → ℕ → List ℕ → Option State
-area_state g n c = run (means g) (read g (part_bytes (layout_of g) (image n) c)) (front (layout_of g) n c)
+area_state g n c = run (decoding g) (read g (part_bytes (layout_of g) (image_part n) c)) (front (layout_of g) n c)
 
 -- A cut in progress was finished, and record i of the half that was after the named one is bad. The area of that half is
 -- named now, its image is that of the state which the area named before had by itself, nothing is unsynced, and the device is
 -- still refused for this record.
-pub record IsRefusedBehind (g : Geometry) (h i : ℕ) (old new : Medium) : Type 0 where
+pub record IsBadAfterCut (g : Geometry) (h i : ℕ) (old new : Medium) : Type 0 where
   pub named : named_area (layout_of g) new.now ≡ h
-  pub image : read g (part_bytes (layout_of g) (image h) new.now) ≡ area_state g (named_area (layout_of g) old.now) old.now
+  pub image : read g (part_bytes (layout_of g) (image_part h) new.now) ≡ area_state g (named_area (layout_of g) old.now) old.now
   pub synced : IsSynced new
   pub header : HasHeader g new.now
   pub refused : refused g new.now ≡ Some (BadRecord h i)
@@ -81,5 +81,5 @@ abbrev pub IsRefusedUnwritten : Medium → OpenFault → Medium → Type 0
 IsRefusedUnwritten old Device new = Unit {0}
 IsRefusedUnwritten old (BadRecord h i) new =
     (g : Geometry) → HasHeader g old.now
-    → (h ≡ named_area (layout_of g) old.now → IsUnwritten old new) × (h ≢ named_area (layout_of g) old.now → IsRefusedBehind g h i old new)
+    → (h ≡ named_area (layout_of g) old.now → IsUnwritten old new) × (h ≢ named_area (layout_of g) old.now → IsBadAfterCut g h i old new)
 IsRefusedUnwritten old fault new = IsUnwritten old new

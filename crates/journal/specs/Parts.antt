@@ -12,29 +12,30 @@ use Rattle.image.specs.Pieces.{piece_count}
 use Rattle.journal.specs.declared.opening.Parts.{Parts}
 use Rattle.journal.specs.Keeping.{IsSoundJournal}
 use Rattle.journal.specs.DirtyPieces.{DirtyPieces, opened_dirty}
-use Rattle.journal.specs.Opening.{IsRefusedBehind}
+use Rattle.journal.specs.Opening.{IsBadAfterCut}
 use Rattle.journal.specs.Extents.{AreAllDirty}
-use Rattle.oplog.specs.Calls.{HasParts}
+use Rattle.oplog.specs.Calls.{IsLongEnough}
 use Rattle.device_map.specs.Layout.{image_size, layout_of}
 use Rattle.oplog.specs.Log.{new_log}
 use Rattle.oplog.specs.Recovery.{in_force, named_area}
 use Rattle.parcel.specs.Tree.{IsWholeTree, state_in}
 use Rattle.meaning.specs.State.{empty}
 
--- The device failed; or a record of this half is bad, which was after the named one, and the cut was finished.
-abbrev pub IsBad : Geometry → ℕ → Medium → Medium → OpenFault → Type 0
-IsBad g half old new Device = Unit {0}
-IsBad g half old new (BadRecord h i) = (h ≡ half) × IsRefusedBehind g h i old new
-IsBad g half old new fault = ⊥
+-- The fault is that the device failed; or that a record is bad in `half`, the half whose front followed that of the named half,
+-- and in that case the cut was finished first.
+abbrev pub IsFaultAfterCut : Geometry → ℕ → Medium → Medium → OpenFault → Type 0
+IsFaultAfterCut g half old new Device = Unit {0}
+IsFaultAfterCut g half old new (BadRecord h i) = (h ≡ half) × IsBadAfterCut g h i old new
+IsFaultAfterCut g half old new fault = ⊥
 
 -- These bytes have the header of this geometry, and are refused for the same fault as those before, if they were.
 pub record IsRefusedAlike (g : Geometry) (before c : List ℕ) : Type 0 where
   pub header : HasHeader g c
   pub refused : refused g c ≡ refused g before
 
--- the flags that a journal is made of
-abbrev pub marks_of : Parts → DirtyPieces
-marks_of p = record { named = p.named_dirty.items; others = p.other_dirty.items }
+-- the dirty flags of both images, of which a journal is made
+abbrev pub dirty_pieces_of : Parts → DirtyPieces
+dirty_pieces_of p = record { named = p.named_dirty.items; other = p.other_dirty.items }
 
 -- The parts as they are taken: an empty tree, a log of which nothing is known, room for an image, and the flags of each
 -- piece. Each has the size that the tree's geometry asks for.
@@ -46,7 +47,7 @@ pub record AreUnloaded (p : Parts) : Type 0 where
   pub named_dirty : length p.named_dirty.items ≡ piece_count p.tree.geometry
   pub other_dirty : length p.other_dirty.items ≡ piece_count p.tree.geometry
   pub pending : length p.pending.items ≡ piece_count p.tree.geometry
-  pub dirty : marks_of p ≡ opened_dirty p.tree.geometry
+  pub dirty : dirty_pieces_of p ≡ opened_dirty p.tree.geometry
   pub all : AreAllDirty p.tree.geometry p.other_dirty.items
 
 -- The parts once a device is loaded: the log works, with the half of the named area current; the tree is whole; and the other
@@ -56,7 +57,7 @@ pub record AreLoaded (p : Parts) (m : Medium) : Type 0 where
   pub geometry : p.tree.geometry ≡ p.halves.geometry
   pub not_failed : p.halves.failed ≡ false
   pub current_is_named : p.halves.current ≡ p.halves.named
-  pub long_enough : HasParts p.halves m
+  pub long_enough : IsLongEnough p.halves m
   pub snapshot : length p.snapshot.items ≡ image_size p.halves.geometry
   pub named_dirty : length p.named_dirty.items ≡ piece_count p.halves.geometry
   pub other_dirty : length p.other_dirty.items ≡ piece_count p.halves.geometry
@@ -75,14 +76,14 @@ pub record IsMade (p : Parts) (m : Medium) : Type 0 where
   pub not_failed : p.halves.failed ≡ false
   pub current_is_named : p.halves.current ≡ p.halves.named
   pub used : p.halves.used ≡ 0
-  pub long_enough : HasParts p.halves m
+  pub long_enough : IsLongEnough p.halves m
   pub snapshot : length p.snapshot.items ≡ image_size p.halves.geometry
   pub named_dirty : length p.named_dirty.items ≡ piece_count p.halves.geometry
   pub other_dirty : length p.other_dirty.items ≡ piece_count p.halves.geometry
-  pub dirty : marks_of p ≡ opened_dirty p.halves.geometry
+  pub dirty : dirty_pieces_of p ≡ opened_dirty p.halves.geometry
   pub pending : length p.pending.items ≡ piece_count p.halves.geometry
 
--- It was opened from a device with these bytes, and the tree holds the state to which they recover.
+-- The parts were opened from a device with these bytes, and the tree holds the state to which they recover.
 pub record IsMadeOf (c : List ℕ) (p : Parts) (m : Medium) : Type 0 where
   pub header : HasHeader p.tree.geometry c
   pub accepted : refused p.tree.geometry c ≡ None

@@ -1,14 +1,14 @@
--- Inner: The steps of a point on a device: what each asks of it, and what is on it afterwards.
+-- Inner: The steps of a point and of a cut on a device: what each asks of it, and what is on it afterwards.
 use Rattle.std.specs.Prelude.{◌≡◌, ◌<◌, ◌==◌, if◌then◌else◌, ℕ, true, false, List, [], ◌++◌, Option, is_some}
 use Rattle.affinity.specs.declared.geometry.Geometry.{Geometry}
-use Rattle.checkpoint.specs.Recovery.{recovered_state, means}
+use Rattle.checkpoint.specs.Recovery.{recovered_state, decoding}
 use Rattle.disk.specs.Device.{Medium, IsSynced}
 use Rattle.disk.specs.Moments.{CrashImagesAre}
 use Rattle.image.specs.Image.{read}
 use Rattle.journal.specs.Journal.{records_in}
 use Rattle.journal.specs.Extents.{image_in}
 use Rattle.oplog.specs.Changes.{IsReady}
-use Rattle.oplog.specs.Crash.{RecoversByNow}
+use Rattle.oplog.specs.Crash.{CrashRecovers}
 use Rattle.oplog.specs.Front.{chain, front}
 use Rattle.device_map.specs.Layout.{layout_of, other}
 use Rattle.oplog.specs.Log.{Log}
@@ -21,22 +21,22 @@ RecoversStill g old new = CrashImagesAre old new (λ c. recovered_state g c ≡ 
 
 -- Whatever a crash leaves now names area n, has half h as its current one, and recovers to x.
 abbrev pub RecoversByArea : Geometry → ℕ → ℕ → Option State → Medium → Type 0
-RecoversByArea g n h x m = RecoversByNow (means g) (layout_of g) n h x m
+RecoversByArea g n h x m = CrashRecovers (decoding g) (layout_of g) n h x m
 
 -- these records run on a state
 abbrev pub run_on : Geometry → Option State → List (List ℕ) → Option State
-run_on g x records = run (means g) x records
+run_on g x records = run (decoding g) x records
 
--- It recovers to some state by the named area, with this half as the current one, whatever room that has.
+-- The device recovers to some state by the named area, with this half as the current one, whatever room that has.
 pub record RecoversWith (log : Log) (half : ℕ) (m : Medium) : Type 0 where
   pub some : is_some (recovered_state log.geometry m.now) ≡ true
   pub recovers : RecoversByArea log.geometry log.named half (recovered_state log.geometry m.now) m
 
--- It recovers to a state by the named area and its half alone.
-abbrev pub IsAlone : Log → Medium → Type 0
-IsAlone log m = RecoversWith log log.named m
+-- The device recovers to a state by the named area and its half alone.
+abbrev pub RecoversByNamedAlone : Log → Medium → Type 0
+RecoversByNamedAlone log m = RecoversWith log log.named m
 
--- A step is over and durable: nothing is unsynced, and it recovers to x by this area, with this half as the current one, which
+-- A step is over and durable: nothing is unsynced, and the device recovers to x by this area, with this half as the current one, which
 -- has this many records and is ready for more.
 pub record LastsAt (g : Geometry) (area half used : ℕ) (x : Option State) (m : Medium) : Type 0 where
   pub recovers : RecoversByArea g area half x m
@@ -52,15 +52,15 @@ pub record IsPointed (log : Log) (bytes : List ℕ) (old new : Medium) : Type 0 
 
 -- The other half is in force after the named one, with no record and all its room. The records in force and both images
 -- are as they were.
-pub record IsBegun (log : Log) (old new : Medium) : Type 0 where
+pub record IsCutBegun (log : Log) (old new : Medium) : Type 0 where
   pub at : LastsAt log.geometry log.named (other log.named) 0 (recovered_state log.geometry old.now) new
   pub none : front (layout_of log.geometry) (other log.named) new.now ≡ []
-  pub forced : records_in log.geometry new.now ≡ records_in log.geometry old.now
+  pub same_records : records_in log.geometry new.now ≡ records_in log.geometry old.now
   pub images : (i : ℕ) → i < 2 → image_in log.geometry i new ≡ image_in log.geometry i old
 
--- It recovers to a state by both halves, and would by the other area alone: these bytes are its image, and the records of
+-- The device recovers to a state by both halves, and would by the other area alone: these bytes are its image, and the records of
 -- the other half lead from there to what the device recovers to.
-pub record IsWritten (log : Log) (bytes : List ℕ) (m : Medium) : Type 0 where
+pub record IsCutWritten (log : Log) (bytes : List ℕ) (m : Medium) : Type 0 where
   pub by : RecoversWith log (other log.named) m
   pub ready : IsReady (layout_of log.geometry) (other log.named) log.used m
   pub is : image_in log.geometry (other log.named) m ≡ bytes
@@ -75,9 +75,9 @@ pub record IsFlipped (log : Log) (old new : Medium) : Type 0 where
   pub images : (i : ℕ) → i < 2 → image_in log.geometry i new ≡ image_in log.geometry i old
 
 -- Both halves are in force, nothing is unsynced, and these bytes are the image of what the named area holds by itself.
-pub record IsUnfinished (log : Log) (bytes : List ℕ) (m : Medium) : Type 0 where
+pub record IsCutUnfinished (log : Log) (bytes : List ℕ) (m : Medium) : Type 0 where
   pub synced : IsSynced m
-  pub laid : is_laid_out (means log.geometry) (layout_of log.geometry) m.now ≡ true
+  pub laid : is_laid_out (decoding log.geometry) (layout_of log.geometry) m.now ≡ true
   pub named : named_area (layout_of log.geometry) m.now ≡ log.named
   pub chained : (chain (layout_of log.geometry) log.named m.now == 1) ≡ true
   pub reads : read log.geometry bytes
@@ -85,7 +85,7 @@ pub record IsUnfinished (log : Log) (bytes : List ℕ) (m : Medium) : Type 0 whe
 
 -- The other area is named and recovers to the same by itself, and nothing is unsynced. Its half has the records that it had,
 -- and its image is that of what the area named before held by itself.
-pub record IsFinished (log : Log) (old new : Medium) : Type 0 where
+pub record IsCutFinished (log : Log) (old new : Medium) : Type 0 where
   pub recovers : RecoversByArea log.geometry (other log.named) (other log.named) (recovered_state log.geometry old.now) new
   pub reads : read log.geometry (image_in log.geometry (other log.named) new)
       ≡ run_on log.geometry (read log.geometry (image_in log.geometry log.named old)) (front (layout_of log.geometry) log.named old.now)
@@ -93,20 +93,23 @@ pub record IsFinished (log : Log) (old new : Medium) : Type 0 where
   pub named : named_area (layout_of log.geometry) new.now ≡ other log.named
   pub synced : IsSynced new
 
--- ---- the log after each
+-- ---- the log after a step (`cleared`: the half that isn't named was emptied for a new use)
 
-abbrev pub pointed : Log → Log
-pointed log = record log { named = other log.named; current = other log.named; used = 0; cleared = false }
+-- after a point
+abbrev pub pointed_log : Log → Log
+pointed_log log = record log { named = other log.named; current = other log.named; used = 0; cleared = false }
 
-abbrev pub cut_now : Log → Log
-cut_now log = record log { current = other log.named; used = 0; cleared = false }
+-- after the beginning of a cut
+abbrev pub cut_log : Log → Log
+cut_log log = record log { current = other log.named; used = 0; cleared = false }
 
-abbrev pub named_now : Log → Log
-named_now log = record log { named = other log.named; cleared = false }
+-- after the end of a cut, whose records stay in the current half
+abbrev pub flipped_log : Log → Log
+flipped_log log = record log { named = other log.named; cleared = false }
 
 -- once a cut that was in progress is finished; what room its half has is known only where it was cleared
-abbrev pub finished_now : Log → Log
-finished_now log = record log {
+abbrev pub finished_log : Log → Log
+finished_log log = record log {
   named = other log.named;
   current = other log.named;
   used = if log.cleared then 0 else log.geometry.half;

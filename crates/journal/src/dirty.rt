@@ -10,7 +10,7 @@ use image::touched;
 use messages::Msg;
 use std::mem;
 
-/// How many are dirty.
+/// How many flags are set: of dirty pieces, or of those pending in a cut.
 pub(crate) fn count_dirty(dirty: &[bool]) -> usize
     ensures { result ≡ count_dirty dirty.now }
 {
@@ -23,7 +23,7 @@ pub(crate) fn count_dirty(dirty: &[bool]) -> usize
     count
 }
 
-/// The first dirty piece, where none before `from` is dirty: those aren't looked at.
+/// The first piece whose flag is set, where none before `from` is: those aren't looked at.
 pub(crate) fn first_dirty(dirty: &[bool], from: usize) -> Option<usize>
     requires inside { from ≤ length dirty.now }
     requires clear { AreCleanBefore from dirty.now }
@@ -49,7 +49,7 @@ pub(crate) fn clear_dirty(dirty: &mut [bool])
 
 /// The other image was written and is named from now on: none of its pieces is out of date. The one that was named before
 /// keeps its flags.
-pub(crate) fn swap_dirty(named: &mut Vec<bool>, other: &mut Vec<bool>)
+pub(crate) fn swap_and_clear_dirty(named: &mut Vec<bool>, other: &mut Vec<bool>)
     ensures written { named.new.items ≡ replicate (length other.old.items) false }
     ensures kept { other.new ≡ named.old }
 {
@@ -63,8 +63,8 @@ fn first_piece(g: &Geometry, m: &Msg) -> usize
     ensures most { result < 2 ^ 49 }
 {
     let [aggregate, volume, _, _] = m.numbers();
-    let place = usize::from(aggregate) * usize::from(g.volumes) + usize::from(volume);
-    place * (usize::from(g.stripes) + 1)
+    let volume_index = usize::from(aggregate) * usize::from(g.volumes) + usize::from(volume);
+    volume_index * (usize::from(g.stripes) + 1)
 }
 
 /// Makes what a message touches dirty, and no more. It touches pieces of its own volume alone, so no others are looked at.

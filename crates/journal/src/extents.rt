@@ -4,9 +4,9 @@ ghost use Rattle.disk.specs.Device.{IsDeviceCall, Syncs, overlaid};
 ghost use Rattle.image.specs.Pieces.{piece_count, piece_size};
 ghost use Rattle.journal.specs.Costs.{count_runs};
 ghost use Rattle.journal.specs.Extents.{AgreeOnClean, Imaged, IsPatchedAt, image_in, extent_size};
-ghost use Rattle.oplog.specs.Changes.{ChangesOnly, IsReady, IsSameBut};
+ghost use Rattle.oplog.specs.Changes.{CrashesChangeOnly, IsReady, IsSameBut};
 ghost use Rattle.oplog.specs.Costs.{Costs};
-ghost use Rattle.device_map.specs.Layout.{slice, layout_of, device_size, image, image_size};
+ghost use Rattle.device_map.specs.Layout.{slice, layout_of, device_size, image_part, image_size};
 
 use affinity::Geometry;
 use device_map::{IMAGE_HEAD_SIZE, image_at};
@@ -41,11 +41,12 @@ fn write_run<D: Disk>(
     requires inside { end ≤ length bytes.now }
     requires size { length bytes.now ≡ image_size g.now }
     requires long_enough { device_size (layout_of g.now) ≤ length (D.medium disk.old).now }
-    ensures any_moment { D.keeps → ChangesOnly (D.medium disk.old) (D.medium disk.new)
-        (IsSameBut (layout_of g.now) (image area)) }
+    ensures any_moment { D.keeps → CrashesChangeOnly (D.medium disk.old) (D.medium disk.new)
+        (IsSameBut (layout_of g.now) (image_part area)) }
     ensures written { OnOk result (D.keeps → image_in g.now area (D.medium disk.new)
         ≡ overlaid (image_in g.now area (D.medium disk.old)) from (slice bytes.now from (end - from))) }
-    ensures same { D.keeps → IsSameBut (layout_of g.now) (image area) (D.medium disk.old).now (D.medium disk.new).now }
+    ensures same { D.keeps → IsSameBut (layout_of g.now) (image_part area) (D.medium disk.old).now (D.medium disk.new).now }
+    // If half h has k records and is ready for more, it stays so.
     ensures ready { D.keeps → (h k : ℕ) → h < 2 → IsReady (layout_of g.now) h k (D.medium disk.old)
         → IsReady (layout_of g.now) h k (D.medium disk.new) }
     ensures costs { from < end → D.keeps → Costs result 1 (D.medium disk.old) (D.medium disk.new) }
@@ -59,7 +60,7 @@ fn write_run<D: Disk>(
     Ok(())
 }
 
-/// Syncs what was written of an image, before it is named: at `Ok` a crash leaves it.
+/// Syncs what was written of an image, before it is named: at `Ok` it survives a crash.
 pub(crate) fn sync_image<D: Disk>(disk: &mut D) -> Result<(), DiskFault>
     ensures syncs { D.keeps → Syncs result (D.medium disk.old) (D.medium disk.new) }
     ensures costs { D.keeps → Costs result 1 (D.medium disk.old) (D.medium disk.new) }
@@ -82,12 +83,10 @@ pub(crate) fn write_image<D: Disk>(
     requires size { length bytes.now ≡ image_size g.now }
     requires dirty { length dirty.now ≡ piece_count g.now }
     requires long_enough { device_size (layout_of g.now) ≤ length (D.medium disk.old).now }
-    requires clean { D.keeps →
-        AgreeOnClean g.now dirty.now (image_in g.now area (D.medium disk.old)) bytes.now }
-    ensures any_moment { D.keeps → ChangesOnly (D.medium disk.old) (D.medium disk.new)
-        (IsSameBut (layout_of g.now) (image area)) }
-    ensures written { OnOk result (D.keeps →
-        Imaged g.now area bytes.now (D.medium disk.old) (D.medium disk.new)) }
+    requires clean { D.keeps → AgreeOnClean g.now dirty.now (image_in g.now area (D.medium disk.old)) bytes.now }
+    ensures any_moment { D.keeps → CrashesChangeOnly (D.medium disk.old) (D.medium disk.new)
+        (IsSameBut (layout_of g.now) (image_part area)) }
+    ensures written { OnOk result (D.keeps → Imaged g.now area bytes.now (D.medium disk.old) (D.medium disk.new)) }
     ensures costs { D.keeps → Costs result (count_runs dirty.now + 1) (D.medium disk.old) (D.medium disk.new) }
     ensures inside { IsErrOf result DiskFault.OutOfRange → ⊥ }
     ensures call { IsDeviceCall result (D.medium disk.old) (D.medium disk.new) }
@@ -120,11 +119,12 @@ pub(crate) fn write_extent<D: Disk>(
     requires n { n < piece_count g.now }
     requires size { length bytes.now ≡ image_size g.now }
     requires long_enough { device_size (layout_of g.now) ≤ length (D.medium disk.old).now }
-    ensures any_moment { D.keeps → ChangesOnly (D.medium disk.old) (D.medium disk.new)
-        (IsSameBut (layout_of g.now) (image area)) }
+    ensures any_moment { D.keeps → CrashesChangeOnly (D.medium disk.old) (D.medium disk.new)
+        (IsSameBut (layout_of g.now) (image_part area)) }
     ensures written { OnOk result (D.keeps → IsPatchedAt g.now n bytes.now
         (image_in g.now area (D.medium disk.old)) (image_in g.now area (D.medium disk.new))) }
-    ensures same { D.keeps → IsSameBut (layout_of g.now) (image area) (D.medium disk.old).now (D.medium disk.new).now }
+    ensures same { D.keeps → IsSameBut (layout_of g.now) (image_part area) (D.medium disk.old).now (D.medium disk.new).now }
+    // If half h has k records and is ready for more, it stays so.
     ensures ready { D.keeps → (h k : ℕ) → h < 2 → IsReady (layout_of g.now) h k (D.medium disk.old)
         → IsReady (layout_of g.now) h k (D.medium disk.new) }
     ensures costs { D.keeps → Costs result 1 (D.medium disk.old) (D.medium disk.new) }

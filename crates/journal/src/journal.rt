@@ -5,19 +5,19 @@ ghost use Rattle.checkpoint.specs.Version.{named_version};
 ghost use Rattle.disk.specs.Moments.{CrashImagesAre};
 ghost use Rattle.image.specs.Pieces.{piece_count};
 ghost use Rattle.journal.specs.Costs.{longest_point, point_cost};
-ghost use Rattle.journal.specs.Images.{KeepsImages, PatchesOne};
+ghost use Rattle.journal.specs.Images.{KeepsImages, PatchesUnnamed};
 ghost use Rattle.journal.specs.Journal.{JournalView, AreCarriedOut, RecoversWithPrefix, IsRecoverable, after_call, records, committed};
 ghost use Rattle.journal.specs.DirtyPieces.{AreBothTouched, count_dirty, cut_dirty, flipped_dirty, pointed_dirty};
 ghost use Rattle.oplog.specs.Beyond.{KeepsBeyond};
-ghost use Rattle.oplog.specs.Costs.{Costs, batches};
+ghost use Rattle.oplog.specs.Costs.{Costs, write_groups};
 ghost use Rattle.device_map.specs.Layout.{layout_of};
-ghost use Rattle.oplog.specs.Log.{CountsLogFault, IsNotBad};
+ghost use Rattle.oplog.specs.Log.{CountsLogFault, IsNotBadRecord};
 ghost use Rattle.oplog.specs.Changing.{AreChangesInRange, records_of};
 ghost use Rattle.parcel.specs.Tree.{IsWholeTree, state_in};
-ghost use Rattle.meaning.specs.Serial.{fold};
+ghost use Rattle.meaning.specs.Serial.{state_after_all};
 ghost use Rattle.meaning.specs.State.{State};
 
-use crate::dirty::{clear_dirty, count_dirty, dirty_touched, first_dirty, swap_dirty};
+use crate::dirty::{clear_dirty, count_dirty, dirty_touched, first_dirty, swap_and_clear_dirty};
 use crate::extents::write_extent;
 use crate::snapshot::update_snapshot;
 use crate::steps::{cut_on, flip_on, point_on};
@@ -44,7 +44,7 @@ pub struct Journal<D: Disk> {
     /// The dirty flags of the named image: which pieces may differ from those of what is committed.
     named_dirty: Vec<bool>,
 
-    /// The same of the other image, as it is or will be once a cut is written.
+    /// The same of the other image: as it is, or, during a cut, as it will be once the cut is written.
     other_dirty: Vec<bool>,
 
     /// Which pieces of a cut are still to be written.
@@ -54,7 +54,7 @@ pub struct Journal<D: Disk> {
     next_pending: usize,
 
     /// How many are pending, while a cut is in progress.
-    left: Option<usize>,
+    pieces_left: Option<usize>,
     failed: bool,
 }
 
@@ -63,28 +63,28 @@ impl<D: Disk> Model for Journal<D> {
     ghost use Rattle.image.specs.Pieces.{piece_count};
     ghost use Rattle.journal.specs.Journal.{JournalView};
     ghost use Rattle.journal.specs.Keeping.{AreCleanBefore, IsCutState, IsSoundJournal, journal_view_of};
-    ghost use Rattle.oplog.specs.Calls.{HasParts};
+    ghost use Rattle.oplog.specs.Calls.{IsLongEnough};
     ghost use Rattle.device_map.specs.Layout.{image_size};
 
     ghost Value = { JournalView };
 
-    ghost view = { λ j. journal_view_of j.halves j.named_dirty.items j.other_dirty.items j.left j.failed (D.medium j.disk) };
+    ghost view = { λ j. journal_view_of j.halves j.named_dirty.items j.other_dirty.items j.pieces_left j.failed (D.medium j.disk) };
 
-    ghost invariant = { λ j. HasParts j.halves (D.medium j.disk)
+    ghost invariant = { λ j. IsLongEnough j.halves (D.medium j.disk)
         × (j.halves.used ≤ j.halves.geometry.half)
         × (length j.snapshot.items ≡ image_size j.halves.geometry)
         × (length j.named_dirty.items ≡ piece_count j.halves.geometry)
         × (length j.other_dirty.items ≡ piece_count j.halves.geometry)
         × (length j.pending.items ≡ piece_count j.halves.geometry)
-        × (j.failed ≡ false → (j.halves.failed ≡ false) × IsCutState j.halves j.pending.items j.left)
+        × (j.failed ≡ false → (j.halves.failed ≡ false) × IsCutState j.halves j.pending.items j.pieces_left)
         × (j.failed ≡ false → D.keeps →
-        IsSoundJournal j.halves j.snapshot.items j.named_dirty.items j.other_dirty.items j.pending.items j.left (D.medium j.disk))
+        IsSoundJournal j.halves j.snapshot.items j.named_dirty.items j.other_dirty.items j.pending.items j.pieces_left (D.medium j.disk))
         × (j.next_pending ≤ length j.pending.items) × AreCleanBefore j.next_pending j.pending.items };
 }
 
 impl<D: Disk> Journal<D> {
     ghost use Rattle.journal.specs.Keeping.{IsSoundJournal, journal_view_of};
-    ghost use Rattle.oplog.specs.Calls.{HasParts};
+    ghost use Rattle.oplog.specs.Calls.{IsLongEnough};
     ghost use Rattle.device_map.specs.Layout.{image_size};
 
     /// A journal with no cut in progress. `snapshot` has an image's size, and each vector of flags one flag a piece.
@@ -99,7 +99,7 @@ impl<D: Disk> Journal<D> {
         requires not_failed { halves.failed ≡ false }
         requires current_is_named { halves.current ≡ halves.named }
         requires used { halves.used ≤ halves.geometry.half }
-        requires long_enough { HasParts halves (D.medium disk) }
+        requires long_enough { IsLongEnough halves (D.medium disk) }
         requires snapshot { length snapshot.items ≡ image_size halves.geometry }
         requires named_dirty { length named_dirty.items ≡ piece_count halves.geometry }
         requires other_dirty { length other_dirty.items ≡ piece_count halves.geometry }
@@ -116,7 +116,7 @@ impl<D: Disk> Journal<D> {
             other_dirty,
             pending,
             next_pending: 0,
-            left: None,
+            pieces_left: None,
             failed: false,
         }
     }
@@ -134,16 +134,16 @@ impl<D: Disk> Journal<D> {
             CrashImagesAre self.old.medium self.new.medium (RecoversWithPrefix self.old.geometry x messages.now) }
         ensures beyond { D.keeps → KeepsBeyond (layout_of self.old.geometry) self.old.medium self.new.medium }
         ensures committed { OnOk result (D.keeps →
-            committed self.new ≡ option_map (λ x. fold self.old.geometry x messages.now) (committed self.old)) }
+            committed self.new ≡ option_map (λ x. state_after_all self.old.geometry x messages.now) (committed self.old)) }
         ensures records { OnOk result (D.keeps → records self.new ≡ records self.old ++ records_of messages.now) }
         ensures recoverable { OnOk result (D.keeps → IsRecoverable self.new) }
         ensures dirties { OnOk result (AreBothTouched self.old.geometry messages.now self.old.dirty self.new.dirty) }
         ensures none { length messages.now ≡ 0 → self.new ≡ self.old }
-        ensures costs { D.keeps → Costs result (4 * batches (length messages.now)) self.old.medium self.new.medium }
+        ensures costs { D.keeps → Costs result (4 * write_groups (length messages.now)) self.old.medium self.new.medium }
         ensures after { self.new ≡ after_call result
             (record self.old { room = self.old.room - length messages.now; dirty = self.new.dirty; medium = self.new.medium })
             self.old }
-        ensures not_bad { IsNotBad result }
+        ensures no_bad_record { IsNotBadRecord result }
         ensures counts { CountsLogFault result self.old.medium.faults self.new.medium.faults }
     {
         if let Err(fault) = self.halves.append(&mut self.disk, messages) {
@@ -159,7 +159,7 @@ impl<D: Disk> Journal<D> {
     /// Writes an image of the committed state, which the tree has (no part of it is checked out), and begins a new log.
     pub fn point(&mut self, tree: &Tree) -> Result<(), LogFault>
         requires not_failed { self.old.failed ≡ false }
-        requires no_cut { self.old.left ≡ None }
+        requires no_cut { self.old.pieces_left ≡ None }
         requires geometry { tree.now.geometry ≡ self.old.geometry }
         requires whole { IsWholeTree tree.now }
         requires state { D.keeps → committed self.old ≡ Some (state_in tree.now) }
@@ -171,15 +171,17 @@ impl<D: Disk> Journal<D> {
         ensures committed { OnOk result (D.keeps → committed self.new ≡ committed self.old) }
         ensures recoverable { OnOk result (D.keeps → IsRecoverable self.new) }
         ensures emptied { OnOk result (D.keeps → records self.new ≡ []) }
+
+        // The named image is of format version 2, the newest.
         ensures version { OnOk result (D.keeps → named_version self.new.geometry self.new.medium.now ≡ 2) }
 
         // Dirty pieces that lie side by side take one write.
-        ensures costs { D.keeps → Costs result (point_cost self.old.dirty.others) self.old.medium self.new.medium }
-        ensures few { point_cost self.old.dirty.others ≤ longest_point self.old.geometry }
+        ensures costs { D.keeps → Costs result (point_cost self.old.dirty.other) self.old.medium self.new.medium }
+        ensures few { point_cost self.old.dirty.other ≤ longest_point self.old.geometry }
         ensures after { self.new ≡ after_call result
             (record self.old { room = self.old.geometry.half; dirty = pointed_dirty self.old.dirty; medium = self.new.medium })
             self.old }
-        ensures not_bad { IsNotBad result }
+        ensures no_bad_record { IsNotBadRecord result }
         ensures counts { CountsLogFault result self.old.medium.faults self.new.medium.faults }
     {
         update_snapshot(tree, &self.named_dirty, &mut self.snapshot);
@@ -192,7 +194,8 @@ impl<D: Disk> Journal<D> {
             self.failed = true;
             return Err(fault);
         }
-        swap_dirty(&mut self.named_dirty, &mut self.other_dirty);
+        // None of the image that was just written is dirty.
+        swap_and_clear_dirty(&mut self.named_dirty, &mut self.other_dirty);
         Ok(())
     }
 
@@ -200,7 +203,7 @@ impl<D: Disk> Journal<D> {
     /// half from now on, after those in force. As many pieces are left to write as are dirty in the other image.
     pub fn cut(&mut self, tree: &Tree) -> Result<(), LogFault>
         requires not_failed { self.old.failed ≡ false }
-        requires no_cut { self.old.left ≡ None }
+        requires no_cut { self.old.pieces_left ≡ None }
         requires geometry { tree.now.geometry ≡ self.old.geometry }
         requires whole { IsWholeTree tree.now }
         requires state { D.keeps → committed self.old ≡ Some (state_in tree.now) }
@@ -212,15 +215,15 @@ impl<D: Disk> Journal<D> {
         ensures records { OnOk result (D.keeps → records self.new ≡ records self.old) }
         ensures begun { OnOk result (self.new ≡ record self.old {
           room = self.old.geometry.half;
-          left = Some (count_dirty self.old.dirty.others);
+          pieces_left = Some (count_dirty self.old.dirty.other);
           dirty = cut_dirty self.old.dirty;
           medium = self.new.medium;
         }) }
-        ensures few { OnOk result (count_dirty self.old.dirty.others ≤ piece_count self.old.geometry) }
+        ensures few { OnOk result (count_dirty self.old.dirty.other ≤ piece_count self.old.geometry) }
         ensures images { OnOk result (D.keeps → KeepsImages self.old.geometry self.old.medium.now self.new.medium.now) }
         ensures costs { D.keeps → Costs result 4 self.old.medium self.new.medium }
         ensures broken { OnErr result (self.new ≡ record self.old { failed = true; medium = self.new.medium }) }
-        ensures not_bad { IsNotBad result }
+        ensures no_bad_record { IsNotBadRecord result }
         ensures counts { CountsLogFault result self.old.medium.faults self.new.medium.faults }
     {
         update_snapshot(tree, &self.named_dirty, &mut self.snapshot); // later messages don't change it
@@ -231,30 +234,33 @@ impl<D: Disk> Journal<D> {
         mem::swap(&mut self.pending, &mut self.other_dirty);
         clear_dirty(&mut self.other_dirty);
         self.next_pending = 0;
-        self.left = Some(count_dirty(&self.pending));
+        self.pieces_left = Some(count_dirty(&self.pending));
         Ok(())
     }
 
-    /// Writes the next piece of the state of the cut, and gives how many are left. With none left it touches nothing.
+    /// Writes the next piece of the state of the cut (with the first piece the image's head), and gives how many are left. With none left
+    /// it touches nothing.
     pub fn piece(&mut self) -> Result<usize, LogFault>
         requires not_failed { self.old.failed ≡ false }
-        requires running { is_some self.old.left ≡ true }
+        requires running { is_some self.old.pieces_left ≡ true }
         ensures any_moment { D.keeps → CrashImagesAre self.old.medium self.new.medium
             (λ c. recovered_state self.old.geometry c ≡ committed self.old) }
         ensures beyond { D.keeps → KeepsBeyond (layout_of self.old.geometry) self.old.medium self.new.medium }
         ensures committed { OnOk result (D.keeps → committed self.new ≡ committed self.old) }
+
+        // The piece isn't synced: it lies in the image that isn't named, and `flip` syncs it.
         ensures recoverable { OnOk result (D.keeps → IsRecoverable self.new) }
         ensures records { OnOk result (D.keeps → records self.new ≡ records self.old) }
-        ensures left { IfOk result (λ n. option_map (λ l. l - 1) self.old.left ≡ Some n) }
+        ensures pieces_left { IfOk result (λ n. option_map (λ l. l - 1) self.old.pieces_left ≡ Some n) }
 
         // It writes one piece, in one write, unless none is left.
-        ensures one { OnOk result (self.old.left ≢ Some 0 → D.keeps →
-            PatchesOne self.old.geometry self.old.medium.now self.new.medium.now) }
-        ensures costs { self.old.left ≢ Some 0 → D.keeps → Costs result 1 self.old.medium self.new.medium }
-        ensures none { self.old.left ≡ Some 0 → self.new ≡ self.old }
+        ensures one { OnOk result (self.old.pieces_left ≢ Some 0 → D.keeps →
+            PatchesUnnamed self.old.geometry self.old.medium.now self.new.medium.now) }
+        ensures costs { self.old.pieces_left ≢ Some 0 → D.keeps → Costs result 1 self.old.medium self.new.medium }
+        ensures none { self.old.pieces_left ≡ Some 0 → self.new ≡ self.old }
         ensures after { self.new ≡ after_call result
-            (record self.old { left = option_map (λ l. l - 1) self.old.left; medium = self.new.medium }) self.old }
-        ensures not_bad { IsNotBad result }
+            (record self.old { pieces_left = option_map (λ l. l - 1) self.old.pieces_left; medium = self.new.medium }) self.old }
+        ensures no_bad_record { IsNotBadRecord result }
         ensures counts { CountsLogFault result self.old.medium.faults self.new.medium.faults }
     {
         let Some(n) = first_dirty(&self.pending, self.next_pending) else {
@@ -262,37 +268,39 @@ impl<D: Disk> Journal<D> {
         };
         let g = self.halves.geometry();
         let area = 1 - self.halves.named();
+        // Extent n is piece n, the first one with the head before it.
         if write_extent(&mut self.disk, &g, area, &self.snapshot, n).is_err() {
             self.failed = true;
             return Err(LogFault::Device);
         }
         self.pending[n] = false;
         self.next_pending = n + 1;
-        let left = self.left.unwrap_or(0).saturating_sub(1);
-        self.left = Some(left);
-        Ok(left)
+        let pieces_left = self.pieces_left.unwrap_or(0).saturating_sub(1);
+        self.pieces_left = Some(pieces_left);
+        Ok(pieces_left)
     }
 
     /// Ends a cut of which every piece is written: the image becomes the named one. The records that were in
     /// force before the cut aren't any more; those logged since then are.
     pub fn flip(&mut self) -> Result<(), LogFault>
         requires not_failed { self.old.failed ≡ false }
-        requires written { self.old.left ≡ Some 0 }
+        requires written { self.old.pieces_left ≡ Some 0 }
         ensures any_moment { D.keeps → CrashImagesAre self.old.medium self.new.medium
             (λ c. recovered_state self.old.geometry c ≡ committed self.old) }
         ensures beyond { D.keeps → KeepsBeyond (layout_of self.old.geometry) self.old.medium self.new.medium }
         ensures committed { OnOk result (D.keeps → committed self.new ≡ committed self.old) }
         ensures recoverable { OnOk result (D.keeps → IsRecoverable self.new) }
-        ensures records { OnOk result (D.keeps →
-            (first : List (List ℕ)) × (records self.old ≡ first ++ records self.new)) }
+        ensures records { OnOk result (D.keeps → (first : List (List ℕ)) × (records self.old ≡ first ++ records self.new)) }
+
+        // The named image is of format version 2, the newest.
         ensures version { OnOk result (D.keeps → named_version self.new.geometry self.new.medium.now ≡ 2) }
 
         // It writes no piece: all were written before.
         ensures images { OnOk result (D.keeps → KeepsImages self.old.geometry self.old.medium.now self.new.medium.now) }
         ensures costs { D.keeps → Costs result 3 self.old.medium self.new.medium }
         ensures after { self.new ≡ after_call result
-            (record self.old { left = None; dirty = flipped_dirty self.old.dirty; medium = self.new.medium }) self.old }
-        ensures not_bad { IsNotBad result }
+            (record self.old { pieces_left = None; dirty = flipped_dirty self.old.dirty; medium = self.new.medium }) self.old }
+        ensures no_bad_record { IsNotBadRecord result }
         ensures counts { CountsLogFault result self.old.medium.faults self.new.medium.faults }
     {
         if let Err(fault) = flip_on(&mut self.halves, &mut self.disk, &self.snapshot) {
@@ -300,7 +308,7 @@ impl<D: Disk> Journal<D> {
             return Err(fault);
         }
         mem::swap(&mut self.named_dirty, &mut self.other_dirty);
-        self.left = None;
+        self.pieces_left = None;
         Ok(())
     }
 }

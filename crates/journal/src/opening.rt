@@ -5,18 +5,18 @@ ghost use Rattle.checkpoint.specs.declared.fault.OpenFault.TheVariants.{Device, 
 ghost use Rattle.checkpoint.specs.Header.{HasHeader};
 ghost use Rattle.checkpoint.specs.Loading.{IsOpeningCall, NamedHolds};
 ghost use Rattle.checkpoint.specs.Recovery.{recovered_state};
-ghost use Rattle.checkpoint.specs.Refusals.{IsDevice, IsRefused, refused};
+ghost use Rattle.checkpoint.specs.Refusals.{IsWholeDevice, IsRefused, refused};
 ghost use Rattle.disk.specs.Device.{IsSynced, IsCrashImage};
-ghost use Rattle.disk.specs.Moments.{CrashImagesAre, moment};
+ghost use Rattle.disk.specs.Moments.{CrashImagesAre, moment_number};
 ghost use Rattle.image.specs.Image.{image_of};
 ghost use Rattle.journal.specs.Costs.{finish_cost, opening_cost};
-ghost use Rattle.journal.specs.Opening.{IsOpened, IsRefusedUnwritten, OpeningCrashImages, RecoversAs};
-ghost use Rattle.journal.specs.Parts.{AreLoaded, AreUnloaded, IsBad, IsMade, IsMadeOf, IsRefusedAlike, KeepsBuffers};
-ghost use Rattle.journal.specs.Steps.{IsAlone, IsFinished, IsPointed, RecoversStill, finished_now, pointed};
+ghost use Rattle.journal.specs.Opening.{IsOpened, IsRefusedUnwritten, OpeningCrashImages, RecoversAsBefore};
+ghost use Rattle.journal.specs.Parts.{AreLoaded, AreUnloaded, IsFaultAfterCut, IsMade, IsMadeOf, IsRefusedAlike, KeepsBuffers};
+ghost use Rattle.journal.specs.Steps.{RecoversByNamedAlone, IsCutFinished, IsPointed, RecoversStill, finished_log, pointed_log};
 ghost use Rattle.oplog.specs.Beyond.{KeepsBeyond};
 ghost use Rattle.oplog.specs.Costs.{Costs};
 ghost use Rattle.device_map.specs.Layout.{Layout, device_size, layout_of, other};
-ghost use Rattle.oplog.specs.Log.{IsLogCall, IsNotBad};
+ghost use Rattle.oplog.specs.Log.{IsLogCall, IsNotBadRecord};
 ghost use Rattle.parcel.specs.Tree.{IsWholeTree, state_in};
 
 use crate::Journal;
@@ -77,8 +77,7 @@ fn take_memory(alloc: Global, g: &Geometry) -> Result<(Parts, Vec<u8>), OpenFaul
 
 /// Syncs what was written before the opening, so that a crash leaves it.
 fn first_sync<D: Disk>(disk: &mut D) -> Result<(), OpenFault>
-    ensures any_moment { D.keeps →
-        CrashImagesAre (D.medium disk.old) (D.medium disk.new) (IsCrashImage (D.medium disk.old)) }
+    ensures any_moment { D.keeps → CrashImagesAre (D.medium disk.old) (D.medium disk.new) (IsCrashImage (D.medium disk.old)) }
     ensures now { D.keeps → (D.medium disk.new).now ≡ (D.medium disk.old).now }
     ensures beyond { D.keeps → (l : Layout) → KeepsBeyond l (D.medium disk.old) (D.medium disk.new) }
     ensures synced { OnOk result (D.keeps → IsSynced (D.medium disk.new)) }
@@ -93,51 +92,47 @@ fn first_sync<D: Disk>(disk: &mut D) -> Result<(), OpenFault>
 }
 
 /// Finishes a cut that was in progress: its state, which the tree holds, is written into the other area, which is then named.
-/// It is the state that the named area holds by itself, with none of the records after it.
+/// That is the state of the named image with the records of its own half run, without those of the other half.
 fn finish_cut<D: Disk>(parts: &mut Parts, disk: &mut D) -> Result<(), LogFault>
     requires loaded { AreLoaded parts.old (D.medium disk.old) }
     requires synced { D.keeps → IsSynced (D.medium disk.old) }
     requires recovers { D.keeps →
         NamedHolds parts.old.halves.geometry (D.medium disk.old).now parts.old.halves.named true (state_in parts.old.tree) }
-    ensures any_moment { D.keeps →
-        RecoversStill parts.old.halves.geometry (D.medium disk.old) (D.medium disk.new) }
+    ensures any_moment { D.keeps → RecoversStill parts.old.halves.geometry (D.medium disk.old) (D.medium disk.new) }
     ensures beyond { D.keeps → KeepsBeyond (layout_of parts.old.halves.geometry) (D.medium disk.old) (D.medium disk.new) }
     ensures alike { D.keeps →
         CrashImagesAre (D.medium disk.old) (D.medium disk.new) (IsRefusedAlike parts.old.halves.geometry (D.medium disk.old).now) }
-    ensures finished { OnOk result (D.keeps →
-        IsFinished parts.old.halves (D.medium disk.old) (D.medium disk.new)) }
+    ensures finished { OnOk result (D.keeps → IsCutFinished parts.old.halves (D.medium disk.old) (D.medium disk.new)) }
     ensures costs { D.keeps → Costs result 4 (D.medium disk.old) (D.medium disk.new) }
-    ensures log { OnOk result (parts.new.halves ≡ finished_now parts.old.halves) }
+    ensures log { OnOk result (parts.new.halves ≡ finished_log parts.old.halves) }
     ensures tree { parts.new.tree ≡ parts.old.tree }
     ensures room { KeepsBuffers parts.old parts.new }
-    ensures not_bad { IsNotBad result }
+    ensures no_bad_record { IsNotBadRecord result }
     ensures call { IsLogCall result (D.medium disk.old) (D.medium disk.new) }
 {
-    update_snapshot(&parts.tree, &parts.other_dirty, &mut parts.snapshot); // no record behind it
+    update_snapshot(&parts.tree, &parts.other_dirty, &mut parts.snapshot); // the other half's records aren't replayed yet
     finish_on(&mut parts.halves, disk, &parts.snapshot, &parts.other_dirty)
 }
 
 /// Finishes a cut that was in progress, and then runs the records after it on the tree, which holds the state of the
 /// cut. The other area is then named, and holds the state of the device by itself.
-fn replay_behind<D: Disk>(parts: &mut Parts, disk: &mut D) -> Result<(), OpenFault>
+fn finish_cut_and_replay<D: Disk>(parts: &mut Parts, disk: &mut D) -> Result<(), OpenFault>
     requires loaded { AreLoaded parts.old (D.medium disk.old) }
     requires synced { D.keeps → IsSynced (D.medium disk.old) }
     requires recovers { D.keeps →
         NamedHolds parts.old.halves.geometry (D.medium disk.old).now parts.old.halves.named true (state_in parts.old.tree) }
-    ensures any_moment { D.keeps →
-        RecoversStill parts.old.halves.geometry (D.medium disk.old) (D.medium disk.new) }
+    ensures any_moment { D.keeps → RecoversStill parts.old.halves.geometry (D.medium disk.old) (D.medium disk.new) }
     ensures beyond { D.keeps → KeepsBeyond (layout_of parts.old.halves.geometry) (D.medium disk.old) (D.medium disk.new) }
     ensures alike { D.keeps →
         CrashImagesAre (D.medium disk.old) (D.medium disk.new) (IsRefusedAlike parts.old.halves.geometry (D.medium disk.old).now) }
     ensures costs { D.keeps → Costs result 4 (D.medium disk.old) (D.medium disk.new) }
-    ensures alone { OnOk result (D.keeps → IsAlone parts.new.halves (D.medium disk.new)) }
+    ensures alone { OnOk result (D.keeps → RecoversByNamedAlone parts.new.halves (D.medium disk.new)) }
     ensures was { OnOk result (D.keeps →
         recovered_state parts.old.halves.geometry (D.medium disk.old).now ≡ Some (state_in parts.new.tree)) }
-    ensures sound { OnOk result (D.keeps →
-        refused parts.old.halves.geometry (D.medium disk.old).now ≡ None) }
+    ensures sound { OnOk result (D.keeps → refused parts.old.halves.geometry (D.medium disk.old).now ≡ None) }
     ensures refused { IfErr result (λ e. D.keeps → IsRefused (D.medium disk.old).now e) }
     ensures behind { IfErr result (λ e. D.keeps →
-        IsBad parts.old.halves.geometry (other parts.old.halves.named) (D.medium disk.old) (D.medium disk.new) e) }
+        IsFaultAfterCut parts.old.halves.geometry (other parts.old.halves.named) (D.medium disk.old) (D.medium disk.new) e) }
     ensures loaded { OnOk result (AreLoaded parts.new (D.medium disk.new)) }
     ensures geometry { OnOk result (parts.new.halves.geometry ≡ parts.old.halves.geometry) }
     ensures room { OnOk result (KeepsBuffers parts.old parts.new) }
@@ -149,8 +144,8 @@ fn replay_behind<D: Disk>(parts: &mut Parts, disk: &mut D) -> Result<(), OpenFau
     Ok(())
 }
 
-/// Loads what the device recovers to into an empty tree. Where a cut was in progress, it is finished between the records
-/// of the two halves.
+/// Loads what the device recovers to into an empty tree. Where a cut was in progress, it is finished after the records of
+/// the named half were run, and before those of the other one are.
 fn load_in_order<D: Disk>(
     parts: &mut Parts,
     disk: &mut D,
@@ -161,21 +156,17 @@ fn load_in_order<D: Disk>(
     requires long_enough { device_size (layout_of parts.old.tree.geometry) ≤ length (D.medium disk.old).now }
     requires buffer { parts.old.tree.geometry.quota * 520 ≤ length buffer.old }
     requires synced { D.keeps → IsSynced (D.medium disk.old) }
-    ensures any_moment { D.keeps →
-        RecoversStill parts.old.tree.geometry (D.medium disk.old) (D.medium disk.new) }
+    ensures any_moment { D.keeps → RecoversStill parts.old.tree.geometry (D.medium disk.old) (D.medium disk.new) }
     ensures beyond { D.keeps → KeepsBeyond (layout_of parts.old.tree.geometry) (D.medium disk.old) (D.medium disk.new) }
     ensures alike { D.keeps →
         CrashImagesAre (D.medium disk.old) (D.medium disk.new) (IsRefusedAlike parts.old.tree.geometry (D.medium disk.old).now) }
     ensures costs { D.keeps → Costs result
         (finish_cost parts.old.tree.geometry (D.medium disk.old).now) (D.medium disk.old) (D.medium disk.new) }
-    ensures alone { OnOk result (D.keeps → IsAlone parts.new.halves (D.medium disk.new)) }
-    ensures was { OnOk result (D.keeps →
-        recovered_state parts.old.tree.geometry (D.medium disk.old).now ≡ Some (state_in parts.new.tree)) }
-    ensures sound { OnOk result (D.keeps →
-        refused parts.old.tree.geometry (D.medium disk.old).now ≡ None) }
+    ensures alone { OnOk result (D.keeps → RecoversByNamedAlone parts.new.halves (D.medium disk.new)) }
+    ensures was { OnOk result (D.keeps → recovered_state parts.old.tree.geometry (D.medium disk.old).now ≡ Some (state_in parts.new.tree)) }
+    ensures sound { OnOk result (D.keeps → refused parts.old.tree.geometry (D.medium disk.old).now ≡ None) }
     ensures refused { IfErr result (λ e. D.keeps → IsRefused (D.medium disk.old).now e) }
-    ensures unwritten { IfErr result (λ e. D.keeps →
-        IsRefusedUnwritten (D.medium disk.old) e (D.medium disk.new)) }
+    ensures unwritten { IfErr result (λ e. D.keeps → IsRefusedUnwritten (D.medium disk.old) e (D.medium disk.new)) }
     ensures synced { IfErr result (λ e. e ≢ Device → D.keeps → IsSynced (D.medium disk.new)) }
     ensures loaded { OnOk result (AreLoaded parts.new (D.medium disk.new)) }
     ensures geometry { OnOk result (parts.new.halves.geometry ≡ parts.old.tree.geometry) }
@@ -186,24 +177,21 @@ fn load_in_order<D: Disk>(
     if !named.chained {
         return Ok(());
     }
-    replay_behind(parts, disk)?;
+    finish_cut_and_replay(parts, disk)?;
     Ok(())
 }
 
 /// Makes a checkpoint of the whole state, which the tree holds.
-fn last_point<D: Disk>(parts: &mut Parts, disk: &mut D) -> Result<(), OpenFault>
+fn checkpoint_recovered<D: Disk>(parts: &mut Parts, disk: &mut D) -> Result<(), OpenFault>
     requires loaded { AreLoaded parts.old (D.medium disk.old) }
-    requires alone { D.keeps → IsAlone parts.old.halves (D.medium disk.old) }
-    requires recovers { D.keeps →
-        recovered_state parts.old.halves.geometry (D.medium disk.old).now ≡ Some (state_in parts.old.tree) }
-    ensures any_moment { D.keeps →
-        RecoversStill parts.old.halves.geometry (D.medium disk.old) (D.medium disk.new) }
+    requires alone { D.keeps → RecoversByNamedAlone parts.old.halves (D.medium disk.old) }
+    requires recovers { D.keeps → recovered_state parts.old.halves.geometry (D.medium disk.old).now ≡ Some (state_in parts.old.tree) }
+    ensures any_moment { D.keeps → RecoversStill parts.old.halves.geometry (D.medium disk.old) (D.medium disk.new) }
     ensures beyond { D.keeps → KeepsBeyond (layout_of parts.old.halves.geometry) (D.medium disk.old) (D.medium disk.new) }
     ensures costs { D.keeps → Costs result 6 (D.medium disk.old) (D.medium disk.new) }
-    ensures pointed { OnOk result (D.keeps →
-        IsPointed parts.old.halves parts.new.snapshot.items (D.medium disk.old) (D.medium disk.new)) }
+    ensures pointed { OnOk result (D.keeps → IsPointed parts.old.halves parts.new.snapshot.items (D.medium disk.old) (D.medium disk.new)) }
     ensures snapshot { parts.new.snapshot.items ≡ image_of 2 parts.old.tree.geometry (state_in parts.old.tree) }
-    ensures log { OnOk result (parts.new.halves ≡ pointed parts.old.halves) }
+    ensures log { OnOk result (parts.new.halves ≡ pointed_log parts.old.halves) }
     ensures tree { parts.new.tree ≡ parts.old.tree }
     ensures room { KeepsBuffers parts.old parts.new }
     ensures device { IfErr result (λ e. e ≡ Device) }
@@ -215,30 +203,28 @@ fn last_point<D: Disk>(parts: &mut Parts, disk: &mut D) -> Result<(), OpenFault>
 }
 
 /// Opens a device of which nothing is unsynced.
-fn open_committed<D: Disk>(alloc: Global, disk: &mut D) -> Result<Parts, OpenFault>
+fn open_synced<D: Disk>(alloc: Global, disk: &mut D) -> Result<Parts, OpenFault>
     requires synced { D.keeps → IsSynced (D.medium disk.old) }
-    ensures any_moment { D.keeps →
-        CrashImagesAre (D.medium disk.old) (D.medium disk.new) (RecoversAs (D.medium disk.old).now) }
+    ensures any_moment { D.keeps → CrashImagesAre (D.medium disk.old) (D.medium disk.new) (RecoversAsBefore (D.medium disk.old).now) }
     ensures beyond { D.keeps → (g : Geometry) → HasHeader g (D.medium disk.old).now
         → KeepsBeyond (layout_of g) (D.medium disk.old) (D.medium disk.new) }
     ensures costs { D.keeps → MatchResult result
-        (λ p. moment (D.medium disk.new) ≡ moment (D.medium disk.old) + (finish_cost p.halves.geometry (D.medium disk.old).now + 6))
-        (λ e. moment (D.medium disk.new) ≤ moment (D.medium disk.old) + 10) }
-    ensures made_of { IfOk result (λ p. D.keeps →
-        IsMadeOf (D.medium disk.old).now p (D.medium disk.new)) }
+        (λ p. moment_number (D.medium disk.new)
+        ≡ moment_number (D.medium disk.old) + (finish_cost p.halves.geometry (D.medium disk.old).now + 6))
+        (λ e. moment_number (D.medium disk.new) ≤ moment_number (D.medium disk.old) + 10) }
+    ensures made_of { IfOk result (λ p. D.keeps → IsMadeOf (D.medium disk.old).now p (D.medium disk.new)) }
     ensures made { IfOk result (λ p. IsMade p (D.medium disk.new)) }
     ensures whole { IfOk result (λ p. IsWholeTree p.tree) }
     ensures refused { IfErr result (λ e. D.keeps → IsRefused (D.medium disk.old).now e) }
-    ensures unwritten { IfErr result (λ e. D.keeps →
-        IsRefusedUnwritten (D.medium disk.old) e (D.medium disk.new)) }
+    ensures unwritten { IfErr result (λ e. D.keeps → IsRefusedUnwritten (D.medium disk.old) e (D.medium disk.new)) }
     ensures synced { IfErr result (λ e. e ≢ Device → D.keeps → IsSynced (D.medium disk.new)) }
-    ensures memory { IfErr result (λ e. e ≡ OutOfMemory → D.keeps → IsDevice (D.medium disk.old).now) }
+    ensures memory { IfErr result (λ e. e ≡ OutOfMemory → D.keeps → IsWholeDevice (D.medium disk.old).now) }
     ensures call { IsOpeningCall result (D.medium disk.old) (D.medium disk.new) }
 {
     let g = read_header(disk)?;
     let (mut parts, mut buffer) = take_memory(alloc, &g)?;
     load_in_order(&mut parts, disk, &mut buffer)?;
-    last_point(&mut parts, disk)?;
+    checkpoint_recovered(&mut parts, disk)?;
     Ok(parts)
 }
 
@@ -248,28 +234,27 @@ fn open_on<D: Disk>(alloc: Global, disk: &mut D) -> Result<Parts, OpenFault>
     ensures beyond { D.keeps → (g : Geometry) → HasHeader g (D.medium disk.old).now
         → KeepsBeyond (layout_of g) (D.medium disk.old) (D.medium disk.new) }
     ensures costs { D.keeps → MatchResult result
-        (λ p. moment (D.medium disk.new) ≡ moment (D.medium disk.old) + opening_cost p.halves.geometry (D.medium disk.old).now)
-        (λ e. moment (D.medium disk.new) ≤ moment (D.medium disk.old) + 11) }
-    ensures made_of { IfOk result (λ p. D.keeps →
-        IsMadeOf (D.medium disk.old).now p (D.medium disk.new)) }
+        (λ p. moment_number (D.medium disk.new)
+        ≡ moment_number (D.medium disk.old) + opening_cost p.halves.geometry (D.medium disk.old).now)
+        (λ e. moment_number (D.medium disk.new) ≤ moment_number (D.medium disk.old) + 11) }
+    ensures made_of { IfOk result (λ p. D.keeps → IsMadeOf (D.medium disk.old).now p (D.medium disk.new)) }
     ensures made { IfOk result (λ p. IsMade p (D.medium disk.new)) }
     ensures whole { IfOk result (λ p. IsWholeTree p.tree) }
     ensures refused { IfErr result (λ e. D.keeps → IsRefused (D.medium disk.old).now e) }
-    ensures unwritten { IfErr result (λ e. D.keeps →
-        IsRefusedUnwritten (D.medium disk.old) e (D.medium disk.new)) }
+    ensures unwritten { IfErr result (λ e. D.keeps → IsRefusedUnwritten (D.medium disk.old) e (D.medium disk.new)) }
     ensures synced { IfErr result (λ e. e ≢ Device → D.keeps → IsSynced (D.medium disk.new)) }
-    ensures memory { IfErr result (λ e. e ≡ OutOfMemory → D.keeps → IsDevice (D.medium disk.old).now) }
+    ensures memory { IfErr result (λ e. e ≡ OutOfMemory → D.keeps → IsWholeDevice (D.medium disk.old).now) }
     ensures call { IsOpeningCall result (D.medium disk.old) (D.medium disk.new) }
 {
     first_sync(disk)?;
-    open_committed(alloc, disk)
+    open_synced(alloc, disk)
 }
 
 /// Opens a device: reads what it recovers to into a tree, finishes a cut that was in progress, and makes a checkpoint.
 ///
-/// It is refused exactly where its bytes are, with the first fault in the order of the tests: length, marks, geometry,
-/// length for that geometry, memory, the head of the named image, its pieces, the chain bytes, the records of the named
-/// half, those of the other one. A refusal comes before anything is written. But where a record of the half after the
+/// It is refused for the first fault in this order of checks, and for no other reason: length, magic, geometry, length for that
+/// geometry, memory, the head of the named image, its pieces, the chain bytes, the records of the named half, those of the
+/// other one. A refusal comes before anything is written. But where a record of the half after the
 /// named one is bad, the cut was finished before: then the area of that half is named, nothing is unsynced, and the next
 /// call gives the same fault. A device without a header, or too short for its parts, is left as it is, also where it fails
 /// meanwhile. `Device` exactly where the device failed.
@@ -277,10 +262,10 @@ pub fn open<D: Disk>(alloc: Global, d: D) -> Result<(Journal<D>, Tree), OpenErro
     ensures opened { IfOk result (λ r. D.keeps → IsOpened (D.medium d) r.0 (state_in r.1)) }
     ensures tree { IfOk result (λ r. (r.1.geometry ≡ r.0.geometry) × IsWholeTree r.1) }
     ensures begins { IfOk result (λ r.
-        (r.0.room ≡ r.0.geometry.half) × (r.0.left ≡ None) × (r.0.failed ≡ false)) }
+        (r.0.room ≡ r.0.geometry.half) × (r.0.pieces_left ≡ None) × (r.0.failed ≡ false)) }
 
-    // A crash at any moment of the call leaves what a crash before might have left, until the first sync is over, and then
-    // what recovers to the same, or is refused for the same fault.
+    // Until the first sync of the call is over, a crash leaves what one just before the call might have left. After it, what a
+    // crash leaves recovers to the same state, or is refused for the same fault.
     ensures any_moment { D.keeps → MatchResult result
         (λ r. OpeningCrashImages (D.medium d) r.0.medium)
         (λ e. OpeningCrashImages (D.medium d) (D.medium e.disk)) }
@@ -292,16 +277,14 @@ pub fn open<D: Disk>(alloc: Global, d: D) -> Result<(Journal<D>, Tree), OpenErro
 
     // How many writes and syncs it takes.
     ensures costs { D.keeps → MatchResult result
-        (λ r. moment r.0.medium ≡ moment (D.medium d) + opening_cost r.0.geometry (D.medium d).now)
-        (λ e. moment (D.medium e.disk) ≤ moment (D.medium d) + 11) }
+        (λ r. moment_number r.0.medium ≡ moment_number (D.medium d) + opening_cost r.0.geometry (D.medium d).now)
+        (λ e. moment_number (D.medium e.disk) ≤ moment_number (D.medium d) + 11) }
     ensures refused { IfErr result (λ e. D.keeps → IsRefused (D.medium d).now e.fault) }
-    ensures unwritten { IfErr result (λ e. D.keeps →
-        IsRefusedUnwritten (D.medium d) e.fault (D.medium e.disk)) }
+    ensures unwritten { IfErr result (λ e. D.keeps → IsRefusedUnwritten (D.medium d) e.fault (D.medium e.disk)) }
 
     // The first sync comes before all else: only a fault of the device leaves something unsynced.
     ensures synced { IfErr result (λ e. e.fault ≢ OpenFault.Device → D.keeps → IsSynced (D.medium e.disk)) }
-    ensures memory { IfErr result (λ e. e.fault ≡ OpenFault.OutOfMemory →
-        D.keeps → IsDevice (D.medium d).now) }
+    ensures memory { IfErr result (λ e. e.fault ≡ OpenFault.OutOfMemory → D.keeps → IsWholeDevice (D.medium d).now) }
     ensures device { IfErr result (λ e. e.fault ≡ OpenFault.Device
         ↔ (D.medium e.disk).faults ≡ (D.medium d).faults + 1) }
     ensures no_fault { IfOk result (λ r. r.0.medium.faults ≡ (D.medium d).faults) }

@@ -2,7 +2,7 @@
 ghost use Rattle.std.specs.Prelude.{◌≡◌, ◌≤◌, drop, length, take};
 ghost use Rattle.image.specs.Image.{image_head, image_of};
 ghost use Rattle.image.specs.Pieces.{piece_count};
-ghost use Rattle.journal.specs.Extents.{AreSpelled};
+ghost use Rattle.journal.specs.Extents.{AreCleanPiecesOf};
 ghost use Rattle.device_map.specs.Layout.{image_size};
 ghost use Rattle.parcel.specs.Tree.{IsWholeTree, state_in};
 
@@ -20,13 +20,13 @@ fn write_head(bytes: &mut [u8])
     bytes[..IMAGE_HEAD_SIZE].copy_from_slice(&head_of(VERSION));
 }
 
-/// Makes bytes the image of the state of a tree of which no part is checked out. All extents but the dirty ones are there already: only the
-/// dirty ones are encoded.
+/// Makes bytes the image of the state of a tree of which no part is checked out. The clean pieces have the bytes of that image already:
+/// only the head and the dirty pieces are written.
 pub(crate) fn update_snapshot(tree: &Tree, dirty: &[bool], bytes: &mut [u8])
     requires whole { IsWholeTree tree.now }
     requires dirty { length dirty.now ≡ piece_count tree.now.geometry }
     requires size { length bytes.old ≡ image_size tree.now.geometry }
-    ensures image { AreSpelled tree.now.geometry (state_in tree.now) dirty.now bytes.old
+    ensures image { AreCleanPiecesOf tree.now.geometry (state_in tree.now) dirty.now bytes.old
         → bytes.new ≡ image_of 2 tree.now.geometry (state_in tree.now) }
     ensures size { length bytes.new ≡ length bytes.old }
 {

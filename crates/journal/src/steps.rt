@@ -7,13 +7,13 @@ ghost use Rattle.image.specs.Image.{read};
 ghost use Rattle.image.specs.Pieces.{piece_count};
 ghost use Rattle.journal.specs.Costs.{point_cost};
 ghost use Rattle.journal.specs.Parts.{IsRefusedAlike};
-ghost use Rattle.journal.specs.Steps.{IsAlone, IsBegun, IsFinished, IsFlipped, IsPointed, IsUnfinished, IsWritten, RecoversStill, cut_now, finished_now, named_now, pointed};
+ghost use Rattle.journal.specs.Steps.{RecoversByNamedAlone, IsCutBegun, IsCutFinished, IsFlipped, IsPointed, IsCutUnfinished, IsCutWritten, RecoversStill, cut_log, finished_log, flipped_log, pointed_log};
 ghost use Rattle.journal.specs.Extents.{AgreeOnClean, AreAllDirty, image_in};
 ghost use Rattle.oplog.specs.Beyond.{KeepsBeyond};
-ghost use Rattle.oplog.specs.Calls.{HasParts};
+ghost use Rattle.oplog.specs.Calls.{IsLongEnough};
 ghost use Rattle.oplog.specs.Costs.{Costs};
 ghost use Rattle.device_map.specs.Layout.{image_size, layout_of, other};
-ghost use Rattle.oplog.specs.Log.{IsLogCall, IsNotBad};
+ghost use Rattle.oplog.specs.Log.{IsLogCall, IsNotBadRecord};
 ghost use Rattle.meaning.specs.State.{State};
 
 use crate::extents::{sync_image, write_image};
@@ -31,23 +31,20 @@ pub(crate) fn point_on<D: Disk>(
     requires not_failed { halves.old.failed ≡ false }
     requires size { length bytes.now ≡ image_size halves.old.geometry }
     requires dirty { length dirty.now ≡ piece_count halves.old.geometry }
-    requires long_enough { HasParts halves.old (D.medium disk.old) }
+    requires long_enough { IsLongEnough halves.old (D.medium disk.old) }
     requires current_is_named { halves.old.current ≡ halves.old.named }
-    requires alone { D.keeps → IsAlone halves.old (D.medium disk.old) }
-    requires image { D.keeps →
-        read halves.old.geometry bytes.now ≡ recovered_state halves.old.geometry (D.medium disk.old).now }
+    requires alone { D.keeps → RecoversByNamedAlone halves.old (D.medium disk.old) }
+    requires image { D.keeps → read halves.old.geometry bytes.now ≡ recovered_state halves.old.geometry (D.medium disk.old).now }
     requires clean { D.keeps → AgreeOnClean halves.old.geometry dirty.now
         (image_in halves.old.geometry (other halves.old.named) (D.medium disk.old)) bytes.now }
-    ensures any_moment { D.keeps →
-        RecoversStill halves.old.geometry (D.medium disk.old) (D.medium disk.new) }
+    ensures any_moment { D.keeps → RecoversStill halves.old.geometry (D.medium disk.old) (D.medium disk.new) }
     ensures beyond { D.keeps → KeepsBeyond (layout_of halves.old.geometry) (D.medium disk.old) (D.medium disk.new) }
-    ensures pointed { OnOk result (D.keeps →
-        IsPointed halves.old bytes.now (D.medium disk.old) (D.medium disk.new)) }
+    ensures pointed { OnOk result (D.keeps → IsPointed halves.old bytes.now (D.medium disk.old) (D.medium disk.new)) }
     ensures costs { D.keeps → Costs result (point_cost dirty.now) (D.medium disk.old) (D.medium disk.new) }
-    ensures log { OnOk result (halves.new ≡ pointed halves.old) }
+    ensures log { OnOk result (halves.new ≡ pointed_log halves.old) }
     ensures geometry { halves.new.geometry ≡ halves.old.geometry }
     ensures used { OnErr result (halves.new.used ≡ halves.old.used) }
-    ensures not_bad { IsNotBad result }
+    ensures no_bad_record { IsNotBadRecord result }
     ensures call { IsLogCall result (D.medium disk.old) (D.medium disk.new) }
 {
     let g = halves.geometry();
@@ -63,19 +60,17 @@ pub(crate) fn point_on<D: Disk>(
 /// Begins a cut: the other half is cleared, and put in force after the named one.
 pub(crate) fn cut_on<D: Disk>(halves: &mut Halves, disk: &mut D) -> Result<(), LogFault>
     requires not_failed { halves.old.failed ≡ false }
-    requires long_enough { HasParts halves.old (D.medium disk.old) }
+    requires long_enough { IsLongEnough halves.old (D.medium disk.old) }
     requires current_is_named { halves.old.current ≡ halves.old.named }
-    requires alone { D.keeps → IsAlone halves.old (D.medium disk.old) }
-    ensures any_moment { D.keeps →
-        RecoversStill halves.old.geometry (D.medium disk.old) (D.medium disk.new) }
+    requires alone { D.keeps → RecoversByNamedAlone halves.old (D.medium disk.old) }
+    ensures any_moment { D.keeps → RecoversStill halves.old.geometry (D.medium disk.old) (D.medium disk.new) }
     ensures beyond { D.keeps → KeepsBeyond (layout_of halves.old.geometry) (D.medium disk.old) (D.medium disk.new) }
-    ensures begun { OnOk result (D.keeps →
-        IsBegun halves.old (D.medium disk.old) (D.medium disk.new)) }
+    ensures begun { OnOk result (D.keeps → IsCutBegun halves.old (D.medium disk.old) (D.medium disk.new)) }
     ensures costs { D.keeps → Costs result 4 (D.medium disk.old) (D.medium disk.new) }
-    ensures log { OnOk result (halves.new ≡ cut_now halves.old) }
+    ensures log { OnOk result (halves.new ≡ cut_log halves.old) }
     ensures geometry { halves.new.geometry ≡ halves.old.geometry }
     ensures used { OnErr result (halves.new.used ≡ halves.old.used) }
-    ensures not_bad { IsNotBad result }
+    ensures no_bad_record { IsNotBadRecord result }
     ensures call { IsLogCall result (D.medium disk.old) (D.medium disk.new) }
 {
     halves.clear_other(disk)?; // before it is in force
@@ -90,19 +85,17 @@ pub(crate) fn flip_on<D: Disk>(
     bytes: &[u8],
 ) -> Result<(), LogFault>
     requires not_failed { halves.old.failed ≡ false }
-    requires long_enough { HasParts halves.old (D.medium disk.old) }
+    requires long_enough { IsLongEnough halves.old (D.medium disk.old) }
     requires apart { halves.old.current ≡ other halves.old.named }
-    requires written { D.keeps → IsWritten halves.old bytes.now (D.medium disk.old) }
-    ensures any_moment { D.keeps →
-        RecoversStill halves.old.geometry (D.medium disk.old) (D.medium disk.new) }
+    requires written { D.keeps → IsCutWritten halves.old bytes.now (D.medium disk.old) }
+    ensures any_moment { D.keeps → RecoversStill halves.old.geometry (D.medium disk.old) (D.medium disk.new) }
     ensures beyond { D.keeps → KeepsBeyond (layout_of halves.old.geometry) (D.medium disk.old) (D.medium disk.new) }
-    ensures flipped { OnOk result (D.keeps →
-        IsFlipped halves.old (D.medium disk.old) (D.medium disk.new)) }
+    ensures flipped { OnOk result (D.keeps → IsFlipped halves.old (D.medium disk.old) (D.medium disk.new)) }
     ensures costs { D.keeps → Costs result 3 (D.medium disk.old) (D.medium disk.new) }
-    ensures log { OnOk result (halves.new ≡ named_now halves.old) }
+    ensures log { OnOk result (halves.new ≡ flipped_log halves.old) }
     ensures geometry { halves.new.geometry ≡ halves.old.geometry }
     ensures used { OnErr result (halves.new.used ≡ halves.old.used) }
-    ensures not_bad { IsNotBad result }
+    ensures no_bad_record { IsNotBadRecord result }
     ensures call { IsLogCall result (D.medium disk.old) (D.medium disk.new) }
 {
     if sync_image(disk).is_err() {
@@ -112,9 +105,9 @@ pub(crate) fn flip_on<D: Disk>(
     Ok(())
 }
 
-/// Finishes a cut that was in progress when the device was left: this image of what the named area holds by itself is
-/// written into the other one, which is then named. The records of its half were in force after those of the named one,
-/// and are in force still.
+/// Finishes a cut that was in progress when the device was left: `bytes`, the image of what the named area holds without
+/// the records of the other half, is written into the other area, which is then named. The records of that area's half
+/// were in force behind the others, and stay in force. In clause `alike`, `true` says that the named half is chained.
 pub(crate) fn finish_on<D: Disk>(
     halves: &mut Halves,
     disk: &mut D,
@@ -125,20 +118,18 @@ pub(crate) fn finish_on<D: Disk>(
     requires size { length bytes.now ≡ image_size halves.old.geometry }
     requires dirty { length dirty.now ≡ piece_count halves.old.geometry }
     requires all { AreAllDirty halves.old.geometry dirty.now }
-    requires long_enough { HasParts halves.old (D.medium disk.old) }
+    requires long_enough { IsLongEnough halves.old (D.medium disk.old) }
     requires current_is_named { halves.old.current ≡ halves.old.named }
-    requires unfinished { D.keeps → IsUnfinished halves.old bytes.now (D.medium disk.old) }
-    ensures any_moment { D.keeps →
-        RecoversStill halves.old.geometry (D.medium disk.old) (D.medium disk.new) }
+    requires unfinished { D.keeps → IsCutUnfinished halves.old bytes.now (D.medium disk.old) }
+    ensures any_moment { D.keeps → RecoversStill halves.old.geometry (D.medium disk.old) (D.medium disk.new) }
     ensures beyond { D.keeps → KeepsBeyond (layout_of halves.old.geometry) (D.medium disk.old) (D.medium disk.new) }
     ensures alike { D.keeps → (x : State) → read halves.old.geometry bytes.now ≡ Some x
         → NamedHolds halves.old.geometry (D.medium disk.old).now halves.old.named true x
         → CrashImagesAre (D.medium disk.old) (D.medium disk.new) (IsRefusedAlike halves.old.geometry (D.medium disk.old).now) }
-    ensures finished { OnOk result (D.keeps →
-        IsFinished halves.old (D.medium disk.old) (D.medium disk.new)) }
+    ensures finished { OnOk result (D.keeps → IsCutFinished halves.old (D.medium disk.old) (D.medium disk.new)) }
     ensures costs { D.keeps → Costs result 4 (D.medium disk.old) (D.medium disk.new) }
-    ensures log { OnOk result (halves.new ≡ finished_now halves.old) }
-    ensures not_bad { IsNotBad result }
+    ensures log { OnOk result (halves.new ≡ finished_log halves.old) }
+    ensures no_bad_record { IsNotBadRecord result }
     ensures call { IsLogCall result (D.medium disk.old) (D.medium disk.new) }
 {
     let g = halves.geometry();

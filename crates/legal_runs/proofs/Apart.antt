@@ -6,16 +6,16 @@ use Rattle.std.proofs.lemmas.Bool.{and_parts, not-true}
 use Rattle.std.proofs.lemmas.List.{length-append, length-map, take-append-drop}
 use Rattle.affinity.specs.declared.geometry.Geometry.{Geometry}
 use Rattle.affinity.proofs.Paths.{unrelated_turned}
-use Rattle.messages.specs.Messages.{place}
+use Rattle.messages.specs.Messages.{path_of}
 use Rattle.meaning.specs.Serial.{reply_to}
 use Rattle.legal_runs.specs.CoreState.{Entry, Replied, CoreState, entry, entries, held, are_related_entries}
 use Rattle.legal_runs.specs.Eligible.{is_conflict_free, has_room, is_eligible, next_eligible}
-use Rattle.legal_runs.specs.Events.{grant, give_back, out_with, log}
-use Rattle.legal_runs.specs.Laws.{AreApart}
+use Rattle.legal_runs.specs.Events.{grant, give_back, find_in_flight, log}
+use Rattle.legal_runs.specs.Laws.{AreUnrelated}
 use Rattle.legal_runs.proofs.Lists.{all_none, all_weaker, before_push, before_moved, picked}
 
 pub apart_turned : (g : Geometry) (e d : Entry) → are_related_entries g e d ≡ false → are_related_entries g d e ≡ false
-apart_turned g e d h = unrelated_turned (place g e.1) (place g d.1) h
+apart_turned g e d h = unrelated_turned (path_of g e.1) (path_of g d.1) h
 
 pub entries-append : (as' bs : List Replied) → entries (as' ++ bs) ≡ entries as' ++ entries bs
 entries-append [] bs = refl
@@ -40,16 +40,16 @@ pub held_grant : (w : CoreState) (found : Entry × List Entry) → held (grant w
 held_grant w found = ap (λ l. entries w.logged ++ l) (sym (append_assoc (entries w.ran) w.in_flight (found.0 ∷ [])))
     ∙ sym (append_assoc (entries w.logged) (entries w.ran ++ w.in_flight) (found.0 ∷ []))
 
-pub grant_apart : (g : Geometry) (w : CoreState) (found : Entry × List Entry) → next_eligible g w ≡ Some found → AreApart g (held w)
-    → AreApart g (held (grant w found))
+pub grant_apart : (g : Geometry) (w : CoreState) (found : Entry × List Entry) → next_eligible g w ≡ Some found → AreUnrelated g (held w)
+    → AreUnrelated g (held (grant w found))
 grant_apart g w found h apart =
     let e = found.0 in
-    subst (AreApart g) (sym (held_grant w found))
+    subst (AreUnrelated g) (sym (held_grant w found))
     (before_push (λ e d. are_related_entries g e d ≡ false) (held w) e apart (all_weaker (λ d. are_related_entries g e d ≡ false) (λ d. are_related_entries g d e ≡ false)
     (λ d. apart_turned g e d) (held w) (granted_is_free g w found h)))
 
-pub back_apart : (g : Geometry) (w : CoreState) (ticket : ℕ) (found : Entry × List Entry) → out_with w ticket ≡ Some found
-    → AreApart g (held w) → AreApart g (held (give_back g w found))
+pub back_apart : (g : Geometry) (w : CoreState) (ticket : ℕ) (found : Entry × List Entry) → find_in_flight w ticket ≡ Some found
+    → AreUnrelated g (held w) → AreUnrelated g (held (give_back g w found))
 back_apart g w ticket found h apart =
     let k = picked (λ d. d.0 == ticket) w.in_flight found h in
     let e = found.0 in
@@ -57,8 +57,8 @@ back_apart g w ticket found h apart =
     let R = entries w.ran in
     let split : held w ≡ (L ++ R) ++ (k.before ++ e ∷ k.behind) = ap (λ o. L ++ (R ++ o)) k.whole ∙ sym (append_assoc L R _) in
     let moved = before_moved (λ e d. are_related_entries g e d ≡ false) (apart_turned g) (L ++ R) k.before e k.behind
-    (subst (AreApart g) split apart) in
-    subst (AreApart g)
+    (subst (AreUnrelated g) split apart) in
+    subst (AreUnrelated g)
     (append_assoc L R _ ∙ ap (λ l. L ++ l) (sym (append_assoc R (e ∷ []) (k.before ++ k.behind)) ∙
     (λ i. sym (entries-append w.ran ((e.0, e.1, reply_to g w.committed e.1) ∷ [])) i ++ sym k.rest i)))
     moved

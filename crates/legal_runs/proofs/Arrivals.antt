@@ -8,14 +8,14 @@ use Rattle.std.proofs.lemmas.List.Sorted.{IsPermutation-append_left, IsPermutati
 use Rattle.affinity.specs.declared.geometry.Geometry.{Geometry}
 use Rattle.messages.specs.declared.Reply.{Reply}
 use Rattle.meaning.specs.State.{State}
-use Rattle.meaning.specs.Serial.{reply_to, fold}
-use Rattle.meaning.specs.Order.{serial_replies, messages, by_ticket, IsBefore}
+use Rattle.meaning.specs.Serial.{reply_to, state_after_all}
+use Rattle.meaning.specs.Order.{serial_replies, messages, by_ticket, InOrderIfRelated}
 use Rattle.meaning.proofs.ByTicket.{by_ticket-ascending, AreAscending as AreEachLess}
 use Rattle.legal_runs.specs.CoreState.{Entry, Replied, CoreState, entries, held, are_related_entries}
 use Rattle.legal_runs.specs.Eligible.{is_conflict_free, has_room, is_eligible}
 use Rattle.legal_runs.specs.Events.{MachineState, Event, grant, give_back, log}
-use Rattle.legal_runs.specs.Runs.{IsLegal, last, logged_at, arrives, logged_messages, arrived, answered}
-use Rattle.legal_runs.specs.Laws.{AreApart, AreAscending, EachBefore, IsSoundCoreState, IsIdle, ticket_replies}
+use Rattle.legal_runs.specs.Runs.{IsLegal, end_state, logged_at, arrives, logged_messages, arrived, answered}
+use Rattle.legal_runs.specs.Laws.{AreUnrelated, AreAscending, EachBefore, IsSoundCoreState, IsIdle, ticket_replies}
 use Rattle.legal_runs.proofs.Lists.{picked, all_join, all_front, all_none, all_permuted, all_weaker, before_back, before_front, before_moved, before_one, before_past, before_push, before_join}
 use Rattle.legal_runs.proofs.Apart.{apart_turned, entries-append}
 use Rattle.legal_runs.proofs.Moves.{Passed, Move, Stays, Arrives, Grants, Backs, Logs, Answers, moves, passed}
@@ -117,7 +117,7 @@ module _ (g : Geometry) (AreInStep : List Entry → List Entry → Type 0) (keep
       let whole : held old ≡ (L ++ R) ++ (k.before ++ one ∷ k.behind) = ap (λ o. L ++ (R ++ o)) k.whole ∙ sym (append_assoc L R _) in
       let free = all_front (λ d. are_related_entries g one d ≡ false) k.before k.behind (before_back
       (λ e d. are_related_entries g e d ≡ false) (L ++ R) _ (before_moved
-      (λ e d. are_related_entries g e d ≡ false) (apart_turned g) (L ++ R) k.before one k.behind (subst (AreApart g) whole h.apart))).0 in
+      (λ e d. are_related_entries g e d ≡ false) (apart_turned g) (L ++ R) k.before one k.behind (subst (AreUnrelated g) whole h.apart))).0 in
       let from : row old past ≡ (P ++ R) ++ (k.before ++ one ∷ (k.behind ++ old.waiting)) =
       ap (λ o. P ++ (R ++ (o ++ old.waiting))) k.whole ∙ ap (λ l. P ++ (R ++ l)) (append_assoc k.before (one ∷ k.behind) old.waiting)
       ∙ sym (append_assoc P R _) in
@@ -146,7 +146,7 @@ module _ (g : Geometry) (AreInStep : List Entry → List Entry → Type 0) (keep
 
   run_in_step : (old : MachineState) (events : List Event) (past : List Replied) (all : List Entry) → IsLegal g old events
       → IsSoundCoreState g old.core → AreInStep all (row old.core past)
-      → AreInStep (all ++ arrived events) (row (last old events).core (past ++ logged_messages old events))
+      → AreInStep (all ++ arrived events) (row (end_state old events).core (past ++ logged_messages old events))
   run_in_step old [] past all legal h good = quiet old.core past all [] [] refl refl good
   run_in_step old (event ∷ events) past all legal h good =
       let m = moves g old event legal.0 in
@@ -155,14 +155,14 @@ module _ (g : Geometry) (AreInStep : List Entry → List Entry → Type 0) (keep
       let come = arrives event.step event.outcome in
       let k = run_in_step event.state_after events (past ++ gone) (all
       ++ come) legal.1 (move_sound g old.core event.state_after.core p m h) (move_in_step old.core event.state_after.core p past all m h good) in
-      subst (λ l. AreInStep l (row (last event.state_after events).core (past
+      subst (λ l. AreInStep l (row (end_state event.state_after events).core (past
       ++ (gone ++ logged_messages event.state_after events)))) (append_assoc all come (arrived events))
       (subst (λ l. AreInStep ((all ++ come)
-      ++ arrived events) (row (last event.state_after events).core l)) (append_assoc past gone (logged_messages event.state_after events)) k)
+      ++ arrived events) (row (end_state event.state_after events).core l)) (append_assoc past gone (logged_messages event.state_after events)) k)
 
   -- From none on, all that arrived and the row are in step.
   pub arrivals_in_step : (old : MachineState) (events : List Event) → IsLegal g old events → IsIdle old.core → AreInStep [] []
-      → AreInStep (arrived events) (row (last old events).core (logged_messages old events))
+      → AreInStep (arrived events) (row (end_state old events).core (logged_messages old events))
   arrivals_in_step old events legal idle start =
       let none : row old.core [] ≡ [] = λ i. entries (none_ran old.core idle i) ++ (none_in_flight old.core idle i ++ idle.none_waits i) in
       run_in_step old events [] [] legal (idle_sound old.core idle g) (subst (AreInStep []) (sym none) start)
@@ -180,25 +180,25 @@ good_in_step g x = record {
 -- The second row has the messages of the first, each as often. Those at related places are by ticket there, if they are so in the first.
 pub record IsReordered (g : Geometry) (es fs : List Entry) : Type 0 where
   pub same : IsPermutation es fs
-  pub ordered : EachBefore (IsBefore g) es → EachBefore (IsBefore g) fs
+  pub ordered : EachBefore (InOrderIfRelated g) es → EachBefore (InOrderIfRelated g) fs
 
 reordered_in_step : (g : Geometry) → KeepsInStep g (IsReordered g)
 reordered_in_step g = record {
   push = λ es fs e h. record {
     same = IsPermutation-append_left (e ∷ []) es fs h.same;
-    ordered = λ ordered. before_push (IsBefore g) fs e (h.ordered (before_front (IsBefore g) es (e ∷ []) ordered))
-        (all_permuted (λ d. IsBefore g d e) es fs h.same (before_one (IsBefore g) es e [] ordered));
+    ordered = λ ordered. before_push (InOrderIfRelated g) fs e (h.ordered (before_front (InOrderIfRelated g) es (e ∷ []) ordered))
+        (all_permuted (λ d. InOrderIfRelated g d e) es fs h.same (before_one (InOrderIfRelated g) es e [] ordered));
   };
   moved = λ es ps us e vs free h. record {
     same = IsPermutation-trans es _ _ h.same (IsPermutation-append_right ps _ _ (IsPermutation-middle us e vs));
-    ordered = λ ordered. before_past (IsBefore g) ps us e vs
-        (all_weaker (λ d. are_related_entries g e d ≡ false) (IsBefore g e) (λ d free related. absurd (true≢false (sym related ∙ free))) us free)
+    ordered = λ ordered. before_past (InOrderIfRelated g) ps us e vs
+        (all_weaker (λ d. are_related_entries g e d ≡ false) (InOrderIfRelated g e) (λ d free related. absurd (true≢false (sym related ∙ free))) us free)
         (h.ordered ordered);
   };
 }
 
 pub arrivals_reordered : (g : Geometry) (old : MachineState) (events : List Event) → IsLegal g old events → IsIdle old.core
-    → IsReordered g (arrived events) (row (last old events).core (logged_messages old events))
+    → IsReordered g (arrived events) (row (end_state old events).core (logged_messages old events))
 arrivals_reordered g old events legal idle =
     arrivals_in_step g (IsReordered g) (reordered_in_step g) old events legal idle
     (record { same = IsPermutation-refl []; ordered = λ ordered. ordered })
@@ -267,10 +267,10 @@ arrived_by_ticket g old events legal = by_ticket-ascending (arrived events) (eac
 
 module _ (g : Geometry) (old : MachineState) (events : List Event) (legal : IsLegal g old events) (h : IsSoundCoreState g old.core)
     (idle : IsIdle old.core) where
-  good : IsAsGood g old.core.committed (by_ticket (arrived events)) (row (last old events).core (logged_messages old events))
+  good : IsAsGood g old.core.committed (by_ticket (arrived events)) (row (end_state old events).core (logged_messages old events))
   good =
       let x = old.core.committed in
-      subst (λ l. IsAsGood g x l (row (last old events).core (logged_messages old events))) (sym (arrived_by_ticket g old events legal))
+      subst (λ l. IsAsGood g x l (row (end_state old events).core (logged_messages old events))) (sym (arrived_by_ticket g old events legal))
       (arrivals_in_step g (IsAsGood g x) (good_in_step g x) old events legal idle (good_itself g x []))
 
   -- Each reply to a message that the run logs is that of the serial server to the messages by ticket.
@@ -278,21 +278,21 @@ module _ (g : Geometry) (old : MachineState) (events : List Event) (legal : IsLe
   logged_by_ticket p is =
       let x = old.core.committed in
       good.tells p (subst (IsIn p) (sym (serial_replies-append g x (entries (logged_messages old events)) _)) (in_left p _ _
-      (subst (IsIn p) (sym (run_follows g old events legal h).told) is)))
+      (subst (IsIn p) (sym (run_follows g old events legal h).reply_pairs) is)))
 
   -- So is each reply that it gives.
   pub answered_by_ticket : (p : ℕ × Reply) → IsIn p (answered events) → IsIn p (serial_replies g old.core.committed (by_ticket (arrived events)))
   answered_by_ticket p is =
-      let all : ticket_replies (logged_messages old events) ≡ answered events ++ ticket_replies (last old events).core.logged =
+      let all : ticket_replies (logged_messages old events) ≡ answered events ++ ticket_replies (end_state old events).core.logged =
       ap (λ l. ticket_replies l ++ ticket_replies (logged_messages old events)) (sym (none_logged old.core idle)) ∙ run_answers g old events legal in
       logged_by_ticket p (subst (IsIn p) (sym all) (in_left p (answered events) _ is))
 
   -- Where all was answered in the end, the committed state is the serial one too.
-  pub committed_by_ticket : IsIdle (last old events).core
-      → (last old events).core.committed ≡ fold g old.core.committed (messages (by_ticket (arrived events)))
+  pub committed_by_ticket : IsIdle (end_state old events).core
+      → (end_state old events).core.committed ≡ state_after_all g old.core.committed (messages (by_ticket (arrived events)))
   committed_by_ticket ends =
-      let new = (last old events).core in
+      let new = (end_state old events).core in
       let none : row new (logged_messages old events) ≡ entries (logged_messages old events) =
       (λ i. entries (logged_messages old events) ++ (entries (none_ran new ends i) ++ (none_in_flight new ends i ++ ends.none_waits i)))
       ∙ append-nil (entries (logged_messages old events)) in
-      (run_follows g old events legal h).committed ∙ ap (λ l. fold g old.core.committed (messages l)) (sym none) ∙ sym good.state
+      (run_follows g old events legal h).committed ∙ ap (λ l. state_after_all g old.core.committed (messages l)) (sym none) ∙ sym good.state

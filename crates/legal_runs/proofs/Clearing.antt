@@ -8,7 +8,7 @@ use Rattle.affinity.specs.declared.geometry.Geometry.{Geometry}
 use Rattle.meaning.specs.Serial.{reply_to}
 use Rattle.legal_runs.specs.CoreState.{Entry, Replied, CoreState, entry, entries, held, are_related_entries}
 use Rattle.legal_runs.specs.Eligible.{is_conflict_free, has_room, is_eligible, next_eligible}
-use Rattle.legal_runs.specs.Events.{MachineState, Event, IsAllowed, grant, give_back, out_with}
+use Rattle.legal_runs.specs.Events.{MachineState, Event, IsAllowed, grant, give_back, find_in_flight}
 use Rattle.legal_runs.specs.Laws.{AreAscending, IsSoundCoreState, IsAnswered}
 use Rattle.legal_runs.proofs.Lists.{all_back, all_none, before_back, before_one, picked}
 use Rattle.legal_runs.proofs.Apart.{apart_turned, entries-append, held_grant, log_held}
@@ -102,7 +102,7 @@ module _ (g : Geometry) (e : Entry) where
       ∙ ap (λ b. not (list_any (are_related_entries g e) (held w)) && not b) (sym (ap (list_any comes_before) k.whole
       ∙ list_any-append comes_before k.before (one ∷ k.behind)))
 
-  back_clears : (w : CoreState) (ticket : ℕ) (found : Entry × List Entry) → out_with w ticket ≡ Some found
+  back_clears : (w : CoreState) (ticket : ℕ) (found : Entry × List Entry) → find_in_flight w ticket ≡ Some found
       → list_any (are_related_entries g e) (held (give_back g w found)) ≡ list_any (are_related_entries g e) (held w)
   back_clears w ticket found one_out =
       let k = picked (λ d. d.0 == ticket) w.in_flight found one_out in

@@ -3,14 +3,14 @@ use Rattle.std.proofs.Common.{◌≡◌, ℕ, zero, suc, ◌≤◌, List, [], �
 use Rattle.affinity.specs.declared.geometry.Geometry.{Geometry}
 use Rattle.messages.specs.declared.Msg.{Msg}
 use Rattle.meaning.specs.State.{State}
-use Rattle.meaning.specs.Serial.{fold}
+use Rattle.meaning.specs.Serial.{state_after_all}
 use Rattle.legal_runs.specs.CoreState.{Replied}
 use Rattle.legal_runs.specs.Events.{MachineState, Event}
-use Rattle.legal_runs.specs.Runs.{IsLegal, last, appended, logged_at, journal, logged_messages}
+use Rattle.legal_runs.specs.Runs.{IsLegal, end_state, appended_at, logged_at, appended_messages, logged_messages}
 use Rattle.legal_runs.specs.Crash.{in_doubt, IsLogAfter, IsLeftSince}
 use Rattle.legal_runs.specs.Laws.{IsSoundCoreState}
-use Rattle.legal_runs.proofs.SerialReplies.{fold-joined}
-use Rattle.legal_runs.proofs.Runs.{run_journal}
+use Rattle.legal_runs.proofs.SerialReplies.{state_after_all-joined}
+use Rattle.legal_runs.proofs.Runs.{run_appended}
 
 pub legal_first : (g : Geometry) (old : MachineState) (events : List Event) (k : ℕ) → IsLegal g old events → IsLegal g old (take k events)
 legal_first g old events zero legal = tt
@@ -18,15 +18,15 @@ legal_first g old [] (suc k) legal = tt
 legal_first g old (event ∷ events) (suc k) legal = (legal.0, legal_first g event.state_after events k legal.1)
 
 -- the first events append a beginning of what more of them append
-pub journal_first : (old : MachineState) (events : List Event) (k after : ℕ) → k ≤ after
-    → (rest : List Msg) × (journal old (take after events) ≡ journal old (take k events) ++ rest)
-journal_first old events zero after le = (journal old (take after events), refl)
-journal_first old events (suc k) zero le = absurd (omega (arith, le))
-journal_first old [] (suc k) (suc after) le = ([], refl)
-journal_first old (event ∷ events) (suc k) (suc after) le =
-    let j = journal_first event.state_after events k after (omega (arith, le)) in
-    let now = appended old.core event.step event.device_failed in
-    (j.0, ap (λ l. now ++ l) j.1 ∙ sym (append_assoc now (journal event.state_after (take k events)) j.0))
+pub appended_first : (old : MachineState) (events : List Event) (k after : ℕ) → k ≤ after
+    → (rest : List Msg) × (appended_messages old (take after events) ≡ appended_messages old (take k events) ++ rest)
+appended_first old events zero after le = (appended_messages old (take after events), refl)
+appended_first old events (suc k) zero le = absurd (omega (arith, le))
+appended_first old [] (suc k) (suc after) le = ([], refl)
+appended_first old (event ∷ events) (suc k) (suc after) le =
+    let j = appended_first event.state_after events k after (omega (arith, le)) in
+    let now = appended_at old.core event.step event.device_failed in
+    (j.0, ap (λ l. now ++ l) j.1 ∙ sym (append_assoc now (appended_messages event.state_after (take k events)) j.0))
 
 -- and log a beginning of what more of them log
 pub went_first : (old : MachineState) (events : List Event) (k after : ℕ) → k ≤ after
@@ -41,21 +41,21 @@ went_first old (event ∷ events) (suc k) (suc after) le =
 
 -- Whatever is left, the log begins with all that was appended before.
 pub left_begins : (g : Geometry) (old : MachineState) (events : List Event) (k : ℕ) (x : State) → IsLeftSince g old events k x
-    → (rest : List Msg) × (x ≡ fold g old.core.committed (journal old (take k events) ++ rest))
+    → (rest : List Msg) × (x ≡ state_after_all g old.core.committed (appended_messages old (take k events) ++ rest))
 left_begins g old events k x left =
-    let j = journal_first old events k left.after left.since in
-    let rest = take left.is_log.some (in_doubt (last old (take left.after events)).core (drop left.after events)) in (
+    let j = appended_first old events k left.after left.since in
+    let rest = take left.is_log.some (in_doubt (end_state old (take left.after events)).core (drop left.after events)) in (
       j.0 ++ rest,
-      left.state ∙ ap (fold g old.core.committed) (left.is_log.is ∙ ap (λ l. l ++ rest) j.1
-          ∙ append_assoc (journal old (take k events)) j.0 rest),
+      left.state ∙ ap (state_after_all g old.core.committed) (left.is_log.is ∙ ap (λ l. l ++ rest) j.1
+          ∙ append_assoc (appended_messages old (take k events)) j.0 rest),
     )
 
 -- It is the committed state with a prefix of the messages to be appended then.
 pub left_is_committed : (g : Geometry) (old : MachineState) (events : List Event) (k : ℕ) (ms : List Msg) → IsLegal g old events
     → IsSoundCoreState g old.core → (log : IsLogAfter old events k ms)
-    → fold g old.core.committed ms
-    ≡ fold g (last old (take k events)).core.committed (take log.some (in_doubt (last old (take k events)).core (drop k events)))
+    → state_after_all g old.core.committed ms
+    ≡ state_after_all g (end_state old (take k events)).core.committed (take log.some (in_doubt (end_state old (take k events)).core (drop k events)))
 left_is_committed g old events k ms legal h log =
-    let rest = take log.some (in_doubt (last old (take k events)).core (drop k events)) in
-    ap (fold g old.core.committed) log.is ∙ fold-joined g old.core.committed (journal old (take k events)) rest
-    ∙ ap (λ y. fold g y rest) (sym (run_journal g old (take k events) (legal_first g old events k legal) h))
+    let rest = take log.some (in_doubt (end_state old (take k events)).core (drop k events)) in
+    ap (state_after_all g old.core.committed) log.is ∙ state_after_all-joined g old.core.committed (appended_messages old (take k events)) rest
+    ∙ ap (λ y. state_after_all g y rest) (sym (run_appended g old (take k events) (legal_first g old events k legal) h))

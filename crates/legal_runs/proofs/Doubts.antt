@@ -4,14 +4,14 @@ use Rattle.std.specs.Prelude.{cond, filter, if◌then◌else◌}
 use Rattle.std.proofs.lemmas.List.{length-append, length-take-le, take-append-le, take-take}
 use Rattle.affinity.specs.declared.geometry.Geometry.{Geometry}
 use Rattle.messages.specs.declared.Msg.{Msg}
-use Rattle.meaning.specs.Serial.{is_loggable}
+use Rattle.meaning.specs.Serial.{is_recorded}
 use Rattle.legal_runs.specs.declared.outcomes.Step.{Step}
 use Rattle.legal_runs.specs.declared.outcomes.Step.TheVariants as steps
 use Rattle.legal_runs.specs.CoreState.{Replied, CoreState}
-use Rattle.legal_runs.specs.Events.{MachineState, Event, IsAllowed, loggable}
-use Rattle.legal_runs.specs.Runs.{IsLegal, last}
+use Rattle.legal_runs.specs.Events.{MachineState, Event, IsAllowed, recorded}
+use Rattle.legal_runs.specs.Runs.{IsLegal, end_state}
 use Rattle.legal_runs.specs.Crash.{in_doubt, next_batch, to_append}
-use Rattle.legal_runs.specs.Laws.{DoubtsOnlyFailed, DoubtsWhatRan}
+use Rattle.legal_runs.specs.Laws.{DoubtOnlyAfterFailure, DoubtIsPrefixOfRan}
 use Rattle.legal_runs.proofs.Failures.{failure_lasts}
 use Rattle.legal_runs.proofs.Lists.{first_few}
 use Rattle.legal_runs.proofs.Moves.{Passed, Move, Stays, Arrives, Grants, Backs, Logs, Answers, moves}
@@ -23,7 +23,7 @@ use Rattle.legal_runs.proofs.Sound.{event_doubts}
 pub record AreOfFirst (ran : List Replied) (ms : List Msg) : Type 0 where
   pub some : ℕ
   pub at_most : some ≤ length ran
-  pub are : loggable (take some ran) ≡ ms
+  pub are : recorded (take some ran) ≡ ms
 
 none_of : (ran : List Replied) → AreOfFirst ran []
 none_of ran = record { some = 0; at_most = omega arith; are = refl }
@@ -33,11 +33,11 @@ none_first ran zero = none_of ran
 none_first ran (suc k) = none_of ran
 
 -- So are the first of the changes among them.
-pub first_changes : (ran : List Replied) (k : ℕ) → AreOfFirst ran (take k (loggable ran))
+pub first_changes : (ran : List Replied) (k : ℕ) → AreOfFirst ran (take k (recorded ran))
 first_changes ran zero = none_of ran
 first_changes [] (suc k) = none_of []
 first_changes (a ∷ ran) (suc k) =
-    elim (is_loggable a.1 a.2) as (λ b. is_loggable a.1 a.2 ≡ b → AreOfFirst (a ∷ ran) (take (suc k) (picked b ran))) [
+    elim (is_recorded a.1 a.2) as (λ b. is_recorded a.1 a.2 ≡ b → AreOfFirst (a ∷ ran) (take (suc k) (picked b ran))) [
       | true ↦ λ e.
           let h = first_changes ran k in
           record {
@@ -55,25 +55,25 @@ first_changes (a ∷ ran) (suc k) =
     ] refl
   where
     picked : Bool → List Replied → List Msg
-    picked b l = map (λ (a : Replied). a.1) (cond b (a ∷ filter (λ a. is_loggable a.1 a.2) l) (filter (λ a. is_loggable a.1 a.2) l))
+    picked b l = map (λ (a : Replied). a.1) (cond b (a ∷ filter (λ a. is_recorded a.1 a.2) l) (filter (λ a. is_recorded a.1 a.2) l))
 
 -- ---- each core state, and each moment of a run
 
-pub no_doubts : (w : CoreState) → w.doubt ≡ [] → DoubtsWhatRan w
+pub no_doubts : (w : CoreState) → w.doubt ≡ [] → DoubtIsPrefixOfRan w
 no_doubts w e = record { some = 0; at_most = omega arith; is = e }
 
 -- a prefix of those in `doubt`
-pub first_doubts : (w : CoreState) → DoubtsWhatRan w → (k : ℕ) → AreOfFirst w.ran (take k w.doubt)
+pub first_doubts : (w : CoreState) → DoubtIsPrefixOfRan w → (k : ℕ) → AreOfFirst w.ran (take k w.doubt)
 first_doubts w h k =
     let first = first_changes (take h.some w.ran) k in
     let long = length-take-le h.some w.ran h.at_most in
     record {
       some = first.some;
       at_most = omega (arith, first.at_most, long, h.at_most);
-      are = ap loggable (sym (take-take first.some h.some w.ran (omega (arith, first.at_most, long)))) ∙ first.are ∙ ap (take k) (sym h.is);
+      are = ap recorded (sym (take-take first.some h.some w.ran (omega (arith, first.at_most, long)))) ∙ first.are ∙ ap (take k) (sym h.is);
     }
 
-move_doubts_ran : (g : Geometry) (old new : CoreState) (p : Passed) → Move g old new p → old.doubt ≡ [] → DoubtsWhatRan new
+move_doubts_ran : (g : Geometry) (old new : CoreState) (p : Passed) → Move g old new p → old.doubt ≡ [] → DoubtIsPrefixOfRan new
 move_doubts_ran g old new p (Stays s e) none = s.doubts (no_doubts old none)
 move_doubts_ran g old new p (Arrives m fits is e) none = no_doubts new (ap (λ w. w.doubt) is ∙ none)
 move_doubts_ran g old new p (Grants found first is e) none = no_doubts new (ap (λ w. w.doubt) is ∙ none)
@@ -82,23 +82,23 @@ move_doubts_ran g old new p (Logs n is e) none = no_doubts new (ap (λ w. w.doub
 move_doubts_ran g old new p (Answers a rest front is e) none = no_doubts new (ap (λ w. w.doubt) is ∙ none)
 
 -- Where the device has failed, what ran stays where it is; else nothing was in `doubt`.
-pub event_doubts_ran : (g : Geometry) (old : MachineState) (event : Event) → IsAllowed g old event → DoubtsOnlyFailed old.core
-    → DoubtsWhatRan old.core → DoubtsWhatRan event.state_after.core
+pub event_doubts_ran : (g : Geometry) (old : MachineState) (event : Event) → IsAllowed g old event → DoubtOnlyAfterFailure old.core
+    → DoubtIsPrefixOfRan old.core → DoubtIsPrefixOfRan event.state_after.core
 event_doubts_ran g old event allowed only h = by old.core.failed refl
   where
-    by : (b : Bool) → old.core.failed ≡ b → DoubtsWhatRan event.state_after.core
+    by : (b : Bool) → old.core.failed ≡ b → DoubtIsPrefixOfRan event.state_after.core
     by true failed =
         let s = failure_lasts g old event allowed failed in
         let long = ap length s.ran ∙ length-append old.core.ran s.back in
         record {
           some = h.some;
           at_most = omega (arith, h.at_most, long);
-          is = s.doubt ∙ h.is ∙ ap loggable (sym (ap (take h.some) s.ran ∙ take-append-le h.some old.core.ran s.back h.at_most));
+          is = s.doubt ∙ h.is ∙ ap recorded (sym (ap (take h.some) s.ran ∙ take-append-le h.some old.core.ran s.back h.at_most));
         }
     by false sound = move_doubts_ran g old.core event.state_after.core _ (moves g old event allowed) (only sound)
 
-pub run_doubts_ran : (g : Geometry) (old : MachineState) (events : List Event) → IsLegal g old events → DoubtsOnlyFailed old.core
-    → DoubtsWhatRan old.core → DoubtsWhatRan (last old events).core
+pub run_doubts_ran : (g : Geometry) (old : MachineState) (events : List Event) → IsLegal g old events → DoubtOnlyAfterFailure old.core
+    → DoubtIsPrefixOfRan old.core → DoubtIsPrefixOfRan (end_state old events).core
 run_doubts_ran g old [] legal only h = h
 run_doubts_ran g old (event ∷ events) legal only h =
     run_doubts_ran g event.state_after events legal.1 (event_doubts g old event legal.0 only) (event_doubts_ran g old event legal.0 only h)
@@ -106,8 +106,8 @@ run_doubts_ran g old (event ∷ events) legal only h =
 to_append_ran : (w : CoreState) (s : Step) (k : ℕ) → AreOfFirst w.ran (take k (to_append w s))
 to_append_ran w (steps.Log n) k =
     let few = first_few n w.ran in
-    let h = first_doubts (record w { doubt = loggable (take few.0 w.ran) }) (record { some = few.0; at_most = few.1; is = refl }) k in
-    record { some = h.some; at_most = h.at_most; are = h.are ∙ ap (λ l. take k (loggable l)) few.2 }
+    let h = first_doubts (record w { doubt = recorded (take few.0 w.ran) }) (record { some = few.0; at_most = few.1; is = refl }) k in
+    record { some = h.some; at_most = h.at_most; are = h.are ∙ ap (λ l. take k (recorded l)) few.2 }
 to_append_ran w (steps.Arrive m) k = none_first w.ran k
 to_append_ran w steps.Grant k = none_first w.ran k
 to_append_ran w (steps.Run i) k = none_first w.ran k
@@ -123,7 +123,7 @@ next_ran w [] k = none_first w.ran k
 next_ran w (event ∷ events) k = to_append_ran w event.step k
 
 -- a prefix of those that a crash may leave
-pub crash_doubts_ran : (w : CoreState) → DoubtsWhatRan w → (events : List Event) (k : ℕ) → AreOfFirst w.ran (take k (in_doubt w events))
+pub crash_doubts_ran : (w : CoreState) → DoubtIsPrefixOfRan w → (events : List Event) (k : ℕ) → AreOfFirst w.ran (take k (in_doubt w events))
 crash_doubts_ran w h events k =
     elim w.failed as (λ b. AreOfFirst w.ran (take k (if b then w.doubt else next_batch w events))) [
       | true ↦ first_doubts w h k

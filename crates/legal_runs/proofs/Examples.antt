@@ -11,8 +11,8 @@ use Rattle.messages.specs.declared.Refusal.TheVariants.{Exists}
 use Rattle.messages.specs.declared.Reply.{Reply}
 use Rattle.messages.specs.declared.Reply.TheVariants.{Done, Summary, Refused}
 use Rattle.meaning.specs.State.{State, empty}
-use Rattle.meaning.specs.Order.{IsBefore}
-use Rattle.meaning.specs.Serial.{fold, next_state}
+use Rattle.meaning.specs.Order.{InOrderIfRelated}
+use Rattle.meaning.specs.Serial.{state_after_all, next_state}
 use Rattle.legal_runs.specs.declared.outcomes.Step.{Step}
 use Rattle.legal_runs.specs.declared.outcomes.Step.TheVariants as steps
 use Rattle.legal_runs.specs.declared.outcomes.Outcome.{Outcome}
@@ -21,10 +21,10 @@ use Rattle.legal_runs.specs.declared.outcomes.ArriveRefusal.TheVariants as arriv
 use Rattle.legal_runs.specs.declared.outcomes.CoreFault.TheVariants as faults
 use Rattle.legal_runs.specs.declared.outcomes.PointRefusal.TheVariants as points
 use Rattle.legal_runs.specs.CoreState.{Entry, CoreState}
-use Rattle.legal_runs.specs.Events.{MachineState, Empty, Event, IsAllowed, happens, fault, loggable, touches_device}
-use Rattle.legal_runs.specs.Runs.{IsLegal, IsRun, outcomes_of, journal, last, answered_changes}
+use Rattle.legal_runs.specs.Events.{MachineState, Empty, Event, IsAllowed, apply_step, fail_step, recorded, touches_device}
+use Rattle.legal_runs.specs.Runs.{IsLegal, IsRun, outcomes_of, appended_messages, end_state, answered_changes}
 use Rattle.legal_runs.specs.Crash.{IsLeftSince, IsLogAfter, in_doubt}
-use Rattle.legal_runs.specs.Laws.{full, DoubtsWhatRan, IsSerialLog}
+use Rattle.legal_runs.specs.Laws.{full_hands, DoubtIsPrefixOfRan, IsSerialHistory}
 use Rattle.legal_runs.specs.Incarnations.{Unopened, Ran, IsLeftByIncarnations}
 use Rattle.legal_runs.proofs.Elements.{contains_in, holds_of, in_contained}
 
@@ -41,7 +41,7 @@ opened slots x = record {
   slots = slots;
   failed = false;
   doubt = [];
-  left = None;
+  pieces_left = None;
 }
 
 abbrev one_hand : ℕ → State → MachineState
@@ -55,7 +55,7 @@ three_hands slots x = record { core = opened slots x; hands = Empty ∷ Empty �
 
 -- a state with a volume and its first file
 abbrev with_file : State
-with_file = fold small empty (MakeVol 0 0 ∷ Create 0 0 0 ∷ [])
+with_file = state_after_all small empty (MakeVol 0 0 ∷ Create 0 0 0 ∷ [])
 
 -- what a machine answers whose cuts have three pieces
 abbrev answers_of : MachineState → List Step → List Outcome
@@ -64,14 +64,14 @@ answers_of w ss = outcomes_of small 3 w ss
 -- the events of steps during which the device doesn't fail, and the core state after them
 abbrev events_of : MachineState → List Step → List Event
 events_of w [] = []
-events_of w (s ∷ ss) = record { step = s; outcome = (happens small 3 w s).0; device_failed = false; state_after = (happens small 3 w s).1 }
-    ∷ events_of (happens small 3 w s).1 ss
+events_of w (s ∷ ss) = record { step = s; outcome = (apply_step small 3 w s).0; device_failed = false; state_after = (apply_step small 3 w s).1 }
+    ∷ events_of (apply_step small 3 w s).1 ss
 
 abbrev after : MachineState → List Step → MachineState
-after w ss = last w (events_of w ss)
+after w ss = end_state w (events_of w ss)
 
-abbrev journal_of : MachineState → List Step → List Msg
-journal_of w ss = journal w (events_of w ss)
+abbrev appended_of : MachineState → List Step → List Msg
+appended_of w ss = appended_messages w (events_of w ss)
 
 -- ---- one message after the other
 
@@ -93,7 +93,7 @@ a_refused_message_is_answered : answers_of (one_hand 1 empty) (whole (MakeVol 0 
     ∷ outcomes.Answered 1 (Refused Exists) ∷ []
 a_refused_message_is_answered = refl
 
-a_refused_message_leaves_no_record : journal_of (one_hand 1 empty) (whole (MakeVol 0 0) ++ whole (MakeVol 0 0)) ≡ MakeVol 0 0 ∷ []
+a_refused_message_leaves_no_record : appended_of (one_hand 1 empty) (whole (MakeVol 0 0) ++ whole (MakeVol 0 0)) ≡ MakeVol 0 0 ∷ []
 a_refused_message_leaves_no_record = refl
 
 a_point_gives_room : (x y : Block) → answers_of (one_hand 1 empty)
@@ -126,10 +126,10 @@ two_stripes_side_by_side x y = refl
 abbrev two_hands_of_three : (x y : Block) → List Step
 two_hands_of_three x y = steps.Arrive (Write 0 0 0 0 x) ∷ steps.Arrive (Write 0 0 0 1 y) ∷ steps.Grant ∷ steps.Grant ∷ steps.Run 1 ∷ []
 
-two_are_full : (x y : Block) → full (after (three_hands 3 with_file) (two_hands_of_three x y)).hands ≡ 2
+two_are_full : (x y : Block) → full_hands (after (three_hands 3 with_file) (two_hands_of_three x y)).hands ≡ 2
 two_are_full x y = refl
 
-one_is_full_still : (x y : Block) → full (after (three_hands 3 with_file) (two_hands_of_three x y ++ (steps.Back 1 ∷ []))).hands ≡ 1
+one_is_full_still : (x y : Block) → full_hands (after (three_hands 3 with_file) (two_hands_of_three x y ++ (steps.Back 1 ∷ []))).hands ≡ 1
 one_is_full_still x y = refl
 
 -- A message is held, and its place taken, until it is answered.
@@ -141,7 +141,7 @@ a_label_beside_a_write : (x : Block) (bytes : List ℕ) → answers_of (two_hand
     ∷ outcomes.Answered 1 Done ∷ outcomes.Granted 1 2 ∷ []
 a_label_beside_a_write x bytes = refl
 
-they_are_logged_as_they_came_back : (x y : Block) → journal_of (two_hands 3 with_file)
+they_are_logged_as_they_came_back : (x y : Block) → appended_of (two_hands 3 with_file)
     (steps.Arrive (Write 0 0 0 0 x) ∷ steps.Arrive (Write 0 0 0 1 y) ∷ steps.Grant ∷ steps.Grant ∷ steps.Run 1 ∷ steps.Back 1
     ∷ steps.Run 0 ∷ steps.Back 0 ∷ steps.Log 4 ∷ [])
     ≡ Write 0 0 0 1 y ∷ Write 0 0 0 0 x ∷ []
@@ -208,9 +208,9 @@ ran_one = after (one_hand 2 empty) (steps.Arrive (MakeVol 0 0) ∷ steps.Grant �
 
 -- The device failed while it was logged.
 abbrev failed_one : MachineState
-failed_one = record { core = (fault ran_one.core (steps.Log 1)).1; hands = ran_one.hands }
+failed_one = record { core = (fail_step ran_one.core (steps.Log 1)).1; hands = ran_one.hands }
 
-a_failed_log_tells : (fault ran_one.core (steps.Log 1)).0 ≡ outcomes.LogFault faults.Device
+a_failed_log_tells : (fail_step ran_one.core (steps.Log 1)).0 ≡ outcomes.LogFault faults.Device
 a_failed_log_tells = refl
 
 a_failed_core_takes_nothing : answers_of failed_one (steps.Grant ∷ steps.Arrive AskSummary ∷ steps.Answer ∷ steps.Log 1 ∷ steps.Point
@@ -295,20 +295,20 @@ none_more : (n : ℕ) → take {A = Msg} n [] ≡ []
 none_more zero = refl
 none_more (suc n) = refl
 
-both_are_left : (ms : List Msg) → IsLogAfter (one_hand 1 empty) cut_run 13 ms → fold small empty ms ≡ with_file
-both_are_left ms log = ap (fold small empty) (log.is ∙ ap (λ l. (MakeVol 0 0 ∷ Create 0 0 0 ∷ []) ++ l) (none_more log.some))
+both_are_left : (ms : List Msg) → IsLogAfter (one_hand 1 empty) cut_run 13 ms → state_after_all small empty ms ≡ with_file
+both_are_left ms log = ap (state_after_all small empty) (log.is ∙ ap (λ l. (MakeVol 0 0 ∷ Create 0 0 0 ∷ []) ++ l) (none_more log.some))
 
-what_was_to_be_logged_ran : DoubtsWhatRan failed_one.core
+what_was_to_be_logged_ran : DoubtIsPrefixOfRan failed_one.core
 what_was_to_be_logged_ran = record { some = 1; at_most = lit≤ tt; is = refl }
 
-what_never_ran_is_not_in_doubt : DoubtsWhatRan (record (opened 1 empty) { doubt = MakeVol 0 0 ∷ [] }) → ⊥
+what_never_ran_is_not_in_doubt : DoubtIsPrefixOfRan (record (opened 1 empty) { doubt = MakeVol 0 0 ∷ [] }) → ⊥
 what_never_ran_is_not_in_doubt h = by h.some h.is
   where
-    by : (n : ℕ) → MakeVol 0 0 ∷ [] ≡ loggable (take n []) → ⊥
+    by : (n : ℕ) → MakeVol 0 0 ∷ [] ≡ recorded (take n []) → ⊥
     by zero e = cc
     by (suc n) e = cc
 
--- ---- serial logs
+-- ---- serial histories
 
 -- Two writes arrived, to two stripes. The second was done first, and the other one may have been done too, or not.
 module _ (x y : Block) where
@@ -318,7 +318,7 @@ module _ (x y : Block) where
   turned : IsPermutation to_two_stripes ((1, Write 0 0 0 1 y) ∷ (0, Write 0 0 0 0 x) ∷ [])
   turned = IsPermutation-middle ((0, Write 0 0 0 0 x) ∷ []) (1, Write 0 0 0 1 y) []
 
-  one_is_done : IsSerialLog small with_file to_two_stripes ((1, Write 0 0 0 1 y, Done) ∷ [])
+  one_is_done : IsSerialHistory small with_file to_two_stripes ((1, Write 0 0 0 1 y, Done) ∷ [])
   one_is_done = record {
     rest = (0, Write 0 0 0 0 x) ∷ [];
     each_once = turned;
@@ -326,7 +326,7 @@ module _ (x y : Block) where
     in_order = refl;
   }
 
-  both_are_done : IsSerialLog small with_file to_two_stripes ((1, Write 0 0 0 1 y, Done) ∷ (0, Write 0 0 0 0 x, Done) ∷ [])
+  both_are_done : IsSerialHistory small with_file to_two_stripes ((1, Write 0 0 0 1 y, Done) ∷ (0, Write 0 0 0 0 x, Done) ∷ [])
   both_are_done = record {
     rest = [];
     each_once = turned;
@@ -338,31 +338,31 @@ module _ (x y : Block) where
   abbrev to_one_block : List Entry
   to_one_block = (0, Write 0 0 0 0 x) ∷ (1, Write 0 0 0 0 y) ∷ []
 
-  not_turned : IsSerialLog small with_file to_one_block ((1, Write 0 0 0 0 y, Done) ∷ (0, Write 0 0 0 0 x, Done) ∷ []) → ⊥
+  not_turned : IsSerialHistory small with_file to_one_block ((1, Write 0 0 0 0 y, Done) ∷ (0, Write 0 0 0 0 x, Done) ∷ []) → ⊥
   not_turned h = let less = h.by_ticket.0.0 refl in omega (arith, less)
 
   -- and the first isn't left out.
-  none_left_out : IsSerialLog small with_file to_one_block ((1, Write 0 0 0 0 y, Done) ∷ []) → ⊥
+  none_left_out : IsSerialHistory small with_file to_one_block ((1, Write 0 0 0 0 y, Done) ∷ []) → ⊥
   none_left_out h =
       let first : Entry = (0, Write 0 0 0 0 x) in
       let all = (1, Write 0 0 0 0 y) ∷ h.rest in
       let there = in_contained all first
       (Contains-permutation to_one_block all first h.each_once (contains_in to_one_block first (inl refl))) in
       ⊎_elim (λ (same : first ≡ (1, Write 0 0 0 0 y)). let zero_is_one = ap (λ (e : Entry). e.0) same in omega (arith, zero_is_one))
-      (λ behind. let less = holds_of (IsBefore small (1, Write 0 0 0 0 y)) h.rest h.by_ticket.0 first behind refl in omega (arith, less))
+      (λ behind. let less = holds_of (InOrderIfRelated small (1, Write 0 0 0 0 y)) h.rest h.by_ticket.0 first behind refl in omega (arith, less))
       there
 
-no_message_is_done_twice : IsSerialLog small empty ((0, AskSummary) ∷ [])
+no_message_is_done_twice : IsSerialHistory small empty ((0, AskSummary) ∷ [])
     ((0, AskSummary, Summary 0 0 0) ∷ (0, AskSummary, Summary 0 0 0) ∷ []) → ⊥
 no_message_is_done_twice h = let long = length_permutation _ _ h.each_once in omega (arith, long)
 
-what_never_arrived_is_not_done : IsSerialLog small empty [] ((0, AskSummary, Summary 0 0 0) ∷ []) → ⊥
+what_never_arrived_is_not_done : IsSerialHistory small empty [] ((0, AskSummary, Summary 0 0 0) ∷ []) → ⊥
 what_never_arrived_is_not_done h = let long = length_permutation _ _ h.each_once in omega (arith, long)
 
 refused_or_done : Refused Exists ≡ Done → ⊥
 refused_or_done e = cc
 
-another_reply_is_none : IsSerialLog small empty ((0, MakeVol 0 0) ∷ []) ((0, MakeVol 0 0, Refused Exists) ∷ []) → ⊥
+another_reply_is_none : IsSerialHistory small empty ((0, MakeVol 0 0) ∷ []) ((0, MakeVol 0 0, Refused Exists) ∷ []) → ⊥
 another_reply_is_none h = refused_or_done (ap (λ (replies : List (ℕ × Reply)). (get_or replies 0 (0, Done)).1) h.in_order)
 
 -- ---- runs and incarnations
@@ -370,7 +370,7 @@ another_reply_is_none h = refused_or_done (ap (λ (replies : List (ℕ × Reply)
 legal_where_no_device_fails : (w : MachineState) (ss : List Step) → IsLegal small w (events_of w ss)
 legal_where_no_device_fails w [] = tt
 legal_where_no_device_fails w (s ∷ ss) =
-    (record { to_write = 3; at_most = lit≤ tt; does = refl }, legal_where_no_device_fails (happens small 3 w s).1 ss)
+    (record { to_write = 3; at_most = lit≤ tt; does = refl }, legal_where_no_device_fails (apply_step small 3 w s).1 ss)
 
 a_run_of_two_messages : IsRun small (one_hand 1 empty) (after (one_hand 1 empty) (whole (MakeVol 0 0) ++ whole (Create 0 0 0)))
     (whole (MakeVol 0 0) ++ whole (Create 0 0 0)) (done 0 ++ done 1)

@@ -14,9 +14,9 @@ use Rattle.legal_runs.specs.declared.outcomes.Outcome.{Outcome}
 use Rattle.legal_runs.specs.declared.outcomes.Outcome.TheVariants as outcomes
 use Rattle.legal_runs.specs.declared.outcomes.PointRefusal.{PointRefusal}
 use Rattle.legal_runs.specs.CoreState.{Entry, Replied, CoreState, held}
-use Rattle.legal_runs.specs.Eligible.{lacks_room_alone, next_eligible}
-use Rattle.legal_runs.specs.Events.{Hand, MachineState, Empty, Job, Result, Event, IsAllowed, IsFault, IsWithoutFault, arrive, answer, not_ended, unless_refused, piece_refusal, point_refusal, flip_refusal, grant_to, run_hand, result_in, back_from, is_empty, happens, fault, touches_device}
-use Rattle.legal_runs.specs.Laws.{IsStopped, reports_failure}
+use Rattle.legal_runs.specs.Eligible.{lacks_only_room, next_eligible}
+use Rattle.legal_runs.specs.Events.{Hand, MachineState, Empty, Job, Result, Event, IsAllowed, IsFault, IsWithoutFault, arrive, answer, unfinished_refusal, unless_refused, piece_refusal, point_refusal, flip_refusal, grant_to, run_hand, result_in, back_from, is_empty, apply_step, fail_step, touches_device}
+use Rattle.legal_runs.specs.Laws.{StaysFailed, reports_failure}
 
 -- ---- what happens doesn't report a failure, and a fault does
 
@@ -45,18 +45,18 @@ module _ (w : CoreState) (done : Outcome × CoreState) (quiet : Quiet done) wher
   point_quiet : Refusing (point_refusal w)
   point_quiet =
       either Refusing w.failed _ _ refl
-      (either Refusing (is_some w.left) _ _ refl (either Refusing (nat_lt 0 (length (held w))) _ _ refl quiet))
+      (either Refusing (is_some w.pieces_left) _ _ refl (either Refusing (nat_lt 0 (length (held w))) _ _ refl quiet))
 
   piece_quiet : Refusing (piece_refusal w)
-  piece_quiet = either Refusing w.failed _ _ refl (either Refusing (is_none w.left) _ _ refl quiet)
+  piece_quiet = either Refusing w.failed _ _ refl (either Refusing (is_none w.pieces_left) _ _ refl quiet)
 
-  ended_quiet : (left : Option ℕ) → Refusing (not_ended left)
+  ended_quiet : (pieces_left : Option ℕ) → Refusing (unfinished_refusal pieces_left)
   ended_quiet None = refl
   ended_quiet (Some zero) = quiet
   ended_quiet (Some (suc n)) = refl
 
   flip_quiet : Refusing (flip_refusal w)
-  flip_quiet = either Refusing w.failed _ _ refl (ended_quiet w.left)
+  flip_quiet = either Refusing w.failed _ _ refl (ended_quiet w.pieces_left)
 
 module _ (g : Geometry) (w : MachineState) where
   none_quiet : (b : Bool) → reports_failure (if b then outcomes.NoRoom else outcomes.NoneEligible) ≡ false
@@ -65,7 +65,7 @@ module _ (g : Geometry) (w : MachineState) where
 
   grant_quiet : (hand : Option ℕ) (found : Option (Entry × List Entry)) → Quiet (grant_to g w hand found)
   grant_quiet None found = refl
-  grant_quiet (Some hand) None = none_quiet (list_any (lacks_room_alone g w.core) w.core.waiting)
+  grant_quiet (Some hand) None = none_quiet (list_any (lacks_only_room g w.core) w.core.waiting)
   grant_quiet (Some hand) (Some found) = refl
 
   run_quiet : (i : ℕ) (hand : Option Hand) → Quiet (run_hand w i hand)
@@ -78,7 +78,7 @@ module _ (g : Geometry) (w : MachineState) where
   back_quiet i None = refl
   back_quiet i (Some found) = refl
 
-  happens_quiet : (n : ℕ) (s : Step) → Quiet (happens g n w s)
+  happens_quiet : (n : ℕ) (s : Step) → Quiet (apply_step g n w s)
   happens_quiet n (steps.Arrive m) = arrive_quiet g w.core m
   happens_quiet n steps.Grant =
       either Quiet (w.core.failed && is_some (position is_empty w.hands)) _ _ refl
@@ -92,29 +92,29 @@ module _ (g : Geometry) (w : MachineState) where
   happens_quiet n steps.Piece = piece_quiet w.core _ refl
   happens_quiet n steps.Flip = flip_quiet w.core _ refl
 
-fault_told : (w : CoreState) (s : Step) → reports_failure (fault w s).0 ≡ true
-fault_told w (steps.Arrive m) = refl
-fault_told w steps.Grant = refl
-fault_told w (steps.Run i) = refl
-fault_told w (steps.Back i) = refl
-fault_told w (steps.Log k) = refl
-fault_told w steps.Answer = refl
-fault_told w steps.Point = refl
-fault_told w steps.Cut = refl
-fault_told w steps.Piece = refl
-fault_told w steps.Flip = refl
+fault_reported : (w : CoreState) (s : Step) → reports_failure (fail_step w s).0 ≡ true
+fault_reported w (steps.Arrive m) = refl
+fault_reported w steps.Grant = refl
+fault_reported w (steps.Run i) = refl
+fault_reported w (steps.Back i) = refl
+fault_reported w (steps.Log k) = refl
+fault_reported w steps.Answer = refl
+fault_reported w steps.Point = refl
+fault_reported w steps.Cut = refl
+fault_reported w steps.Piece = refl
+fault_reported w steps.Flip = refl
 
 -- A step reports that the device failed exactly where it did.
-pub failure_told : (g : Geometry) (old : MachineState) (event : Event) → IsAllowed g old event → event.device_failed ≡ reports_failure event.outcome
-failure_told g old event h = by event.device_failed h
+pub failure_reported : (g : Geometry) (old : MachineState) (event : Event) → IsAllowed g old event → event.device_failed ≡ reports_failure event.outcome
+failure_reported g old event h = by event.device_failed h
   where
     by : (b : Bool) → MatchBool b (IsFault old event) (IsWithoutFault g old event) → b ≡ reports_failure event.outcome
-    by true f = sym (fault_told old.core event.step) ∙ ap (λ o. reports_failure o.0) f.core
+    by true f = sym (fault_reported old.core event.step) ∙ ap (λ o. reports_failure o.0) f.core
     by false d = sym (happens_quiet g old d.to_write event.step) ∙ ap (λ o. reports_failure o.0) d.does
 
 -- ---- then it has failed
 
-fault_fails : (w : CoreState) (s : Step) → (fault w s).1.failed ≡ true
+fault_fails : (w : CoreState) (s : Step) → (fail_step w s).1.failed ≡ true
 fault_fails w (steps.Arrive m) = refl
 fault_fails w steps.Grant = refl
 fault_fails w (steps.Run i) = refl
@@ -143,7 +143,7 @@ module _ (g : Geometry) (n : ℕ) (state_after : CoreState) (row : List Hand) wh
   abbrev machine : MachineState
   machine = record { core = stopped; hands = row }
 
-  still : IsStopped stopped stopped
+  still : StaysFailed stopped stopped
   still = record {
     failed = refl;
     waiting = refl;
@@ -153,11 +153,11 @@ module _ (g : Geometry) (n : ℕ) (state_after : CoreState) (row : List Hand) wh
     doubt = refl;
     room = refl;
     next = refl;
-    left = refl;
+    pieces_left = refl;
   }
 
   abbrev Still : Outcome × MachineState → Type 0
-  Still o = IsStopped stopped o.1.core
+  Still o = StaysFailed stopped o.1.core
 
   grant_still : (hand : Option ℕ)
       → Still (if is_some hand then (outcomes.Failed, machine) else grant_to g machine hand (next_eligible g stopped))
@@ -181,10 +181,10 @@ module _ (g : Geometry) (n : ℕ) (state_after : CoreState) (row : List Hand) wh
     doubt = refl;
     room = refl;
     next = refl;
-    left = refl;
+    pieces_left = refl;
   }
 
-  answer_still : (as' : List Replied) → IsStopped stopped (answer stopped as').1
+  answer_still : (as' : List Replied) → StaysFailed stopped (answer stopped as').1
   answer_still [] = still
   answer_still (a ∷ as') = record {
     failed = refl;
@@ -195,10 +195,10 @@ module _ (g : Geometry) (n : ℕ) (state_after : CoreState) (row : List Hand) wh
     doubt = refl;
     room = refl;
     next = refl;
-    left = refl;
+    pieces_left = refl;
   }
 
-  happens_still : (s : Step) → Still (happens g n machine s)
+  happens_still : (s : Step) → Still (apply_step g n machine s)
   happens_still (steps.Arrive m) = still
   happens_still steps.Grant = grant_still (position is_empty row)
   happens_still (steps.Run i) = run_still i (slice_get row i)
@@ -223,16 +223,16 @@ untouched state_after steps.Piece = refl
 untouched state_after steps.Flip = refl
 
 pub failure_lasts : (g : Geometry) (old : MachineState) (event : Event) → IsAllowed g old event → old.core.failed ≡ true
-    → IsStopped old.core event.state_after.core
+    → StaysFailed old.core event.state_after.core
 failure_lasts g old event h failed = by event.device_failed h
   where
     is_stopped : old.core ≡ record old.core { failed = true }
     is_stopped = λ i. record old.core { failed = failed i }
 
-    by : (b : Bool) → MatchBool b (IsFault old event) (IsWithoutFault g old event) → IsStopped old.core event.state_after.core
+    by : (b : Bool) → MatchBool b (IsFault old event) (IsWithoutFault g old event) → StaysFailed old.core event.state_after.core
     by true f = absurd (true≢false (sym f.touched ∙ ap (λ w. touches_device w event.step) is_stopped ∙ untouched old.core event.step))
     by false d =
-        let does = ap (λ w. happens g d.to_write (record { core = w; hands = old.hands }) event.step) (sym is_stopped) ∙ d.does in
-        subst (λ w. IsStopped w event.state_after.core) (sym is_stopped)
-        (subst (λ o. IsStopped (record old.core { failed = true }) o.1.core) does
+        let does = ap (λ w. apply_step g d.to_write (record { core = w; hands = old.hands }) event.step) (sym is_stopped) ∙ d.does in
+        subst (λ w. StaysFailed w event.state_after.core) (sym is_stopped)
+        (subst (λ o. StaysFailed (record old.core { failed = true }) o.1.core) does
         (happens_still g d.to_write old.core old.hands event.step))

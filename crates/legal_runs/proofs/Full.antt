@@ -11,9 +11,9 @@ use Rattle.legal_runs.specs.declared.outcomes.Step.{Step}
 use Rattle.legal_runs.specs.declared.outcomes.Step.TheVariants as steps
 use Rattle.legal_runs.specs.CoreState.{Entry, CoreState}
 use Rattle.legal_runs.specs.Eligible.{next_eligible, pick}
-use Rattle.legal_runs.specs.Events.{Hand, MachineState, Empty, Job, Result, Event, IsAllowed, IsWithoutFault, IsFault, back_from, grant_to, happens, is_empty, out_with, result_in, run_hand}
-use Rattle.legal_runs.specs.Laws.{full}
-use Rattle.legal_runs.specs.Runs.{IsLegal, last}
+use Rattle.legal_runs.specs.Events.{Hand, MachineState, Empty, Job, Result, Event, IsAllowed, IsWithoutFault, IsFault, back_from, grant_to, apply_step, is_empty, find_in_flight, result_in, run_hand}
+use Rattle.legal_runs.specs.Laws.{full_hands}
+use Rattle.legal_runs.specs.Runs.{IsLegal, end_state}
 use Rattle.legal_runs.proofs.Lists.{picked}
 use Rattle.legal_runs.proofs.Outs.{fault_keeps_out, happens_keeps_out}
 
@@ -22,9 +22,9 @@ abbrev weight : Hand → ℕ
 weight hand = cond (not (is_empty hand)) 1 0
 
 -- What a hand is set to counts in the place of what it was.
-pub full-set : (hands : List Hand) (i : ℕ) (was now : Hand) → slice_get hands i ≡ Some was
-    → full (set hands i now) + weight was ≡ full hands + weight now
-full-set hands i was now e =
+pub full_hands-set : (hands : List Hand) (i : ℕ) (was now : Hand) → slice_get hands i ≡ Some was
+    → full_hands (set hands i now) + weight was ≡ full_hands hands + weight now
+full_hands-set hands i was now e =
     let counted = sum_by-set weight hands i now was (slice_get_within hands i was e) in
     let same = ap weight (get_or_from_slice_get hands i was was e) in
     omega (arith, counted, same)
@@ -40,11 +40,11 @@ length-picked p xs found e =
 
 -- As many more or fewer are dispatched as hands are full.
 abbrev pub Tallies : MachineState → MachineState → Type 0
-Tallies old new = length new.core.in_flight + full old.hands ≡ length old.core.in_flight + full new.hands
+Tallies old new = length new.core.in_flight + full_hands old.hands ≡ length old.core.in_flight + full_hands new.hands
 
 module _ (g : Geometry) (w : MachineState) where
   kept : (new : MachineState) → new.core.in_flight ≡ w.core.in_flight → new.hands ≡ w.hands → Tallies w new
-  kept new out hands = let o = ap length out in let h = ap full hands in omega (arith, o, h)
+  kept new out hands = let o = ap length out in let h = ap full_hands hands in omega (arith, o, h)
 
   either : (b : Bool) (x y : Outcome × MachineState) → Tallies w x.1 → Tallies w y.1 → Tallies w (if b then x else y).1
   either true x y h j = h
@@ -64,14 +64,14 @@ module _ (g : Geometry) (w : MachineState) where
   run_tallies : (i : ℕ) (hand : Option Hand) → slice_get w.hands i ≡ hand → Tallies w (run_hand w i hand).1
   run_tallies i None e = refl
   run_tallies i (Some Empty) e = refl
-  run_tallies i (Some (Job ticket)) e = let k = full-set w.hands i (Job ticket) (Result ticket) e in omega (arith, k)
+  run_tallies i (Some (Job ticket)) e = let k = full_hands-set w.hands i (Job ticket) (Result ticket) e in omega (arith, k)
   run_tallies i (Some (Result ticket)) e = refl
 
   found_tallies : (i ticket : ℕ) (found : Option (Entry × List Entry)) → slice_get w.hands i ≡ Some (Result ticket)
-      → out_with w.core ticket ≡ found → Tallies w (back_from g w i found).1
+      → find_in_flight w.core ticket ≡ found → Tallies w (back_from g w i found).1
   found_tallies i ticket None e is = refl
   found_tallies i ticket (Some found) e is =
-      let k = full-set w.hands i (Result ticket) Empty e in
+      let k = full_hands-set w.hands i (Result ticket) Empty e in
       let fewer = length-picked _ w.core.in_flight found is in
       omega (arith, k, fewer)
 
@@ -79,15 +79,15 @@ module _ (g : Geometry) (w : MachineState) where
   back_tallies i None e = refl
   back_tallies i (Some Empty) e = refl
   back_tallies i (Some (Job ticket)) e = refl
-  back_tallies i (Some (Result ticket)) e = found_tallies i ticket (out_with w.core ticket) e refl
+  back_tallies i (Some (Result ticket)) e = found_tallies i ticket (find_in_flight w.core ticket) e refl
 
-  happens_tallies : (n : ℕ) (s : Step) → Tallies w (happens g n w s).1
+  happens_tallies : (n : ℕ) (s : Step) → Tallies w (apply_step g n w s).1
   happens_tallies n steps.Grant =
       either (w.core.failed && is_some (position is_empty w.hands)) _ _ refl
       (grant_tallies (position is_empty w.hands) (next_eligible g w.core) refl)
   happens_tallies n (steps.Run i) = run_tallies i (slice_get w.hands i) refl
   happens_tallies n (steps.Back i) = back_tallies i (slice_get w.hands i) refl
-  happens_tallies n s = kept (happens g n w s).1 (happens_keeps_out g n w s refl) refl
+  happens_tallies n s = kept (apply_step g n w s).1 (happens_keeps_out g n w s refl) refl
 
 pub event_tallies : (g : Geometry) (old : MachineState) (event : Event) → IsAllowed g old event → Tallies old event.state_after
 event_tallies g old event allowed = by event.device_failed allowed
@@ -96,7 +96,7 @@ event_tallies g old event allowed = by event.device_failed allowed
     by true f = kept g old event.state_after (ap (λ (x : Outcome × CoreState). x.1.in_flight) (sym f.core) ∙ fault_keeps_out old.core event.step) f.hands
     by false d = subst (λ (x : Outcome × MachineState). Tallies old x.1) d.does (happens_tallies g old d.to_write event.step)
 
-pub last_tallies : (g : Geometry) (old : MachineState) (events : List Event) → IsLegal g old events → Tallies old (last old events)
+pub last_tallies : (g : Geometry) (old : MachineState) (events : List Event) → IsLegal g old events → Tallies old (end_state old events)
 last_tallies g old [] legal = refl
 last_tallies g old (event ∷ events) legal =
     let first = event_tallies g old event legal.0 in
@@ -105,7 +105,7 @@ last_tallies g old (event ∷ events) legal =
 
 -- Where no hand is full, nothing is dispatched, if nothing was.
 pub last_none_out : (g : Geometry) (old : MachineState) (events : List Event) → IsLegal g old events → old.core.in_flight ≡ []
-    → full (last old events).hands ≡ 0 → (last old events).core.in_flight ≡ []
+    → full_hands (end_state old events).hands ≡ 0 → (end_state old events).core.in_flight ≡ []
 last_none_out g old events legal before after =
     let tallies = last_tallies g old events legal in
     let none = ap length before in

@@ -4,7 +4,7 @@ use Rattle.std.specs.List.{AllByRecursion}
 use Rattle.affinity.specs.declared.geometry.Geometry.{Geometry}
 use Rattle.legal_runs.specs.CoreState.{Replied, CoreState, entries}
 use Rattle.legal_runs.specs.Eligible.{unlogged_changes}
-use Rattle.legal_runs.specs.Laws.{AreApart, AreReplied, AreAscending, AreOnce, IsSoundCoreState, IsIdle}
+use Rattle.legal_runs.specs.Laws.{AreUnrelated, HaveRepliesAt, AreAscending, HaveDistinctTickets, IsSoundCoreState, IsIdle}
 
 -- the parts of a list of which nothing is there
 pub none_behind : {A : Type 0} (xs ys : List A) → xs ++ ys ≡ [] → ys ≡ []
@@ -41,10 +41,10 @@ module _ (w : CoreState) (h : IsIdle w) where
       let waits = ap length h.none_waits in
       let holds = ap length h.none_held in
       record {
-        apart = subst (AreApart g) (sym h.none_held) tt;
-        replied = subst (AreReplied g w.committed) (sym none_ran) tt;
+        apart = subst (AreUnrelated g) (sym h.none_held) tt;
+        replied = subst (HaveRepliesAt g w.committed) (sym none_ran) tt;
         ascending = subst AreAscending (sym h.none_waits) tt;
-        once = subst AreOnce (sym none_to_come) tt;
+        once = subst HaveDistinctTickets (sym none_to_come) tt;
         given = subst (AllByRecursion (λ e. e.0 < w.next)) (sym none_to_come) tt;
         room = omega (arith, none);
         fits = omega (arith, waits, holds);

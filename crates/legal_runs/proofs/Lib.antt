@@ -18,6 +18,6 @@ pub mod Outs
 pub mod Full
 pub mod Living
 pub mod Doubts
-pub mod SerialLogs
+pub mod SerialHistories
 -- ---- this crate's own
 mod Examples

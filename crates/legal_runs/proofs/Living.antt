@@ -4,15 +4,15 @@ use Rattle.std.proofs.lemmas.List.{append-nil}
 use Rattle.affinity.specs.declared.geometry.Geometry.{Geometry}
 use Rattle.messages.specs.declared.Msg.{Msg}
 use Rattle.meaning.specs.State.{State, empty}
-use Rattle.meaning.specs.Serial.{fold}
-use Rattle.legal_runs.specs.Events.{MachineState, Event, loggable}
+use Rattle.meaning.specs.Serial.{state_after_all}
+use Rattle.legal_runs.specs.Events.{MachineState, Event, recorded}
 use Rattle.legal_runs.specs.Runs.{IsLegal}
 use Rattle.legal_runs.specs.Crash.{IsLeftSince}
 use Rattle.legal_runs.specs.Laws.{IsIdle}
-use Rattle.legal_runs.specs.Incarnations.{Incarnation, Unopened, Ran, IsLogOf, IsLogOfRun, AreLogsOf, in_order, IsLeftByIncarnations, HoldsAnswered, HoldAnswered}
+use Rattle.legal_runs.specs.Incarnations.{Incarnation, Unopened, Ran, IsLogOf, IsLogOfRun, AreLogsOf, in_order, IsLeftByIncarnations, HoldsAnswered, AllHoldAnswered}
 use Rattle.legal_runs.proofs.Answering.{answered_left}
 use Rattle.legal_runs.proofs.Idle.{none_logged}
-use Rattle.legal_runs.proofs.SerialReplies.{fold-joined}
+use Rattle.legal_runs.proofs.SerialReplies.{state_after_all-joined}
 
 in_order-push : (logs : List (List Msg)) (log : List Msg) → in_order (logs ++ log ∷ []) ≡ in_order logs ++ log
 in_order-push [] log = append-nil log
@@ -20,31 +20,31 @@ in_order-push (l ∷ logs) log = ap (λ ms. l ++ ms) (in_order-push logs log) �
 
 module _ (g : Geometry) where
   logs-push : (x : State) (incarnations : List Incarnation) (logs : List (List Msg)) (incarnation : Incarnation) (log : List Msg) → AreLogsOf g x incarnations logs
-      → IsLogOf g (fold g x (in_order logs)) incarnation log → AreLogsOf g x (incarnations ++ incarnation ∷ []) (logs ++ log ∷ [])
+      → IsLogOf g (state_after_all g x (in_order logs)) incarnation log → AreLogsOf g x (incarnations ++ incarnation ∷ []) (logs ++ log ∷ [])
   logs-push x [] [] incarnation log h is = (is, tt)
   logs-push x [] (l ∷ logs) incarnation log h is = absurd h
   logs-push x (one ∷ incarnations) [] incarnation log h is = absurd h
   logs-push x (one ∷ incarnations) (l ∷ logs) incarnation log h is = (
     h.0,
-    logs-push (fold g x l) incarnations logs incarnation log h.1
-        (subst (λ y. IsLogOf g y incarnation log) (fold-joined g x l (in_order logs)) is),
+    logs-push (state_after_all g x l) incarnations logs incarnation log h.1
+        (subst (λ y. IsLogOf g y incarnation log) (state_after_all-joined g x l (in_order logs)) is),
   )
 
   pub no_incarnation : IsLeftByIncarnations g [] empty
   no_incarnation = record { logs = []; are_logs = tt; state = refl }
 
   pub next_incarnation : (incarnations : List Incarnation) (incarnation : Incarnation) (x : State) (log : List Msg) → IsLeftByIncarnations g incarnations x → IsLogOf g x incarnation log
-      → IsLeftByIncarnations g (incarnations ++ incarnation ∷ []) (fold g x log)
+      → IsLeftByIncarnations g (incarnations ++ incarnation ∷ []) (state_after_all g x log)
   next_incarnation incarnations incarnation x log left is = record {
     logs = left.logs ++ log ∷ [];
     are_logs = logs-push empty incarnations left.logs incarnation log left.are_logs (subst (λ y. IsLogOf g y incarnation log) left.state is);
-    state = ap (λ y. fold g y log) left.state ∙ sym (fold-joined g empty (in_order left.logs) log)
-        ∙ ap (fold g empty) (sym (in_order-push left.logs log));
+    state = ap (λ y. state_after_all g y log) left.state ∙ sym (state_after_all-joined g empty (in_order left.logs) log)
+        ∙ ap (state_after_all g empty) (sym (in_order-push left.logs log));
   }
 
   pub incarnation_of_run : (start : MachineState) (events : List Event) (ended : ℕ) (x : State) → IsIdle start.core → IsLegal g start events
       → IsLeftSince g start events ended x
-      → (log : List Msg) × IsLogOf g start.core.committed (Ran start events ended) log × (x ≡ fold g start.core.committed log)
+      → (log : List Msg) × IsLogOf g start.core.committed (Ran start events ended) log × (x ≡ state_after_all g start.core.committed log)
   incarnation_of_run start events ended x idle legal left = (
     left.log,
     record {
@@ -63,13 +63,13 @@ module _ (g : Geometry) where
       → IsLogOfRun g x start events ended log → HoldsAnswered (Ran start events ended) log
   run_answered x start events ended log h =
       let k = answered_left g h.legal h.since h.is_log in
-      (k.0, ap (λ l. loggable l ++ log) (sym (none_logged start.core h.idle)) ∙ k.1)
+      (k.0, ap (λ l. recorded l ++ log) (sym (none_logged start.core h.idle)) ∙ k.1)
 
   one_answered : (x : State) (incarnation : Incarnation) (log : List Msg) → IsLogOf g x incarnation log → HoldsAnswered incarnation log
   one_answered x Unopened log h = tt
   one_answered x (Ran start events ended) log h = run_answered x start events ended log h
 
-  pub all_answered : (x : State) (incarnations : List Incarnation) (logs : List (List Msg)) → AreLogsOf g x incarnations logs → HoldAnswered incarnations logs
+  pub all_answered : (x : State) (incarnations : List Incarnation) (logs : List (List Msg)) → AreLogsOf g x incarnations logs → AllHoldAnswered incarnations logs
   all_answered x [] logs h = tt
   all_answered x (incarnation ∷ incarnations) [] h = absurd h
-  all_answered x (incarnation ∷ incarnations) (log ∷ logs) h = (one_answered x incarnation log h.0, all_answered (fold g x log) incarnations logs h.1)
+  all_answered x (incarnation ∷ incarnations) (log ∷ logs) h = (one_answered x incarnation log h.0, all_answered (state_after_all g x log) incarnations logs h.1)

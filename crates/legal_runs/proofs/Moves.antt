@@ -16,9 +16,9 @@ use Rattle.legal_runs.specs.declared.outcomes.PointRefusal.{PointRefusal}
 use Rattle.legal_runs.specs.declared.outcomes.PointRefusal.TheVariants as points
 use Rattle.legal_runs.specs.CoreState.{Entry, Replied, CoreState, held}
 use Rattle.legal_runs.specs.Eligible.{changes, unlogged_changes, next_eligible}
-use Rattle.legal_runs.specs.Events.{Hand, MachineState, Empty, Job, Result, Event, IsAllowed, IsFault, IsWithoutFault, arrive, grant, give_back, out_with, batch, fails, loggable, log, log_some, answer, point_refusal, piece_refusal, flip_refusal, unless_refused, fewer, grant_to, run_hand, result_in, back_from, is_empty, happens, fault}
+use Rattle.legal_runs.specs.Events.{Hand, MachineState, Empty, Job, Result, Event, IsAllowed, IsFault, IsWithoutFault, arrive, grant, give_back, find_in_flight, batch, fails, recorded, log, log_unless_failed, answer, point_refusal, piece_refusal, flip_refusal, unless_refused, pieces_after, grant_to, run_hand, result_in, back_from, is_empty, apply_step, fail_step}
 use Rattle.legal_runs.specs.Runs.{logged_at, arrives, answers}
-use Rattle.legal_runs.specs.Laws.{DoubtsOnlyFailed, DoubtsWhatRan}
+use Rattle.legal_runs.specs.Laws.{DoubtOnlyAfterFailure, DoubtIsPrefixOfRan}
 use Rattle.legal_runs.proofs.Apart.{length_held}
 use Rattle.legal_runs.proofs.Lists.{first_few}
 
@@ -34,43 +34,43 @@ pub record Same (old new : CoreState) : Type 0 where
   -- and what is in flight has room still
   pub room : unlogged_changes old ≤ old.room → unlogged_changes old ≤ new.room
   -- and nothing comes into `doubt`, unless the device has failed
-  pub doubt : DoubtsOnlyFailed old → DoubtsOnlyFailed new
+  pub doubt : DoubtOnlyAfterFailure old → DoubtOnlyAfterFailure new
   -- and what is in `doubt` ran
-  pub doubts : DoubtsWhatRan old → DoubtsWhatRan new
+  pub doubts : DoubtIsPrefixOfRan old → DoubtIsPrefixOfRan new
 
 -- what passes at an event: the messages that it logs, those that arrive, and the replies that it gives
 pub record Passed : Type 0 where
   pub gone : List Replied
   pub come : List Entry
-  pub told : List (ℕ × Reply)
+  pub reply_pairs : List (ℕ × Reply)
 
 abbrev pub nothing : Passed
-nothing = record { gone = []; come = []; told = [] }
+nothing = record { gone = []; come = []; reply_pairs = [] }
 
 abbrev pub passed : CoreState → Step → Outcome → Bool → Passed
-passed w s o device_failed = record { gone = logged_at w s device_failed; come = arrives s o; told = answers o }
+passed w s o device_failed = record { gone = logged_at w s device_failed; come = arrives s o; reply_pairs = answers o }
 
 -- what an event does to the core
 pub data Move (g : Geometry) (old new : CoreState) (p : Passed) : Type 0 where
   Stays : (same : Same old new) → (passes : p ≡ nothing) → Move g old new p
   Arrives : (m : Msg) → (fits : length old.waiting + length (held old) < old.slots)
       → (is : new ≡ record old { waiting = old.waiting ++ (old.next, m) ∷ []; next = old.next + 1 })
-      → (passes : p ≡ record { gone = []; come = (old.next, m) ∷ []; told = [] }) → Move g old new p
+      → (passes : p ≡ record { gone = []; come = (old.next, m) ∷ []; reply_pairs = [] }) → Move g old new p
   Grants : (found : Entry × List Entry) → (first : next_eligible g old ≡ Some found) → (is : new ≡ grant old found)
       → (passes : p ≡ nothing) → Move g old new p
-  Backs : (ticket : ℕ) → (found : Entry × List Entry) → (one_out : out_with old ticket ≡ Some found)
+  Backs : (ticket : ℕ) → (found : Entry × List Entry) → (one_out : find_in_flight old ticket ≡ Some found)
       → (is : new ≡ give_back g old found) → (passes : p ≡ nothing) → Move g old new p
-  Logs : (n : ℕ) → (is : new ≡ log g old n) → (passes : p ≡ record { gone = take n old.ran; come = []; told = [] }) → Move g old new p
+  Logs : (n : ℕ) → (is : new ≡ log g old n) → (passes : p ≡ record { gone = take n old.ran; come = []; reply_pairs = [] }) → Move g old new p
   Answers : (a : Replied) → (rest : List Replied) → (front : old.logged ≡ a ∷ rest) → (is : new ≡ record old { logged = rest })
-      → (passes : p ≡ record { gone = []; come = []; told = (a.0, a.2) ∷ [] }) → Move g old new p
+      → (passes : p ≡ record { gone = []; come = []; reply_pairs = (a.0, a.2) ∷ [] }) → Move g old new p
 
 module _ (g : Geometry) (w : CoreState) where
   -- the room and the pieces that are left alone
-  repoints : (room : ℕ) (left : Option ℕ) → (unlogged_changes w ≤ w.room → unlogged_changes w ≤ room) → Move g w
-      (record w { room = room; left = left }) nothing
-  repoints room left fits = Stays kept refl
+  repoints : (room : ℕ) (pieces_left : Option ℕ) → (unlogged_changes w ≤ w.room → unlogged_changes w ≤ room) → Move g w
+      (record w { room = room; pieces_left = pieces_left }) nothing
+  repoints room pieces_left fits = Stays kept refl
     where
-      kept : Same w (record w { room = room; left = left })
+      kept : Same w (record w { room = room; pieces_left = pieces_left })
       kept = record {
         waiting = refl;
         in_flight = refl;
@@ -86,7 +86,7 @@ module _ (g : Geometry) (w : CoreState) where
 
   -- nothing at all
   stays : Move g w w nothing
-  stays = repoints w.room w.left (λ h. h)
+  stays = repoints w.room w.pieces_left (λ h. h)
 
   either : {A : Type 0} (P : A → Type 0) (b : Bool) (x y : A) → (b ≡ true → P x) → (b ≡ false → P y) → P (if b then x else y)
   either P true x y h j = h refl
@@ -106,9 +106,9 @@ module _ (g : Geometry) (w : CoreState) where
   abbrev logs : ℕ → Bool → Outcome × CoreState
   logs k b = if b then (outcomes.LogFault faults.Failed, w) else (outcomes.Logged (length (take k w.ran)), log g w k)
 
-  log_moves : (k : ℕ) → At (steps.Log k) (log_some g w k)
+  log_moves : (k : ℕ) → At (steps.Log k) (log_unless_failed g w k)
   log_moves k = elim w.failed as (λ b. Move g w (logs k b).1
-      (record { gone = if b then [] else take k w.ran; come = []; told = answers (logs k b).0 })) [
+      (record { gone = if b then [] else take k w.ran; come = []; reply_pairs = answers (logs k b).0 })) [
         | true ↦ stays
         | false ↦ Logs k refl refl
       ]
@@ -121,7 +121,7 @@ module _ (g : Geometry) (w : CoreState) where
   none_unlogged : point_refusal w ≡ None → unlogged_changes w ≡ 0
   none_unlogged e =
       let a = past w.failed points.Failed _ e in
-      let b = past (is_some w.left) points.Running _ a in
+      let b = past (is_some w.pieces_left) points.Running _ a in
       let c : length (held w) ≤ 0 = ltb-false 0 (length (held w)) (late (nat_lt 0 (length (held w))) points.Held b) in
       let l = length_held w in
       omega (arith, c, l, count_by-le-length (λ e. changes e.1) w.in_flight, count_by-le-length (λ a. changes a.1) w.ran)
@@ -139,26 +139,26 @@ module _ (g : Geometry) (w : CoreState) where
 
   point_moves : (r : Option PointRefusal) → point_refusal w ≡ r
       → At steps.Point (unless_refused w r (outcomes.Pointed, record w { room = g.half }))
-  point_moves None e = repoints g.half w.left (emptied g.half e)
+  point_moves None e = repoints g.half w.pieces_left (emptied g.half e)
   point_moves (Some why) e = stays
 
   cut_moves : (n : ℕ) (r : Option PointRefusal) → point_refusal w ≡ r
-      → At steps.Cut (unless_refused w r (outcomes.Cut, record w { room = g.half; left = Some n }))
+      → At steps.Cut (unless_refused w r (outcomes.Cut, record w { room = g.half; pieces_left = Some n }))
   cut_moves n None e = repoints g.half (Some n) (emptied g.half e)
   cut_moves n (Some why) e = stays
 
   piece_moves : (r : Option PointRefusal)
-      → At steps.Piece (unless_refused w r (outcomes.Left (fewer w.left), record w { left = Some (fewer w.left) }))
-  piece_moves None = repoints w.room (Some (fewer w.left)) (λ h. h)
+      → At steps.Piece (unless_refused w r (outcomes.Left (pieces_after w.pieces_left), record w { pieces_left = Some (pieces_after w.pieces_left) }))
+  piece_moves None = repoints w.room (Some (pieces_after w.pieces_left)) (λ h. h)
   piece_moves (Some why) = stays
 
-  flip_moves : (r : Option PointRefusal) → At steps.Flip (unless_refused w r (outcomes.Flipped, record w { left = None }))
+  flip_moves : (r : Option PointRefusal) → At steps.Flip (unless_refused w r (outcomes.Flipped, record w { pieces_left = None }))
   flip_moves None = repoints w.room None (λ h. h)
   flip_moves (Some why) = stays
 
   -- ---- with a device that fails
 
-  failing : (doubt : List Msg) → (DoubtsWhatRan w → DoubtsWhatRan (record w { failed = true; doubt = doubt }))
+  failing : (doubt : List Msg) → (DoubtIsPrefixOfRan w → DoubtIsPrefixOfRan (record w { failed = true; doubt = doubt }))
       → Move g w (record w { failed = true; doubt = doubt }) nothing
   failing doubt doubts = Stays kept refl
     where
@@ -183,9 +183,9 @@ module _ (g : Geometry) (w : CoreState) where
   log_fails : (k : ℕ) → Move g w (record w { failed = true; doubt = batch w k }) nothing
   log_fails k =
       let f = first_few k w.ran in
-      failing (batch w k) (λ h. record { some = f.0; at_most = f.1; is = ap loggable (sym f.2) })
+      failing (batch w k) (λ h. record { some = f.0; at_most = f.1; is = ap recorded (sym f.2) })
 
-  fault_moves : (s : Step) → Move g w (fault w s).1 (passed w s (fault w s).0 true)
+  fault_moves : (s : Step) → Move g w (fail_step w s).1 (passed w s (fail_step w s).0 true)
   fault_moves (steps.Arrive m) = fails_moves
   fault_moves steps.Grant = fails_moves
   fault_moves (steps.Run i) = fails_moves
@@ -219,7 +219,7 @@ module _ (g : Geometry) (w : MachineState) where
   run_moves i (Some (Job ticket)) = stays g w.core
   run_moves i (Some (Result ticket)) = stays g w.core
 
-  found_moves : (i ticket : ℕ) (found : Option (Entry × List Entry)) → out_with w.core ticket ≡ found
+  found_moves : (i ticket : ℕ) (found : Option (Entry × List Entry)) → find_in_flight w.core ticket ≡ found
       → In g w (steps.Back i) (back_from g w i found)
   found_moves i ticket None e = stays g w.core
   found_moves i ticket (Some found) e = Backs ticket found e refl refl
@@ -228,9 +228,9 @@ module _ (g : Geometry) (w : MachineState) where
   back_moves i None = stays g w.core
   back_moves i (Some Empty) = stays g w.core
   back_moves i (Some (Job ticket)) = stays g w.core
-  back_moves i (Some (Result ticket)) = found_moves i ticket (out_with w.core ticket) refl
+  back_moves i (Some (Result ticket)) = found_moves i ticket (find_in_flight w.core ticket) refl
 
-  happens_moves : (n : ℕ) (s : Step) → In g w s (happens g n w s)
+  happens_moves : (n : ℕ) (s : Step) → In g w s (apply_step g n w s)
   happens_moves n (steps.Arrive m) = arrive_moves g w.core m
   happens_moves n steps.Grant = either g w.core (In g w steps.Grant) (w.core.failed && is_some (position is_empty w.hands)) _ _
       (λ e. stays g w.core) (λ e. grant_moves (position is_empty w.hands) (next_eligible g w.core) refl)

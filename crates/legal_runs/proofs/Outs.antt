@@ -1,4 +1,4 @@
--- A dispatched message sees the same in the committed state, whatever comes; and which steps leave the dispatched ones as they are.
+-- What a message in flight sees of the committed state stays, whatever comes; and which steps leave the messages in flight as they are.
 use Rattle.std.proofs.Common.{◌≡◌, ℕ, ◌+◌, ◌-◌, ◌^◌, Bool, true, false, List, [], ◌∷◌, ◌++◌, Option, Some, None, refl, ap, sym, ◌∙◌, subst, take, drop, length}
 use Rattle.std.specs.Prelude.{map, filter, cond, not, ◌==◌, nat_le, if◌then◌else◌, slice_get, MatchBool}
 use Rattle.std.proofs.lemmas.Bool.{true≢false}
@@ -7,10 +7,10 @@ use Rattle.std.proofs.lemmas.List.{take-append-drop}
 use Rattle.affinity.specs.declared.geometry.Geometry.{Geometry}
 use Rattle.affinity.specs.Path.{are_related}
 use Rattle.messages.specs.declared.Msg.{Msg}
-use Rattle.messages.specs.Messages.{place, is_in_range}
-use Rattle.meaning.specs.Serial.{fold, is_loggable, next_state}
+use Rattle.messages.specs.Messages.{path_of, is_in_range}
+use Rattle.meaning.specs.Serial.{state_after_all, is_recorded, next_state}
 use Rattle.meaning.specs.Order.{messages}
-use Rattle.meaning.specs.Shares.{AgreeOn}
+use Rattle.meaning.specs.Subtrees.{AgreeOn}
 use Rattle.meaning.specs.State.{State}
 use Rattle.meaning.proofs.Agree.{agree-refl, agree-trans}
 use Rattle.meaning.proofs.Frame.{left_alone}
@@ -19,8 +19,8 @@ use Rattle.legal_runs.specs.declared.outcomes.PointRefusal.{PointRefusal}
 use Rattle.legal_runs.specs.declared.outcomes.Step.{Step}
 use Rattle.legal_runs.specs.declared.outcomes.Step.TheVariants as steps
 use Rattle.legal_runs.specs.CoreState.{Entry, Replied, CoreState, entry, entries, held, are_related_entries}
-use Rattle.legal_runs.specs.Events.{Hand, MachineState, Empty, Job, Result, Event, IsAllowed, IsWithoutFault, IsFault, answer, arrive, batch, fault, flip_refusal, happens, loggable, piece_refusal, point_refusal, run_hand, unless_refused}
-use Rattle.legal_runs.specs.Laws.{EachBefore, IsSoundCoreState, moves_what_is_out}
+use Rattle.legal_runs.specs.Events.{Hand, MachineState, Empty, Job, Result, Event, IsAllowed, IsWithoutFault, IsFault, answer, arrive, batch, fail_step, flip_refusal, apply_step, recorded, piece_refusal, point_refusal, run_hand, unless_refused}
+use Rattle.legal_runs.specs.Laws.{EachBefore, IsSoundCoreState, dispatches_or_returns}
 use Rattle.legal_runs.proofs.Apart.{apart_turned, entries-append}
 use Rattle.legal_runs.proofs.Clearing.{all_at}
 use Rattle.legal_runs.proofs.Lists.{all_back, all_front, before_back}
@@ -35,32 +35,32 @@ before_in R (x ∷ xs) ys y h is = (all_at (R x) ys y (all_back (R x) xs ys h.0)
 
 module _ (g : Geometry) where
   -- messages at other places leave what a message can read
-  fold_leaves : (x : State) (m : Msg) (ms : List Msg) → AllByRecursion (λ n. are_related (place g m) (place g n) ≡ false) ms
-      → AgreeOn g (are_related (place g m)) (fold g x ms) x
+  fold_leaves : (x : State) (m : Msg) (ms : List Msg) → AllByRecursion (λ n. are_related (path_of g m) (path_of g n) ≡ false) ms
+      → AgreeOn g (are_related (path_of g m)) (state_after_all g x ms) x
   fold_leaves x m [] apart = agree-refl x
   fold_leaves x m (n ∷ ms) apart = agree-trans (fold_leaves (next_state g x n) m ms apart.1) (left_alone g x m n apart.0)
 
   messages_apart : (e : Entry) (es : List Entry) → AllByRecursion (λ d. are_related_entries g e d ≡ false) es
-      → AllByRecursion (λ n. are_related (place g e.1) (place g n) ≡ false) (messages es)
+      → AllByRecursion (λ n. are_related (path_of g e.1) (path_of g n) ≡ false) (messages es)
   messages_apart e [] apart = tt
   messages_apart e (d ∷ es) apart = (apart.0, messages_apart e es apart.1)
 
   -- so do messages with their tickets
   pub entries_leave : (x : State) (e : Entry) (es : List Entry) → AllByRecursion (λ d. are_related_entries g e d ≡ false) es
-      → AgreeOn g (are_related (place g e.1)) (fold g x (messages es)) x
+      → AgreeOn g (are_related (path_of g e.1)) (state_after_all g x (messages es)) x
   entries_leave x e es apart = fold_leaves x e.1 (messages es) (messages_apart e es apart)
 
   module _ (e : Entry) where
     abbrev Elsewhere : Msg → Type 0
-    Elsewhere n = are_related (place g e.1) (place g n) ≡ false
+    Elsewhere n = are_related (path_of g e.1) (path_of g n) ≡ false
 
     logged_elsewhere : (as' : List Replied) → AllByRecursion (λ d. are_related_entries g d e ≡ false) (entries as')
-        → AllByRecursion Elsewhere (loggable as')
+        → AllByRecursion Elsewhere (recorded as')
     logged_elsewhere [] apart = tt
     logged_elsewhere (a ∷ as') apart =
         let k = logged_elsewhere as' apart.1 in
-        elim (is_loggable a.1 a.2) as (λ b. AllByRecursion Elsewhere (map (λ (a : Replied). a.1)
-        (cond b (a ∷ filter (λ a. is_loggable a.1 a.2) as') (filter (λ a. is_loggable a.1 a.2) as')))) [
+        elim (is_recorded a.1 a.2) as (λ b. AllByRecursion Elsewhere (map (λ (a : Replied). a.1)
+        (cond b (a ∷ filter (λ a. is_recorded a.1 a.2) as') (filter (λ a. is_recorded a.1 a.2) as')))) [
           | true ↦ (apart_turned g (entry a) e apart.0, k)
           | false ↦ k
         ]
@@ -75,10 +75,10 @@ module _ (g : Geometry) where
         (subst (AllByRecursion (λ d. are_related_entries g d e ≡ false)) split ran))
 
     abbrev SeesSame : CoreState → CoreState → Type 0
-    SeesSame old new = AgreeOn g (are_related (place g e.1)) new.committed old.committed
+    SeesSame old new = AgreeOn g (are_related (path_of g e.1)) new.committed old.committed
 
     same_committed : (old new : CoreState) → new.committed ≡ old.committed → SeesSame old new
-    same_committed old new same = subst (λ x. AgreeOn g (are_related (place g e.1)) x old.committed) (sym same) (agree-refl old.committed)
+    same_committed old new same = subst (λ x. AgreeOn g (are_related (path_of g e.1)) x old.committed) (sym same) (agree-refl old.committed)
 
     move_sees : (old new : CoreState) (p : Passed) → Move g old new p → IsSoundCoreState g old → IsIn e old.in_flight → SeesSame old new
     move_sees old new p (Stays s k) sound is = same_committed old new s.committed
@@ -90,7 +90,7 @@ module _ (g : Geometry) where
     move_sees old new p (Answers a rest front moved k) sound is = same_committed old new (ap (λ w. w.committed) moved)
 
   pub event_sees : (old : MachineState) (event : Event) (e : Entry) → IsAllowed g old event → IsSoundCoreState g old.core → IsIn e old.core.in_flight
-      → AgreeOn g (are_related (place g e.1)) event.state_after.core.committed old.core.committed
+      → AgreeOn g (are_related (path_of g e.1)) event.state_after.core.committed old.core.committed
   event_sees old event e allowed sound is = move_sees e old.core event.state_after.core _ (moves g old event allowed) sound is
 
 -- ---- steps that neither dispatch a message nor give one back
@@ -128,7 +128,7 @@ module _ (g : Geometry) (n : ℕ) (w : MachineState) where
   run_keeps_out i (Some (Job ticket)) = refl
   run_keeps_out i (Some (Result ticket)) = refl
 
-  pub happens_keeps_out : (s : Step) → moves_what_is_out s ≡ false → KeepsIn (happens g n w s)
+  pub happens_keeps_out : (s : Step) → dispatches_or_returns s ≡ false → KeepsIn (apply_step g n w s)
   happens_keeps_out (steps.Arrive m) e = arrive_keeps_out w.core g m
   happens_keeps_out steps.Grant e = absurd (true≢false e)
   happens_keeps_out (steps.Run i) e = run_keeps_out i (slice_get w.hands i)
@@ -140,11 +140,11 @@ module _ (g : Geometry) (n : ℕ) (w : MachineState) where
   happens_keeps_out steps.Piece e = refused_keeps_out w.core (piece_refusal w.core) _ refl
   happens_keeps_out steps.Flip e = refused_keeps_out w.core (flip_refusal w.core) _ refl
 
-pub fault_keeps_out : (w : CoreState) (s : Step) → (fault w s).1.in_flight ≡ w.in_flight
+pub fault_keeps_out : (w : CoreState) (s : Step) → (fail_step w s).1.in_flight ≡ w.in_flight
 fault_keeps_out w (steps.Log k) = refl
 fault_keeps_out w _ = refl
 
-pub event_keeps_out : (g : Geometry) (old : MachineState) (event : Event) → IsAllowed g old event → moves_what_is_out event.step ≡ false
+pub event_keeps_out : (g : Geometry) (old : MachineState) (event : Event) → IsAllowed g old event → dispatches_or_returns event.step ≡ false
     → event.state_after.core.in_flight ≡ old.core.in_flight
 event_keeps_out g old event allowed still = by event.device_failed allowed
   where

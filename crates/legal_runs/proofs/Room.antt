@@ -6,7 +6,7 @@ use Rattle.std.proofs.lemmas.List.{length-map, take-append-drop}
 use Rattle.std.proofs.lemmas.List.Sums.{sum_by-append, sum_by-cons, length-filter}
 use Rattle.affinity.specs.declared.geometry.Geometry.{Geometry}
 use Rattle.messages.specs.declared.Msg.{Msg}
-use Rattle.meaning.specs.Serial.{reply_to, is_loggable, is_done}
+use Rattle.meaning.specs.Serial.{reply_to, is_recorded, is_done}
 use Rattle.legal_runs.specs.CoreState.{Entry, Replied, CoreState}
 use Rattle.legal_runs.specs.Eligible.{changes, unlogged_changes, is_conflict_free, has_room, is_eligible}
 use Rattle.legal_runs.specs.Events.{batch}
@@ -23,13 +23,13 @@ abbrev ran_count : List Replied → ℕ
 ran_count as' = count_by (λ a. changes a.1) as'
 
 -- what is logged is of a changing kind
-logged_few : (as' : List Replied) → count_by (λ a. is_loggable a.1 a.2) as' ≤ ran_count as'
+logged_few : (as' : List Replied) → count_by (λ a. is_recorded a.1 a.2) as' ≤ ran_count as'
 logged_few [] = omega arith
 logged_few (a ∷ as') =
     let rest = logged_few as' in
-    let here : cond (is_loggable a.1 a.2) 1 0 ≤ one a.1 = elim (changes a.1) as
+    let here : cond (is_recorded a.1 a.2) 1 0 ≤ one a.1 = elim (changes a.1) as
     (λ b. cond (b && is_done a.2) 1 0 ≤ cond b 1 0) [ true ↦ small (is_done a.2) | false ↦ omega arith ] in
-    let l = sum_by-cons (λ (a : Replied). cond (is_loggable a.1 a.2) 1 0) a as' in
+    let l = sum_by-cons (λ (a : Replied). cond (is_recorded a.1 a.2) 1 0) a as' in
     let r = sum_by-cons (λ (a : Replied). cond (changes a.1) 1 0) a as' in
     omega (arith, rest, here, l, r)
   where
@@ -39,8 +39,8 @@ logged_few (a ∷ as') =
 
 pub batch_few : (w : CoreState) (n : ℕ) → length (batch w n) ≤ ran_count (take n w.ran)
 batch_few w n =
-    let l : length (batch w n) ≡ count_by (λ a. is_loggable a.1 a.2) (take n w.ran) = length-map _ _ ∙ length-filter
-    (λ a. is_loggable a.1 a.2) (take n w.ran) in
+    let l : length (batch w n) ≡ count_by (λ a. is_recorded a.1 a.2) (take n w.ran) = length-map _ _ ∙ length-filter
+    (λ a. is_recorded a.1 a.2) (take n w.ran) in
     omega (arith, l, logged_few (take n w.ran))
 
 ran_split : (w : CoreState) (n : ℕ) → ran_count (take n w.ran) + ran_count (drop n w.ran) ≡ ran_count w.ran

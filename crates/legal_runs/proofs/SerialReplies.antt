@@ -6,62 +6,62 @@ use Rattle.affinity.specs.declared.geometry.Geometry.{Geometry}
 use Rattle.messages.specs.declared.Msg.{Msg}
 use Rattle.messages.specs.declared.Reply.{Reply}
 use Rattle.meaning.specs.State.{State}
-use Rattle.meaning.specs.Serial.{reply_to, next_state, fold, is_loggable}
+use Rattle.meaning.specs.Serial.{reply_to, next_state, state_after_all, is_recorded}
 use Rattle.meaning.specs.Order.{serial_replies, messages}
 use Rattle.meaning.proofs.Frame.{commute, same_reply}
 use Rattle.meaning.proofs.Unchanged.{unlogged_changes_nothing}
 use Rattle.legal_runs.specs.CoreState.{Entry, Replied, entry, entries, are_related_entries}
-use Rattle.legal_runs.specs.Events.{loggable}
-use Rattle.legal_runs.specs.Laws.{AreApart, AreReplied, ticket_replies}
+use Rattle.legal_runs.specs.Events.{recorded}
+use Rattle.legal_runs.specs.Laws.{AreUnrelated, HaveRepliesAt, ticket_replies}
 use Rattle.legal_runs.proofs.Apart.{apart_turned}
 
 -- ---- lists after one another
 
-pub fold-append : (g : Geometry) (x : State) (es fs : List Entry)
-    → fold g x (messages (es ++ fs)) ≡ fold g (fold g x (messages es)) (messages fs)
-fold-append g x [] fs = refl
-fold-append g x (e ∷ es) fs = fold-append g (next_state g x e.1) es fs
+pub state_after_all-append : (g : Geometry) (x : State) (es fs : List Entry)
+    → state_after_all g x (messages (es ++ fs)) ≡ state_after_all g (state_after_all g x (messages es)) (messages fs)
+state_after_all-append g x [] fs = refl
+state_after_all-append g x (e ∷ es) fs = state_after_all-append g (next_state g x e.1) es fs
 
-pub fold-joined : (g : Geometry) (x : State) (ms ns : List Msg) → fold g x (ms ++ ns) ≡ fold g (fold g x ms) ns
-fold-joined g x [] ns = refl
-fold-joined g x (m ∷ ms) ns = fold-joined g (next_state g x m) ms ns
+pub state_after_all-joined : (g : Geometry) (x : State) (ms ns : List Msg) → state_after_all g x (ms ++ ns) ≡ state_after_all g (state_after_all g x ms) ns
+state_after_all-joined g x [] ns = refl
+state_after_all-joined g x (m ∷ ms) ns = state_after_all-joined g (next_state g x m) ms ns
 
-pub serial_replies-append : (g : Geometry) (x : State) (es fs : List Entry) → serial_replies g x (es ++ fs) ≡ serial_replies g x es ++ serial_replies g (fold g x (messages es)) fs
+pub serial_replies-append : (g : Geometry) (x : State) (es fs : List Entry) → serial_replies g x (es ++ fs) ≡ serial_replies g x es ++ serial_replies g (state_after_all g x (messages es)) fs
 serial_replies-append g x [] fs = refl
 serial_replies-append g x (e ∷ es) fs = ap (λ l. (e.0, reply_to g x e.1) ∷ l) (serial_replies-append g (next_state g x e.1) es fs)
 
-pub said-append : (as' bs : List Replied) → ticket_replies (as' ++ bs) ≡ ticket_replies as' ++ ticket_replies bs
-said-append [] bs = refl
-said-append (a ∷ as') bs = ap (λ l. (a.0, a.2) ∷ l) (said-append as' bs)
+pub ticket_replies-append : (as' bs : List Replied) → ticket_replies (as' ++ bs) ≡ ticket_replies as' ++ ticket_replies bs
+ticket_replies-append [] bs = refl
+ticket_replies-append (a ∷ as') bs = ap (λ l. (a.0, a.2) ∷ l) (ticket_replies-append as' bs)
 
 -- ---- messages in a row
 
 module _ (g : Geometry) where
   pub still_replied : (x : State) (a : Replied) (as' : List Replied) → AllByRecursion (λ d. are_related_entries g (entry a) d ≡ false) (entries as')
-      → AreReplied g x as' → AreReplied g (next_state g x a.1) as'
+      → HaveRepliesAt g x as' → HaveRepliesAt g (next_state g x a.1) as'
   still_replied x a [] apart h = tt
   still_replied x a (d ∷ as') apart h =
       (h.0 ∙ sym (same_reply g x d.1 a.1 (apart_turned g (entry a) (entry d) apart.0)), still_replied x a as' apart.1 h.1)
 
   -- messages that are not related, each with its reply at one state, run in a row
   pub record InARow (x : State) (first rest : List Replied) : Type 0 where
-    pub told : serial_replies g x (entries first) ≡ ticket_replies first
-    pub logs : fold g x (loggable first) ≡ fold g x (messages (entries first))
-    pub still : AreReplied g (fold g x (messages (entries first))) rest
+    pub reply_pairs : serial_replies g x (entries first) ≡ ticket_replies first
+    pub logs : state_after_all g x (recorded first) ≡ state_after_all g x (messages (entries first))
+    pub still : HaveRepliesAt g (state_after_all g x (messages (entries first))) rest
 
-  pub in_a_row : (x : State) (first rest : List Replied) → AreApart g (entries (first ++ rest)) → AreReplied g x (first ++ rest)
+  pub in_a_row : (x : State) (first rest : List Replied) → AreUnrelated g (entries (first ++ rest)) → HaveRepliesAt g x (first ++ rest)
       → InARow x first rest
-  in_a_row x [] rest apart h = record { told = refl; logs = refl; still = h }
+  in_a_row x [] rest apart h = record { reply_pairs = refl; logs = refl; still = h }
   in_a_row x (a ∷ first) rest apart h =
       let k = in_a_row (next_state g x a.1) first rest apart.1 (still_replied x a (first ++ rest) apart.0 h.1) in
       record {
-        told = λ i. (a.0, sym h.0 i) ∷ k.told i;
-        logs = elim (is_loggable a.1 a.2) as
-            (λ b. is_loggable a.1 a.2 ≡ b → fold g x (map
-            (λ (a : Replied). a.1) (cond b (a ∷ filter (λ a. is_loggable a.1 a.2) first) (filter (λ a. is_loggable a.1 a.2) first)))
-            ≡ fold g (next_state g x a.1) (messages (entries first))) [
+        reply_pairs = λ i. (a.0, sym h.0 i) ∷ k.reply_pairs i;
+        logs = elim (is_recorded a.1 a.2) as
+            (λ b. is_recorded a.1 a.2 ≡ b → state_after_all g x (map
+            (λ (a : Replied). a.1) (cond b (a ∷ filter (λ a. is_recorded a.1 a.2) first) (filter (λ a. is_recorded a.1 a.2) first)))
+            ≡ state_after_all g (next_state g x a.1) (messages (entries first))) [
               | true ↦ λ e. k.logs
-              | false ↦ λ e. ap (λ y. fold g y (loggable first)) (sym (unlogged_changes_nothing g x a.1 (ap (is_loggable a.1) (sym h.0)
+              | false ↦ λ e. ap (λ y. state_after_all g y (recorded first)) (sym (unlogged_changes_nothing g x a.1 (ap (is_recorded a.1) (sym h.0)
                   ∙ e))) ∙ k.logs
             ] refl;
         still = k.still;
@@ -88,7 +88,7 @@ module _ {A : Type 0} (a : A) where
 
 -- The list es leaves the state that fs leaves, and has the replies of fs.
 pub record IsAsGood (g : Geometry) (x : State) (es fs : List Entry) : Type 0 where
-  pub state : fold g x (messages es) ≡ fold g x (messages fs)
+  pub state : state_after_all g x (messages es) ≡ state_after_all g x (messages fs)
   pub tells : (p : ℕ × Reply) → IsIn p (serial_replies g x fs) → IsIn p (serial_replies g x es)
 
 module _ (g : Geometry) where
@@ -100,7 +100,7 @@ module _ (g : Geometry) where
 
   pub good_push : (x : State) (es fs : List Entry) (e : Entry) → IsAsGood g x es fs → IsAsGood g x (es ++ e ∷ []) (fs ++ e ∷ [])
   good_push x es fs e h = record {
-    state = fold-append g x es (e ∷ []) ∙ ap (λ y. next_state g y e.1) h.state ∙ sym (fold-append g x fs (e ∷ []));
+    state = state_after_all-append g x es (e ∷ []) ∙ ap (λ y. next_state g y e.1) h.state ∙ sym (state_after_all-append g x fs (e ∷ []));
     tells = λ p r. subst (IsIn p) (sym (serial_replies-append g x es (e ∷ [])))
         (⊎_elim (λ l. in_left p (serial_replies g x es) _ (h.tells p l))
         (λ k. in_right p (serial_replies g x es) _ (subst (λ y. IsIn p (serial_replies g y (e ∷ []))) (sym h.state) k))
@@ -115,7 +115,7 @@ module _ (g : Geometry) where
       let k = good_first (next_state g x u.1) us e vs h.1 in
       let c = commute g x e.1 u.1 h.0 in
       record {
-        state = k.state ∙ ap (λ y. fold g y (messages (us ++ vs))) (sym c.state);
+        state = k.state ∙ ap (λ y. state_after_all g y (messages (us ++ vs))) (sym c.state);
         tells = λ p r. ⊎_elim
             (λ is. inr (k.tells p (inl (is ∙ ap (λ r. (e.0, r)) (sym c.first)))))
             (λ r. ⊎_elim (λ is. inl (is ∙ ap (λ r. (u.0, r)) c.second))

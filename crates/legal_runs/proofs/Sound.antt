@@ -8,8 +8,8 @@ use Rattle.meaning.specs.Serial.{reply_to}
 use Rattle.legal_runs.specs.CoreState.{Entry, Replied, CoreState, entries, held}
 use Rattle.legal_runs.specs.Eligible.{is_eligible}
 use Rattle.legal_runs.specs.Events.{MachineState, Event, IsAllowed, grant, give_back, log}
-use Rattle.legal_runs.specs.Runs.{IsLegal, last}
-use Rattle.legal_runs.specs.Laws.{AreApart, AreReplied, AreAscending, AreOnce, DoubtsOnlyFailed, HasRoom, IsSoundCoreState}
+use Rattle.legal_runs.specs.Runs.{IsLegal, end_state}
+use Rattle.legal_runs.specs.Laws.{AreUnrelated, HaveRepliesAt, AreAscending, HaveDistinctTickets, DoubtOnlyAfterFailure, HasRoom, IsSoundCoreState}
 use Rattle.legal_runs.proofs.Lists.{all_join, all_front, all_back, all_weaker, all_moved, all_without, before_push, before_back, before_front, before_without, before_moved, picked}
 use Rattle.legal_runs.proofs.Apart.{grant_apart, back_apart, log_held, held_grant, length_held}
 use Rattle.legal_runs.proofs.Moves.{Passed, Move, Stays, Arrives, Grants, Backs, Logs, Answers, moves}
@@ -29,18 +29,18 @@ module _ (g : Geometry) where
   row_of w n h =
       let whole : take n w.ran ++ drop n w.ran ≡ w.ran = take-append-drop n w.ran in
       in_a_row g w.committed (take n w.ran) (drop n w.ran)
-      (subst (λ r. AreApart g (entries r)) (sym whole) (before_front _ (entries w.ran) w.in_flight (before_back _ (entries w.logged) _ h.apart)))
-      (subst (AreReplied g w.committed) (sym whole) h.replied)
+      (subst (λ r. AreUnrelated g (entries r)) (sym whole) (before_front _ (entries w.ran) w.in_flight (before_back _ (entries w.logged) _ h.apart)))
+      (subst (HaveRepliesAt g w.committed) (sym whole) h.replied)
 
   pub move_sound : (old new : CoreState) (p : Passed) → Move g old new p → IsSoundCoreState g old → IsSoundCoreState g new
   move_sound old new p (Stays s e) h =
       let all : new.in_flight ++ new.waiting ≡ old.in_flight ++ old.waiting = λ i. s.in_flight i ++ s.waiting i in
       let holds : held new ≡ held old = λ i. entries (s.logged i) ++ (entries (s.ran i) ++ s.in_flight i) in
       record {
-        apart = subst (AreApart g) (sym holds) h.apart;
-        replied = subst (AreReplied g new.committed) (sym s.ran) (subst (λ x. AreReplied g x old.ran) (sym s.committed) h.replied);
+        apart = subst (AreUnrelated g) (sym holds) h.apart;
+        replied = subst (HaveRepliesAt g new.committed) (sym s.ran) (subst (λ x. HaveRepliesAt g x old.ran) (sym s.committed) h.replied);
         ascending = subst AreAscending (sym s.waiting) h.ascending;
-        once = subst AreOnce (sym all) h.once;
+        once = subst HaveDistinctTickets (sym all) h.once;
         given = subst (λ n. AllByRecursion (IsGiven n) (new.in_flight ++ new.waiting)) (sym s.next)
             (subst (AllByRecursion (IsGiven old.next)) (sym all) h.given);
         room = move_room g old new p (Stays s e) h.room;
@@ -57,7 +57,7 @@ module _ (g : Geometry) where
         apart = h.apart;
         replied = h.replied;
         ascending = before_push (λ e d. e.0 < d.0) old.waiting one h.ascending (waits_given old h);
-        once = subst AreOnce (sym same) (before_push
+        once = subst HaveDistinctTickets (sym same) (before_push
             (λ e d. e.0 ≡ d.0 → ⊥) (old.in_flight ++ old.waiting) one h.once (all_weaker (IsGiven old.next) (λ e. e.0 ≡ old.next → ⊥)
             (λ e lt is. omega (arith, lt, is)) _ h.given));
         given = subst (AllByRecursion (IsGiven (old.next + 1))) (sym same)
@@ -84,7 +84,7 @@ module _ (g : Geometry) where
         apart = grant_apart g old found first h.apart;
         replied = h.replied;
         ascending = subst AreAscending (sym k.rest) (before_without _ k.before one k.behind (subst AreAscending k.whole h.ascending));
-        once = subst AreOnce to (before_moved _ once_turned old.in_flight k.before one k.behind (subst AreOnce from h.once));
+        once = subst HaveDistinctTickets to (before_moved _ once_turned old.in_flight k.before one k.behind (subst HaveDistinctTickets from h.once));
         given = subst (AllByRecursion (IsGiven old.next)) to (moved old.next old.in_flight k.before one k.behind
             (subst (AllByRecursion (IsGiven old.next)) from h.given));
         room = room;
@@ -114,7 +114,7 @@ module _ (g : Geometry) where
         apart = back_apart g old ticket found one_out h.apart;
         replied = all_join (λ a. a.2 ≡ reply_to g old.committed a.1) old.ran _ h.replied (refl, tt);
         ascending = h.ascending;
-        once = subst AreOnce to (before_without _ k.before one (k.behind ++ old.waiting) (subst AreOnce from h.once));
+        once = subst HaveDistinctTickets to (before_without _ k.before one (k.behind ++ old.waiting) (subst HaveDistinctTickets from h.once));
         given = subst (AllByRecursion (IsGiven old.next)) to (all_without (IsGiven old.next) k.before one (k.behind ++ old.waiting)
             (subst (AllByRecursion (IsGiven old.next)) from h.given));
         room = room;
@@ -123,8 +123,8 @@ module _ (g : Geometry) where
   move_sound old new p (Logs n is e) h =
       let room = move_room g old (log g old n) p (Logs n refl e) h.room in
       subst (IsSoundCoreState g) (sym is) (record {
-        apart = subst (AreApart g) (sym (log_held g old n)) h.apart;
-        replied = subst (λ x. AreReplied g x (drop n old.ran)) (sym (row_of old n h).logs) (row_of old n h).still;
+        apart = subst (AreUnrelated g) (sym (log_held g old n)) h.apart;
+        replied = subst (λ x. HaveRepliesAt g x (drop n old.ran)) (sym (row_of old n h).logs) (row_of old n h).still;
         ascending = h.ascending;
         once = h.once;
         given = h.given;
@@ -134,7 +134,7 @@ module _ (g : Geometry) where
   move_sound old new p (Answers a rest front is e) h =
       let fits = subst (λ l. length old.waiting + length (entries l ++ (entries old.ran ++ old.in_flight)) ≤ old.slots) front h.fits in
       subst (IsSoundCoreState g) (sym is) (record {
-        apart = (subst (λ l. AreApart g (entries l ++ (entries old.ran ++ old.in_flight))) front h.apart).1;
+        apart = (subst (λ l. AreUnrelated g (entries l ++ (entries old.ran ++ old.in_flight))) front h.apart).1;
         replied = h.replied;
         ascending = h.ascending;
         once = h.once;
@@ -153,7 +153,7 @@ module _ (g : Geometry) where
       let k = event_sound old event legal.0 h in
       (k, run_sound event.state_after events legal.1 k)
 
-  pub last_sound : (old : MachineState) (events : List Event) → IsLegal g old events → IsSoundCoreState g old.core → IsSoundCoreState g (last old events).core
+  pub last_sound : (old : MachineState) (events : List Event) → IsLegal g old events → IsSoundCoreState g old.core → IsSoundCoreState g (end_state old events).core
   last_sound old [] legal h = h
   last_sound old (event ∷ events) legal h = last_sound event.state_after events legal.1 (event_sound old event legal.0 h)
 
@@ -183,14 +183,14 @@ run_fits g old (event ∷ events) legal h =
 
 -- ---- what is in `doubt`
 
-move_doubts : (g : Geometry) (old new : CoreState) (p : Passed) → Move g old new p → DoubtsOnlyFailed old → DoubtsOnlyFailed new
+move_doubts : (g : Geometry) (old new : CoreState) (p : Passed) → Move g old new p → DoubtOnlyAfterFailure old → DoubtOnlyAfterFailure new
 move_doubts g old new p (Stays s e) h = s.doubt h
-move_doubts g old new p (Arrives m fits is e) h = subst DoubtsOnlyFailed (sym is) h
-move_doubts g old new p (Grants found first is e) h = subst DoubtsOnlyFailed (sym is) h
-move_doubts g old new p (Backs ticket found one_out is e) h = subst DoubtsOnlyFailed (sym is) h
-move_doubts g old new p (Logs n is e) h = subst DoubtsOnlyFailed (sym is) h
-move_doubts g old new p (Answers a rest front is e) h = subst DoubtsOnlyFailed (sym is) h
+move_doubts g old new p (Arrives m fits is e) h = subst DoubtOnlyAfterFailure (sym is) h
+move_doubts g old new p (Grants found first is e) h = subst DoubtOnlyAfterFailure (sym is) h
+move_doubts g old new p (Backs ticket found one_out is e) h = subst DoubtOnlyAfterFailure (sym is) h
+move_doubts g old new p (Logs n is e) h = subst DoubtOnlyAfterFailure (sym is) h
+move_doubts g old new p (Answers a rest front is e) h = subst DoubtOnlyAfterFailure (sym is) h
 
-pub event_doubts : (g : Geometry) (old : MachineState) (event : Event) → IsAllowed g old event → DoubtsOnlyFailed old.core
-    → DoubtsOnlyFailed event.state_after.core
+pub event_doubts : (g : Geometry) (old : MachineState) (event : Event) → IsAllowed g old event → DoubtOnlyAfterFailure old.core
+    → DoubtOnlyAfterFailure event.state_after.core
 event_doubts g old event allowed h = move_doubts g old.core event.state_after.core _ (moves g old event allowed) h

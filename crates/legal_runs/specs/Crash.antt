@@ -3,39 +3,40 @@ use Rattle.std.specs.Prelude.{◌≡◌, ℕ, ◌≤◌, List, [], ◌∷◌, �
 use Rattle.affinity.specs.declared.geometry.Geometry.{Geometry}
 use Rattle.messages.specs.declared.Msg.{Msg}
 use Rattle.meaning.specs.State.{State}
-use Rattle.meaning.specs.Serial.{fold}
+use Rattle.meaning.specs.Serial.{state_after_all}
 use Rattle.legal_runs.specs.declared.outcomes.Step.{Step}
 use Rattle.legal_runs.specs.declared.outcomes.Step.TheVariants as steps
 use Rattle.legal_runs.specs.CoreState.{CoreState}
 use Rattle.legal_runs.specs.Events.{MachineState, Event, batch}
-use Rattle.legal_runs.specs.Runs.{last, journal}
+use Rattle.legal_runs.specs.Runs.{end_state, appended_messages}
 
--- what a step is to append to the log
+-- the messages that a step is to append to the log
 abbrev pub to_append : CoreState → Step → List Msg
 to_append w (steps.Log n) = batch w n
 to_append w _ = []
 
+-- the messages that the first of these events is to append to the log
 abbrev pub next_batch : CoreState → List Event → List Msg
 next_batch w [] = []
 next_batch w (event ∷ events) = to_append w event.step
 
--- The messages of which a crash may leave some, in a core state from which these events come: in a failed core state those
--- that were to be appended when the device failed, and else those that the next event is to append.
+-- The messages of which a crash may leave a prefix in the log, in this core state, before the first of these events has ended: in a
+-- failed core state `doubt`, and else what that event is to append.
 abbrev pub in_doubt : CoreState → List Event → List Msg
 in_doubt w events = if w.failed then w.doubt else next_batch w events
 
--- These messages are in the log, if the crash comes after k events of a run and before the next has ended:
--- all that were appended, and a prefix of those to be appended then (`in_doubt`).
+-- The messages `ms` are in the log if the crash comes after the first k events of a run and before the next has ended: all that were
+-- appended, and the first `some` of the messages in doubt then (`in_doubt`).
 pub record IsLogAfter (old : MachineState) (events : List Event) (k : ℕ) (ms : List Msg) : Type 0 where
   pub some : ℕ
-  pub at_most : some ≤ length (in_doubt (last old (take k events)).core (drop k events))
-  pub is : ms ≡ journal old (take k events) ++ take some (in_doubt (last old (take k events)).core (drop k events))
+  pub at_most : some ≤ length (in_doubt (end_state old (take k events)).core (drop k events))
+  pub is : ms ≡ appended_messages old (take k events) ++ take some (in_doubt (end_state old (take k events)).core (drop k events))
 
--- The state is one that a crash may leave, if it comes when k events or more have ended.
+-- A crash may leave the state x, if it comes when k events of the run or more have ended: when `after` of them have.
 pub record IsLeftSince (g : Geometry) (old : MachineState) (events : List Event) (k : ℕ) (x : State) : Type 0 where
   pub after : ℕ
   pub since : k ≤ after
   pub within : after ≤ length events
   pub log : List Msg
   pub is_log : IsLogAfter old events after log
-  pub state : x ≡ fold g old.core.committed log
+  pub state : x ≡ state_after_all g old.core.committed log

@@ -3,7 +3,7 @@ use Rattle.std.specs.Prelude.{◌≡◌, ℕ, ◌≤◌, List, [], ◌∷◌, �
 use Rattle.affinity.specs.declared.geometry.Geometry.{Geometry}
 use Rattle.messages.specs.declared.Msg.{Msg}
 use Rattle.meaning.specs.State.{State, empty}
-use Rattle.meaning.specs.Serial.{fold}
+use Rattle.meaning.specs.Serial.{state_after_all}
 use Rattle.legal_runs.specs.Events.{MachineState, Event}
 use Rattle.legal_runs.specs.Runs.{IsLegal, answered_changes}
 use Rattle.legal_runs.specs.Crash.{IsLogAfter}
@@ -25,6 +25,7 @@ pub record IsLogOfRun (g : Geometry) (x : State) (start : MachineState) (events 
   pub within : after ≤ length events
   pub is_log : IsLogAfter start events after log
 
+-- The incarnation began in state x, and the crash that ended it may leave these messages in the log.
 abbrev pub IsLogOf : Geometry → State → Incarnation → List Msg → Type 0
 IsLogOf g x Unopened log = log ≡ []
 IsLogOf g x (Ran start events ended) log = IsLogOfRun g x start events ended log
@@ -34,9 +35,9 @@ abbrev pub AreLogsOf : Geometry → State → List Incarnation → List (List Ms
 AreLogsOf g x [] [] = Unit {0}
 AreLogsOf g x [] (log ∷ logs) = ⊥
 AreLogsOf g x (incarnation ∷ incarnations) [] = ⊥
-AreLogsOf g x (incarnation ∷ incarnations) (log ∷ logs) = IsLogOf g x incarnation log × AreLogsOf g (fold g x log) incarnations logs
+AreLogsOf g x (first ∷ rest) (log ∷ logs) = IsLogOf g x first log × AreLogsOf g (state_after_all g x log) rest logs
 
--- the messages of all incarnations, in order
+-- the logs of all incarnations in one list, the first one's first
 abbrev pub in_order : List (List Msg) → List Msg
 in_order [] = []
 in_order (log ∷ logs) = log ++ in_order logs
@@ -45,14 +46,15 @@ in_order (log ∷ logs) = log ++ in_order logs
 pub record IsLeftByIncarnations (g : Geometry) (incarnations : List Incarnation) (x : State) : Type 0 where
   pub logs : List (List Msg)
   pub are_logs : AreLogsOf g empty incarnations logs
-  pub state : x ≡ fold g empty (in_order logs)
+  pub state : x ≡ state_after_all g empty (in_order logs)
 
 -- The log begins with the changes that were answered before the crash.
 abbrev pub HoldsAnswered : Incarnation → List Msg → Type 0
 HoldsAnswered Unopened log = Unit {0}
 HoldsAnswered (Ran start events ended) log = (rest : List Msg) × (log ≡ answered_changes start (take ended events) ++ rest)
 
-abbrev pub HoldAnswered : List Incarnation → List (List Msg) → Type 0
-HoldAnswered [] logs = Unit {0}
-HoldAnswered (incarnation ∷ incarnations) [] = ⊥
-HoldAnswered (incarnation ∷ incarnations) (log ∷ logs) = HoldsAnswered incarnation log × HoldAnswered incarnations logs
+-- Each log begins with the changes that were answered in its incarnation.
+abbrev pub AllHoldAnswered : List Incarnation → List (List Msg) → Type 0
+AllHoldAnswered [] logs = Unit {0}
+AllHoldAnswered (incarnation ∷ incarnations) [] = ⊥
+AllHoldAnswered (incarnation ∷ incarnations) (log ∷ logs) = HoldsAnswered incarnation log × AllHoldAnswered incarnations logs

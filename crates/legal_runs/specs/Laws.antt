@@ -14,79 +14,78 @@ use Rattle.legal_runs.specs.declared.outcomes.CoreFault.TheVariants as faults
 use Rattle.legal_runs.specs.declared.outcomes.PointRefusal.TheVariants as points
 use Rattle.legal_runs.specs.CoreState.{Entry, Replied, CoreState, entries, held, are_related_entries}
 use Rattle.legal_runs.specs.Eligible.{unlogged_changes}
-use Rattle.legal_runs.specs.Events.{Hand, MachineState, Event, is_empty, loggable}
-use Rattle.legal_runs.specs.Runs.{IsLegal, last, logged_messages, journal, arrived, answered}
+use Rattle.legal_runs.specs.Events.{Hand, MachineState, Event, is_empty, recorded}
+use Rattle.legal_runs.specs.Runs.{IsLegal, end_state, logged_messages, appended_messages, arrived, answered}
 
--- `R` holds between each one and all behind it
+-- `R` holds between each element of the list and all that come after it
 abbrev pub EachBefore : {A : Type 0} → (A → A → Type 0) → List A → Type 0
 EachBefore R [] = Unit {0}
 EachBefore R (x ∷ xs) = AllByRecursion (R x) xs × EachBefore R xs
 
 -- no two of the messages are at related places
-abbrev pub AreApart : Geometry → List Entry → Type 0
-AreApart g es = EachBefore (λ e d. are_related_entries g e d ≡ false) es
+abbrev pub AreUnrelated : Geometry → List Entry → Type 0
+AreUnrelated g es = EachBefore (λ e d. are_related_entries g e d ≡ false) es
 
 -- the tickets ascend
 abbrev pub AreAscending : List Entry → Type 0
 AreAscending es = EachBefore (λ e d. e.0 < d.0) es
 
--- no two have one ticket
-abbrev pub AreOnce : List Entry → Type 0
-AreOnce es = EachBefore (λ e d. e.0 ≡ d.0 → ⊥) es
+-- no two of the messages have the same ticket
+abbrev pub HaveDistinctTickets : List Entry → Type 0
+HaveDistinctTickets es = EachBefore (λ e d. e.0 ≡ d.0 → ⊥) es
 
--- each reply is the one at this state
-abbrev pub AreReplied : Geometry → State → List Replied → Type 0
-AreReplied g x as' = AllByRecursion (λ a. a.2 ≡ reply_to g x a.1) as'
+-- each reply is the one that its message gets in state x
+abbrev pub HaveRepliesAt : Geometry → State → List Replied → Type 0
+HaveRepliesAt g x as' = AllByRecursion (λ a. a.2 ≡ reply_to g x a.1) as'
 
 -- each ticket with its reply
 abbrev pub ticket_replies : List Replied → List (ℕ × Reply)
 ticket_replies as' = map (λ a. (a.0, a.2)) as'
 
--- Messages with their replies, in an order in which they may have been done from this state on. The log begins an order of all that
--- arrived in which each is once, and those at related places are by ticket. Each has the reply that it gets where the log runs from its
--- first message to its last.
-pub record IsSerialLog (g : Geometry) (x : State) (arrivals : List Entry) (log : List Replied) : Type 0 where
-  -- those that are not in it
+-- The history could be a serial server's from state x on: it is a prefix of some order of all that arrived, in which each message is once
+-- and messages at related places are by ticket; and each message has the reply that it gets where these run one after the other.
+pub record IsSerialHistory (g : Geometry) (x : State) (arrivals : List Entry) (history : List Replied) : Type 0 where
+  -- the messages that arrived and are not in the history
   pub rest : List Entry
-  pub each_once : IsPermutation arrivals (entries log ++ rest)
-  pub by_ticket : KeepsOrder g (entries log ++ rest)
-  pub in_order : ticket_replies log ≡ serial_replies g x (entries log)
+  pub each_once : IsPermutation arrivals (entries history ++ rest)
+  pub by_ticket : KeepsOrder g (entries history ++ rest)
+  pub in_order : ticket_replies history ≡ serial_replies g x (entries history)
 
 -- What every core state keeps.
 pub record IsSoundCoreState (g : Geometry) (w : CoreState) : Type 0 where
   -- no two messages held at once are at related places
-  pub apart : AreApart g (held w)
+  pub apart : AreUnrelated g (held w)
   -- the replies of those that ran are those at the committed state
-  pub replied : AreReplied g w.committed w.ran
-  -- they wait by ticket
+  pub replied : HaveRepliesAt g w.committed w.ran
+  -- the waiting messages are in the order of their tickets
   pub ascending : AreAscending w.waiting
-  -- no ticket was given twice, and each is below the next one
-  pub once : AreOnce (w.in_flight ++ w.waiting)
+  -- no two messages in flight or waiting have one ticket, and each is below the next one
+  pub once : HaveDistinctTickets (w.in_flight ++ w.waiting)
   pub given : AllByRecursion (λ e. e.0 < w.next) (w.in_flight ++ w.waiting)
-  -- what is dispatched and what ran has room in the log
+  -- the log has room for all changing messages that are in flight or ran
   pub room : unlogged_changes w ≤ w.room
   -- there is a slot for each message
   pub fits : length w.waiting + length (held w) ≤ w.slots
 
 -- the steps that may dispatch a message or give one back
-abbrev pub moves_what_is_out : Step → Bool
-moves_what_is_out steps.Grant = true
-moves_what_is_out (steps.Back i) = true
-moves_what_is_out _ = false
+abbrev pub dispatches_or_returns : Step → Bool
+dispatches_or_returns steps.Grant = true
+dispatches_or_returns (steps.Back i) = true
+dispatches_or_returns _ = false
 
 -- how many of the hands aren't empty
-abbrev pub full : List Hand → ℕ
-full hands = count_by (λ hand. not (is_empty hand)) hands
+abbrev pub full_hands : List Hand → ℕ
+full_hands hands = count_by (λ hand. not (is_empty hand)) hands
 
 -- Nothing is in `doubt`, unless the device has failed.
-abbrev pub DoubtsOnlyFailed : CoreState → Type 0
-DoubtsOnlyFailed w = w.failed ≡ false → w.doubt ≡ []
+abbrev pub DoubtOnlyAfterFailure : CoreState → Type 0
+DoubtOnlyAfterFailure w = w.failed ≡ false → w.doubt ≡ []
 
 -- In `doubt` are the changes among a prefix of those that ran.
-pub record DoubtsWhatRan (w : CoreState) : Type 0 where
+pub record DoubtIsPrefixOfRan (w : CoreState) : Type 0 where
   pub some : ℕ
   pub at_most : some ≤ length w.ran
-  pub is : w.doubt ≡ loggable (take some w.ran)
+  pub is : w.doubt ≡ recorded (take some w.ran)
 
 -- the outcomes that report that the device failed during the step
 abbrev pub reports_failure : Outcome → Bool
@@ -95,19 +94,19 @@ reports_failure (outcomes.PointRefused points.Device) = true
 reports_failure _ = false
 
 -- The device has failed: nothing arrives, is dispatched, is logged or comes into `doubt`, and no checkpoint goes on.
-pub record IsStopped (old new : CoreState) : Type 0 where
+pub record StaysFailed (old new : CoreState) : Type 0 where
   pub failed : new.failed ≡ true
   pub waiting : new.waiting ≡ old.waiting
-  -- what is given back is behind all that ran before
+  -- the messages that are given back come after all that ran before
   pub back : List Replied
   pub ran : new.ran ≡ old.ran ++ back
   pub committed : new.committed ≡ old.committed
   pub doubt : new.doubt ≡ old.doubt
   pub room : new.room ≡ old.room
   pub next : new.next ≡ old.next
-  pub left : new.left ≡ old.left
+  pub pieces_left : new.pieces_left ≡ old.pieces_left
 
--- What is dispatched and what ran has room in the log, and there is a slot for each message.
+-- The log has room for all changing messages that are in flight or ran, and there is a slot for each message.
 abbrev pub HasRoom : ℕ → CoreState → Type 0
 HasRoom slots w = (unlogged_changes w ≤ w.room) × (length w.waiting + length (held w) ≤ slots)
 
@@ -116,15 +115,15 @@ pub record IsIdle (w : CoreState) : Type 0 where
   pub none_waits : w.waiting ≡ []
   pub none_held : held w ≡ []
 
--- The message was logged first, and is held no more.
+-- Message a, the first that was logged, is answered: it is held no more.
 abbrev pub IsAnswered : CoreState → CoreState → Replied → Type 0
 IsAnswered old new a = old.logged ≡ a ∷ new.logged
 
--- A run, and a run that goes on from where it ended, in one.
+-- Two runs, the second from where the first ended, are one run, which does what the two do.
 pub record IsJoined (g : Geometry) (old : MachineState) (events more : List Event) : Type 0 where
   pub legal : IsLegal g old (events ++ more)
-  pub last_is : last old (events ++ more) ≡ last (last old events) more
-  pub went_is : logged_messages old (events ++ more) ≡ logged_messages old events ++ logged_messages (last old events) more
-  pub journal_is : journal old (events ++ more) ≡ journal old events ++ journal (last old events) more
+  pub end_state_is : end_state old (events ++ more) ≡ end_state (end_state old events) more
+  pub logged_is : logged_messages old (events ++ more) ≡ logged_messages old events ++ logged_messages (end_state old events) more
+  pub appended_is : appended_messages old (events ++ more) ≡ appended_messages old events ++ appended_messages (end_state old events) more
   pub arrived_is : arrived (events ++ more) ≡ arrived events ++ arrived more
   pub answered_is : answered (events ++ more) ≡ answered events ++ answered more

@@ -48,7 +48,7 @@ pub enum Outcome {
     Back(u64),
     /// This many messages were logged.
     Logged(usize),
-    /// No message was logged.
+    /// No message was logged, for this reason of the core's (not an `oplog::LogFault`).
     LogFault(CoreFault),
     /// The message with this ticket has this reply, and is held no more.
     Answered(u64, Reply),
@@ -88,7 +88,7 @@ pub enum CoreFault {
     Failed,
 }
 
-/// Why a step of a checkpoint was not made.
+/// Why a step of a checkpoint was not made: of a point, a cut, a piece or a flip.
 #[derive(Clone, Copy, Debug, PartialEq, Eq)]
 pub enum PointRefusal {
     /// Some message is held.

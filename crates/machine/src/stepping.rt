@@ -158,7 +158,7 @@ fn piece<D: Disk>(core: &mut Core<D>) -> Outcome
     ensures untouched { touches_device (core_state_of core.old) steps.Piece ≡ false → core.new.medium ≡ core.old.medium }
 {
     match core.piece() {
-        Ok(left) => Outcome::Left(left),
+        Ok(pieces_left) => Outcome::Left(pieces_left),
         Err(refusal) => Outcome::PointRefused(refusal),
     }
 }

@@ -1,5 +1,6 @@
-//! Calls that take memory, each made again where it was refused. A test passes with no request refused, or one of the call that it is
-//! about; where another one is refused it fails for want of memory, as what it works on can't be made.
+//! Calls that take memory. `tests/run calls` runs each test once for each allocation, which it refuses. If that is one of the call that the
+//! test is about, the call fails, is made again and succeeds. If it is another one, the test ends with an error, as what it works on can't
+//! be made. `MADE_AGAIN` in `tests/run` has the least number of allocations of each call, counted by hand: who adds one raises it.
 use crate::making::Row::{Arrives, Does, Serves};
 use crate::making::{Row, SMALL, goes_so, holds};
 use checkpoint::OpenFault;
@@ -12,10 +13,11 @@ use std::alloc::Global;
 use std::process::Abort;
 use std::test::Fail;
 
-/// Where a device with a volume in its log isn't as it was formatted.
+/// The bytes of a formatted device that differ where a `makevol` is in its log: at 192 the first gate of half 0 is open, at 196 its record
+/// has the kind.
 const A_VOLUME: [(usize, u8); 2] = [(192, 1), (196, 1)];
 
-/// That volume is served by a machine to which nothing has happened before.
+/// What a machine answers on that device from its first step on.
 const ITS_VOLUME: [Row; 4] = [
     Does(Step::Piece, Outcome::PointRefused(PointRefusal::NotRunning)),
     Serves("makevol 0 0", "error exists"),
@@ -23,7 +25,8 @@ const ITS_VOLUME: [Row; 4] = [
     Arrives("list 0 0", Outcome::Ticket(2)),
 ];
 
-/// Opens a device. Where memory is refused within `most_calls` calls of the device, it has its bytes, and the same call opens it.
+/// Opens a device. Where memory is refused by the time of `most_calls` calls of the device, the device is unchanged, and a second try opens
+/// it.
 fn opened_again(
     rt: &impl Abort,
     alloc: Global,
@@ -54,8 +57,8 @@ fn machine_of(alloc: Global, core: Core<MemDisk>) -> Result<Machine<MemDisk>, Co
     }
 }
 
-/// A machine over this core answers as if no memory had been refused. Where its own is, it is made at the second try, if there is to be
-/// one. What owns a core is taken apart in the end, as its drop costs the prover half a minute.
+/// A machine over this core answers as if no memory had been refused. Where the memory of the machine itself is refused, it is made again,
+/// if there is to be a second try. The machine is taken apart at the end, as dropping it costs the prover half a minute.
 fn serves(
     rt: &impl Abort,
     alloc: Global,
@@ -87,7 +90,7 @@ fn core_opened_again(
 ) -> Result<Core<MemDisk>, Wrong> {
     let device = device_with(alloc, SMALL, &A_VOLUME)?;
     let core = opened_again(rt, alloc, device, most_calls)?;
-    holds(rt, core.slots() == 2 && core.left().is_none());
+    holds(rt, core.slots() == 2 && core.pieces_left().is_none());
     Ok(core)
 }
 

@@ -9,8 +9,8 @@ use scheduler::Core;
 use std::alloc::Global;
 use std::process::Abort;
 
-/// One volume of two files of four blocks, in two stripes that hold two blocks each, and four records in a half.
-/// Neighboring blocks of a file lie in different stripes.
+/// One volume of two files of four blocks, in two stripes that hold two blocks each, and four records in a half. Neighboring blocks of a
+/// file lie in different stripes. In order: aggregates, volumes, stripes, width, files, blocks, quota, records in a half.
 pub(crate) const SMALL: [u16; 8] = [1, 1, 2, 1, 2, 4, 2, 4];
 
 /// One volume of one file of four blocks, each in a stripe of its own, and eight records in a half.

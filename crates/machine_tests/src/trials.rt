@@ -22,7 +22,7 @@ const END: [Step; 4] = [Step::Piece, Step::Piece, Step::Piece, Step::Flip];
 struct Play {
     steps: Vec<Step>,
     questions: Questions,
-    tellings: Vec<Vec<u8>>,
+    expected_answers: Vec<Vec<u8>>,
 }
 
 /// The steps of the whole run.
@@ -45,15 +45,15 @@ impl Play {
             return Err(Wrong::Unfit);
         };
         let questions = Questions::new(alloc, &g)?;
-        let mut tellings = Vec::new(alloc);
+        let mut expected_answers = Vec::new(alloc);
         for count in 0..=CHANGES.len() {
             let lines = CHANGES.get(..count).unwrap_or_default();
-            tellings.push(expected(alloc, &g, lines, &questions)?)?;
+            expected_answers.push(expected(alloc, &g, lines, &questions)?)?;
         }
         Ok(Play {
             steps: steps(alloc)?,
             questions,
-            tellings,
+            expected_answers,
         })
     }
 }
@@ -61,32 +61,32 @@ impl Play {
 /// How far a run came in which the device failed at its opening.
 const UNOPENED: Progress = Progress {
     answered: 0,
-    begun: 0,
-    is_whole: false,
+    attempted: 0,
+    is_faultless: false,
 };
 
 /// How far a run is behind a step that came out so. A log has one change.
 fn behind(progress: Progress, outcome: &Outcome) -> Progress {
     let Progress {
         answered,
-        begun,
-        is_whole,
+        attempted,
+        is_faultless,
     } = progress;
     match outcome {
         Outcome::Logged(1) => Progress {
             answered: answered.saturating_add(1),
-            begun: begun.saturating_add(1),
-            is_whole,
+            attempted: attempted.saturating_add(1),
+            is_faultless,
         },
         Outcome::LogFault(CoreFault::Device) => Progress {
             answered,
-            begun: begun.saturating_add(1),
-            is_whole: false,
+            attempted: attempted.saturating_add(1),
+            is_faultless: false,
         },
         Outcome::PointRefused(PointRefusal::Device) => Progress {
             answered,
-            begun,
-            is_whole: false,
+            attempted,
+            is_faultless: false,
         },
         _ => progress,
     }
@@ -105,7 +105,7 @@ impl Trial for Play {
         match open_machine(alloc, device, 1, 1) {
             Ok(mut machine) => {
                 let mut progress = Progress {
-                    is_whole: true,
+                    is_faultless: true,
                     ..UNOPENED
                 };
                 for step in self.steps.as_slice() {
@@ -123,14 +123,14 @@ impl Trial for Play {
     }
 
     fn allows(&self, progress: &Progress, found: &OpenedDevice) -> bool {
-        let OpenedDevice::Tells(found) = found else {
+        let OpenedDevice::Answers(found) = found else {
             return false;
         };
-        let tellings = self.tellings.iter().enumerate();
-        let mut allowed = tellings.filter(|(count, _)| {
-            progress.answered <= *count && *count <= progress.begun
+        let expected_answers = self.expected_answers.iter().enumerate();
+        let mut allowed = expected_answers.filter(|(count, _)| {
+            progress.answered <= *count && *count <= progress.attempted
         });
-        allowed.any(|(_, telling)| telling == found)
+        allowed.any(|(_, answers)| answers == found)
     }
 }
 

@@ -5,7 +5,7 @@ use Rattle.std.proofs.lemmas.Bool.{or_cases}
 use Rattle.affinity.specs.declared.geometry.Geometry.{Geometry}
 use Rattle.affinity.specs.Path.{Path}
 use Rattle.meaning.specs.State.{State}
-use Rattle.meaning.specs.Shares.{AgreeOn, mark_home, file_home, block_home, label_home}
+use Rattle.meaning.specs.Subtrees.{AgreeOn, path_of_volume, path_of_file, path_of_block, path_of_label}
 
 module _ {g : Geometry} {R : Path → Bool} where
   pub agree-refl : (x : State) → AgreeOn g R x x
@@ -42,19 +42,19 @@ module _ {g : Geometry} {R : Path → Bool} where
   -- everywhere
   pub agree_everywhere : {x y : State} → ((q : Path) → R q ≡ true) → AgreeOn g R x y → x ≡ y
   agree_everywhere all h i = record {
-    made = λ k. h.made k (all (mark_home k)) i;
-    sealed = λ k. h.sealed k (all (mark_home k)) i;
-    files = λ k. h.files k (all (file_home k)) i;
-    blocks = λ k. h.blocks k (all (block_home g k)) i;
-    labels = λ k. h.labels k (all (label_home k)) i;
+    made = λ k. h.made k (all (path_of_volume k)) i;
+    sealed = λ k. h.sealed k (all (path_of_volume k)) i;
+    files = λ k. h.files k (all (path_of_file k)) i;
+    blocks = λ k. h.blocks k (all (path_of_block g k)) i;
+    labels = λ k. h.labels k (all (path_of_label k)) i;
   }
 
 -- at the paths of either test
 pub agree_either : {g : Geometry} {R S : Path → Bool} {x y : State} → AgreeOn g R x y → AgreeOn g S x y → AgreeOn g (λ q. R q || S q) x y
 agree_either {g} {R} {S} {x} {y} h j = record {
-  made = λ k r. ⊎_elim (λ r. h.made k r) (λ r. j.made k r) (or_cases (R (mark_home k)) (S (mark_home k)) r);
-  sealed = λ k r. ⊎_elim (λ r. h.sealed k r) (λ r. j.sealed k r) (or_cases (R (mark_home k)) (S (mark_home k)) r);
-  files = λ k r. ⊎_elim (λ r. h.files k r) (λ r. j.files k r) (or_cases (R (file_home k)) (S (file_home k)) r);
-  blocks = λ k r. ⊎_elim (λ r. h.blocks k r) (λ r. j.blocks k r) (or_cases (R (block_home g k)) (S (block_home g k)) r);
-  labels = λ k r. ⊎_elim (λ r. h.labels k r) (λ r. j.labels k r) (or_cases (R (label_home k)) (S (label_home k)) r);
+  made = λ k r. ⊎_elim (λ r. h.made k r) (λ r. j.made k r) (or_cases (R (path_of_volume k)) (S (path_of_volume k)) r);
+  sealed = λ k r. ⊎_elim (λ r. h.sealed k r) (λ r. j.sealed k r) (or_cases (R (path_of_volume k)) (S (path_of_volume k)) r);
+  files = λ k r. ⊎_elim (λ r. h.files k r) (λ r. j.files k r) (or_cases (R (path_of_file k)) (S (path_of_file k)) r);
+  blocks = λ k r. ⊎_elim (λ r. h.blocks k r) (λ r. j.blocks k r) (or_cases (R (path_of_block g k)) (S (path_of_block g k)) r);
+  labels = λ k r. ⊎_elim (λ r. h.labels k r) (λ r. j.labels k r) (or_cases (R (path_of_label k)) (S (path_of_label k)) r);
 }

@@ -7,10 +7,10 @@ use Rattle.std.proofs.lemmas.List.Sorted.{IsPermutation-refl, IsPermutation-cons
 use Rattle.affinity.specs.declared.geometry.Geometry.{Geometry}
 use Rattle.affinity.specs.Path.{are_related}
 use Rattle.messages.specs.declared.Msg.{Msg}
-use Rattle.messages.specs.Messages.{place}
+use Rattle.messages.specs.Messages.{path_of}
 use Rattle.meaning.specs.State.{State}
-use Rattle.meaning.specs.Serial.{reply_to, next_state, fold}
-use Rattle.meaning.specs.Order.{serial_replies, messages, put, by_ticket, IsBefore, KeepsOrder}
+use Rattle.meaning.specs.Serial.{reply_to, next_state, state_after_all}
+use Rattle.meaning.specs.Order.{serial_replies, messages, put, by_ticket, InOrderIfRelated, KeepsOrder}
 use Rattle.meaning.specs.Laws.{SameByTicket, AreInOrder}
 use Rattle.meaning.proofs.Frame.{commute}
 
@@ -75,12 +75,13 @@ module _ {A : Type 0} where
 -- ---- the replies
 
 -- one that isn't before by its ticket is at an unrelated place
-unrelated : (g : Geometry) (e d : ℕ × Msg) → IsBefore g e d → nat_lt e.0 d.0 ≡ false → are_related (place g e.1) (place g d.1) ≡ false
+unrelated : (g : Geometry) (e d : ℕ × Msg) → InOrderIfRelated g e d → nat_lt e.0 d.0 ≡ false → are_related (path_of g e.1) (path_of g d.1) ≡ false
 unrelated g e d h late = false_from_ne_true _ (λ r. true≢false (sym (lt-ltb e.0 d.0 (h r)) ∙ late))
 
 module _ (g : Geometry) (e : ℕ × Msg) where
   -- a message that comes first may as well come at its ticket
-  pub serial_replies-put : (x : State) (ds : List (ℕ × Msg)) → AllByRecursion (IsBefore g e) ds → serial_replies g x (put e ds) ≡ put (e.0, reply_to g x e.1) (serial_replies g (next_state g x e.1) ds)
+  pub serial_replies-put : (x : State) (ds : List (ℕ × Msg)) → AllByRecursion (InOrderIfRelated g e) ds → serial_replies g x (put e ds)
+      ≡ put (e.0, reply_to g x e.1) (serial_replies g (next_state g x e.1) ds)
   serial_replies-put x [] h = refl
   serial_replies-put x (d ∷ ds) h =
       let rest = serial_replies-put (next_state g x d.1) ds h.1 in
@@ -94,22 +95,24 @@ module _ (g : Geometry) (e : ℕ × Msg) where
             λ i. ◌∷◌ (d.0, (sym c.second) i) ((rest ∙ (λ j. put (e.0, c.first j) (serial_replies g (sym c.state j) ds))) i)
       ] refl
 
-  pub fold-put : (x : State) (ds : List (ℕ × Msg)) → AllByRecursion (IsBefore g e) ds → fold g x (messages (put e ds)) ≡ fold g (next_state g x e.1) (messages ds)
-  fold-put x [] h = refl
-  fold-put x (d ∷ ds) h =
-      elim (nat_lt e.0 d.0) as (λ b. nat_lt e.0 d.0 ≡ b → fold g x (messages (if b then e ∷ d ∷ ds else d ∷ put e ds)) ≡ fold g (next_state g (next_state g x e.1) d.1) (messages ds)) [
+  pub state_after_all-put : (x : State) (ds : List (ℕ × Msg)) → AllByRecursion (InOrderIfRelated g e) ds → state_after_all g x (messages (put e ds))
+      ≡ state_after_all g (next_state g x e.1) (messages ds)
+  state_after_all-put x [] h = refl
+  state_after_all-put x (d ∷ ds) h =
+      elim (nat_lt e.0 d.0) as
+      (λ b. nat_lt e.0 d.0 ≡ b → state_after_all g x (messages (if b then e ∷ d ∷ ds else d ∷ put e ds)) ≡ state_after_all g (next_state g (next_state g x e.1) d.1) (messages ds)) [
         | true ↦ λ late. refl
-        | false ↦ λ late. fold-put (next_state g x d.1) ds h.1 ∙ ap (λ y. fold g y (messages ds)) (sym (commute g x e.1 d.1 (unrelated g e d h.0 late)).state)
+        | false ↦ λ late. state_after_all-put (next_state g x d.1) ds h.1 ∙ ap (λ y. state_after_all g y (messages ds)) (sym (commute g x e.1 d.1 (unrelated g e d h.0 late)).state)
       ] refl
 
 pub serial_replies-by_ticket : (g : Geometry) (x : State) (es : List (ℕ × Msg)) → KeepsOrder g es → serial_replies g x (by_ticket es) ≡ by_ticket (serial_replies g x es)
 serial_replies-by_ticket g x [] h = refl
-serial_replies-by_ticket g x (e ∷ es) h = serial_replies-put g e x (by_ticket es) (all-by_ticket (IsBefore g e) es h.0)
+serial_replies-by_ticket g x (e ∷ es) h = serial_replies-put g e x (by_ticket es) (all-by_ticket (InOrderIfRelated g e) es h.0)
     ∙ ap (put (e.0, reply_to g x e.1)) (serial_replies-by_ticket g (next_state g x e.1) es h.1)
 
-pub fold-by_ticket : (g : Geometry) (x : State) (es : List (ℕ × Msg)) → KeepsOrder g es → fold g x (messages (by_ticket es)) ≡ fold g x (messages es)
-fold-by_ticket g x [] h = refl
-fold-by_ticket g x (e ∷ es) h = fold-put g e x (by_ticket es) (all-by_ticket (IsBefore g e) es h.0) ∙ fold-by_ticket g (next_state g x e.1) es h.1
+pub state_after_all-by_ticket : (g : Geometry) (x : State) (es : List (ℕ × Msg)) → KeepsOrder g es → state_after_all g x (messages (by_ticket es)) ≡ state_after_all g x (messages es)
+state_after_all-by_ticket g x [] h = refl
+state_after_all-by_ticket g x (e ∷ es) h = state_after_all-put g e x (by_ticket es) (all-by_ticket (InOrderIfRelated g e) es h.0) ∙ state_after_all-by_ticket g (next_state g x e.1) es h.1
 
 pub same_by_ticket : (g : Geometry) (x : State) (es : List (ℕ × Msg)) → KeepsOrder g es → SameByTicket g x es
-same_by_ticket g x es h = record { told = serial_replies-by_ticket g x es h; state = fold-by_ticket g x es h }
+same_by_ticket g x es h = record { replies = serial_replies-by_ticket g x es h; state = state_after_all-by_ticket g x es h }

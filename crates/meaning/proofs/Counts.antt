@@ -2,9 +2,9 @@
 use Rattle.std.proofs.Common.{◌≡◌, ℕ, zero, suc, ◌*◌, ◌^◌, ◌<◌, ◌≤◌, Bool, sym, ◌∙◌, arith}
 use Rattle.std.specs.Prelude.{◌&&◌, ◌==◌, if◌then◌else◌, is_some}
 use Rattle.affinity.specs.declared.geometry.Geometry.{Geometry}
-use Rattle.affinity.specs.Geometry.{group}
+use Rattle.affinity.specs.Geometry.{stripe_of}
 use Rattle.affinity.proofs.Placed.{group_below}
-use Rattle.meaning.specs.State.{State, sum_below, one_if, file_count, block_count, group_count, over_volumes}
+use Rattle.meaning.specs.State.{State, sum_below, one_if, file_count, block_count, blocks_in_stripe, sum_over_volumes}
 use Rattle.meaning.proofs.Sums.{sum_below-le_times, count_below-le, sum_below-same, sum_below-swap, sum_below_at}
 
 -- ---- bounds
@@ -15,8 +15,8 @@ file_count-le g x a v = count_below-le g.files (λ f. x.files (a, v, f))
 pub block_count-le : (g : Geometry) (x : State) (a v : ℕ) → block_count g x a v ≤ g.files * g.blocks
 block_count-le g x a v = sum_below-le_times g.files g.blocks _ (λ f lt. count_below-le g.blocks (λ b. is_some (x.blocks (a, v, f, b))))
 
-pub over_volumes-le : (g : Geometry) (c : ℕ) (f : ℕ → ℕ → ℕ) → ((a v : ℕ) → f a v ≤ c) → over_volumes g f ≤ g.aggregates * (g.volumes * c)
-over_volumes-le g c f each = sum_below-le_times g.aggregates (g.volumes * c) _ (λ a lt. sum_below-le_times g.volumes c _ (λ v lt. each a v))
+pub sum_over_volumes-le : (g : Geometry) (c : ℕ) (f : ℕ → ℕ → ℕ) → ((a v : ℕ) → f a v ≤ c) → sum_over_volumes g f ≤ g.aggregates * (g.volumes * c)
+sum_over_volumes-le g c f each = sum_below-le_times g.aggregates (g.volumes * c) _ (λ a lt. sum_below-le_times g.volumes c _ (λ v lt. each a v))
 
 -- a number of n bits
 pub bits-lt : (n : ℕ) (has : ℕ → Bool) → sum_below n (λ i. if has i then 2 ^ i else 0) < 2 ^ n
@@ -25,8 +25,8 @@ bits-lt (suc n) has = grind (arith, bits-lt n has)
 
 -- ---- the blocks of a volume lie in its stripes
 
-pub block_count-by_stripe : (g : Geometry) (x : State) (a v : ℕ) → block_count g x a v ≡ sum_below g.stripes (group_count g x a v)
+pub block_count-by_stripe : (g : Geometry) (x : State) (a v : ℕ) → block_count g x a v ≡ sum_below g.stripes (blocks_in_stripe g x a v)
 block_count-by_stripe g x a v =
-    sum_below-same g.files _ _ (λ f lt. sum_below-same g.blocks _ _ (λ b lt. sym (sum_below_at g.stripes (group g f b) (is_some (x.blocks (a, v, f, b))) (group_below g f b)))
-    ∙ sum_below-swap g.blocks g.stripes (λ b s. one_if ((group g f b == s) && is_some (x.blocks (a, v, f, b)))))
-    ∙ sum_below-swap g.files g.stripes (λ f s. sum_below g.blocks (λ b. one_if ((group g f b == s) && is_some (x.blocks (a, v, f, b)))))
+    sum_below-same g.files _ _ (λ f lt. sum_below-same g.blocks _ _ (λ b lt. sym (sum_below_at g.stripes (stripe_of g f b) (is_some (x.blocks (a, v, f, b))) (group_below g f b)))
+    ∙ sum_below-swap g.blocks g.stripes (λ b s. one_if ((stripe_of g f b == s) && is_some (x.blocks (a, v, f, b)))))
+    ∙ sum_below-swap g.files g.stripes (λ f s. sum_below g.blocks (λ b. one_if ((stripe_of g f b == s) && is_some (x.blocks (a, v, f, b)))))

@@ -1,16 +1,16 @@
--- An effect acts fact by fact, and only at its message's place and below.
+-- An effect changes single facts of the state, and only those at its message's path and below.
 use Rattle.std.proofs.Common.{◌≡◌, ℕ, Bool, true, false, [], ◌∷◌, refl, ap, sym, ◌∙◌}
 use Rattle.std.specs.Prelude.{◌&&◌, ◌||◌, not, ◌==◌, if◌then◌else◌, Some, None}
 use Rattle.std.proofs.lemmas.Bool.{and_parts, and_from, eqb-true, eq-eqb, not-true, true≢false}
 use Rattle.affinity.specs.declared.geometry.Geometry.{Geometry}
-use Rattle.affinity.specs.Geometry.{group}
-use Rattle.affinity.specs.Path.{Path, begins, aggregate, volume, logical, stripe, label}
+use Rattle.affinity.specs.Geometry.{stripe_of}
+use Rattle.affinity.specs.Path.{Path, is_prefix, aggregate, volume, logical, stripe, label}
 use Rattle.messages.specs.declared.Msg.{Msg}
 use Rattle.messages.specs.declared.Msg.TheVariants.{MakeVol, DropVol, Create, Delete, Seal, Unseal, Write, Punch, Read, List as ListFiles, Usage as AskUsage, Summary as AskSummary, SetLabel, Label as AskLabel}
-use Rattle.messages.specs.Messages.{place}
+use Rattle.messages.specs.Messages.{path_of}
 use Rattle.meaning.specs.State.{State, BlockKey, Set, Map, adding, dropping, setting, clearing, is_volume, is_file, is_block, is_file_of, is_block_of, is_block_of_file}
 use Rattle.meaning.specs.Serial.{effect, no_label}
-use Rattle.meaning.specs.Shares.{AgreeOn, mark_home, file_home, block_home, label_home}
+use Rattle.meaning.specs.Subtrees.{AgreeOn, path_of_volume, path_of_file, path_of_block, path_of_label}
 use Rattle.meaning.specs.Laws.{outside}
 use Rattle.meaning.proofs.Agree.{agree-refl}
 
@@ -89,84 +89,84 @@ effect_agrees g R x y h (AskLabel a v) = h
 -- ---- only at the place and below
 
 -- what isn't under the place isn't picked
-module _ {K : Type 0} (picks : K → Bool) (under : K → Bool) (in_place : (k : K) → picks k ≡ true → under k ≡ true) where
-  unpicked : (k : K) → not (under k) ≡ true → picks k ≡ false
-  unpicked k r = elim (picks k) as (λ b. picks k ≡ b → b ≡ false) [ true ↦ λ e. absurd (true≢false (sym (in_place k e) ∙ not-true (under k) r)) | false ↦ λ e. refl ] refl
+module _ {K : Type 0} (selected : K → Bool) (under : K → Bool) (in_place : (k : K) → selected k ≡ true → under k ≡ true) where
+  unpicked : (k : K) → not (under k) ≡ true → selected k ≡ false
+  unpicked k r = elim (selected k) as (λ b. selected k ≡ b → b ≡ false) [ true ↦ λ e. absurd (true≢false (sym (in_place k e) ∙ not-true (under k) r)) | false ↦ λ e. refl ] refl
 
-  adding_only : (s : Set K) (k : K) → not (under k) ≡ true → adding picks s k ≡ s k
+  adding_only : (s : Set K) (k : K) → not (under k) ≡ true → adding selected s k ≡ s k
   adding_only s k r = ap (λ b. b || s k) (unpicked k r)
 
-  dropping_only : (s : Set K) (k : K) → not (under k) ≡ true → dropping picks s k ≡ s k
+  dropping_only : (s : Set K) (k : K) → not (under k) ≡ true → dropping selected s k ≡ s k
   dropping_only s k r = ap (λ b. not b && s k) (unpicked k r)
 
-  setting_only : {X : Type 0} (value : X) (s : Map K X) (k : K) → not (under k) ≡ true → setting picks value s k ≡ s k
+  setting_only : {X : Type 0} (value : X) (s : Map K X) (k : K) → not (under k) ≡ true → setting selected value s k ≡ s k
   setting_only value s k r = ap (λ b. if b then Some value else s k) (unpicked k r)
 
-  clearing_only : {X : Type 0} (s : Map K X) (k : K) → not (under k) ≡ true → clearing picks s k ≡ s k
+  clearing_only : {X : Type 0} (s : Map K X) (k : K) → not (under k) ≡ true → clearing selected s k ≡ s k
   clearing_only s k r = ap (λ b. if b then None else s k) (unpicked k r)
 
 -- what is picked lies under the place
-in_aggregate : (a v x y : ℕ) (rest : Path) → ((a == x) && (v == y)) ≡ true → begins (aggregate a) (x ∷ y ∷ rest) ≡ true
+in_aggregate : (a v x y : ℕ) (rest : Path) → ((a == x) && (v == y)) ≡ true → is_prefix (aggregate a) (x ∷ y ∷ rest) ≡ true
 in_aggregate a v x y rest e = and_from (a == x) true (and_parts (a == x) (v == y) e).0 refl
 
-in_volume : (a v x y : ℕ) (rest : Path) → ((a == x) && (v == y)) ≡ true → begins (volume a v) (x ∷ y ∷ rest) ≡ true
+in_volume : (a v x y : ℕ) (rest : Path) → ((a == x) && (v == y)) ≡ true → is_prefix (volume a v) (x ∷ y ∷ rest) ≡ true
 in_volume a v x y rest e =
     let p = and_parts (a == x) (v == y) e in
     and_from (a == x) ((v == y) && true) p.0 (and_from (v == y) true p.1 refl)
 
-in_label : (a v x y : ℕ) → ((a == x) && (v == y)) ≡ true → begins (label a v) (label x y) ≡ true
+in_label : (a v x y : ℕ) → ((a == x) && (v == y)) ≡ true → is_prefix (label a v) (label x y) ≡ true
 in_label a v x y e = in_volume a v x y (1 ∷ []) e
 
-in_logical : (a v f x y z : ℕ) (rest : Path) → ((a == x) && (v == y) && (f == z)) ≡ true → begins (logical a v) (x ∷ y ∷ 0 ∷ rest) ≡ true
+in_logical : (a v f x y z : ℕ) (rest : Path) → ((a == x) && (v == y) && (f == z)) ≡ true → is_prefix (logical a v) (x ∷ y ∷ 0 ∷ rest) ≡ true
 in_logical a v f x y z rest e = in_volume a v x y (0 ∷ rest) (and_parts ((a == x) && (v == y)) (f == z) e).0
 
-in_stripe : (g : Geometry) (a v f b : ℕ) (k : BlockKey) → is_block a v f b k ≡ true → begins (stripe a v (group g f b)) (block_home g k) ≡ true
+in_stripe : (g : Geometry) (a v f b : ℕ) (k : BlockKey) → is_block a v f b k ≡ true → is_prefix (stripe a v (stripe_of g f b)) (path_of_block g k) ≡ true
 in_stripe g a v f b k e =
     let p = and_parts ((a == k.0) && (v == k.1) && (f == k.2)) (b == k.3) e in
     let q = and_parts ((a == k.0) && (v == k.1)) (f == k.2) p.0 in
     let r = and_parts (a == k.0) (v == k.1) q.0 in
-    let same : group g f b ≡ group g k.2 k.3 = λ i. group g (eqb-true f k.2 q.1 i) (eqb-true b k.3 p.1 i) in
-    and_from (a == k.0) _ r.0 (and_from (v == k.1) _ r.1 (and_from (group g f b == group g k.2 k.3) true (eq-eqb _ _ same) refl))
+    let same : stripe_of g f b ≡ stripe_of g k.2 k.3 = λ i. stripe_of g (eqb-true f k.2 q.1 i) (eqb-true b k.3 p.1 i) in
+    and_from (a == k.0) _ r.0 (and_from (v == k.1) _ r.1 (and_from (stripe_of g f b == stripe_of g k.2 k.3) true (eq-eqb _ _ same) refl))
 
-pub effect_only : (g : Geometry) (x : State) (m : Msg) → AgreeOn g (outside (place g m)) (effect x m) x
+pub effect_only : (g : Geometry) (x : State) (m : Msg) → AgreeOn g (outside (path_of g m)) (effect x m) x
 effect_only g x (MakeVol a v) = record {
-  made = adding_only (is_volume a v) (λ k. begins (aggregate a) (mark_home k)) (λ k. in_aggregate a v k.0 k.1 []) x.made;
+  made = adding_only (is_volume a v) (λ k. is_prefix (aggregate a) (path_of_volume k)) (λ k. in_aggregate a v k.0 k.1 []) x.made;
   sealed = λ k r. refl;
   files = λ k r. refl;
   blocks = λ k r. refl;
-  labels = setting_only (is_volume a v) (λ k. begins (aggregate a) (label_home k)) (λ k. in_aggregate a v k.0 k.1 (1 ∷ [])) no_label x.labels;
+  labels = setting_only (is_volume a v) (λ k. is_prefix (aggregate a) (path_of_label k)) (λ k. in_aggregate a v k.0 k.1 (1 ∷ [])) no_label x.labels;
 }
 effect_only g x (DropVol a v) = record {
-  made = dropping_only (is_volume a v) (λ k. begins (aggregate a) (mark_home k)) (λ k. in_aggregate a v k.0 k.1 []) x.made;
-  sealed = dropping_only (is_volume a v) (λ k. begins (aggregate a) (mark_home k)) (λ k. in_aggregate a v k.0 k.1 []) x.sealed;
-  files = dropping_only (is_file_of a v) (λ k. begins (aggregate a) (file_home k)) (λ k. in_aggregate a v k.0 k.1 (0 ∷ [])) x.files;
-  blocks = clearing_only (is_block_of a v) (λ k. begins (aggregate a) (block_home g k)) (λ k. in_aggregate a v k.0 k.1 (0 ∷ group g k.2 k.3 ∷ [])) x.blocks;
-  labels = clearing_only (is_volume a v) (λ k. begins (aggregate a) (label_home k)) (λ k. in_aggregate a v k.0 k.1 (1 ∷ [])) x.labels;
+  made = dropping_only (is_volume a v) (λ k. is_prefix (aggregate a) (path_of_volume k)) (λ k. in_aggregate a v k.0 k.1 []) x.made;
+  sealed = dropping_only (is_volume a v) (λ k. is_prefix (aggregate a) (path_of_volume k)) (λ k. in_aggregate a v k.0 k.1 []) x.sealed;
+  files = dropping_only (is_file_of a v) (λ k. is_prefix (aggregate a) (path_of_file k)) (λ k. in_aggregate a v k.0 k.1 (0 ∷ [])) x.files;
+  blocks = clearing_only (is_block_of a v) (λ k. is_prefix (aggregate a) (path_of_block g k)) (λ k. in_aggregate a v k.0 k.1 (0 ∷ stripe_of g k.2 k.3 ∷ [])) x.blocks;
+  labels = clearing_only (is_volume a v) (λ k. is_prefix (aggregate a) (path_of_label k)) (λ k. in_aggregate a v k.0 k.1 (1 ∷ [])) x.labels;
 }
 effect_only g x (Create a v f) = record {
   made = λ k r. refl;
   sealed = λ k r. refl;
-  files = adding_only (is_file a v f) (λ k. begins (logical a v) (file_home k)) (λ k. in_logical a v f k.0 k.1 k.2 []) x.files;
+  files = adding_only (is_file a v f) (λ k. is_prefix (logical a v) (path_of_file k)) (λ k. in_logical a v f k.0 k.1 k.2 []) x.files;
   blocks = λ k r. refl;
   labels = λ k r. refl;
 }
 effect_only g x (Delete a v f) = record {
   made = λ k r. refl;
   sealed = λ k r. refl;
-  files = dropping_only (is_file a v f) (λ k. begins (logical a v) (file_home k)) (λ k. in_logical a v f k.0 k.1 k.2 []) x.files;
-  blocks = clearing_only (is_block_of_file a v f) (λ k. begins (logical a v) (block_home g k)) (λ k. in_logical a v f k.0 k.1 k.2 (group g k.2 k.3 ∷ [])) x.blocks;
+  files = dropping_only (is_file a v f) (λ k. is_prefix (logical a v) (path_of_file k)) (λ k. in_logical a v f k.0 k.1 k.2 []) x.files;
+  blocks = clearing_only (is_block_of_file a v f) (λ k. is_prefix (logical a v) (path_of_block g k)) (λ k. in_logical a v f k.0 k.1 k.2 (stripe_of g k.2 k.3 ∷ [])) x.blocks;
   labels = λ k r. refl;
 }
 effect_only g x (Seal a v) = record {
   made = λ k r. refl;
-  sealed = adding_only (is_volume a v) (λ k. begins (volume a v) (mark_home k)) (λ k. in_volume a v k.0 k.1 []) x.sealed;
+  sealed = adding_only (is_volume a v) (λ k. is_prefix (volume a v) (path_of_volume k)) (λ k. in_volume a v k.0 k.1 []) x.sealed;
   files = λ k r. refl;
   blocks = λ k r. refl;
   labels = λ k r. refl;
 }
 effect_only g x (Unseal a v) = record {
   made = λ k r. refl;
-  sealed = dropping_only (is_volume a v) (λ k. begins (volume a v) (mark_home k)) (λ k. in_volume a v k.0 k.1 []) x.sealed;
+  sealed = dropping_only (is_volume a v) (λ k. is_prefix (volume a v) (path_of_volume k)) (λ k. in_volume a v k.0 k.1 []) x.sealed;
   files = λ k r. refl;
   blocks = λ k r. refl;
   labels = λ k r. refl;
@@ -175,14 +175,14 @@ effect_only g x (Write a v f b content) = record {
   made = λ k r. refl;
   sealed = λ k r. refl;
   files = λ k r. refl;
-  blocks = setting_only (is_block a v f b) (λ k. begins (stripe a v (group g f b)) (block_home g k)) (in_stripe g a v f b) content x.blocks;
+  blocks = setting_only (is_block a v f b) (λ k. is_prefix (stripe a v (stripe_of g f b)) (path_of_block g k)) (in_stripe g a v f b) content x.blocks;
   labels = λ k r. refl;
 }
 effect_only g x (Punch a v f b) = record {
   made = λ k r. refl;
   sealed = λ k r. refl;
   files = λ k r. refl;
-  blocks = clearing_only (is_block a v f b) (λ k. begins (stripe a v (group g f b)) (block_home g k)) (in_stripe g a v f b) x.blocks;
+  blocks = clearing_only (is_block a v f b) (λ k. is_prefix (stripe a v (stripe_of g f b)) (path_of_block g k)) (in_stripe g a v f b) x.blocks;
   labels = λ k r. refl;
 }
 effect_only g x (SetLabel a v bytes) = record {
@@ -190,7 +190,7 @@ effect_only g x (SetLabel a v bytes) = record {
   sealed = λ k r. refl;
   files = λ k r. refl;
   blocks = λ k r. refl;
-  labels = setting_only (is_volume a v) (λ k. begins (label a v) (label_home k)) (λ k. in_label a v k.0 k.1) bytes x.labels;
+  labels = setting_only (is_volume a v) (λ k. is_prefix (label a v) (path_of_label k)) (λ k. in_label a v k.0 k.1) bytes x.labels;
 }
 effect_only g x (Read a v f b) = agree-refl x
 effect_only g x (ListFiles a v) = agree-refl x

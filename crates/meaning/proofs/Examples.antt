@@ -9,7 +9,7 @@ use Rattle.messages.specs.declared.Refusal.TheVariants.{Range, Volume, Exists, S
 use Rattle.messages.specs.declared.Reply.{Reply}
 use Rattle.messages.specs.declared.Reply.TheVariants.{Done, Hole, Block as Found, Files, Usage, Summary, Refused, Label}
 use Rattle.meaning.specs.State.{empty}
-use Rattle.meaning.specs.Serial.{fold, replies}
+use Rattle.meaning.specs.Serial.{state_after_all, replies}
 use Rattle.meaning.specs.Laws.{logged}
 
 -- what the small server answers, from nothing
@@ -18,7 +18,7 @@ answers ms = replies small empty ms
 
 -- what it answers after other messages
 abbrev answers_after : List Msg → List Msg → List Reply
-answers_after first ms = replies small (fold small empty first) ms
+answers_after first ms = replies small (state_after_all small empty first) ms
 
 -- a volume with a file of one block
 abbrev one_block : Block → List Msg
@@ -100,7 +100,7 @@ counts_of_two_volumes : (x : Block) → replies standard empty (MakeVol 0 1 ∷ 
     ∷ Done ∷ Done ∷ Done ∷ Done ∷ Files 32769 ∷ Usage 2 2 true ∷ Usage 1 0 false ∷ Summary 2 3 2 ∷ []
 counts_of_two_volumes x = refl
 
-the_last_block_is_in_range : (x : Block) → replies standard (fold standard empty (one_block x))
+the_last_block_is_in_range : (x : Block) → replies standard (state_after_all standard empty (one_block x))
     (Read 0 0 0 63 ∷ Read 0 0 0 64 ∷ Read 0 0 0 65535 ∷ AskUsage 0 0 ∷ []) ≡ Hole ∷ Refused Range ∷ Refused Range ∷ Usage 1 1 false ∷ []
 the_last_block_is_in_range x = refl
 
@@ -115,7 +115,7 @@ a_dropped_volume_loses_its_label : (bytes : List ℕ) → answers (MakeVol 0 0 �
     ∷ AskLabel 0 0 ∷ []) ≡ Done ∷ Done ∷ Done ∷ Refused Volume ∷ Done ∷ Label (replicate 32 0) ∷ []
 a_dropped_volume_loses_its_label bytes = refl
 
--- ---- each test, and the order of the tests
+-- ---- each check, and the order of the checks
 
 out_of_range : (x : Block) (bytes : List ℕ) → answers (MakeVol 1 0 ∷ MakeVol 0 1 ∷ DropVol 1 0 ∷ Create 0 0 2 ∷ Delete 0 0 2 ∷ Seal 0 1 ∷ Unseal 1 0
     ∷ Write 0 0 0 4 x ∷ Punch 0 0 2 0 ∷ Read 0 0 0 4 ∷ ListFiles 0 1 ∷ AskUsage 1 0 ∷ SetLabel 0 1 bytes ∷ AskLabel 1 0 ∷ [])

@@ -1,22 +1,22 @@
--- A step reads only the share and the standing at its place, and changes only that share. So steps at unrelated places commute.
+-- A step reads only the subtree and the standing at its path, and changes only that subtree. So steps at unrelated paths commute.
 use Rattle.std.proofs.Common.{◌≡◌, ℕ, ◌^◌, Bool, true, false, List, [], ◌∷◌, Option, refl, ap, sym, ◌∙◌, subst}
 use Rattle.std.specs.Prelude.{◌&&◌, ◌||◌, not, ◌==◌, nat_lt, if◌then◌else◌, cond, Some, None, find, is_some, unwrap_or}
 use Rattle.std.specs.List.{AllByRecursion}
 use Rattle.std.proofs.lemmas.Bool.{and_parts, and_from, eqb-true, eq-eqb, true≢false, not_from_false, or_left}
 use Rattle.affinity.specs.declared.geometry.Geometry.{Geometry}
-use Rattle.affinity.specs.Geometry.{group}
-use Rattle.affinity.specs.Path.{Path, begins, are_related, volume, logical, stripe, label}
-use Rattle.affinity.proofs.Paths.{begins-refl, are_related-refl, beginnings_related, unrelated_below, unrelated_turned}
+use Rattle.affinity.specs.Geometry.{stripe_of}
+use Rattle.affinity.specs.Path.{Path, is_prefix, are_related, volume, logical, stripe, label}
+use Rattle.affinity.proofs.Paths.{is_prefix-refl, are_related-refl, beginnings_related, unrelated_below, unrelated_turned}
 use Rattle.messages.specs.declared.Msg.{Msg}
 use Rattle.messages.specs.declared.Msg.TheVariants.{MakeVol, DropVol, Create, Delete, Seal, Unseal, Write, Punch, Read, List as ListFiles, Usage as AskUsage, Summary as AskSummary, SetLabel, Label as AskLabel}
 use Rattle.messages.specs.declared.Refusal.{Refusal}
 use Rattle.messages.specs.declared.Refusal.TheVariants.{Volume, Sealed, File, Space}
 use Rattle.messages.specs.declared.Reply.{Reply}
 use Rattle.messages.specs.declared.Reply.TheVariants.{Files, Usage, Summary, Label}
-use Rattle.messages.specs.Messages.{place}
-use Rattle.meaning.specs.State.{State, sum_below, one_if, group_count, over_volumes}
-use Rattle.meaning.specs.Serial.{key, tests, passes, refusal, effect, accepted_reply, outcome, reply_to, next_state, block_reply, no_label}
-use Rattle.meaning.specs.Shares.{AgreeOn}
+use Rattle.messages.specs.Messages.{path_of}
+use Rattle.meaning.specs.State.{State, sum_below, one_if, blocks_in_stripe, sum_over_volumes}
+use Rattle.meaning.specs.Serial.{key, checks, passes, refusal, effect, accepted_reply, reply_and_state, reply_to, next_state, block_reply, no_label}
+use Rattle.meaning.specs.Subtrees.{AgreeOn}
 use Rattle.meaning.specs.Laws.{outside, Commute}
 use Rattle.meaning.proofs.Agree.{agree-refl, agree-sym, agree-trans, agree_within, agree_everywhere, agree_either}
 use Rattle.meaning.proofs.Effects.{effect_agrees, effect_only}
@@ -27,8 +27,9 @@ use Rattle.meaning.proofs.Effects.{effect_agrees, effect_only}
 abbrev in_volume : Geometry → Msg → Path
 in_volume g (SetLabel a v bytes) = 1 ∷ []
 in_volume g (AskLabel a v) = 1 ∷ []
-in_volume g m = let n = key m in 0 ∷ group g n.2 n.3 ∷ []
+in_volume g m = let n = key m in 0 ∷ stripe_of g n.2 n.3 ∷ []
 
+-- the whole path of what the message is about: its label, or its stripe
 abbrev full : Geometry → Msg → Path
 full g m = let n = key m in n.0 ∷ n.1 ∷ in_volume g m
 
@@ -36,51 +37,51 @@ one : (a : ℕ) (b : Bool) → b ≡ true → ((a == a) && b) ≡ true
 one a b e = and_from (a == a) b (eq-eqb a a refl) e
 
 -- each place is a beginning of it
-place_begins : (g : Geometry) (m : Msg) → begins (place g m) (full g m) ≡ true
+place_begins : (g : Geometry) (m : Msg) → is_prefix (path_of g m) (full g m) ≡ true
 place_begins g (MakeVol a v) = one a true refl
 place_begins g (DropVol a v) = one a true refl
 place_begins g (Create a v f) = one a _ (one v true refl)
 place_begins g (Delete a v f) = one a _ (one v true refl)
 place_begins g (Seal a v) = one a _ (one v true refl)
 place_begins g (Unseal a v) = one a _ (one v true refl)
-place_begins g (Write a v f b content) = begins-refl (stripe a v (group g f b))
-place_begins g (Punch a v f b) = begins-refl (stripe a v (group g f b))
-place_begins g (Read a v f b) = begins-refl (stripe a v (group g f b))
+place_begins g (Write a v f b content) = is_prefix-refl (stripe a v (stripe_of g f b))
+place_begins g (Punch a v f b) = is_prefix-refl (stripe a v (stripe_of g f b))
+place_begins g (Read a v f b) = is_prefix-refl (stripe a v (stripe_of g f b))
 place_begins g (ListFiles a v) = one a _ (one v true refl)
 place_begins g (AskUsage a v) = one a _ (one v true refl)
 place_begins g AskSummary = refl
-place_begins g (SetLabel a v bytes) = begins-refl (label a v)
-place_begins g (AskLabel a v) = begins-refl (label a v)
+place_begins g (SetLabel a v bytes) = is_prefix-refl (label a v)
+place_begins g (AskLabel a v) = is_prefix-refl (label a v)
 
--- so it is related to where its flags lie, and its files, its block or its label
-related_to : (g : Geometry) (m : Msg) (q : Path) → begins q (full g m) ≡ true → are_related (place g m) q ≡ true
-related_to g m q h = beginnings_related (place g m) q (full g m) (place_begins g m) h
+-- so it is related to where its volume's marks (made, sealed) lie, and its files, its block or its label
+related_to : (g : Geometry) (m : Msg) (q : Path) → is_prefix q (full g m) ≡ true → are_related (path_of g m) q ≡ true
+related_to g m q h = beginnings_related (path_of g m) q (full g m) (place_begins g m) h
 
-related_in_volume : (g : Geometry) (m : Msg) (q : Path) → begins q (in_volume g m) ≡ true → let n = key m in are_related (place g m) (n.0 ∷ n.1 ∷ q) ≡ true
+related_in_volume : (g : Geometry) (m : Msg) (q : Path) → is_prefix q (in_volume g m) ≡ true → let n = key m in are_related (path_of g m) (n.0 ∷ n.1 ∷ q) ≡ true
 related_in_volume g m q h = let n = key m in related_to g m (n.0 ∷ n.1 ∷ q) (one n.0 _ (one n.1 _ h))
 
-marks_related : (g : Geometry) (m : Msg) → let n = key m in are_related (place g m) (volume n.0 n.1) ≡ true
+marks_related : (g : Geometry) (m : Msg) → let n = key m in are_related (path_of g m) (volume n.0 n.1) ≡ true
 marks_related g m = related_in_volume g m [] refl
 
 same_find : (p q : Refusal → Bool) (ts : List Refusal) → AllByRecursion (λ t. p t ≡ q t) ts → find (λ t. not (p t)) ts ≡ find (λ t. not (q t)) ts
 same_find p q [] h = refl
 same_find p q (t ∷ ts) h = λ i. cond (not (h.0 i)) (Some t) (same_find p q ts h.1 i)
 
--- ---- the same tests and answers, where the states agree
+-- ---- the same checks and replies, where the states agree
 
 module _ (g : Geometry) (R : Path → Bool) (x y : State) (h : AgreeOn g R x y) where
-  -- a block counts alike in both states, where its stripe is picked
-  same_in_group : (a v s f b : ℕ) → R (stripe a v s) ≡ true → ((group g f b == s) && is_some (x.blocks (a, v, f, b))) ≡ ((group g f b == s) && is_some (y.blocks (a, v, f, b)))
+  -- a block counts alike in both states, if R selects its stripe
+  same_in_group : (a v s f b : ℕ) → R (stripe a v s) ≡ true → ((stripe_of g f b == s) && is_some (x.blocks (a, v, f, b))) ≡ ((stripe_of g f b == s) && is_some (y.blocks (a, v, f, b)))
   same_in_group a v s f b r =
-      elim (group g f b == s) as (λ t. (group g f b == s) ≡ t → (t && is_some (x.blocks (a, v, f, b))) ≡ (t && is_some (y.blocks (a, v, f, b)))) [
-        | true ↦ λ e. ap is_some (h.blocks (a, v, f, b) (ap (λ j. R (stripe a v j)) (eqb-true (group g f b) s e) ∙ r))
+      elim (stripe_of g f b == s) as (λ t. (stripe_of g f b == s) ≡ t → (t && is_some (x.blocks (a, v, f, b))) ≡ (t && is_some (y.blocks (a, v, f, b)))) [
+        | true ↦ λ e. ap is_some (h.blocks (a, v, f, b) (ap (λ j. R (stripe a v j)) (eqb-true (stripe_of g f b) s e) ∙ r))
         | false ↦ λ e. refl
       ] refl
 
-  pub same_group_count : (a v s : ℕ) → R (stripe a v s) ≡ true → group_count g x a v s ≡ group_count g y a v s
+  pub same_group_count : (a v s : ℕ) → R (stripe a v s) ≡ true → blocks_in_stripe g x a v s ≡ blocks_in_stripe g y a v s
   same_group_count a v s r i = sum_below g.files (λ f. sum_below g.blocks (λ b. one_if (same_in_group a v s f b r i)))
 
-  module _ (m : Msg) (covers : (q : Path) → are_related (place g m) q ≡ true → R q ≡ true) where
+  module _ (m : Msg) (covers : (q : Path) → are_related (path_of g m) q ≡ true → R q ≡ true) where
     same_volume : passes g x m Volume ≡ passes g y m Volume
     same_volume = h.made _ (covers _ (marks_related g m))
 
@@ -88,17 +89,17 @@ module _ (g : Geometry) (R : Path → Bool) (x y : State) (h : AgreeOn g R x y) 
     same_sealed = ap not (h.sealed _ (covers _ (marks_related g m)))
 
     -- of a message that goes to the files
-    same_file : begins (0 ∷ []) (in_volume g m) ≡ true → passes g x m File ≡ passes g y m File
+    same_file : is_prefix (0 ∷ []) (in_volume g m) ≡ true → passes g x m File ≡ passes g y m File
     same_file goes = h.files _ (covers _ (related_in_volume g m (0 ∷ []) goes))
 
-    same_space : let n = key m in begins (0 ∷ group g n.2 n.3 ∷ []) (in_volume g m) ≡ true → passes g x m Space ≡ passes g y m Space
+    same_space : let n = key m in is_prefix (0 ∷ stripe_of g n.2 n.3 ∷ []) (in_volume g m) ≡ true → passes g x m Space ≡ passes g y m Space
     same_space goes =
         let n = key m in
-        let r = covers (stripe n.0 n.1 (group g n.2 n.3)) (related_in_volume g m (0 ∷ group g n.2 n.3 ∷ []) goes) in
-        λ i. is_some (h.blocks n r i) || nat_lt (same_group_count n.0 n.1 (group g n.2 n.3) r i) g.quota
+        let r = covers (stripe n.0 n.1 (stripe_of g n.2 n.3)) (related_in_volume g m (0 ∷ stripe_of g n.2 n.3 ∷ []) goes) in
+        λ i. is_some (h.blocks n r i) || nat_lt (same_group_count n.0 n.1 (stripe_of g n.2 n.3) r i) g.quota
 
   -- each test of a message has one answer in both
-  same_tests : (m : Msg) → ((q : Path) → are_related (place g m) q ≡ true → R q ≡ true) → AllByRecursion (λ test. passes g x m test ≡ passes g y m test) (tests m)
+  same_tests : (m : Msg) → ((q : Path) → are_related (path_of g m) q ≡ true → R q ≡ true) → AllByRecursion (λ test. passes g x m test ≡ passes g y m test) (checks m)
   same_tests (MakeVol a v) c = (refl, (ap not (h.made (a, v) (c _ (marks_related g (MakeVol a v)))), tt))
   same_tests (DropVol a v) c = (refl, (same_volume (DropVol a v) c, (same_sealed (DropVol a v) c, tt)))
   same_tests (Create a v f) c = (refl, (same_volume (Create a v f) c, (same_sealed (Create a v f) c, (ap not (h.files (a, v, f) (c _ (related_in_volume g (Create a v f) (0 ∷ []) refl))), tt))))
@@ -109,7 +110,7 @@ module _ (g : Geometry) (R : Path → Bool) (x y : State) (h : AgreeOn g R x y) 
     refl,
     (
       same_volume (Write a v f b d) c,
-      (same_sealed (Write a v f b d) c, (same_file (Write a v f b d) c refl, (same_space (Write a v f b d) c (one (group g f b) true refl), tt))),
+      (same_sealed (Write a v f b d) c, (same_file (Write a v f b d) c refl, (same_space (Write a v f b d) c (one (stripe_of g f b) true refl), tt))),
     ),
   )
   same_tests (Punch a v f b) c = (refl, (same_volume (Punch a v f b) c, (same_sealed (Punch a v f b) c, (same_file (Punch a v f b) c refl, tt))))
@@ -120,22 +121,22 @@ module _ (g : Geometry) (R : Path → Bool) (x y : State) (h : AgreeOn g R x y) 
   same_tests (SetLabel a v bytes) c = (refl, (same_volume (SetLabel a v bytes) c, (same_sealed (SetLabel a v bytes) c, tt)))
   same_tests (AskLabel a v) c = (refl, (same_volume (AskLabel a v) c, tt))
 
-  same_refusal : (m : Msg) → ((q : Path) → are_related (place g m) q ≡ true → R q ≡ true) → refusal g x m ≡ refusal g y m
-  same_refusal m covers = same_find (passes g x m) (passes g y m) (tests m) (same_tests m covers)
+  same_refusal : (m : Msg) → ((q : Path) → are_related (path_of g m) q ≡ true → R q ≡ true) → refusal g x m ≡ refusal g y m
+  same_refusal m covers = same_find (passes g x m) (passes g y m) (checks m) (same_tests m covers)
 
-  same_answer : (m : Msg) → ((q : Path) → are_related (place g m) q ≡ true → R q ≡ true) → accepted_reply g x m ≡ accepted_reply g y m
-  same_answer (Read a v f b) covers = ap block_reply (h.blocks (a, v, f, b) (covers _ (are_related-refl (stripe a v (group g f b)))))
+  same_answer : (m : Msg) → ((q : Path) → are_related (path_of g m) q ≡ true → R q ≡ true) → accepted_reply g x m ≡ accepted_reply g y m
+  same_answer (Read a v f b) covers = ap block_reply (h.blocks (a, v, f, b) (covers _ (are_related-refl (stripe a v (stripe_of g f b)))))
   same_answer (ListFiles a v) covers = λ i. Files (sum_below g.files (λ f. if h.files (a, v, f) (covers (logical a v) (are_related-refl (logical a v))) i then 2 ^ f else 0))
   same_answer (AskUsage a v) covers =
       let below : (q : Path) → R (a ∷ v ∷ q) ≡ true = λ q. covers (a ∷ v ∷ q) (or_left _ _ (one a _ (one v true refl))) in
       λ i. Usage
       (sum_below g.files (λ f. one_if (h.files (a, v, f) (below (0 ∷ [])) i)))
-      (sum_below g.files (λ f. sum_below g.blocks (λ b. one_if (is_some (h.blocks (a, v, f, b) (below (0 ∷ group g f b ∷ [])) i)))))
+      (sum_below g.files (λ f. sum_below g.blocks (λ b. one_if (is_some (h.blocks (a, v, f, b) (below (0 ∷ stripe_of g f b ∷ [])) i)))))
       (h.sealed (a, v) (below []) i)
   same_answer AskSummary covers = λ i. Summary
-      (over_volumes g (λ a v. one_if (h.made (a, v) (covers (volume a v) refl) i)))
-      (over_volumes g (λ a v. sum_below g.files (λ f. one_if (h.files (a, v, f) (covers (logical a v) refl) i))))
-      (over_volumes g (λ a v. sum_below g.files (λ f. sum_below g.blocks (λ b. one_if (is_some (h.blocks (a, v, f, b) (covers (stripe a v (group g f b)) refl) i))))))
+      (sum_over_volumes g (λ a v. one_if (h.made (a, v) (covers (volume a v) refl) i)))
+      (sum_over_volumes g (λ a v. sum_below g.files (λ f. one_if (h.files (a, v, f) (covers (logical a v) refl) i))))
+      (sum_over_volumes g (λ a v. sum_below g.files (λ f. sum_below g.blocks (λ b. one_if (is_some (h.blocks (a, v, f, b) (covers (stripe a v (stripe_of g f b)) refl) i))))))
   same_answer (AskLabel a v) covers = ap (λ o. Label (unwrap_or o no_label)) (h.labels (a, v) (covers _ (are_related-refl (label a v))))
   same_answer (MakeVol a v) covers = refl
   same_answer (DropVol a v) covers = refl
@@ -149,79 +150,79 @@ module _ (g : Geometry) (R : Path → Bool) (x y : State) (h : AgreeOn g R x y) 
 
 -- ---- the two laws
 
-outcome_reply : (r : Option Refusal) (a : Reply) (new old new' old' : State) → (outcome r a new old).0 ≡ (outcome r a new' old').0
+outcome_reply : (r : Option Refusal) (a : Reply) (new old new' old' : State) → (reply_and_state r a new old).0 ≡ (reply_and_state r a new' old').0
 outcome_reply None a new old new' old' = refl
 outcome_reply (Some why) a new old new' old' = refl
 
 outcome_agrees : {g : Geometry} {R : Path → Bool} (r : Option Refusal) (a a' : Reply) {new old new' old' : State} → AgreeOn g R new new'
-    → AgreeOn g R old old' → AgreeOn g R (outcome r a new old).1 (outcome r a' new' old').1
+    → AgreeOn g R old old' → AgreeOn g R (reply_and_state r a new old).1 (reply_and_state r a' new' old').1
 outcome_agrees None a a' h j = h
 outcome_agrees (Some why) a a' h j = j
 
 -- Two states that agree on what is related to the message's place: the replies are the same, and the new states agree as far as the old ones did.
-pub reads_only : (g : Geometry) (R : Path → Bool) (x y : State) (m : Msg) → AgreeOn g R x y → ((q : Path) → are_related (place g m) q ≡ true → R q ≡ true)
+pub reads_only : (g : Geometry) (R : Path → Bool) (x y : State) (m : Msg) → AgreeOn g R x y → ((q : Path) → are_related (path_of g m) q ≡ true → R q ≡ true)
     → (reply_to g x m ≡ reply_to g y m) × AgreeOn g R (next_state g x m) (next_state g y m)
 reads_only g R x y m h covers =
     let r = same_refusal g R x y h m covers in (
-      (λ i. (outcome (r i) (same_answer g R x y h m covers i) (effect x m) x).0) ∙ outcome_reply (refusal g y m) (accepted_reply g y m) _ _ _ _,
-      subst (λ t. AgreeOn g R (outcome t (accepted_reply g x m) (effect x m) x).1 (next_state g y m)) (sym r) (outcome_agrees (refusal g y m) _ _ (effect_agrees g R x y h m) h),
+      (λ i. (reply_and_state (r i) (same_answer g R x y h m covers i) (effect x m) x).0) ∙ outcome_reply (refusal g y m) (accepted_reply g y m) _ _ _ _,
+      subst (λ t. AgreeOn g R (reply_and_state t (accepted_reply g x m) (effect x m) x).1 (next_state g y m)) (sym r) (outcome_agrees (refusal g y m) _ _ (effect_agrees g R x y h m) h),
     )
 
 -- A step changes nothing but what lies at its place or below.
-pub changes_only : (g : Geometry) (x : State) (m : Msg) → AgreeOn g (outside (place g m)) (next_state g x m) x
+pub changes_only : (g : Geometry) (x : State) (m : Msg) → AgreeOn g (outside (path_of g m)) (next_state g x m) x
 changes_only g x m = by (refusal g x m)
   where
-    by : (r : Option Refusal) → AgreeOn g (outside (place g m)) (outcome r (accepted_reply g x m) (effect x m) x).1 x
+    by : (r : Option Refusal) → AgreeOn g (outside (path_of g m)) (reply_and_state r (accepted_reply g x m) (effect x m) x).1 x
     by None = effect_only g x m
     by (Some why) = agree-refl x
 
 -- ---- steps at unrelated places commute
 
--- what the other message's place is related to, a message at an unrelated place leaves alone
-pub left_alone : (g : Geometry) (x : State) (m n : Msg) → are_related (place g m) (place g n) ≡ false → AgreeOn g (are_related (place g m)) (next_state g x n) x
+-- message n changes nothing that is related to the place of m, if their places are unrelated
+pub left_alone : (g : Geometry) (x : State) (m n : Msg) → are_related (path_of g m) (path_of g n) ≡ false → AgreeOn g (are_related (path_of g m)) (next_state g x n) x
 left_alone g x m n h = agree_within
-    (λ q r. not_from_false (begins (place g n) q) (elim (begins (place g n) q) as (λ b. begins (place g n) q ≡ b → b ≡ false) [
-      | true ↦ λ e. absurd (true≢false (sym r ∙ unrelated_turned q (place g m) (unrelated_below (place g n) (place g m) q (unrelated_turned (place g m) (place g n) h) e)))
+    (λ q r. not_from_false (is_prefix (path_of g n) q) (elim (is_prefix (path_of g n) q) as (λ b. is_prefix (path_of g n) q ≡ b → b ≡ false) [
+      | true ↦ λ e. absurd (true≢false (sym r ∙ unrelated_turned q (path_of g m) (unrelated_below (path_of g n) (path_of g m) q (unrelated_turned (path_of g m) (path_of g n) h) e)))
       | false ↦ λ e. refl
     ] refl))
     (changes_only g x n)
 
-pub same_reply : (g : Geometry) (x : State) (m n : Msg) → are_related (place g m) (place g n) ≡ false → reply_to g (next_state g x n) m ≡ reply_to g x m
-same_reply g x m n h = (reads_only g (are_related (place g m)) (next_state g x n) x m (left_alone g x m n h) (λ q r. r)).0
+pub same_reply : (g : Geometry) (x : State) (m n : Msg) → are_related (path_of g m) (path_of g n) ≡ false → reply_to g (next_state g x n) m ≡ reply_to g x m
+same_reply g x m n h = (reads_only g (are_related (path_of g m)) (next_state g x n) x m (left_alone g x m n h) (λ q r. r)).0
 
 -- at the first one's place and below, both orders leave what the first one alone leaves
-at_its_place : (g : Geometry) (x : State) (m n : Msg) → are_related (place g m) (place g n) ≡ false
-    → AgreeOn g (begins (place g m)) (next_state g (next_state g x m) n) (next_state g (next_state g x n) m)
+at_its_place : (g : Geometry) (x : State) (m n : Msg) → are_related (path_of g m) (path_of g n) ≡ false
+    → AgreeOn g (is_prefix (path_of g m)) (next_state g (next_state g x m) n) (next_state g (next_state g x n) m)
 at_its_place g x m n h =
-    let related : (q : Path) → begins (place g m) q ≡ true → are_related (place g m) q ≡ true = λ q r. or_left _ _ r in
+    let related : (q : Path) → is_prefix (path_of g m) q ≡ true → are_related (path_of g m) q ≡ true = λ q r. or_left _ _ r in
     agree-trans (agree_within related (left_alone g (next_state g x m) m n h))
-    (agree-sym (agree_within related (reads_only g (are_related (place g m)) (next_state g x n) x m (left_alone g x m n h) (λ q r. r)).1))
+    (agree-sym (agree_within related (reads_only g (are_related (path_of g m)) (next_state g x n) x m (left_alone g x m n h) (λ q r. r)).1))
 
-elsewhere : (g : Geometry) (x : State) (m n : Msg) → AgreeOn g (λ q. outside (place g m) q && outside (place g n) q) (next_state g (next_state g x m) n) x
+elsewhere : (g : Geometry) (x : State) (m n : Msg) → AgreeOn g (λ q. outside (path_of g m) q && outside (path_of g n) q) (next_state g (next_state g x m) n) x
 elsewhere g x m n = agree-trans
-    (agree_within (λ q r. (and_parts (outside (place g m) q) (outside (place g n) q) r).1) (changes_only g (next_state g x m) n))
-    (agree_within (λ q r. (and_parts (outside (place g m) q) (outside (place g n) q) r).0) (changes_only g x m))
+    (agree_within (λ q r. (and_parts (outside (path_of g m) q) (outside (path_of g n) q) r).1) (changes_only g (next_state g x m) n))
+    (agree_within (λ q r. (and_parts (outside (path_of g m) q) (outside (path_of g n) q) r).0) (changes_only g x m))
 
 each_path : (a b : Bool) → ((a || b) || (not a && not b)) ≡ true
 each_path true b = refl
 each_path false true = refl
 each_path false false = refl
 
-swapped_outside : (g : Geometry) (m n : Msg) (q : Path) → (outside (place g m) q && outside (place g n) q) ≡ true → (outside (place g n) q && outside (place g m) q) ≡ true
+swapped_outside : (g : Geometry) (m n : Msg) (q : Path) → (outside (path_of g m) q && outside (path_of g n) q) ≡ true → (outside (path_of g n) q && outside (path_of g m) q) ≡ true
 swapped_outside g m n q r =
-    let p = and_parts (outside (place g m) q) (outside (place g n) q) r in
-    and_from (outside (place g n) q) (outside (place g m) q) p.1 p.0
+    let p = and_parts (outside (path_of g m) q) (outside (path_of g n) q) r in
+    and_from (outside (path_of g n) q) (outside (path_of g m) q) p.1 p.0
 
-same_state : (g : Geometry) (x : State) (m n : Msg) → are_related (place g m) (place g n) ≡ false → next_state g (next_state g x m) n ≡ next_state g (next_state g x n) m
-same_state g x m n h = agree_everywhere {g = g} {R = λ q. (begins (place g m) q || begins (place g n) q) || (outside (place g m) q && outside (place g n) q)}
-    (λ q. each_path (begins (place g m) q) (begins (place g n) q))
+same_state : (g : Geometry) (x : State) (m n : Msg) → are_related (path_of g m) (path_of g n) ≡ false → next_state g (next_state g x m) n ≡ next_state g (next_state g x n) m
+same_state g x m n h = agree_everywhere {g = g} {R = λ q. (is_prefix (path_of g m) q || is_prefix (path_of g n) q) || (outside (path_of g m) q && outside (path_of g n) q)}
+    (λ q. each_path (is_prefix (path_of g m) q) (is_prefix (path_of g n) q))
     (agree_either
-    (agree_either (at_its_place g x m n h) (agree-sym (at_its_place g x n m (unrelated_turned (place g m) (place g n) h))))
+    (agree_either (at_its_place g x m n h) (agree-sym (at_its_place g x n m (unrelated_turned (path_of g m) (path_of g n) h))))
     (agree-trans (elsewhere g x m n) (agree-sym (agree_within (swapped_outside g m n) (elsewhere g x n m)))))
 
-pub commute : (g : Geometry) (x : State) (m n : Msg) → are_related (place g m) (place g n) ≡ false → Commute g x m n
+pub commute : (g : Geometry) (x : State) (m n : Msg) → are_related (path_of g m) (path_of g n) ≡ false → Commute g x m n
 commute g x m n h = record {
   first = same_reply g x m n h;
-  second = same_reply g x n m (unrelated_turned (place g m) (place g n) h);
+  second = same_reply g x n m (unrelated_turned (path_of g m) (path_of g n) h);
   state = same_state g x m n h;
 }

@@ -1,11 +1,11 @@
--- A step keeps what holds of each state.
+-- Each step keeps the invariant of states, `IsState`.
 use Rattle.std.proofs.Common.{◌≡◌, ℕ, zero, suc, ◌+◌, ◌<◌, ◌≤◌, Bool, true, false, List, [], ◌∷◌, Option, refl, ap, sym, subst, ◌⊎◌, inl, inr, ⊎_elim, arith, lit<}
 use Rattle.std.specs.Prelude.{◌&&◌, ◌||◌, not, ◌==◌, nat_lt, if◌then◌else◌, cond, Some, None, find, is_some, IfSome, replicate}
 use Rattle.std.specs.List.{AllByRecursion}
 use Rattle.std.proofs.lemmas.Bool.{and_parts, and_from, or_cases, or_right, eqb-true, ltb-true, true≢false, not_from_false}
 use Rattle.affinity.specs.declared.geometry.Geometry.{Geometry}
-use Rattle.affinity.specs.Geometry.{group}
-use Rattle.affinity.specs.Path.{begins, stripe}
+use Rattle.affinity.specs.Geometry.{stripe_of}
+use Rattle.affinity.specs.Path.{is_prefix, stripe}
 use Rattle.affinity.specs.Place.{are_below, limits}
 use Rattle.messages.specs.declared.Block.{Block}
 use Rattle.messages.specs.declared.Msg.{Msg}
@@ -13,8 +13,8 @@ use Rattle.messages.specs.declared.Msg.TheVariants.{MakeVol, DropVol, Create, De
 use Rattle.messages.specs.declared.Refusal.{Refusal}
 use Rattle.messages.specs.declared.Refusal.TheVariants.{Space}
 use Rattle.messages.specs.Messages.{AreSizedBytes, IsBlock, IsMessage}
-use Rattle.meaning.specs.State.{State, IsState, empty, VolumeKey, FileKey, BlockKey, is_volume, is_file, is_block, is_file_of, is_block_of, is_block_of_file, one_if, group_count}
-use Rattle.meaning.specs.Serial.{tests, passes, refusal, effect, accepted_reply, outcome, next_state, fold, no_label}
+use Rattle.meaning.specs.State.{State, IsState, empty, VolumeKey, FileKey, BlockKey, is_volume, is_file, is_block, is_file_of, is_block_of, is_block_of_file, one_if, blocks_in_stripe}
+use Rattle.meaning.specs.Serial.{checks, passes, refusal, effect, accepted_reply, reply_and_state, next_state, state_after_all, no_label}
 use Rattle.meaning.specs.Laws.{outside}
 use Rattle.meaning.specs.Removals.{without_blocks}
 use Rattle.meaning.proofs.Effects.{effect_only}
@@ -38,14 +38,14 @@ empty_is_state g = record {
     nothing true = refl
     nothing false = refl
 
-    none : (a v s : ℕ) → group_count g empty a v s ≤ g.quota
+    none : (a v s : ℕ) → blocks_in_stripe g empty a v s ≤ g.quota
     none a v s =
-        let e : group_count g empty a v s ≡ 0 = sum_below-zero g.files _ (λ f. sum_below-zero g.blocks _ (λ b. nothing (group g f b == s))) in
+        let e : blocks_in_stripe g empty a v s ≡ 0 = sum_below-zero g.files _ (λ f. sum_below-zero g.blocks _ (λ b. nothing (stripe_of g f b == s))) in
         omega (arith, e)
 
--- ---- what the tests show
+-- ---- what is known of a message that passes its checks
 
--- a message that isn't refused passes each of its tests
+-- a message that isn't refused passes each of its checks
 pub passed : (p : Refusal → Bool) (ts : List Refusal) → find (λ t. not (p t)) ts ≡ None → AllByRecursion (λ t. p t ≡ true) ts
 passed p [] h = tt
 passed p (t ∷ ts) h =
@@ -61,7 +61,7 @@ two_below g a v rest e =
     let q = and_parts (nat_lt v g.volumes) (are_below rest (g.files ∷ g.blocks ∷ [])) p.1 in
     (ltb-true _ _ p.0, ltb-true _ _ q.0, q.1)
 
--- ---- what is picked
+-- ---- one key of a set or map that an effect changed
 
 -- what is there after clearing was not picked, and was there
 not_cleared : {X : Type 0} (b : Bool) (o : Option X) → is_some (if b then None else o) ≡ true → (not b ≡ true) × (is_some o ≡ true)
@@ -98,10 +98,10 @@ no_label_is_bytes = (refl, zeros_are_bytes 32)
 -- ---- the quota
 
 -- fewer blocks, no greater counts
-fewer : (g : Geometry) (x y : State) → ((k : BlockKey) → is_some (y.blocks k) ≡ true → is_some (x.blocks k) ≡ true) → (a v s : ℕ) → group_count g y a v s ≤ group_count g x a v s
+fewer : (g : Geometry) (x y : State) → ((k : BlockKey) → is_some (y.blocks k) ≡ true → is_some (x.blocks k) ≡ true) → (a v s : ℕ) → blocks_in_stripe g y a v s ≤ blocks_in_stripe g x a v s
 fewer g x y h a v s = sum_below-le g.files _ _ (λ f lt. sum_below-le g.blocks _ _ (λ b lt. one_if_from _ _ (λ e.
-    let p = and_parts (group g f b == s) (is_some (y.blocks (a, v, f, b))) e in
-    and_from (group g f b == s) (is_some (x.blocks (a, v, f, b))) p.0 (h (a, v, f, b) p.1))))
+    let p = and_parts (stripe_of g f b == s) (is_some (y.blocks (a, v, f, b))) e in
+    and_from (stripe_of g f b == s) (is_some (x.blocks (a, v, f, b))) p.0 (h (a, v, f, b) p.1))))
 
 module _ (g : Geometry) (x : State) (a v f b : ℕ) (content : Block) where
   abbrev written : State
@@ -109,51 +109,52 @@ module _ (g : Geometry) (x : State) (a v f b : ℕ) (content : Block) where
 
   -- another block counts as before
   other_block : (s f' b' : ℕ) → is_block a v f b (a, v, f', b') ≡ false
-      → one_if ((group g f' b' == s) && is_some (written.blocks (a, v, f', b'))) ≤ one_if ((group g f' b' == s) && is_some (x.blocks (a, v, f', b')))
-  other_block s f' b' e = one_if_from _ _ (λ h. subst (λ t. ((group g f' b' == s) && is_some (if t then Some content else x.blocks (a, v, f', b'))) ≡ true) e h)
+      → one_if ((stripe_of g f' b' == s) && is_some (written.blocks (a, v, f', b'))) ≤ one_if ((stripe_of g f' b' == s) && is_some (x.blocks (a, v, f', b')))
+  other_block s f' b' e = one_if_from _ _ (λ h. subst (λ t. ((stripe_of g f' b' == s) && is_some (if t then Some content else x.blocks (a, v, f', b'))) ≡ true) e h)
 
   -- a write adds one block at most to its stripe
-  one_more : (s : ℕ) → group_count g written a v s ≤ group_count g x a v s + 1
+  one_more : (s : ℕ) → blocks_in_stripe g written a v s ≤ blocks_in_stripe g x a v s + 1
   one_more s = sum_below_one_more g.files f _ _
       (λ f' ne. sum_below-le g.blocks _ _ (λ b' lt. other_block s f' b' (other_file a v f b (a, v, f', b') ne)))
-      (sum_below_one_more g.blocks b _ _ (λ b' ne. other_block s f b' (other_place a v f b (a, v, f, b') ne)) (omega (arith, one_if-le ((group g f b == s) && is_some (written.blocks (a, v, f, b))))))
+      (sum_below_one_more g.blocks b _ _ (λ b' ne. other_block s f b' (other_place a v f b (a, v, f, b') ne))
+      (omega (arith, one_if-le ((stripe_of g f b == s) && is_some (written.blocks (a, v, f, b))))))
 
-  keeps_quota : ((a v s : ℕ) → group_count g x a v s ≤ g.quota) → passes g x (Write a v f b content) Space ≡ true → (a' v' s' : ℕ) → group_count g written a' v' s' ≤ g.quota
+  keeps_quota : ((a v s : ℕ) → blocks_in_stripe g x a v s ≤ g.quota) → passes g x (Write a v f b content) Space ≡ true → (a' v' s' : ℕ) → blocks_in_stripe g written a' v' s' ≤ g.quota
   keeps_quota h space a' v' s' =
-      let s = group g f b in
-      elim (begins (stripe a v s) (stripe a' v' s')) as (λ t. begins (stripe a v s) (stripe a' v' s') ≡ t → group_count g written a' v' s' ≤ g.quota) [
+      let s = stripe_of g f b in
+      elim (is_prefix (stripe a v s) (stripe a' v' s')) as (λ t. is_prefix (stripe a v s) (stripe a' v' s') ≡ t → blocks_in_stripe g written a' v' s' ≤ g.quota) [
         | false ↦ λ e.
-            let same = same_group_count g (outside (stripe a v s)) written x (effect_only g x (Write a v f b content)) a' v' s' (not_from_false (begins (stripe a v s) (stripe a' v' s')) e) in
+            let same = same_group_count g (outside (stripe a v s)) written x (effect_only g x (Write a v f b content)) a' v' s' (not_from_false (is_prefix (stripe a v s) (stripe a' v' s')) e) in
             omega (arith, same, h a' v' s')
         | true ↦ λ e.
             let p = and_parts (a == a') ((v == v') && ((0 == 0) && ((s == s') && true))) e in
             let q = and_parts (v == v') ((0 == 0) && ((s == s') && true)) p.1 in
             let r = and_parts (s == s') true q.1 in
-            let there : group_count g written a v s ≤ g.quota = ⊎_elim
+            let there : blocks_in_stripe g written a v s ≤ g.quota = ⊎_elim
             (λ already. let few = fewer g x written (λ k e. ⊎_elim (λ is. subst (λ k. is_some (x.blocks k) ≡ true) (the_block a v f b k is) already)
             (λ was. was) (was_set (is_block a v f b k) content (x.blocks k) e)) a v s in
             omega (arith, few, h a v s))
-            (λ room. let more = one_more s in let lt = ltb-true (group_count g x a v s) g.quota room in omega (arith, more, lt))
-            (or_cases (is_some (x.blocks (a, v, f, b))) (nat_lt (group_count g x a v s) g.quota) space) in
-            subst (λ (n : ℕ × ℕ × ℕ). group_count g written n.0 n.1 n.2 ≤ g.quota) (λ i. (eqb-true a a' p.0 i, eqb-true v v' q.0 i, eqb-true s s' r.0 i)) there
+            (λ room. let more = one_more s in let lt = ltb-true (blocks_in_stripe g x a v s) g.quota room in omega (arith, more, lt))
+            (or_cases (is_some (x.blocks (a, v, f, b))) (nat_lt (blocks_in_stripe g x a v s) g.quota) space) in
+            subst (λ (n : ℕ × ℕ × ℕ). blocks_in_stripe g written n.0 n.1 n.2 ≤ g.quota) (λ i. (eqb-true a a' p.0 i, eqb-true v v' q.0 i, eqb-true s s' r.0 i)) there
       ] refl
 
 -- where blocks were cleared, the quota still holds
-quota_fewer : (g : Geometry) (x y : State) → IsState g x → ((k : BlockKey) → is_some (y.blocks k) ≡ true → is_some (x.blocks k) ≡ true) → (a v s : ℕ) → group_count g y a v s ≤ g.quota
+quota_fewer : (g : Geometry) (x y : State) → IsState g x → ((k : BlockKey) → is_some (y.blocks k) ≡ true → is_some (x.blocks k) ≡ true) → (a v s : ℕ) → blocks_in_stripe g y a v s ≤ g.quota
 quota_fewer g x y h less a v s = let few = fewer g x y less a v s in omega (arith, few, h.quota a v s)
 
 -- ---- blocks and files that are taken out
 
-pub clearing_kept : (g : Geometry) (picks : BlockKey → Bool) (x : State) → IsState g x → IsState g (without_blocks picks x)
-clearing_kept g picks x h = record {
+pub clearing_kept : (g : Geometry) (selected : BlockKey → Bool) (x : State) → IsState g x → IsState g (without_blocks selected x)
+clearing_kept g selected x h = record {
   made = h.made;
   sealed = h.sealed;
   files = h.files;
-  blocks = λ k e. h.blocks k (not_cleared (picks k) (x.blocks k) e).1;
+  blocks = λ k e. h.blocks k (not_cleared (selected k) (x.blocks k) e).1;
   labels = h.labels;
-  content = λ k. content-cleared IsBlock (picks k) (x.blocks k) (h.content k);
+  content = λ k. content-cleared IsBlock (selected k) (x.blocks k) (h.content k);
   label_content = h.label_content;
-  quota = quota_fewer g x (without_blocks picks x) h (λ k e. (not_cleared (picks k) (x.blocks k) e).1);
+  quota = quota_fewer g x (without_blocks selected x) h (λ k e. (not_cleared (selected k) (x.blocks k) e).1);
 }
 
 pub delete_kept : (g : Geometry) (x : State) (a v f : ℕ) → IsState g x → IsState g (effect x (Delete a v f))
@@ -172,7 +173,7 @@ delete_kept g x a v f h =
 
 -- ---- each kind
 
-effect_kept : (g : Geometry) (x : State) → IsState g x → (m : Msg) → IsMessage m → AllByRecursion (λ t. passes g x m t ≡ true) (tests m) → IsState g (effect x m)
+effect_kept : (g : Geometry) (x : State) → IsState g x → (m : Msg) → IsMessage m → AllByRecursion (λ t. passes g x m t ≡ true) (checks m) → IsState g (effect x m)
 effect_kept g x h (MakeVol a v) w p =
     let r = two_below g a v [] p.0 in
     record {
@@ -265,10 +266,10 @@ effect_kept g x h (AskLabel a v) w p = h
 pub step_kept : (g : Geometry) (x : State) (m : Msg) → IsState g x → IsMessage m → IsState g (next_state g x m)
 step_kept g x m h w = by (refusal g x m) refl
   where
-    by : (r : Option Refusal) → refusal g x m ≡ r → IsState g (outcome r (accepted_reply g x m) (effect x m) x).1
-    by None e = effect_kept g x h m w (passed (passes g x m) (tests m) e)
+    by : (r : Option Refusal) → refusal g x m ≡ r → IsState g (reply_and_state r (accepted_reply g x m) (effect x m) x).1
+    by None e = effect_kept g x h m w (passed (passes g x m) (checks m) e)
     by (Some why) e = h
 
-pub fold_kept : (g : Geometry) (x : State) (ms : List Msg) → IsState g x → AllByRecursion IsMessage ms → IsState g (fold g x ms)
+pub fold_kept : (g : Geometry) (x : State) (ms : List Msg) → IsState g x → AllByRecursion IsMessage ms → IsState g (state_after_all g x ms)
 fold_kept g x [] h w = h
 fold_kept g x (m ∷ ms) h w = fold_kept g (next_state g x m) ms (step_kept g x m h w.0) w.1

@@ -8,7 +8,7 @@ use Rattle.std.specs.Cmp.{unsigned_tied}
 use Rattle.std.specs.BTreeMap.{is_at}
 use Rattle.std.proofs.lemmas.Bool.{and_parts, eqb-true, eq-eqb, false_from_ne_true}
 use Rattle.meaning.specs.State.{VolumeKey, FileKey, BlockKey, Set, Map, adding, dropping, setting, clearing, is_volume, is_file, is_block}
-use Rattle.meaning.specs.KeyOrders.{volume_order, by_file, by_block}
+use Rattle.meaning.specs.KeyOrders.{volume_order, file_order, block_order}
 
 then_eq : (r s : Ordering) → is_eq (ordering_then r s) ≡ (is_eq r && is_eq s)
 then_eq Less s = refl
@@ -20,10 +20,10 @@ then_eq Greater s = refl
 pub at_volume : (a v : ℕ) (k : VolumeKey) → is_at (volume_order (a, v)) k ≡ is_volume a v k
 at_volume a v k = then_eq _ _ ∙ (λ i. unsigned_tied a k.0 i && unsigned_tied v k.1 i)
 
-pub at_file : (a v f : ℕ) (k : FileKey) → is_at (by_file (a, v, f)) k ≡ is_file a v f k
+pub at_file : (a v f : ℕ) (k : FileKey) → is_at (file_order (a, v, f)) k ≡ is_file a v f k
 at_file a v f k = then_eq _ _ ∙ (λ i. at_volume a v (k.0, k.1) i && unsigned_tied f k.2 i)
 
-pub at_block : (a v f b : ℕ) (k : BlockKey) → is_at (by_block (a, v, f, b)) k ≡ is_block a v f b k
+pub at_block : (a v f b : ℕ) (k : BlockKey) → is_at (block_order (a, v, f, b)) k ≡ is_block a v f b k
 at_block a v f b k = then_eq _ _ ∙ (λ i. at_file a v f (k.0, k.1, k.2) i && unsigned_tied b k.3 i)
 
 -- ---- a test picks one key
@@ -77,14 +77,14 @@ one_volume s t a v h i k = (h k ∙ ap (λ b. cond b true (s k)) (at_volume a v 
 pub no_volume : (s t : Set VolumeKey) (a v : ℕ) → ((k : VolumeKey) → t k ≡ cond (is_at (volume_order (a, v)) k) false (s k)) → t ≡ dropping (is_volume a v) s
 no_volume s t a v h i k = (h k ∙ ap (λ b. cond b false (s k)) (at_volume a v k) ∙ and_cond (is_volume a v k) (s k)) i
 
-pub one_file : (s t : Set FileKey) (a v f : ℕ) → ((k : FileKey) → t k ≡ cond (is_at (by_file (a, v, f)) k) true (s k)) → t ≡ adding (is_file a v f) s
+pub one_file : (s t : Set FileKey) (a v f : ℕ) → ((k : FileKey) → t k ≡ cond (is_at (file_order (a, v, f)) k) true (s k)) → t ≡ adding (is_file a v f) s
 one_file s t a v f h i k = (h k ∙ ap (λ b. cond b true (s k)) (at_file a v f k) ∙ or_cond (is_file a v f k) (s k)) i
 
-pub no_block : {X : Type 0} (m n : Map BlockKey X) (a v f b : ℕ) → ((k : BlockKey) → n k ≡ cond (is_at (by_block (a, v, f, b)) k) None (m k)) → n ≡ clearing (is_block a v f b) m
+pub no_block : {X : Type 0} (m n : Map BlockKey X) (a v f b : ℕ) → ((k : BlockKey) → n k ≡ cond (is_at (block_order (a, v, f, b)) k) None (m k)) → n ≡ clearing (is_block a v f b) m
 no_block m n a v f b h i k = (h k ∙ ap (λ t. cond t None (m k)) (at_block a v f b k)) i
 
 pub one_block : {X : Type 0} (m n : Map BlockKey X) (a v f b : ℕ) (value : X)
-    → ((k : BlockKey) → n k ≡ cond (is_at (by_block (a, v, f, b)) k) (Some value) (m k)) → n ≡ setting (is_block a v f b) value m
+    → ((k : BlockKey) → n k ≡ cond (is_at (block_order (a, v, f, b)) k) (Some value) (m k)) → n ≡ setting (is_block a v f b) value m
 one_block m n a v f b value h i k = (h k ∙ ap (λ t. cond t (Some value) (m k)) (at_block a v f b k)) i
 
 -- a new key that is taken out again leaves the set that was

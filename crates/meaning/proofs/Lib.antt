@@ -2,7 +2,7 @@
 pub mod Sums
 pub mod Counts
 pub mod Agree
-pub mod ShareLaws
+pub mod SubtreeLaws
 pub mod Kept
 pub mod Frame
 pub mod ByTicket

@@ -6,7 +6,7 @@ use Rattle.std.proofs.lemmas.Option.{none-some, same_Some}
 use Rattle.std.proofs.lemmas.Bool.{true≢false}
 use Rattle.messages.specs.Lines.{lines}
 use Rattle.messages.specs.Grammar.{message_of}
-use Rattle.messages.specs.FirstLine.{first_line, behind_first_line, GivesLine, PassesLine, IsClosed}
+use Rattle.messages.specs.FirstLine.{first_line, behind_first_line, GivesLine, PassesLine, HasWholeFirstLine}
 use Rattle.messages.proofs.FirstLines.{too_long}
 use Rattle.messages.proofs.FirstLines.{lines-first}
 use Rattle.meaning.specs.Output.{with_newlines}
@@ -33,7 +33,7 @@ first_taken {input} {rest} {ended} {now_ended} {taken} t going more closes = rec
 -- the next line of what was left: it was given, and a newline or the end of the input closes it
 pub record NextLine (line : List ℕ) (left now_left : Option (List ℕ)) (now_ended : Bool) : Type 0 where
   pub given : IfSome left (λ bs. GivesLine line bs now_left)
-  pub closed : IsClosed left now_ended
+  pub closed : HasWholeFirstLine left now_ended
 
 pub takes_line : (input : Option (List ℕ)) {left now_left : Option (List ℕ)} {ended now_ended : Bool} (taken : List (List ℕ)) {line : List ℕ} → TakesLines input left ended taken
     → ended ≡ false → NextLine line left now_left now_ended → TakesLines input now_left now_ended (taken ++ line ∷ [])
@@ -55,7 +55,7 @@ pub record TakesNoMessage (input now_left : Option (List ℕ)) (now_ended : Bool
   pub takes : TakesLines input now_left now_ended (taken ++ line ∷ [])
 
 pub takes_long_line : {input : Option (List ℕ)} (left : Option (List ℕ)) {now_left : Option (List ℕ)} {ended now_ended : Bool} {taken : List (List ℕ)} → TakesLines input left ended taken
-    → ended ≡ false → IfSome left (λ bs. PassesLine bs now_left) → IsClosed left now_ended → TakesNoMessage input now_left now_ended taken
+    → ended ≡ false → IfSome left (λ bs. PassesLine bs now_left) → HasWholeFirstLine left now_ended → TakesNoMessage input now_left now_ended taken
 takes_long_line {input = None} left t going found closes =
     record { line = replicate {A = ℕ} 1101 0; no_message = sym (too_long (replicate {A = ℕ} 1101 0) (omega (arith, length-replicate {A = ℕ} 1101 0))); takes = tt }
 takes_long_line {input = Some input} None t going found closes = absurd (none-some t.0 t.1)

@@ -1,32 +1,32 @@
--- Inner: The tests of a message by its kind and its four numbers, with no message made.
+-- Inner: The checks of a message by its kind and its four numbers, with no message made.
 use Rattle.std.specs.Prelude.{ℕ, Bool, false, not, ◌||◌, nat_lt, List, [], ◌∷◌, find, slice_index, Option, None, Some, is_some}
 use Rattle.affinity.specs.declared.geometry.Geometry.{Geometry}
 use Rattle.affinity.specs.declared.kinds.Kind.{Kind}
 use Rattle.affinity.specs.declared.kinds.Kind.TheVariants as kinds
-use Rattle.affinity.specs.Geometry.{group}
+use Rattle.affinity.specs.Geometry.{stripe_of}
 use Rattle.affinity.specs.Place.{is_in_range}
 use Rattle.messages.specs.declared.Refusal.{Refusal}
 use Rattle.messages.specs.declared.Refusal.TheVariants.{Range, Volume, Exists, Sealed, File, Space}
 use Rattle.messages.specs.declared.Reply.{Reply}
 use Rattle.messages.specs.declared.Reply.TheVariants.{Done, Refused}
-use Rattle.meaning.specs.State.{State, group_count}
+use Rattle.meaning.specs.State.{State, blocks_in_stripe}
 
--- the tests of each kind, in order
-abbrev pub tests_by : Kind → List Refusal
-tests_by kinds.MakeVol = Range ∷ Exists ∷ []
-tests_by kinds.DropVol = Range ∷ Volume ∷ Sealed ∷ []
-tests_by kinds.Create = Range ∷ Volume ∷ Sealed ∷ Exists ∷ []
-tests_by kinds.Delete = Range ∷ Volume ∷ Sealed ∷ File ∷ []
-tests_by kinds.List = Range ∷ Volume ∷ []
-tests_by kinds.Seal = Range ∷ Volume ∷ []
-tests_by kinds.Unseal = Range ∷ Volume ∷ []
-tests_by kinds.Usage = Range ∷ Volume ∷ []
-tests_by kinds.Write = Range ∷ Volume ∷ Sealed ∷ File ∷ Space ∷ []
-tests_by kinds.Punch = Range ∷ Volume ∷ Sealed ∷ File ∷ []
-tests_by kinds.Read = Range ∷ Volume ∷ File ∷ []
-tests_by kinds.Summary = []
-tests_by kinds.SetLabel = Range ∷ Volume ∷ Sealed ∷ []
-tests_by kinds.Label = Range ∷ Volume ∷ []
+-- the checks that a message of the kind has to pass, in order
+abbrev pub checks_by : Kind → List Refusal
+checks_by kinds.MakeVol = Range ∷ Exists ∷ []
+checks_by kinds.DropVol = Range ∷ Volume ∷ Sealed ∷ []
+checks_by kinds.Create = Range ∷ Volume ∷ Sealed ∷ Exists ∷ []
+checks_by kinds.Delete = Range ∷ Volume ∷ Sealed ∷ File ∷ []
+checks_by kinds.List = Range ∷ Volume ∷ []
+checks_by kinds.Seal = Range ∷ Volume ∷ []
+checks_by kinds.Unseal = Range ∷ Volume ∷ []
+checks_by kinds.Usage = Range ∷ Volume ∷ []
+checks_by kinds.Write = Range ∷ Volume ∷ Sealed ∷ File ∷ Space ∷ []
+checks_by kinds.Punch = Range ∷ Volume ∷ Sealed ∷ File ∷ []
+checks_by kinds.Read = Range ∷ Volume ∷ File ∷ []
+checks_by kinds.Summary = []
+checks_by kinds.SetLabel = Range ∷ Volume ∷ Sealed ∷ []
+checks_by kinds.Label = Range ∷ Volume ∷ []
 
 -- whether what a message of the kind makes is there already
 abbrev pub exists_by : State → Kind → List ℕ → Bool
@@ -34,7 +34,7 @@ exists_by x kinds.MakeVol ns = x.made (slice_index ns 0, slice_index ns 1)
 exists_by x kinds.Create ns = x.files (slice_index ns 0, slice_index ns 1, slice_index ns 2)
 exists_by x _ ns = false
 
--- whether a message of the kind passes a test
+-- whether a message of the kind with these numbers passes a check
 abbrev pub passes_by : Geometry → State → Kind → List ℕ → Refusal → Bool
 passes_by g x k ns Range = is_in_range g k ns
 passes_by g x k ns Volume = x.made (slice_index ns 0, slice_index ns 1)
@@ -42,13 +42,13 @@ passes_by g x k ns Exists = not (exists_by x k ns)
 passes_by g x k ns Sealed = not (x.sealed (slice_index ns 0, slice_index ns 1))
 passes_by g x k ns File = x.files (slice_index ns 0, slice_index ns 1, slice_index ns 2)
 passes_by g x k ns Space = is_some (x.blocks (slice_index ns 0, slice_index ns 1, slice_index ns 2, slice_index ns 3))
-    || nat_lt (group_count g x (slice_index ns 0) (slice_index ns 1) (group g (slice_index ns 2) (slice_index ns 3))) g.quota
+    || nat_lt (blocks_in_stripe g x (slice_index ns 0) (slice_index ns 1) (stripe_of g (slice_index ns 2) (slice_index ns 3))) g.quota
 
--- the first test that fails
+-- why a message of the kind is refused: the first check that fails, if one does
 abbrev pub refusal_by : Geometry → State → Kind → List ℕ → Option Refusal
-refusal_by g x k ns = find (λ test. not (passes_by g x k ns test)) (tests_by k)
+refusal_by g x k ns = find (λ test. not (passes_by g x k ns test)) (checks_by k)
 
 -- the reply to a message that changes something, by why it is refused, if it is
-abbrev pub reply_when : Option Refusal → Reply
-reply_when None = Done
-reply_when (Some why) = Refused why
+abbrev pub done_or_refused : Option Refusal → Reply
+done_or_refused None = Done
+done_or_refused (Some why) = Refused why

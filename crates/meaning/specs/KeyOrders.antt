@@ -6,8 +6,8 @@ use Rattle.meaning.specs.State.{VolumeKey, FileKey, BlockKey}
 abbrev pub volume_order : VolumeKey → VolumeKey → Ordering
 volume_order x y = ordering_then (nat_cmp x.0 y.0) (nat_cmp x.1 y.1)
 
-abbrev pub by_file : FileKey → FileKey → Ordering
-by_file x y = ordering_then (volume_order (x.0, x.1) (y.0, y.1)) (nat_cmp x.2 y.2)
+abbrev pub file_order : FileKey → FileKey → Ordering
+file_order x y = ordering_then (volume_order (x.0, x.1) (y.0, y.1)) (nat_cmp x.2 y.2)
 
-abbrev pub by_block : BlockKey → BlockKey → Ordering
-by_block x y = ordering_then (by_file (x.0, x.1, x.2) (y.0, y.1, y.2)) (nat_cmp x.3 y.3)
+abbrev pub block_order : BlockKey → BlockKey → Ordering
+block_order x y = ordering_then (file_order (x.0, x.1, x.2) (y.0, y.1, y.2)) (nat_cmp x.3 y.3)

@@ -1,47 +1,47 @@
--- Statement for engineers: The words of the laws of steps.
+-- Statement for engineers: What the laws of steps say of messages: they commute, run alike in two states, or give the same by ticket.
 use Rattle.std.specs.Prelude.{◌≡◌, ℕ, ◌≤◌, Bool, true, false, not, List, [], ◌∷◌, if◌then◌else◌}
 use Rattle.std.specs.List.{AllByRecursion}
 use Rattle.affinity.specs.declared.geometry.Geometry.{Geometry}
-use Rattle.affinity.specs.Path.{Path, begins}
+use Rattle.affinity.specs.Path.{Path, is_prefix}
 use Rattle.messages.specs.declared.Msg.{Msg}
 use Rattle.messages.specs.declared.Reply.{Reply}
 use Rattle.messages.specs.declared.Reply.TheVariants.{Refused}
-use Rattle.messages.specs.Messages.{place}
+use Rattle.messages.specs.Messages.{path_of}
 use Rattle.meaning.specs.State.{State}
-use Rattle.meaning.specs.Serial.{reply_to, next_state, fold, is_loggable}
-use Rattle.meaning.specs.Shares.{share as share_at}
-use Rattle.meaning.specs.Order.{serial_replies as told_at, messages, by_ticket}
+use Rattle.meaning.specs.Serial.{reply_to, next_state, state_after_all, is_recorded}
+use Rattle.meaning.specs.Subtrees.{subtree}
+use Rattle.meaning.specs.Order.{serial_replies, messages, by_ticket}
 
--- the paths that are neither this one nor below it
+-- whether the second path is neither the first nor below it
 abbrev pub outside : Path → Path → Bool
-outside p q = not (begins p q)
+outside p q = not (is_prefix p q)
 
--- The reply to a message, and the share that it leaves at its place, are the same in both states.
+-- In both states the message gets the same reply, and leaves the same subtree at its path.
 pub record RunAlike (g : Geometry) (x y : State) (m : Msg) : Type 0 where
   pub reply : reply_to g x m ≡ reply_to g y m
-  pub share : share_at g (place g m) (next_state g x m) ≡ share_at g (place g m) (next_state g y m)
+  pub subtree_after : subtree g (path_of g m) (next_state g x m) ≡ subtree g (path_of g m) (next_state g y m)
 
--- Two steps, in either order: the replies are the same, and so is the state in the end.
+-- Two messages in either order: each gets the same reply, and the state in the end is the same.
 pub record Commute (g : Geometry) (x : State) (m n : Msg) : Type 0 where
   pub first : reply_to g (next_state g x n) m ≡ reply_to g x m
   pub second : reply_to g (next_state g x m) n ≡ reply_to g x n
   pub state : next_state g (next_state g x m) n ≡ next_state g (next_state g x n) m
 
--- The reply to each message is the same where they run by ticket, and the state in the end is the same.
+-- Run in order of their tickets, the messages get the replies that they get in the order of the list, and lead to the same state.
 pub record SameByTicket (g : Geometry) (x : State) (es : List (ℕ × Msg)) : Type 0 where
-  pub told : told_at g x (by_ticket es) ≡ by_ticket (told_at g x es)
-  pub state : fold g x (messages (by_ticket es)) ≡ fold g x (messages es)
+  pub replies : serial_replies g x (by_ticket es) ≡ by_ticket (serial_replies g x es)
+  pub state : state_after_all g x (messages (by_ticket es)) ≡ state_after_all g x (messages es)
 
 abbrev pub is_refused : Reply → Bool
 is_refused (Refused why) = true
 is_refused _ = false
 
--- those of the messages that are logged, where they run one after the other
+-- the messages of a list that are logged, where they run one after the other from x on
 abbrev pub logged : Geometry → State → List Msg → List Msg
 logged g x [] = []
-logged g x (m ∷ ms) = let rest = logged g (next_state g x m) ms in if is_loggable m (reply_to g x m) then m ∷ rest else rest
+logged g x (m ∷ ms) = let rest = logged g (next_state g x m) ms in if is_recorded m (reply_to g x m) then m ∷ rest else rest
 
--- each ticket is at most those after it
+-- The entries are sorted by ticket: each ticket is at most those after it.
 abbrev pub AreInOrder : {A : Type 0} → List (ℕ × A) → Type 0
 AreInOrder [] = Unit {0}
 AreInOrder (e ∷ es) = AllByRecursion (λ d. e.0 ≤ d.0) es × AreInOrder es

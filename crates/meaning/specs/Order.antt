@@ -5,7 +5,7 @@ use Rattle.affinity.specs.declared.geometry.Geometry.{Geometry}
 use Rattle.affinity.specs.Path.{are_related}
 use Rattle.messages.specs.declared.Msg.{Msg}
 use Rattle.messages.specs.declared.Reply.{Reply}
-use Rattle.messages.specs.Messages.{place}
+use Rattle.messages.specs.Messages.{path_of}
 use Rattle.meaning.specs.State.{State}
 use Rattle.meaning.specs.Serial.{reply_to, next_state}
 
@@ -14,24 +14,25 @@ abbrev pub serial_replies : Geometry → State → List (ℕ × Msg) → List (�
 serial_replies g x [] = []
 serial_replies g x (e ∷ es) = (e.0, reply_to g x e.1) ∷ serial_replies g (next_state g x e.1) es
 
+-- the messages of entries, without their tickets
 abbrev pub messages : List (ℕ × Msg) → List Msg
 messages es = map (λ e. e.1) es
 
--- in front of the first one with a greater ticket
+-- the list with the entry e in front of the first one that has a greater ticket
 abbrev pub put : {A : Type 0} → ℕ × A → List (ℕ × A) → List (ℕ × A)
 put e [] = e ∷ []
 put e (d ∷ ds) = if nat_lt e.0 d.0 then e ∷ d ∷ ds else d ∷ put e ds
 
--- the same in order of their tickets
+-- the entries of a list, sorted by ticket
 abbrev pub by_ticket : {A : Type 0} → List (ℕ × A) → List (ℕ × A)
 by_ticket [] = []
 by_ticket (e ∷ es) = put e (by_ticket es)
 
--- two messages at related places have their tickets in order
-abbrev pub IsBefore : Geometry → ℕ × Msg → ℕ × Msg → Type 0
-IsBefore g e d = are_related (place g e.1) (place g d.1) ≡ true → e.0 < d.0
+-- If the two messages belong at related paths, the first has the smaller ticket.
+abbrev pub InOrderIfRelated : Geometry → ℕ × Msg → ℕ × Msg → Type 0
+InOrderIfRelated g e d = are_related (path_of g e.1) (path_of g d.1) ≡ true → e.0 < d.0
 
--- Of messages at related places the one with the smaller ticket comes first.
+-- Of messages at related paths the one with the smaller ticket comes first.
 abbrev pub KeepsOrder : Geometry → List (ℕ × Msg) → Type 0
 KeepsOrder g [] = Unit {0}
-KeepsOrder g (e ∷ es) = AllByRecursion (IsBefore g e) es × KeepsOrder g es
+KeepsOrder g (e ∷ es) = AllByRecursion (InOrderIfRelated g e) es × KeepsOrder g es

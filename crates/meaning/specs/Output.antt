@@ -25,12 +25,13 @@ abbrev pub output_lines : Geometry → State → List (List ℕ) → List (List 
 output_lines g x [] = []
 output_lines g x (line ∷ ls) = answer_line g x (message_of line) ∷ output_lines g (state_after_line g x (message_of line)) ls
 
+-- the bytes of all pieces, one after the other
 abbrev pub joined : List (List ℕ) → List ℕ
 joined pieces = flat_map (λ piece. piece) pieces
 
 -- all that the serial server writes for an input, from a state on
-abbrev pub serial_out : Geometry → State → List ℕ → List ℕ
-serial_out g x input = joined (output_lines g x (lines input))
+abbrev pub serial_output : Geometry → State → List ℕ → List ℕ
+serial_output g x input = joined (output_lines g x (lines input))
 
 -- the state after all of some lines
 abbrev pub state_after_lines : Geometry → State → List (List ℕ) → State
@@ -63,7 +64,7 @@ pub record AnswersWholeLines (g : Geometry) (start : State) (left : Option (List
 abbrev pub IsBeginning : Geometry → State → List ℕ → List ℕ → Type 0
 IsBeginning g start input written = (n : ℕ) × (written ≡ joined (take n (output_lines g start (lines input))))
 
--- Where the input is known, what was written after the old bytes is so.
+-- Where the input is known: P holds of it and of what was written after the old bytes.
 abbrev pub WritesOutput : Option (List ℕ) → Option (List ℕ) → Option (List ℕ) → (List ℕ → List ℕ → Type 0) → Type 0
 WritesOutput None old new P = Unit {0}
 WritesOutput (Some input) old new P = (written : List ℕ) × Appends old new written × P input written

@@ -8,22 +8,22 @@ use Rattle.messages.specs.Lines.{lines}
 use Rattle.meaning.specs.State.{State}
 use Rattle.meaning.specs.Output.{state_after_lines, output_lines, joined, with_newlines, HasNoNewline}
 
--- These lines were taken of the input and the rest is left of it, unless the input has ended.
-pub record AreTaken (input rest : List ℕ) (ended : Bool) (taken : List (List ℕ)) : Type 0 where
+-- These lines were taken of the input and the rest is left of it, unless the input is drained (its end was seen, and nothing is held).
+pub record AreTaken (input rest : List ℕ) (drained : Bool) (taken : List (List ℕ)) : Type 0 where
   pub to_come : lines input ≡ taken ++ lines rest
   pub are_lines : AllByRecursion HasNoNewline taken
-  pub whole : (ended ≡ true) ⊎ (input ≡ with_newlines taken ++ rest)
+  pub whole : (drained ≡ true) ⊎ (input ≡ with_newlines taken ++ rest)
 
--- the same of an input that may be unknown
+-- Where the input is known: these lines were taken of it, and the rest is left.
 abbrev pub TakesLines : Option (List ℕ) → Option (List ℕ) → Bool → List (List ℕ) → Type 0
-TakesLines None left ended taken = Unit {0}
-TakesLines (Some input) left ended taken = (rest : List ℕ) × (left ≡ Some rest) × AreTaken input rest ended taken
+TakesLines None left drained taken = Unit {0}
+TakesLines (Some input) left drained taken = (rest : List ℕ) × (left ≡ Some rest) × AreTaken input rest drained taken
 
--- From a state on, a session has answered lines of its input after what was written before. So much of the input is left, this is its
--- state now, and this is what was written.
-pub record HasAnswered (g : Geometry) (start : State) (input left : Option (List ℕ)) (ended : Bool) (now : State)
+-- From the state `start` on, a session has answered lines of its input: `left` is what is left of the input, `now` the state after these
+-- lines, and `written` is `before` with their answers after it.
+pub record HasAnswered (g : Geometry) (start : State) (input left : Option (List ℕ)) (drained : Bool) (now : State)
     (before written : Option (List ℕ)) : Type 0 where
   pub answered : List (List ℕ)
-  pub taken : TakesLines input left ended answered
+  pub taken : TakesLines input left drained answered
   pub state : now ≡ state_after_lines g start answered
   pub output : Appends before written (joined (output_lines g start answered))

@@ -2,6 +2,6 @@
 use Rattle.std.specs.Prelude.{Bool}
 use Rattle.meaning.specs.State.{State, BlockKey, clearing}
 
--- without the blocks that the test picks
+-- the state without the blocks that the test picks
 abbrev pub without_blocks : (BlockKey → Bool) → State → State
-without_blocks picks x = record x { blocks = clearing picks x.blocks }
+without_blocks selected x = record x { blocks = clearing selected x.blocks }

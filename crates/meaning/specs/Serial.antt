@@ -1,7 +1,7 @@
--- Statement for clients: What each message means: its tests, its effect and its reply; and lists of messages, one after the other.
+-- Statement for clients: What each message means: its checks, its effect and its reply; and lists of messages, one after the other.
 use Rattle.std.specs.Prelude.{ℕ, ◌^◌, Bool, true, false, not, ◌||◌, ◌&&◌, nat_lt, List, [], ◌∷◌, find, replicate, unwrap_or, if◌then◌else◌, Option, Some, None, is_some}
 use Rattle.affinity.specs.declared.geometry.Geometry.{Geometry}
-use Rattle.affinity.specs.Geometry.{group}
+use Rattle.affinity.specs.Geometry.{stripe_of}
 use Rattle.affinity.specs.Kind.{is_changing}
 use Rattle.messages.specs.declared.Block.{Block}
 use Rattle.messages.specs.declared.Msg.{Msg}
@@ -11,11 +11,11 @@ use Rattle.messages.specs.declared.Refusal.TheVariants.{Range, Volume, Exists, S
 use Rattle.messages.specs.declared.Reply.{Reply}
 use Rattle.messages.specs.declared.Reply.TheVariants.{Done, Hole, Block as Found, Files, Usage, Summary, Refused, Label}
 use Rattle.messages.specs.Messages.{kind, four_numbers, is_in_range}
-use Rattle.meaning.specs.State.{State, BlockKey, adding, dropping, setting, clearing, is_volume, is_file, is_block, is_file_of, is_block_of, is_block_of_file, sum_below, one_if, file_count, block_count, group_count, over_volumes}
+use Rattle.meaning.specs.State.{State, BlockKey, adding, dropping, setting, clearing, is_volume, is_file, is_block, is_file_of, is_block_of, is_block_of_file, sum_below, one_if, file_count, block_count, blocks_in_stripe, sum_over_volumes}
 
--- ---- the tests
+-- ---- the checks
 
--- what four numbers are, in this order: an aggregate, a volume, a file and a block
+-- the key of a block by a list of four numbers: its aggregate, volume, file and number
 abbrev pub key_of : List ℕ → BlockKey
 key_of (a ∷ v ∷ f ∷ b ∷ []) = (a, v, f, b)
 key_of _ = (0, 0, 0, 0)
@@ -24,22 +24,22 @@ key_of _ = (0, 0, 0, 0)
 abbrev pub key : Msg → BlockKey
 key m = key_of (four_numbers m)
 
--- the tests of each kind, in order
-abbrev pub tests : Msg → List Refusal
-tests (MakeVol a v) = Range ∷ Exists ∷ []
-tests (DropVol a v) = Range ∷ Volume ∷ Sealed ∷ []
-tests (Create a v f) = Range ∷ Volume ∷ Sealed ∷ Exists ∷ []
-tests (Delete a v f) = Range ∷ Volume ∷ Sealed ∷ File ∷ []
-tests (ListFiles a v) = Range ∷ Volume ∷ []
-tests (Seal a v) = Range ∷ Volume ∷ []
-tests (Unseal a v) = Range ∷ Volume ∷ []
-tests (AskUsage a v) = Range ∷ Volume ∷ []
-tests (Write a v f b content) = Range ∷ Volume ∷ Sealed ∷ File ∷ Space ∷ []
-tests (Punch a v f b) = Range ∷ Volume ∷ Sealed ∷ File ∷ []
-tests (Read a v f b) = Range ∷ Volume ∷ File ∷ []
-tests AskSummary = []
-tests (SetLabel a v bytes) = Range ∷ Volume ∷ Sealed ∷ []
-tests (AskLabel a v) = Range ∷ Volume ∷ []
+-- the checks that a message has to pass, in order, each named by the refusal that it gives
+abbrev pub checks : Msg → List Refusal
+checks (MakeVol a v) = Range ∷ Exists ∷ []
+checks (DropVol a v) = Range ∷ Volume ∷ Sealed ∷ []
+checks (Create a v f) = Range ∷ Volume ∷ Sealed ∷ Exists ∷ []
+checks (Delete a v f) = Range ∷ Volume ∷ Sealed ∷ File ∷ []
+checks (ListFiles a v) = Range ∷ Volume ∷ []
+checks (Seal a v) = Range ∷ Volume ∷ []
+checks (Unseal a v) = Range ∷ Volume ∷ []
+checks (AskUsage a v) = Range ∷ Volume ∷ []
+checks (Write a v f b content) = Range ∷ Volume ∷ Sealed ∷ File ∷ Space ∷ []
+checks (Punch a v f b) = Range ∷ Volume ∷ Sealed ∷ File ∷ []
+checks (Read a v f b) = Range ∷ Volume ∷ File ∷ []
+checks AskSummary = []
+checks (SetLabel a v bytes) = Range ∷ Volume ∷ Sealed ∷ []
+checks (AskLabel a v) = Range ∷ Volume ∷ []
 
 -- whether what the message makes is there already
 abbrev pub exists : State → Msg → Bool
@@ -47,18 +47,18 @@ exists x (MakeVol a v) = x.made (a, v)
 exists x (Create a v f) = x.files (a, v, f)
 exists x _ = false
 
--- whether the message passes a test
+-- whether the message passes a check
 abbrev pub passes : Geometry → State → Msg → Refusal → Bool
 passes g x m Range = is_in_range g m
 passes g x m Volume = let n = key m in x.made (n.0, n.1)
 passes g x m Exists = not (exists x m)
 passes g x m Sealed = let n = key m in not (x.sealed (n.0, n.1))
 passes g x m File = let n = key m in x.files (n.0, n.1, n.2)
-passes g x m Space = let n = key m in is_some (x.blocks n) || nat_lt (group_count g x n.0 n.1 (group g n.2 n.3)) g.quota
+passes g x m Space = let n = key m in is_some (x.blocks n) || nat_lt (blocks_in_stripe g x n.0 n.1 (stripe_of g n.2 n.3)) g.quota
 
--- the first test that fails
+-- why the message is refused: the first check that fails, if one does
 abbrev pub refusal : Geometry → State → Msg → Option Refusal
-refusal g x m = find (λ test. not (passes g x m test)) (tests m)
+refusal g x m = find (λ test. not (passes g x m test)) (checks m)
 
 -- ---- the step
 
@@ -66,7 +66,7 @@ refusal g x m = find (λ test. not (passes g x m test)) (tests m)
 abbrev pub no_label : List ℕ
 no_label = replicate 32 0
 
--- the state after a message that passes its tests
+-- the state after a message that passes its checks
 abbrev pub effect : State → Msg → State
 effect x (MakeVol a v) = record x { made = adding (is_volume a v) x.made; labels = setting (is_volume a v) no_label x.labels }
 effect x (DropVol a v) = record {
@@ -89,6 +89,7 @@ effect x (AskUsage a v) = x
 effect x AskSummary = x
 effect x (AskLabel a v) = x
 
+-- the reply to a `read`, by the block that is there, if one is
 abbrev pub block_reply : Option Block → Reply
 block_reply None = Hole
 block_reply (Some content) = Found content
@@ -97,23 +98,24 @@ block_reply (Some content) = Found content
 abbrev pub file_bits : Geometry → State → ℕ → ℕ → ℕ
 file_bits g x a v = sum_below g.files (λ f. if x.files (a, v, f) then 2 ^ f else 0)
 
--- the reply to a message that passes its tests
+-- the reply to a message that passes its checks
 abbrev pub accepted_reply : Geometry → State → Msg → Reply
 accepted_reply g x (Read a v f b) = block_reply (x.blocks (a, v, f, b))
 accepted_reply g x (ListFiles a v) = Files (file_bits g x a v)
 accepted_reply g x (AskUsage a v) = Usage (file_count g x a v) (block_count g x a v) (x.sealed (a, v))
-accepted_reply g x AskSummary = Summary (over_volumes g (λ a v. one_if (x.made (a, v)))) (over_volumes g (file_count g x))
-    (over_volumes g (block_count g x))
+accepted_reply g x AskSummary = Summary (sum_over_volumes g (λ a v. one_if (x.made (a, v)))) (sum_over_volumes g (file_count g x))
+    (sum_over_volumes g (block_count g x))
 accepted_reply g x (AskLabel a v) = Label (unwrap_or (x.labels (a, v)) no_label)
 accepted_reply g x _ = Done
 
-abbrev pub outcome : Option Refusal → Reply → State → State → Reply × State
-outcome None reply new old = (reply, new)
-outcome (Some why) reply new old = (Refused why, old)
+-- the reply and the state after a message, by why it is refused, if it is
+abbrev pub reply_and_state : Option Refusal → Reply → State → State → Reply × State
+reply_and_state None reply new old = (reply, new)
+reply_and_state (Some why) reply new old = (Refused why, old)
 
 -- the reply and the new state: a refusal changes nothing
 abbrev pub step : Geometry → State → Msg → Reply × State
-step g x m = outcome (refusal g x m) (accepted_reply g x m) (effect x m) x
+step g x m = reply_and_state (refusal g x m) (accepted_reply g x m) (effect x m) x
 
 abbrev pub reply_to : Geometry → State → Msg → Reply
 reply_to g x m = (step g x m).0
@@ -124,20 +126,21 @@ next_state g x m = (step g x m).1
 -- ---- messages one after the other
 
 -- the state after all of these messages, from x on
-abbrev pub fold : Geometry → State → List Msg → State
-fold g x [] = x
-fold g x (m ∷ ms) = fold g (next_state g x m) ms
+abbrev pub state_after_all : Geometry → State → List Msg → State
+state_after_all g x [] = x
+state_after_all g x (m ∷ ms) = state_after_all g (next_state g x m) ms
 
+-- the reply to each of these messages, from x on
 abbrev pub replies : Geometry → State → List Msg → List Reply
 replies g x [] = []
 replies g x (m ∷ ms) = reply_to g x m ∷ replies g (next_state g x m) ms
 
--- ---- which messages are logged
+-- ---- which messages have a record in the log
 
 abbrev pub is_done : Reply → Bool
 is_done Done = true
 is_done _ = false
 
 -- a changing message that was carried out
-abbrev pub is_loggable : Msg → Reply → Bool
-is_loggable m reply = is_changing (kind m) && is_done reply
+abbrev pub is_recorded : Msg → Reply → Bool
+is_recorded m reply = is_changing (kind m) && is_done reply

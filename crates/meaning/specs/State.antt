@@ -1,7 +1,7 @@
 -- Statement for clients: What a server keeps. A set is its test, and a map its look-up.
 use Rattle.std.specs.Prelude.{◌≡◌, ℕ, zero, suc, ◌+◌, ◌<◌, ◌≤◌, Bool, true, false, not, ◌&&◌, ◌||◌, ◌==◌, List, if◌then◌else◌, Option, Some, None, is_some, IfSome}
 use Rattle.affinity.specs.declared.geometry.Geometry.{Geometry}
-use Rattle.affinity.specs.Geometry.{group}
+use Rattle.affinity.specs.Geometry.{stripe_of}
 use Rattle.messages.specs.declared.Block.{Block}
 use Rattle.messages.specs.Messages.{IsBlock, AreSizedBytes}
 
@@ -15,17 +15,17 @@ Map K X = K → Option X
 
 -- the set with those, or without those, that the test picks
 abbrev pub adding : {K : Type 0} → (K → Bool) → Set K → Set K
-adding picks s k = picks k || s k
+adding selected s k = selected k || s k
 
 abbrev pub dropping : {K : Type 0} → (K → Bool) → Set K → Set K
-dropping picks s k = not (picks k) && s k
+dropping selected s k = not (selected k) && s k
 
 -- the map with this value at the keys that the test picks, or with none there
 abbrev pub setting : {K X : Type 0} → (K → Bool) → X → Map K X → Map K X
-setting picks value m k = if picks k then Some value else m k
+setting selected value m k = if selected k then Some value else m k
 
 abbrev pub clearing : {K X : Type 0} → (K → Bool) → Map K X → Map K X
-clearing picks m k = if picks k then None else m k
+clearing selected m k = if selected k then None else m k
 
 -- ---- keys: a volume (a, v), a file (a, v, f), a block (a, v, f, b)
 
@@ -47,6 +47,7 @@ is_file a v f k = (a == k.0) && (v == k.1) && (f == k.2)
 abbrev pub is_block : ℕ → ℕ → ℕ → ℕ → BlockKey → Bool
 is_block a v f b k = (a == k.0) && (v == k.1) && (f == k.2) && (b == k.3)
 
+-- whether a file is of the volume (a, v), a block of that volume, a block of its file f
 abbrev pub is_file_of : ℕ → ℕ → FileKey → Bool
 is_file_of a v k = (a == k.0) && (v == k.1)
 
@@ -80,23 +81,23 @@ abbrev pub one_if : Bool → ℕ
 one_if true = 1
 one_if false = 0
 
--- how many numbers below n pass
+-- how many numbers below n pass the test
 abbrev pub count_below : ℕ → (ℕ → Bool) → ℕ
 count_below n passes = sum_below n (λ i. one_if (passes i))
 
--- the files of a volume, its blocks, and its blocks of one stripe
+-- how many files a volume has, how many blocks, and how many blocks in one of its stripes
 abbrev pub file_count : Geometry → State → ℕ → ℕ → ℕ
 file_count g x a v = count_below g.files (λ f. x.files (a, v, f))
 
 abbrev pub block_count : Geometry → State → ℕ → ℕ → ℕ
 block_count g x a v = sum_below g.files (λ f. count_below g.blocks (λ b. is_some (x.blocks (a, v, f, b))))
 
-abbrev pub group_count : Geometry → State → ℕ → ℕ → ℕ → ℕ
-group_count g x a v s = sum_below g.files (λ f. count_below g.blocks (λ b. (group g f b == s) && is_some (x.blocks (a, v, f, b))))
+abbrev pub blocks_in_stripe : Geometry → State → ℕ → ℕ → ℕ → ℕ
+blocks_in_stripe g x a v s = sum_below g.files (λ f. count_below g.blocks (λ b. (stripe_of g f b == s) && is_some (x.blocks (a, v, f, b))))
 
 -- the sum over all volumes
-abbrev pub over_volumes : Geometry → (ℕ → ℕ → ℕ) → ℕ
-over_volumes g f = sum_below g.aggregates (λ a. sum_below g.volumes (λ v. f a v))
+abbrev pub sum_over_volumes : Geometry → (ℕ → ℕ → ℕ) → ℕ
+sum_over_volumes g f = sum_below g.aggregates (λ a. sum_below g.volumes (λ v. f a v))
 
 -- ---- which states there are
 
@@ -110,4 +111,4 @@ pub record IsState (g : Geometry) (x : State) : Type 0 where
   pub labels : (k : VolumeKey) → is_some (x.labels k) ≡ x.made k
   pub content : (k : BlockKey) → IfSome (x.blocks k) IsBlock
   pub label_content : (k : VolumeKey) → IfSome (x.labels k) (AreSizedBytes 32)
-  pub quota : (a v s : ℕ) → group_count g x a v s ≤ g.quota
+  pub quota : (a v s : ℕ) → blocks_in_stripe g x a v s ≤ g.quota

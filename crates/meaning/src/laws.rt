@@ -8,10 +8,10 @@ ghost use Rattle.affinity.specs.Path.{are_related};
 ghost use Rattle.messages.specs.declared.Msg.{Msg};
 ghost use Rattle.messages.specs.declared.Refusal.{Refusal};
 ghost use Rattle.messages.specs.declared.Reply.TheVariants.{Refused};
-ghost use Rattle.messages.specs.Messages.{place, IsMessage};
+ghost use Rattle.messages.specs.Messages.{path_of, IsMessage};
 ghost use Rattle.meaning.specs.State.{State, IsState, empty};
-ghost use Rattle.meaning.specs.Serial.{refusal, reply_to, next_state, fold, is_loggable};
-ghost use Rattle.meaning.specs.Shares.{AgreeOn, share, standing};
+ghost use Rattle.meaning.specs.Serial.{refusal, reply_to, next_state, state_after_all, is_recorded};
+ghost use Rattle.meaning.specs.Subtrees.{AgreeOn, subtree, standing};
 ghost use Rattle.meaning.specs.Order.{by_ticket, KeepsOrder};
 ghost use Rattle.meaning.specs.Laws.{outside, RunAlike, Commute, SameByTicket, is_refused, logged, AreInOrder};
 
@@ -20,10 +20,11 @@ ghost use Rattle.meaning.specs.Laws.{outside, RunAlike, Commute, SameByTicket, i
 pub fn step_keeps_state()
     ensures nothing { (g : Geometry) → IsState g empty }
     ensures step { (g : Geometry) (x : State) (m : Msg) → IsState g x → IsMessage m → IsState g (next_state g x m) }
-    ensures steps { (g : Geometry) (x : State) (ms : List Msg) → IsState g x → AllByRecursion IsMessage ms → IsState g (fold g x ms) }
+    ensures steps { (g : Geometry) (x : State) (ms : List Msg) → IsState g x → AllByRecursion IsMessage ms
+        → IsState g (state_after_all g x ms) }
 {}
 
-/// A message whose test fails is answered with that refusal, and a message that is answered with a
+/// A message whose check fails is answered with that refusal, and a message that is answered with a
 /// refusal changes nothing.
 pub fn refusal_changes_nothing()
     ensures refused { (g : Geometry) (x : State) (m : Msg) (why : Refusal) → refusal g x m ≡ Some why → reply_to g x m ≡ Refused why }
@@ -33,14 +34,14 @@ pub fn refusal_changes_nothing()
 /// A message reads only what lies at its place, below it and above it, and changes only what lies
 /// at its place and below.
 pub fn step_reads_and_changes_only()
-    ensures reads { (g : Geometry) (x y : State) (m : Msg) → share g (place g m) x ≡ share g (place g m) y
-        → standing g (place g m) x ≡ standing g (place g m) y → RunAlike g x y m }
-    ensures changes { (g : Geometry) (x : State) (m : Msg) → AgreeOn g (outside (place g m)) (next_state g x m) x }
+    ensures reads { (g : Geometry) (x y : State) (m : Msg) → subtree g (path_of g m) x ≡ subtree g (path_of g m) y
+        → standing g (path_of g m) x ≡ standing g (path_of g m) y → RunAlike g x y m }
+    ensures changes { (g : Geometry) (x : State) (m : Msg) → AgreeOn g (outside (path_of g m)) (next_state g x m) x }
 {}
 
 /// Two messages at unrelated places may run in either order.
 pub fn unrelated_steps_commute()
-    ensures { (g : Geometry) (x : State) (m n : Msg) → are_related (place g m) (place g n) ≡ false → Commute g x m n }
+    ensures { (g : Geometry) (x : State) (m n : Msg) → are_related (path_of g m) (path_of g n) ≡ false → Commute g x m n }
 {}
 
 /// Where messages at related places run in the order of their tickets, each message gets the reply
@@ -53,6 +54,6 @@ pub fn order_by_ticket()
 
 /// What isn't logged changes nothing, so the messages that are logged lead to the state of all.
 pub fn logged_messages_are_enough()
-    ensures unlogged { (g : Geometry) (x : State) (m : Msg) → is_loggable m (reply_to g x m) ≡ false → next_state g x m ≡ x }
-    ensures logged { (g : Geometry) (x : State) (ms : List Msg) → fold g x (logged g x ms) ≡ fold g x ms }
+    ensures unlogged { (g : Geometry) (x : State) (m : Msg) → is_recorded m (reply_to g x m) ≡ false → next_state g x m ≡ x }
+    ensures logged { (g : Geometry) (x : State) (ms : List Msg) → state_after_all g x (logged g x ms) ≡ state_after_all g x ms }
 {}

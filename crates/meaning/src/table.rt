@@ -1,24 +1,24 @@
-//! The tests of each kind of message.
+//! The checks of each kind of message.
 
 ghost use Rattle.std.specs.Prelude.{◌≡◌};
-ghost use Rattle.meaning.specs.Serial.{tests};
-ghost use Rattle.meaning.specs.ByKind.{tests_by};
+ghost use Rattle.meaning.specs.Serial.{checks};
+ghost use Rattle.meaning.specs.ByKind.{checks_by};
 
 use affinity::Kind;
 use messages::Refusal::{Exists, File, Range, Sealed, Space, Volume};
 use messages::{Msg, Refusal};
 
-/// The tests of a message, in order. Each is named by the refusal that is given where it fails. The
+/// The checks of a message, in order. Each is named by the refusal that is given where it fails. The
 /// first that fails gives the reply.
-pub fn tests_of(m: &Msg) -> &'static [Refusal]
-    ensures { result.now ≡ tests m.now }
+pub fn checks_of(m: &Msg) -> &'static [Refusal]
+    ensures { result.now ≡ checks m.now }
 {
-    tests_by(m.kind())
+    checks_by(m.kind())
 }
 
-/// The tests of the messages of a kind, in order.
-pub(crate) fn tests_by(kind: Kind) -> &'static [Refusal]
-    ensures { result.now ≡ tests_by kind }
+/// The checks of the messages of a kind, in order.
+pub(crate) fn checks_by(kind: Kind) -> &'static [Refusal]
+    ensures { result.now ≡ checks_by kind }
 {
     match kind {
         Kind::Summary => &[],

@@ -4,7 +4,7 @@ use Rattle.std.proofs.lemmas.List.{append_assoc, take_at, drop_at, drop-drop, ap
 use Rattle.std.specs.Prelude.{if◌then◌else◌}
 use Rattle.hex.specs.Hex.{encode_lower, lower_digits}
 use Rattle.hex.proofs.HexLemmas.{length-encode_with}
-use Rattle.messages.specs.Replies.{Appends, at_least_one, without_zeros, shown, has_file, spaced, files_below, files_text}
+use Rattle.messages.specs.Replies.{AppendsText, at_least_one, without_trailing_zeros, shown, has_file, spaced, files_below, files_text}
 use Rattle.std.specs.Int.{bit_at, trailing_zeros, w64}
 use Rattle.std.proofs.Math.Nat.{div-div-eq-div-mul, div-le_self, div-lt_iff_lt-mul, one-mul}
 use Rattle.std.proofs.lemmas.Bool.{cases_lt, eq-eqb, ne_eqb}
@@ -13,7 +13,7 @@ use Rattle.std.proofs.lemmas.Nat.Bits.{bit_at_above, bit_at-trailing_zeros}
 use borrow.Rule.Slice.PartMut.{put_mid}
 
 -- a text behind a text
-pub appends_more : {old mid new : List ℕ} {at k end : ℕ} {t u : List ℕ} → Appends old mid at k t → Appends mid new k end u → Appends old new at end (t ++ u)
+pub appends_more : {old mid new : List ℕ} {at k end : ℕ} {t u : List ℕ} → AppendsText old mid at k t → AppendsText mid new k end u → AppendsText old new at end (t ++ u)
 appends_more {old} {mid} {new} {at} {k} {end} {t} {u} first second =
     let one = first.ends in
     let two = second.ends in
@@ -27,11 +27,11 @@ appends_more {old} {mid} {new} {at} {k} {end} {t} {u} first second =
     }
 
 -- the same text in other words
-pub appends_same : {old new : List ℕ} {at end : ℕ} {t u : List ℕ} → t ≡ u → Appends old new at end t → Appends old new at end u
-appends_same {old} {new} {at} {end} e h = subst (λ (t : List ℕ). Appends old new at end t) e h
+pub appends_same : {old new : List ℕ} {at end : ℕ} {t u : List ℕ} → t ≡ u → AppendsText old new at end t → AppendsText old new at end u
+appends_same {old} {new} {at} {end} e h = subst (λ (t : List ℕ). AppendsText old new at end t) e h
 
 -- a text that takes the place of as many bytes
-pub appends_from : (old text : List ℕ) (at : ℕ) → at + length text ≤ length old → Appends old (take at old ++ (text ++ drop (length text) (drop at old))) at (at + length text) text
+pub appends_from : (old text : List ℕ) (at : ℕ) → at + length text ≤ length old → AppendsText old (take at old ++ (text ++ drop (length text) (drop at old))) at (at + length text) text
 appends_from old text at room =
     let rest : drop (length text) (drop at old) ≡ drop (at + length text) old = drop-drop (length text) at old ∙ ap (λ n. drop n old) (omega arith) in
     let front : length (take at old ++ text) ≡ at + length text = length-append (take at old) text ∙ ap (λ n. n + length text) (length-take-le at old (omega arith)) in
@@ -44,11 +44,12 @@ appends_from old text at room =
     }
 
 pub appends_put : {old new text : List ℕ} {at end : ℕ} → at + length text ≤ length old → new ≡ take at old ++ (text ++ drop (length text) (drop at old)) → end ≡ at + length text
-    → Appends old new at end text
+    → AppendsText old new at end text
 appends_put {old} {text = text} {at} room e ends = rw (e, ends) (appends_from old text at room)
 
 -- a text in a part of the buffer that is as long
-pub appends_part : {old part text : List ℕ} {at k end : ℕ} → at + length text ≤ length old → part ≡ text → k ≡ length text → end ≡ at + length text → Appends old (put_mid at k old part) at end text
+pub appends_part : {old part text : List ℕ} {at k end : ℕ} → at + length text ≤ length old → part ≡ text → k ≡ length text → end ≡ at + length text
+    → AppendsText old (put_mid at k old part) at end text
 appends_part {old} {text = text} {at} {k} room same len ends = appends_put room (ap (put_mid at k old) same ∙ ap (λ n. put_mid at n old text) len) ends
 
 -- ---- the digits that show some bytes
@@ -56,7 +57,7 @@ appends_part {old} {text = text} {at} {k} room same len ends = appends_put room 
 pub length-lower : (bytes : List ℕ) → length (encode_lower bytes) ≡ 2 * length bytes
 length-lower bytes = length-encode_with lower_digits bytes
 
-pub shown_by : (bytes front : List ℕ) → front ≡ at_least_one (without_zeros bytes) → encode_lower front ≡ shown bytes
+pub shown_by : (bytes front : List ℕ) → front ≡ at_least_one (without_trailing_zeros bytes) → encode_lower front ≡ shown bytes
 unfolding shown
 shown_by bytes front e = ap encode_lower e
 
@@ -124,10 +125,10 @@ next_file files from fits some =
 -- ---- a whole line
 
 -- the same buffer and end under other names
-pub appends_moved : {old new new' : List ℕ} {at end end' : ℕ} {t : List ℕ} → new' ≡ new → end' ≡ end → Appends old new at end t → Appends old new' at end' t
+pub appends_moved : {old new new' : List ℕ} {at end end' : ℕ} {t : List ℕ} → new' ≡ new → end' ≡ end → AppendsText old new at end t → AppendsText old new' at end' t
 appends_moved {old} {new} {new'} {at} {end} {end'} {t} e f h = rw (e, f) h
 
-pub line_bound : (old new line : List ℕ) (end : ℕ) → length new ≡ 1031 → Appends old new 0 end line → end ≤ 1031
+pub line_bound : (old new line : List ℕ) (end : ℕ) → length new ≡ 1031 → AppendsText old new 0 end line → end ≤ 1031
 line_bound old new line end size h =
     let ends = h.ends in
     let front : length (take end new) ≡ length line = ap length h.front in

@@ -104,9 +104,9 @@ told_ok (Ok bytes) r out h = (ap result_ok h.0, h.1)
 told_ok (Err x) r out h = ap result_ok h
 
 -- what the crate's decoding showed, its error left out
-pub decoded_by_crate : (w : List ℕ) (n : ℕ) (r : Result (Unit {0}) FromHexError) (o : Option (Unit {0})) (out : List ℕ)
+pub decoded_by_hex : (w : List ℕ) (n : ℕ) (r : Result (Unit {0}) FromHexError) (o : Option (Unit {0})) (out : List ℕ)
     → MatchResult (decode_sized w n) (λ bytes. (r ≡ Ok tt) × (out ≡ bytes)) (λ e. r ≡ Err e) → o ≡ result_ok r → Decoded w n o out
-decoded_by_crate w n r o out h e = rw e (told_ok (decode_sized w n) r out h)
+decoded_by_hex w n r o out h e = rw e (told_ok (decode_sized w n) r out h)
 
 decoded_ok : (d : Result (List ℕ) FromHexError) (r : Option (Unit {0})) (out : List ℕ) (u : Unit {0}) → MatchResult d (λ bytes. (r ≡ Some tt) × (out ≡ bytes)) (λ e. r ≡ None) → Some u ≡ r → d ≡ Ok out
 decoded_ok (Ok bytes) r out u h e = ap Ok (sym h.1)

@@ -12,7 +12,7 @@ use Rattle.std.proofs.lemmas.Option.{none-some, same_Some}
 use Rattle.std.specs.Prelude.{◌&&◌}
 use Rattle.std.proofs.Math.Seq.{take-add}
 use Rattle.messages.proofs.FirstLines.{first_line-newline, first_line-other, behind_first_line-newline, behind_first_line-other}
-use Rattle.messages.specs.FirstLine.{first_line, behind_first_line, IsWithinLine, GivesLine, PassesLine, LosesFront, IsClosed}
+use Rattle.messages.specs.FirstLine.{first_line, behind_first_line, IsWithinLine, GivesLine, PassesLine, LosesFront, HasWholeFirstLine}
 use Rattle.message.specs.Reader.{still_to_come, are_none}
 
 -- ---- the first line of bytes that are read in parts
@@ -129,9 +129,9 @@ LosesFront-kept (Some x) None keeps = absurd keeps
 LosesFront-kept (Some x) (Some y) keeps = record { got = []; rest = x; parts = refl; within_line = All-nil NoNewline; left_is = ap Some keeps }
 
 -- what is held may be let go, where no newline is in it
-pub LosesFront-held : (held : List ℕ) (known : Option (List ℕ)) → IsWithinLine held → IfSome (prepend_known held known) (λ bs. LosesFront bs known)
-LosesFront-held held None within = tt
-LosesFront-held held (Some ys) within = record { got = held; rest = ys; parts = refl; within_line = within; left_is = refl }
+pub LosesFront-buffered : (buffered : List ℕ) (known : Option (List ℕ)) → IsWithinLine buffered → IfSome (prepend_known buffered known) (λ bs. LosesFront bs known)
+LosesFront-buffered buffered None within = tt
+LosesFront-buffered buffered (Some ys) within = record { got = buffered; rest = ys; parts = refl; within_line = within; left_is = refl }
 
 losing_twice : (x : List ℕ) (b c : Option (List ℕ)) → LosesFront x b → IfSome b (λ bs. LosesFront bs c) → LosesFront x c
 losing_twice x b c first next =
@@ -162,19 +162,19 @@ behind_first_line-later (Some x) b c first next = passing_behind x b c first nex
 
 -- a whole line is held, or nothing is to come
 abbrev pub IsWhole : List ℕ → Option (List ℕ) → Type 0
-IsWhole held known = Contains held 10 ⊎ IsAtEnd known
+IsWhole buffered known = Contains buffered 10 ⊎ IsAtEnd known
 
-pub first_line-held : (held : List ℕ) (known : Option (List ℕ)) → IsWhole held known → IfSome (prepend_known held known) (λ bs. first_line held ≡ first_line bs)
-first_line-held held None whole = tt
-first_line-held held (Some ys) (inl there) = sym (first_line-whole held ys there)
-first_line-held held (Some ys) (inr none) = ap first_line (sym (ap (λ l. held ++ l) none ∙ append-nil held))
+pub first_line-buffered : (buffered : List ℕ) (known : Option (List ℕ)) → IsWhole buffered known → IfSome (prepend_known buffered known) (λ bs. first_line buffered ≡ first_line bs)
+first_line-buffered buffered None whole = tt
+first_line-buffered buffered (Some ys) (inl there) = sym (first_line-whole buffered ys there)
+first_line-buffered buffered (Some ys) (inr none) = ap first_line (sym (ap (λ l. buffered ++ l) none ∙ append-nil buffered))
 
-pub behind_first_line-held : (held : List ℕ) (known : Option (List ℕ)) → IsWhole held known
-    → IfSome (prepend_known held known) (λ bs. prepend_known (behind_first_line held) known ≡ Some (behind_first_line bs))
-behind_first_line-held held None whole = tt
-behind_first_line-held held (Some ys) (inl there) = ap Some (sym (behind_first_line-whole held ys there))
-behind_first_line-held held (Some ys) (inr none) = ap Some (ap (λ l. behind_first_line held ++ l) none ∙ append-nil (behind_first_line held)
-    ∙ ap behind_first_line (sym (ap (λ l. held ++ l) none ∙ append-nil held)))
+pub behind_first_line-buffered : (buffered : List ℕ) (known : Option (List ℕ)) → IsWhole buffered known
+    → IfSome (prepend_known buffered known) (λ bs. prepend_known (behind_first_line buffered) known ≡ Some (behind_first_line bs))
+behind_first_line-buffered buffered None whole = tt
+behind_first_line-buffered buffered (Some ys) (inl there) = ap Some (sym (behind_first_line-whole buffered ys there))
+behind_first_line-buffered buffered (Some ys) (inr none) = ap Some (ap (λ l. behind_first_line buffered ++ l) none ∙ append-nil (behind_first_line buffered)
+    ∙ ap behind_first_line (sym (ap (λ l. buffered ++ l) none ∙ append-nil buffered)))
 
 -- what a search of a part of the buffer shows of the buffer
 module _ (xs : List ℕ) (n e r : ℕ) (within : e ≤ length xs) (bound : r ≤ length (slice_range xs n e)) where
@@ -204,10 +204,10 @@ slice-grown xs ys i j n low same =
     slice-split ys i j (j + n) low (omega arith) ∙ ap (λ l. l ++ slice_range ys j (j + n)) (slice-front xs ys i j same) ∙ ap (λ m. slice_range xs i j ++ take m (drop j ys)) whole
 
 -- the bytes that came move from what is to come to what is held
-pub Keeps-read : (old new : Option (List ℕ)) (held came : List ℕ) → Consumes old new came → Keeps (prepend_known held old) (prepend_known (held ++ came) new)
-Keeps-read None new held came consumes = tt
-Keeps-read (Some x) None held came consumes = absurd consumes
-Keeps-read (Some x) (Some y) held came consumes = append_assoc held came y ∙ ap (λ l. held ++ l) (sym consumes)
+pub Keeps-read : (old new : Option (List ℕ)) (buffered came : List ℕ) → Consumes old new came → Keeps (prepend_known buffered old) (prepend_known (buffered ++ came) new)
+Keeps-read None new buffered came consumes = tt
+Keeps-read (Some x) None buffered came consumes = absurd consumes
+Keeps-read (Some x) (Some y) buffered came consumes = append_assoc buffered came y ∙ ap (λ l. buffered ++ l) (sym consumes)
 
 -- what was read behind bytes without a newline
 pub NoneFrom-read : (xs ys : List ℕ) (i j k : ℕ) → take j ys ≡ take j xs → NoneFrom xs i j → NoneFrom ys j k → NoneFrom ys i k
@@ -219,44 +219,45 @@ NoneFrom-read xs ys i j k same before behind m low high = elim (cases_lt m j) [
 -- ---- steps of a reader of lines: held bytes, and what is to come
 
 -- what is held was let go as well
-pub LosesFront-cleared : (a known : Option (List ℕ)) (held empty : List ℕ) → IfSome a (λ bs. LosesFront bs (prepend_known held known))
-    → IsWithinLine held → empty ≡ [] → IfSome a (λ bs. LosesFront bs (prepend_known empty known))
-LosesFront-cleared a known held empty lost within none =
+pub LosesFront-cleared : (a known : Option (List ℕ)) (buffered empty : List ℕ) → IfSome a (λ bs. LosesFront bs (prepend_known buffered known))
+    → IsWithinLine buffered → empty ≡ [] → IfSome a (λ bs. LosesFront bs (prepend_known empty known))
+LosesFront-cleared a known buffered empty lost within none =
     let gone : prepend_known empty known ≡ known = ap (λ l. prepend_known l known) none ∙ prepend_known-nil known in
-    rw gone (LosesFront-trans a (prepend_known held known) known lost (LosesFront-held held known within))
+    rw gone (LosesFront-trans a (prepend_known buffered known) known lost (LosesFront-buffered buffered known within))
 
-IsAtEnd-told : (ended : Bool) (known : Option (List ℕ)) → ended ≡ true → IsAtEnd (still_to_come ended known)
-IsAtEnd-told false known told = absurd (false≢true told)
-IsAtEnd-told true None told = tt
-IsAtEnd-told true (Some xs) told = refl
+IsAtEnd-known_end : (ended : Bool) (known : Option (List ℕ)) → ended ≡ true → IsAtEnd (still_to_come ended known)
+IsAtEnd-known_end false known known_end = absurd (false≢true known_end)
+IsAtEnd-known_end true None known_end = tt
+IsAtEnd-known_end true (Some xs) known_end = refl
 
-pub IsWhole-told : (ended : Bool) (held : List ℕ) (known : Option (List ℕ)) → (ended ≡ true) ⊎ Contains held 10 → IsWhole held (still_to_come ended known)
-IsWhole-told ended held known (inl told) = inr (IsAtEnd-told ended known told)
-IsWhole-told ended held known (inr there) = inl there
+pub IsWhole-known_end : (ended : Bool) (buffered : List ℕ) (known : Option (List ℕ)) → (ended ≡ true) ⊎ Contains buffered 10 → IsWhole buffered (still_to_come ended known)
+IsWhole-known_end ended buffered known (inl known_end) = inr (IsAtEnd-known_end ended known known_end)
+IsWhole-known_end ended buffered known (inr there) = inl there
 
 -- the first line is passed, after some of it was let go
-pub passed : (a known : Option (List ℕ)) (held rest : List ℕ) → IfSome a (λ bs. LosesFront bs (prepend_known held known)) → IsWhole held known
-    → rest ≡ behind_first_line held → IfSome a (λ bs. prepend_known rest known ≡ Some (behind_first_line bs))
-passed a known held rest lost whole is = rw is (behind_first_line-later a (prepend_known held known) (prepend_known (behind_first_line held) known) lost (behind_first_line-held held known whole))
+pub passed : (a known : Option (List ℕ)) (buffered rest : List ℕ) → IfSome a (λ bs. LosesFront bs (prepend_known buffered known)) → IsWhole buffered known
+    → rest ≡ behind_first_line buffered → IfSome a (λ bs. prepend_known rest known ≡ Some (behind_first_line bs))
+passed a known buffered rest lost whole is =
+    rw is (behind_first_line-later a (prepend_known buffered known) (prepend_known (behind_first_line buffered) known) lost (behind_first_line-buffered buffered known whole))
 
 -- too much of a line is held, so the line is too long
-pub PassesLine-held : (held : List ℕ) (known left : Option (List ℕ)) → 1100 < length (first_line held)
-    → IfSome (prepend_known held known) (λ bs. left ≡ Some (behind_first_line bs)) → IfSome (prepend_known held known) (λ bs. PassesLine bs left)
-PassesLine-held held None left long passed = tt
-PassesLine-held held (Some ys) left long passed = record { long = omega (arith, length-first_line held ys); left_is = passed }
+pub PassesLine-buffered : (buffered : List ℕ) (known left : Option (List ℕ)) → 1100 < length (first_line buffered)
+    → IfSome (prepend_known buffered known) (λ bs. left ≡ Some (behind_first_line bs)) → IfSome (prepend_known buffered known) (λ bs. PassesLine bs left)
+PassesLine-buffered buffered None left long passed = tt
+PassesLine-buffered buffered (Some ys) left long passed = record { long = omega (arith, length-first_line buffered ys); left_is = passed }
 
 some_more : (xs ys : List ℕ) → xs ≢ [] → xs ++ ys ≢ []
 some_more [] ys some = absurd (some refl)
 some_more (x ∷ xs) ys some = λ is. cc
 
 -- a whole line is held, so it is the first
-pub GivesLine-held : (held line rest : List ℕ) (known : Option (List ℕ)) → IsWhole held known → held ≢ [] → line ≡ first_line held → rest
-    ≡ behind_first_line held → IfSome (prepend_known held known) (λ bs. GivesLine line bs (prepend_known rest known))
-GivesLine-held held line rest None whole some line_is rest_is = tt
-GivesLine-held held line rest (Some ys) whole some line_is rest_is = record {
-  more = some_more held ys some;
-  line_is = line_is ∙ first_line-held held (Some ys) whole;
-  left_is = ap (λ l. prepend_known l (Some ys)) rest_is ∙ behind_first_line-held held (Some ys) whole;
+pub GivesLine-buffered : (buffered line rest : List ℕ) (known : Option (List ℕ)) → IsWhole buffered known → buffered ≢ [] → line ≡ first_line buffered → rest
+    ≡ behind_first_line buffered → IfSome (prepend_known buffered known) (λ bs. GivesLine line bs (prepend_known rest known))
+GivesLine-buffered buffered line rest None whole some line_is rest_is = tt
+GivesLine-buffered buffered line rest (Some ys) whole some line_is rest_is = record {
+  more = some_more buffered ys some;
+  line_is = line_is ∙ first_line-buffered buffered (Some ys) whole;
+  left_is = ap (λ l. prepend_known l (Some ys)) rest_is ∙ behind_first_line-buffered buffered (Some ys) whole;
 }
 
 -- ---- the end of the input
@@ -283,27 +284,27 @@ behind_first_line-all : (xs : List ℕ) → IsWithinLine xs → behind_first_lin
 behind_first_line-all xs none = ap behind_first_line (sym (append-nil xs)) ∙ behind_first_line-within xs [] none
 
 -- the first line of what is held ends with a newline, or nothing is behind it
-pub IsClosed-held : (ended : Bool) (held : List ℕ) (known : Option (List ℕ)) → (ended ≡ true) ⊎ Contains held 10
-    → IsClosed (prepend_known held (still_to_come ended known)) (ended && are_none (behind_first_line held))
-IsClosed-held false held None (inl told) = tt
-IsClosed-held false held (Some more) (inl told) = absurd (false≢true told)
-IsClosed-held true held None h = tt
-IsClosed-held true held (Some more) (inl told) = elim (newline_or_none held) [
-  | inl found ↦ inl (contains_front held [] found)
-  | inr none ↦ inr (ap are_none (behind_first_line-all held none))
+pub HasWholeFirstLine-buffered : (ended : Bool) (buffered : List ℕ) (known : Option (List ℕ)) → (ended ≡ true) ⊎ Contains buffered 10
+    → HasWholeFirstLine (prepend_known buffered (still_to_come ended known)) (ended && are_none (behind_first_line buffered))
+HasWholeFirstLine-buffered false buffered None (inl known_end) = tt
+HasWholeFirstLine-buffered false buffered (Some more) (inl known_end) = absurd (false≢true known_end)
+HasWholeFirstLine-buffered true buffered None h = tt
+HasWholeFirstLine-buffered true buffered (Some more) (inl known_end) = elim (newline_or_none buffered) [
+  | inl found ↦ inl (contains_front buffered [] found)
+  | inr none ↦ inr (ap are_none (behind_first_line-all buffered none))
 ]
-IsClosed-held false held None (inr found) = tt
-IsClosed-held false held (Some more) (inr found) = inl (contains_front held more found)
-IsClosed-held true held (Some more) (inr found) = inl (contains_front held [] found)
+HasWholeFirstLine-buffered false buffered None (inr found) = tt
+HasWholeFirstLine-buffered false buffered (Some more) (inr found) = inl (contains_front buffered more found)
+HasWholeFirstLine-buffered true buffered (Some more) (inr found) = inl (contains_front buffered [] found)
 
-closed_behind : (bs : List ℕ) (b : Option (List ℕ)) (drained : Bool) → LosesFront bs b → IsClosed b drained → Contains bs 10 ⊎ (drained ≡ true)
+closed_behind : (bs : List ℕ) (b : Option (List ℕ)) (drained : Bool) → LosesFront bs b → HasWholeFirstLine b drained → Contains bs 10 ⊎ (drained ≡ true)
 closed_behind bs None drained lost closed = absurd (none-some lost.rest lost.left_is)
 closed_behind bs (Some rest) drained lost closed = elim closed [
   | inl found ↦ inl (subst (λ (z : List ℕ). Contains z 10) (sym lost.parts) (contains_behind lost.got lost.rest (subst (λ (z : List ℕ). Contains z 10) (same_Some rest lost.rest lost.left_is) found)))
-  | inr told ↦ inr told
+  | inr known_end ↦ inr known_end
 ]
 
 -- the same, where bytes in front of those were lost
-pub IsClosed-behind : (a b : Option (List ℕ)) (drained : Bool) → IfSome a (λ bs. LosesFront bs b) → IsClosed b drained → IsClosed a drained
-IsClosed-behind None b drained lost closed = tt
-IsClosed-behind (Some bs) b drained lost closed = closed_behind bs b drained lost closed
+pub HasWholeFirstLine-behind : (a b : Option (List ℕ)) (drained : Bool) → IfSome a (λ bs. LosesFront bs b) → HasWholeFirstLine b drained → HasWholeFirstLine a drained
+HasWholeFirstLine-behind None b drained lost closed = tt
+HasWholeFirstLine-behind (Some bs) b drained lost closed = closed_behind bs b drained lost closed

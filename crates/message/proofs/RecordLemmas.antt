@@ -123,9 +123,10 @@ made_again (Label a v) h = refl
 low_byte : (b : ℕ) → b < 65536 → little_number 2 (little_bytes 2 b) ≡ b
 low_byte b h = omega arith
 
-said : (k : Kind) {n : List ℕ} (bytes : List ℕ) {a v f b : ℕ} → b < 65536 → n ≡ a ∷ v ∷ f ∷ b ∷ [] → message_in_fields (head_with (kind_number k) n ++ bytes) ≡ Some (assembled k a v f b bytes)
+fields_decoded : (k : Kind) {n : List ℕ} (bytes : List ℕ) {a v f b : ℕ} → b < 65536 → n ≡ a ∷ v ∷ f ∷ b ∷ [] → message_in_fields (head_with (kind_number k) n ++ bytes)
+    ≡ Some (assembled k a v f b bytes)
 unfolding message_in_fields
-said k bytes {a} {v} {f} {b} h e =
+fields_decoded k bytes {a} {v} {f} {b} h e =
     let block = low_byte b h in
     rw (e, kind_again k) (ap (λ (x : ℕ). Some (assembled k a v f x bytes)) block)
 
@@ -139,7 +140,7 @@ four (a ∷ v ∷ f ∷ b ∷ more) = refl
 -- the fields of a record encode its message
 pub record_says : (g : Geometry) (m : Msg) → IsMessage m → is_in_range g m ≡ true → message_in_fields (record_of m) ≡ Some m
 record_says g m whole h =
-    said (kind m) (data_of m) (fits g m h).block (four (numbers m)) ∙ ap Some (made_again m whole)
+    fields_decoded (kind m) (data_of m) (fits g m h).block (four (numbers m)) ∙ ap Some (made_again m whole)
 
 -- ---- a record put together in a buffer
 
@@ -256,41 +257,41 @@ made : (o : Option Kind) (make : Kind → Msg) (m : Msg) → option_map make o �
 made (Some k) make m h = (k, sym (same_Some _ m h))
 made None make m h = cc h
 
-module _ (bytes : List ℕ) (m : Msg) (size : length bytes ≡ 520) (fit : (i : ℕ) → get_or bytes i 0 < 256) (said : message_in_fields bytes ≡ Some m) where
+module _ (bytes : List ℕ) (m : Msg) (size : length bytes ≡ 520) (fit : (i : ℕ) → get_or bytes i 0 < 256) (fields_decoded : message_in_fields bytes ≡ Some m) where
   its_kind : (k : Kind) × (m ≡ assembled k (slice_index bytes 1) (slice_index bytes 2) (slice_index bytes 3) (little_number 2 (take 2 (drop 4 bytes))) (drop 8 bytes))
   unfolding message_in_fields
   its_kind = made (kind_numbered (slice_index bytes 0)) (λ k. assembled k (slice_index bytes 1) (slice_index bytes 2) (slice_index bytes 3)
-      (little_number 2 (take 2 (drop 4 bytes))) (drop 8 bytes)) m said
+      (little_number 2 (take 2 (drop 4 bytes))) (drop 8 bytes)) m fields_decoded
 
-  pub said_whole : IsMessage m
-  said_whole =
+  pub whole_if_decoded : IsMessage m
+  whole_if_decoded =
       let long : length (drop 8 bytes) ≡ 512 = omega (arith, length-drop 8 bytes) in
       subst IsMessage (sym its_kind.1) (assembled_whole its_kind.0 _ _ _ _ (drop 8 bytes) (long, dropped_fit 8 bytes (bytes_fit bytes fit)))
 
-  pub said_room : FitsRecord m
-  said_room = subst FitsRecord (sym its_kind.1) (assembled_room its_kind.0 _ (drop 8 bytes) (fit 1) (fit 2) (fit 3))
+  pub room_if_decoded : FitsRecord m
+  room_if_decoded = subst FitsRecord (sym its_kind.1) (assembled_room its_kind.0 _ (drop 8 bytes) (fit 1) (fit 2) (fit 3))
 
   by_kind : (k : Kind) → kind m ≡ k → m ≡ assembled k (slice_index bytes 1) (slice_index bytes 2) (slice_index bytes 3) (little_number 2 (take 2 (drop 4 bytes))) (drop 8 bytes)
   by_kind k is = its_kind.1 ∙ ap (λ k. assembled k (slice_index bytes 1) (slice_index bytes 2) (slice_index bytes 3)
       (little_number 2 (take 2 (drop 4 bytes))) (drop 8 bytes)) (sym (kind_assembled its_kind.0 _ _ _ _ _) ∙ ap kind (sym its_kind.1) ∙ is)
 
-  pub said_write : kind m ≡ kinds.Write → drop 8 bytes ≡ data_of m
+  pub write_if_decoded : kind m ≡ kinds.Write → drop 8 bytes ≡ data_of m
   unfolding data_of
-  said_write is = sym (ap data_of (by_kind kinds.Write is))
+  write_if_decoded is = sym (ap data_of (by_kind kinds.Write is))
 
-  said_setlabel : kind m ≡ kinds.SetLabel → data_of m ≡ take 32 (drop 8 bytes) ++ replicate 480 0
+  setlabel_if_decoded : kind m ≡ kinds.SetLabel → data_of m ≡ take 32 (drop 8 bytes) ++ replicate 480 0
   unfolding data_of
-  said_setlabel is = ap data_of (by_kind kinds.SetLabel is)
+  setlabel_if_decoded is = ap data_of (by_kind kinds.SetLabel is)
 
   -- the data of a label is there where zeros are behind the label
-  pub said_label : kind m ≡ kinds.SetLabel → (drop 40 bytes ≡ replicate 480 0) ↔ (drop 8 bytes ≡ data_of m)
-  said_label is =
+  pub label_if_decoded : kind m ≡ kinds.SetLabel → (drop 40 bytes ≡ replicate 480 0) ↔ (drop 8 bytes ≡ data_of m)
+  label_if_decoded is =
       let rest = drop 8 bytes in
       let long : length rest ≡ 512 = omega (arith, length-drop 8 bytes) in
       let behind : drop 32 rest ≡ drop 40 bytes = drop-drop 32 8 bytes in
       let label : length (take 32 rest) ≡ 32 = length-take-le 32 rest (omega arith) in (
-        (λ zeros. sym (take-append-drop 32 rest) ∙ ap (λ (xs : List ℕ). take 32 rest ++ xs) (behind ∙ zeros) ∙ sym (said_setlabel is)),
-        (λ there. sym behind ∙ ap (drop 32) (there ∙ said_setlabel is) ∙ drop_at (take 32 rest) (replicate 480 0) 32 label),
+        (λ zeros. sym (take-append-drop 32 rest) ∙ ap (λ (xs : List ℕ). take 32 rest ++ xs) (behind ∙ zeros) ∙ sym (setlabel_if_decoded is)),
+        (λ there. sym behind ∙ ap (drop 32) (there ∙ setlabel_if_decoded is) ∙ drop_at (take 32 rest) (replicate 480 0) 32 label),
       )
 
 -- ---- the message in range with a record

@@ -46,75 +46,75 @@ says_more w n ws ns h more =
       small = (d.1, more.small);
     }
 
-volume_said : (make : ℕ → ℕ → Msg) (ws : List (List ℕ)) (m : Msg) → of_volume make ws ≡ Some m → (a : ℕ) × (v : ℕ) × (m ≡ make a v) × Say ws (a ∷ v ∷ [])
-volume_said make [] m h = cc h
-volume_said make (x ∷ []) m h = cc h
-volume_said make (x ∷ y ∷ []) m h =
+volume_spelled : (make : ℕ → ℕ → Msg) (ws : List (List ℕ)) (m : Msg) → of_volume make ws ≡ Some m → (a : ℕ) × (v : ℕ) × (m ≡ make a v) × Say ws (a ∷ v ∷ [])
+volume_spelled make [] m h = cc h
+volume_spelled make (x ∷ []) m h = cc h
+volume_spelled make (x ∷ y ∷ []) m h =
     let a = bind_some (number_in_word x) _ m h in
     let v = bind_some (number_in_word y) _ m a.2 in
     (a.0, v.0, sym (same_Some _ m v.2), says_more x a.0 _ _ a.1 (says_more y v.0 _ _ v.1 says_none))
-volume_said make (x ∷ y ∷ z ∷ ws) m h = cc h
+volume_spelled make (x ∷ y ∷ z ∷ ws) m h = cc h
 
-file_said : (make : ℕ → ℕ → ℕ → Msg) (ws : List (List ℕ)) (m : Msg) → of_file make ws ≡ Some m → (a : ℕ) × (v : ℕ) × (f : ℕ) × (m ≡ make a v f) × Say ws (a ∷ v ∷ f ∷ [])
-file_said make [] m h = cc h
-file_said make (x ∷ []) m h = cc h
-file_said make (x ∷ y ∷ []) m h = cc h
-file_said make (x ∷ y ∷ z ∷ []) m h =
+file_spelled : (make : ℕ → ℕ → ℕ → Msg) (ws : List (List ℕ)) (m : Msg) → of_file make ws ≡ Some m → (a : ℕ) × (v : ℕ) × (f : ℕ) × (m ≡ make a v f) × Say ws (a ∷ v ∷ f ∷ [])
+file_spelled make [] m h = cc h
+file_spelled make (x ∷ []) m h = cc h
+file_spelled make (x ∷ y ∷ []) m h = cc h
+file_spelled make (x ∷ y ∷ z ∷ []) m h =
     let a = bind_some (number_in_word x) _ m h in
     let v = bind_some (number_in_word y) _ m a.2 in
     let f = bind_some (number_in_word z) _ m v.2 in
     (a.0, v.0, f.0, sym (same_Some _ m f.2), says_more x a.0 _ _ a.1 (says_more y v.0 _ _ v.1 (says_more z f.0 _ _ f.1 says_none)))
-file_said make (x ∷ y ∷ z ∷ w ∷ ws) m h = cc h
+file_spelled make (x ∷ y ∷ z ∷ w ∷ ws) m h = cc h
 
-block_said : (make : ℕ → ℕ → ℕ → ℕ → Msg) (ws : List (List ℕ)) (m : Msg) → of_block make ws ≡ Some m
+block_spelled : (make : ℕ → ℕ → ℕ → ℕ → Msg) (ws : List (List ℕ)) (m : Msg) → of_block make ws ≡ Some m
     → (a : ℕ) × (v : ℕ) × (f : ℕ) × (b : ℕ) × (m ≡ make a v f b) × Say ws (a ∷ v ∷ f ∷ b ∷ [])
-block_said make [] m h = cc h
-block_said make (x ∷ []) m h = cc h
-block_said make (x ∷ y ∷ []) m h = cc h
-block_said make (x ∷ y ∷ z ∷ []) m h = cc h
-block_said make (x ∷ y ∷ z ∷ w ∷ []) m h =
+block_spelled make [] m h = cc h
+block_spelled make (x ∷ []) m h = cc h
+block_spelled make (x ∷ y ∷ []) m h = cc h
+block_spelled make (x ∷ y ∷ z ∷ []) m h = cc h
+block_spelled make (x ∷ y ∷ z ∷ w ∷ []) m h =
     let a = bind_some (number_in_word x) _ m h in
     let v = bind_some (number_in_word y) _ m a.2 in
     let f = bind_some (number_in_word z) _ m v.2 in
     let b = bind_some (number_in_word w) _ m f.2 in
     (a.0, v.0, f.0, b.0, sym (same_Some _ m b.2), says_more x a.0 _ _ a.1 (says_more y v.0 _ _ v.1 (says_more z f.0 _ _ f.1 (says_more w b.0 _ _ b.1 says_none))))
-block_said make (x ∷ y ∷ z ∷ w ∷ u ∷ ws) m h = cc h
+block_spelled make (x ∷ y ∷ z ∷ w ∷ u ∷ ws) m h = cc h
 
-data_said : (make : ℕ → ℕ → ℕ → ℕ → Block → Msg) (ws : List (List ℕ)) (m : Msg) → of_data make ws ≡ Some m
+data_spelled : (make : ℕ → ℕ → ℕ → ℕ → Block → Msg) (ws : List (List ℕ)) (m : Msg) → of_data make ws ≡ Some m
     → (a : ℕ) × (v : ℕ) × (f : ℕ) × (b : ℕ) × (content : Block) × (digits : List ℕ)
     × (m ≡ make a v f b content) × (ws ≡ map decimal (a ∷ v ∷ f ∷ b ∷ []) ++ digits ∷ []) × AreSmall (a ∷ v ∷ f ∷ b ∷ []) × SpellsBytes 512 digits content.0
-data_said make [] m h = cc h
-data_said make (x ∷ []) m h = cc h
-data_said make (x ∷ y ∷ []) m h = cc h
-data_said make (x ∷ y ∷ z ∷ []) m h = cc h
-data_said make (x ∷ y ∷ z ∷ w ∷ []) m h = cc h
-data_said make (x ∷ y ∷ z ∷ w ∷ u ∷ []) m h =
+data_spelled make [] m h = cc h
+data_spelled make (x ∷ []) m h = cc h
+data_spelled make (x ∷ y ∷ []) m h = cc h
+data_spelled make (x ∷ y ∷ z ∷ []) m h = cc h
+data_spelled make (x ∷ y ∷ z ∷ w ∷ []) m h = cc h
+data_spelled make (x ∷ y ∷ z ∷ w ∷ u ∷ []) m h =
     let a = bind_some (number_in_word x) _ m h in
     let v = bind_some (number_in_word y) _ m a.2 in
     let f = bind_some (number_in_word z) _ m v.2 in
     let b = bind_some (number_in_word w) _ m f.2 in
     let d = bind_some (block_in_word u) _ m b.2 in
-    let said = says_more x a.0 _ _ a.1 (says_more y v.0 _ _ v.1 (says_more z f.0 _ _ f.1 (says_more w b.0 _ _ b.1 says_none))) in
-    (a.0, v.0, f.0, b.0, d.0, u, sym (same_Some _ m d.2), ap (λ (vs : List (List ℕ)). vs ++ u ∷ []) said.words, said.small, block_says u d.0 d.1)
-data_said make (x ∷ y ∷ z ∷ w ∷ u ∷ t ∷ ws) m h = cc h
+    let spelled = says_more x a.0 _ _ a.1 (says_more y v.0 _ _ v.1 (says_more z f.0 _ _ f.1 (says_more w b.0 _ _ b.1 says_none))) in
+    (a.0, v.0, f.0, b.0, d.0, u, sym (same_Some _ m d.2), ap (λ (vs : List (List ℕ)). vs ++ u ∷ []) spelled.words, spelled.small, block_says u d.0 d.1)
+data_spelled make (x ∷ y ∷ z ∷ w ∷ u ∷ t ∷ ws) m h = cc h
 
-label_said : (make : ℕ → ℕ → List ℕ → Msg) (ws : List (List ℕ)) (m : Msg) → of_label make ws ≡ Some m
+label_spelled : (make : ℕ → ℕ → List ℕ → Msg) (ws : List (List ℕ)) (m : Msg) → of_label make ws ≡ Some m
     → (a : ℕ) × (v : ℕ) × (bytes : List ℕ) × (digits : List ℕ)
     × (m ≡ make a v bytes) × (ws ≡ map decimal (a ∷ v ∷ []) ++ digits ∷ []) × AreSmall (a ∷ v ∷ []) × SpellsBytes 32 digits bytes
-label_said make [] m h = cc h
-label_said make (x ∷ []) m h = cc h
-label_said make (x ∷ y ∷ []) m h = cc h
-label_said make (x ∷ y ∷ z ∷ []) m h =
+label_spelled make [] m h = cc h
+label_spelled make (x ∷ []) m h = cc h
+label_spelled make (x ∷ y ∷ []) m h = cc h
+label_spelled make (x ∷ y ∷ z ∷ []) m h =
     let a = bind_some (number_in_word x) _ m h in
     let v = bind_some (number_in_word y) _ m a.2 in
     let d = bind_some (label_in_word z) _ m v.2 in
-    let said = says_more x a.0 _ _ a.1 (says_more y v.0 _ _ v.1 says_none) in
-    (a.0, v.0, d.0, z, sym (same_Some _ m d.2), ap (λ (vs : List (List ℕ)). vs ++ z ∷ []) said.words, said.small, label_says z d.0 d.1)
-label_said make (x ∷ y ∷ z ∷ w ∷ ws) m h = cc h
+    let spelled = says_more x a.0 _ _ a.1 (says_more y v.0 _ _ v.1 says_none) in
+    (a.0, v.0, d.0, z, sym (same_Some _ m d.2), ap (λ (vs : List (List ℕ)). vs ++ z ∷ []) spelled.words, spelled.small, label_says z d.0 d.1)
+label_spelled make (x ∷ y ∷ z ∷ w ∷ ws) m h = cc h
 
-nothing_said : (m : Msg) (ws : List (List ℕ)) (n : Msg) → of_nothing m ws ≡ Some n → (n ≡ m) × Say ws []
-nothing_said m [] n h = (sym (same_Some m n h), says_none)
-nothing_said m (w ∷ ws) n h = cc h
+nothing_spelled : (m : Msg) (ws : List (List ℕ)) (n : Msg) → of_nothing m ws ≡ Some n → (n ≡ m) × Say ws []
+nothing_spelled m [] n h = (sym (same_Some m n h), says_none)
+nothing_spelled m (w ∷ ws) n h = cc h
 
 -- a line of these words spells its message
 spell : (line : List ℕ) (m : Msg) (behind : List (List ℕ)) → length line ≤ 1100 → words line ≡ keyword (kind m) ∷ map decimal (numbers m) ++ behind
@@ -134,43 +134,43 @@ record Plain (m : Msg) (k : Kind) (ns : List ℕ) : Type 0 where
   pub no_data : IsData m []
 
 plain_spells : {line : List ℕ} {m : Msg} {k : Kind} {ns : List ℕ} {args : List (List ℕ)} → Plain m k ns → length line ≤ 1100 → words line ≡ keyword k ∷ args → Say args ns → Spells line m
-plain_spells {line} {m} {k} {ns} form short e said =
-    let all : words line ≡ keyword (kind m) ∷ map decimal (numbers m) ++ [] = e ∙ ap (λ (vs : List (List ℕ)). keyword k ∷ vs) said.words ∙ sym (append-nil (keyword k ∷ map decimal ns))
+plain_spells {line} {m} {k} {ns} form short e spelled =
+    let all : words line ≡ keyword (kind m) ∷ map decimal (numbers m) ++ [] = e ∙ ap (λ (vs : List (List ℕ)). keyword k ∷ vs) spelled.words ∙ sym (append-nil (keyword k ∷ map decimal ns))
     ∙ (λ i. keyword (sym form.kinded i) ∷ map decimal (sym form.numbered i) ++ []) in
-    spell line m [] short all (subst (λ (ks : List ℕ). AreSmall ks) (sym form.numbered) said.small) form.no_data
+    spell line m [] short all (subst (λ (ks : List ℕ). AreSmall ks) (sym form.numbered) spelled.small) form.no_data
 
 -- a line with the keyword of a kind, and behind it the words of a message
 module _ (line : List ℕ) (args : List (List ℕ)) (m : Msg) (short : length line ≤ 1100) where
   volume_spells : (make : ℕ → ℕ → Msg) (k : Kind) → ((a v : ℕ) → Plain (make a v) k (a ∷ v ∷ [])) → words line ≡ keyword k ∷ args → of_volume make args ≡ Some m → Spells line m
   volume_spells make k form e h =
-      let s = volume_said make args m h in
+      let s = volume_spelled make args m h in
       subst (λ (n : Msg). Spells line n) (sym s.2) (plain_spells (form s.0 s.1) short e s.3)
 
   file_spells : (make : ℕ → ℕ → ℕ → Msg) (k : Kind) → ((a v f : ℕ) → Plain (make a v f) k (a ∷ v ∷ f ∷ [])) → words line ≡ keyword k ∷ args → of_file make args ≡ Some m → Spells line m
   file_spells make k form e h =
-      let s = file_said make args m h in
+      let s = file_spelled make args m h in
       subst (λ (n : Msg). Spells line n) (sym s.3) (plain_spells (form s.0 s.1 s.2) short e s.4)
 
   block_spells : (make : ℕ → ℕ → ℕ → ℕ → Msg) (k : Kind) → ((a v f b : ℕ) → Plain (make a v f b) k (a ∷ v ∷ f ∷ b ∷ [])) → words line ≡ keyword k ∷ args → of_block make args ≡ Some m → Spells line m
   block_spells make k form e h =
-      let s = block_said make args m h in
+      let s = block_spelled make args m h in
       subst (λ (n : Msg). Spells line n) (sym s.4) (plain_spells (form s.0 s.1 s.2 s.3) short e s.5)
 
   write_spells : words line ≡ keyword kinds.Write ∷ args → of_data Write args ≡ Some m → Spells line m
   write_spells e h =
-      let s = data_said Write args m h in
+      let s = data_spelled Write args m h in
       let all : words line ≡ keyword kinds.Write ∷ map decimal (s.0 ∷ s.1 ∷ s.2 ∷ s.3 ∷ []) ++ s.5 ∷ [] = e ∙ ap (λ (vs : List (List ℕ)). keyword kinds.Write ∷ vs) s.7 in
       subst (λ (n : Msg). Spells line n) (sym s.6) (spell line (Write s.0 s.1 s.2 s.3 s.4) (s.5 ∷ []) short all s.8 (s.5, refl, s.9))
 
   setlabel_spells : words line ≡ keyword kinds.SetLabel ∷ args → of_label SetLabel args ≡ Some m → Spells line m
   setlabel_spells e h =
-      let s = label_said SetLabel args m h in
+      let s = label_spelled SetLabel args m h in
       let all : words line ≡ keyword kinds.SetLabel ∷ map decimal (s.0 ∷ s.1 ∷ []) ++ s.3 ∷ [] = e ∙ ap (λ (vs : List (List ℕ)). keyword kinds.SetLabel ∷ vs) s.5 in
       subst (λ (n : Msg). Spells line n) (sym s.4) (spell line (SetLabel s.0 s.1 s.2) (s.3 ∷ []) short all s.6 (s.3, refl, s.7))
 
   summary_spells : words line ≡ keyword kinds.Summary ∷ args → of_nothing Summary args ≡ Some m → Spells line m
   summary_spells e h =
-      let s = nothing_said Summary args m h in
+      let s = nothing_spelled Summary args m h in
       subst (λ (n : Msg). Spells line n) (sym s.0) (plain_spells {k = kinds.Summary} (record { kinded = refl; numbered = refl; no_data = refl }) short e s.1)
 
   kind_spells : (k : Kind) → words line ≡ keyword k ∷ args → of_kind k args ≡ Some m → Spells line m
@@ -291,15 +291,15 @@ block_read make {a} {v} {f} {b} h none =
 data_read : (make : ℕ → ℕ → ℕ → ℕ → Block → Msg) {a v f b : ℕ} {content : Block} {digits : List ℕ} {behind : List (List ℕ)}
     → AreSmall (a ∷ v ∷ f ∷ b ∷ []) → behind ≡ digits ∷ [] → block_in_word digits ≡ Some content
     → of_data make (map decimal (a ∷ v ∷ f ∷ b ∷ []) ++ behind) ≡ Some (make a v f b content)
-data_read make {a} {v} {f} {b} h is said =
+data_read make {a} {v} {f} {b} h is spelled =
     ap (λ (ws : List (List ℕ)). of_data make (map decimal (a ∷ v ∷ f ∷ b ∷ []) ++ ws)) is
-    ∙ rw (number-decimal a h.0, number-decimal v h.1.0, number-decimal f h.1.1.0, number-decimal b h.1.1.1.0, said) refl
+    ∙ rw (number-decimal a h.0, number-decimal v h.1.0, number-decimal f h.1.1.0, number-decimal b h.1.1.1.0, spelled) refl
 
 label_read : (make : ℕ → ℕ → List ℕ → Msg) {a v : ℕ} {bytes digits : List ℕ} {behind : List (List ℕ)} → AreSmall (a ∷ v ∷ []) → behind ≡ digits ∷ [] → label_in_word digits ≡ Some bytes
     → of_label make (map decimal (a ∷ v ∷ []) ++ behind) ≡ Some (make a v bytes)
-label_read make {a} {v} h is said =
+label_read make {a} {v} h is spelled =
     ap (λ (ws : List (List ℕ)). of_label make (map decimal (a ∷ v ∷ []) ++ ws)) is
-    ∙ rw (number-decimal a h.0, number-decimal v h.1.0, said) refl
+    ∙ rw (number-decimal a h.0, number-decimal v h.1.0, spelled) refl
 
 -- what a line spells is what its words make
 made_again : (m : Msg) (behind : List (List ℕ)) → AreSmall (numbers m) → IsData m behind → of_kind (kind m) (map decimal (numbers m) ++ behind) ≡ Some m

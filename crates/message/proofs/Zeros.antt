@@ -2,9 +2,9 @@
 use Rattle.std.proofs.Common.{◌≡◌, ℕ, ◌+◌, ◌-◌, ◌<◌, ◌≤◌, List, [], ◌∷◌, ◌++◌, length, get_or, take, refl, ap, sym, ◌∙◌, arith}
 use Rattle.std.proofs.lemmas.Bool.{ne_eqb, cond-false}
 use Rattle.std.proofs.lemmas.List.{take_more}
-use Rattle.messages.specs.Replies.{before, without_zeros, at_least_one}
+use Rattle.messages.specs.Replies.{before, without_trailing_zeros, at_least_one}
 
-zero_goes : (xs : List ℕ) → without_zeros (xs ++ 0 ∷ []) ≡ without_zeros xs
+zero_goes : (xs : List ℕ) → without_trailing_zeros (xs ++ 0 ∷ []) ≡ without_trailing_zeros xs
 zero_goes [] = refl
 zero_goes (b ∷ xs) = ap (before b) (zero_goes xs)
 
@@ -12,7 +12,7 @@ before_some : (b c : ℕ) (xs : List ℕ) → before b (xs ++ c ∷ []) ≡ b �
 before_some b c [] = refl
 before_some b c (x ∷ xs) = refl
 
-other_stays : (xs : List ℕ) (b : ℕ) → (b ≡ 0 → ⊥) → without_zeros (xs ++ b ∷ []) ≡ xs ++ b ∷ []
+other_stays : (xs : List ℕ) (b : ℕ) → (b ≡ 0 → ⊥) → without_trailing_zeros (xs ++ b ∷ []) ≡ xs ++ b ∷ []
 other_stays [] b h = cond-false _ _ _ (ne_eqb b 0 h)
 other_stays (c ∷ xs) b h = ap (before c) (other_stays xs b h) ∙ before_some c b xs
 
@@ -21,18 +21,18 @@ some_stays [] b = refl
 some_stays (x ∷ xs) b = refl
 
 -- one byte fewer, which is a zero
-pub one_fewer : (xs : List ℕ) (n : ℕ) → 0 < n → n ≤ length xs → get_or xs (n - 1) 0 ≡ 0 → without_zeros (take n xs) ≡ without_zeros (take (n - 1) xs)
+pub one_fewer : (xs : List ℕ) (n : ℕ) → 0 < n → n ≤ length xs → get_or xs (n - 1) 0 ≡ 0 → without_trailing_zeros (take n xs) ≡ without_trailing_zeros (take (n - 1) xs)
 one_fewer xs n some h e =
     let next : n ≡ n - 1 + 1 = omega arith in
     let front : take n xs ≡ take (n - 1) xs ++ 0 ∷ [] =
     ap (λ k. take k xs) next ∙ take_more xs (n - 1) 0 (omega arith) ∙ ap (λ b. take (n - 1) xs ++ b ∷ []) e in
-    ap without_zeros front ∙ zero_goes (take (n - 1) xs)
+    ap without_trailing_zeros front ∙ zero_goes (take (n - 1) xs)
 
 -- no byte fewer where the last isn't a zero
-pub last_stays : (xs : List ℕ) (n : ℕ) → 0 < n → n ≤ length xs → (get_or xs (n - 1) 0 ≡ 0 → ⊥) → at_least_one (without_zeros (take n xs)) ≡ take n xs
+pub last_stays : (xs : List ℕ) (n : ℕ) → 0 < n → n ≤ length xs → (get_or xs (n - 1) 0 ≡ 0 → ⊥) → at_least_one (without_trailing_zeros (take n xs)) ≡ take n xs
 last_stays xs n some h other =
     let next : n ≡ n - 1 + 1 = omega arith in
     let front : take n xs ≡ take (n - 1) xs ++ get_or xs (n - 1) 0 ∷ [] = ap (λ k. take k xs) next ∙ take_more xs (n - 1) 0 (omega arith) in
-    ap (λ ys. at_least_one (without_zeros ys)) front
+    ap (λ ys. at_least_one (without_trailing_zeros ys)) front
     ∙ ap at_least_one (other_stays (take (n - 1) xs) (get_or xs (n - 1) 0) other)
     ∙ some_stays (take (n - 1) xs) (get_or xs (n - 1) 0) ∙ sym front

@@ -1,9 +1,9 @@
--- Inner: What digits are read as, place by place.
+-- Inner: The bytes that hexadecimal digits encode, by index.
 use Rattle.std.specs.Prelude.{◌≡◌, ◌+◌, ◌*◌, ◌<◌, ◌≤◌, ℕ, List, length, slice_index}
 use Rattle.std.specs.Option.{unwrap_or}
 use Rattle.hex.specs.Hex.{hex_digit_value}
 
--- the value of a digit, and 255 where it is none
+-- the value of a hexadecimal digit, or 255 where the byte is none
 abbrev pub value_of : ℕ → ℕ
 value_of c = unwrap_or (hex_digit_value c) 255
 
@@ -13,7 +13,7 @@ pub record IsDecoded (digits bytes : List ℕ) (i : ℕ) : Type 0 where
   pub low : value_of (slice_index digits (2 * i + 1)) < 16
   pub byte : slice_index bytes i ≡ value_of (slice_index digits (2 * i)) * 16 + value_of (slice_index digits (2 * i + 1))
 
--- One of these isn't a digit.
+-- One of the bytes isn't a hexadecimal digit.
 abbrev pub HasNonDigit : List ℕ → Type 0
 HasNonDigit digits = (k : ℕ) × (k < length digits) × (16 ≤ value_of (slice_index digits k))
 

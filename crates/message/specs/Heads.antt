@@ -27,7 +27,7 @@ writing ns content = Write (slice_index ns 0) (slice_index ns 1) (slice_index ns
 
 -- The message is the one of this kind and these numbers, with 0 for each number that it doesn't have.
 pub record IsWithoutData (k : Kind) (ns : List ℕ) (m : Option Msg) : Type 0 where
-  pub said : m ≡ Some (message_without_data k ns)
+  pub message_is : m ≡ Some (message_without_data k ns)
   pub kind_is : kind (message_without_data k ns) ≡ k
   pub numbers_are : four_numbers (message_without_data k ns) ≡ ns
   pub without_data : has_data k ≡ false

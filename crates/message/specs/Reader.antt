@@ -2,57 +2,57 @@
 use Rattle.std.specs.Prelude.{ℕ, ◌<◌, ◌⊎◌, ◌&&◌, Bool, true, false, List, [], ◌∷◌, length, slice_range, Option, Result, Ok, Err, IsTrue, IfSome, Contains}
 use Rattle.std.specs.Option.{option_map}
 use Rattle.std.specs.Io.KnownBytes.{prepend_known, IsAtEnd}
-use Rattle.messages.specs.FirstLine.{first_line, GivesLine, PassesLine, IsAtEndOf, LosesFront, IsClosed}
+use Rattle.messages.specs.FirstLine.{first_line, GivesLine, PassesLine, IsAtEndOf, LosesFront, HasWholeFirstLine}
 use Rattle.message.specs.declared.reading.Found.{Found}
 use Rattle.message.specs.declared.reading.Found.TheVariants.{Line, TooLong, End}
 use Rattle.message.specs.declared.reading.ReadFault.{ReadFault}
-use Rattle.message.specs.declared.reading.Held.{Held}
+use Rattle.message.specs.declared.reading.Buffered.{Buffered}
 use Rattle.message.specs.declared.reading.LineReader.{LineReader}
 
 -- ---- what a reader of lines holds
 
 -- the bytes that are read and not yet given
-abbrev pub held_bytes : Held → List ℕ
-held_bytes h = slice_range h.buffer.items h.start h.end
+abbrev pub buffered_bytes : Buffered → List ℕ
+buffered_bytes h = slice_range h.buffer.items h.start h.end
 
--- the line that was given last
-abbrev pub held_line : Held → List ℕ
-held_line h = slice_range h.buffer.items h.line_start h.line_end
+-- the line that the last call gave; empty where it gave none
+abbrev pub given_line : Buffered → List ℕ
+given_line h = slice_range h.buffer.items h.line_start h.line_end
 
 -- the bytes that are still to come, where they are known: none once the end was reported
 abbrev pub still_to_come : Bool → Option (List ℕ) → Option (List ℕ)
 still_to_come false known = known
 still_to_come true known = option_map (λ _. []) known
 
--- the bytes that it has not given yet, where they are known: those that it holds, and then what its reader has left
+-- the bytes that a line reader has not given yet, where they are known: those that it holds, and then what its reader has left
 abbrev pub unread : {R : Type 0} → (R → Option (List ℕ)) → LineReader R → Option (List ℕ)
-unread remaining r = prepend_known (held_bytes r.held) (still_to_come r.ended (remaining r.reader))
+unread remaining r = prepend_known (buffered_bytes r.buffered) (still_to_come r.ended (remaining r.reader))
 
--- the line that was found last
+-- the line that the last call gave; empty where it gave none
 abbrev pub line_of : {R : Type 0} → LineReader R → List ℕ
-line_of r = held_line r.held
+line_of r = given_line r.buffered
 
 -- a whole line is held, its newline included
 abbrev pub HoldsLine : {R : Type 0} → LineReader R → Type 0
-HoldsLine r = Contains (held_bytes r.held) 10
+HoldsLine r = Contains (buffered_bytes r.buffered) 10
 
--- a read has reported the end
+-- whether a read has reported the end
 abbrev pub has_ended : {R : Type 0} → LineReader R → Bool
 has_ended r = r.ended
 
--- what is found is known: nothing is to come, a whole line is held, or more of a line than it may have
+-- The next line is found without a read: nothing is to come, a whole line is held, or more of a line than it may have.
 abbrev pub HoldsEnough : {R : Type 0} → LineReader R → Type 0
-HoldsEnough r = IsTrue (has_ended r) ⊎ HoldsLine r ⊎ (1100 < length (first_line (held_bytes r.held)))
+HoldsEnough r = IsTrue (has_ended r) ⊎ HoldsLine r ⊎ (1100 < length (first_line (buffered_bytes r.buffered)))
 
--- a read has failed
+-- whether a read has failed
 abbrev pub has_failed : {R : Type 0} → LineReader R → Bool
 has_failed r = r.failed
 
--- the reader behind it
+-- the reader from which a line reader reads
 abbrev pub source : {R : Type 0} → LineReader R → R
 source r = r.reader
 
--- once a read has reported the end, the reader behind it has no known byte left
+-- Once a read has reported the end, the reader from which it reads has no known byte left.
 abbrev pub KnowsEnd : {R : Type 0} → (R → Option (List ℕ)) → LineReader R → Type 0
 KnowsEnd remaining r = IsTrue (has_ended r) → IsAtEnd (remaining (source r))
 
@@ -67,16 +67,17 @@ Finds (Err fault) old line new = IfSome old (λ bs. LosesFront bs new)
 
 -- ---- the end of the input
 
+-- whether there are no bytes
 abbrev pub are_none : List ℕ → Bool
 are_none [] = true
 are_none (b ∷ bs) = false
 
--- a read has reported the end, and nothing is held: nothing is to come
+-- whether a read has reported the end, and nothing is held: nothing is left to give
 abbrev pub is_drained : {R : Type 0} → LineReader R → Bool
-is_drained r = r.ended && are_none (held_bytes r.held)
+is_drained r = r.ended && are_none (buffered_bytes r.buffered)
 
 -- A line that was found ends with a newline, or with the input.
 abbrev pub Closes : Result Found ReadFault → Option (List ℕ) → Bool → Type 0
-Closes (Ok Line) old drained = IsClosed old drained
-Closes (Ok TooLong) old drained = IsClosed old drained
+Closes (Ok Line) old drained = HasWholeFirstLine old drained
+Closes (Ok TooLong) old drained = HasWholeFirstLine old drained
 Closes _ old drained = Unit {0}

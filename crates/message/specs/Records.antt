@@ -9,6 +9,7 @@ use Rattle.messages.specs.declared.Msg.TheVariants.{MakeVol, DropVol, Create, De
 use Rattle.messages.specs.Messages.{kind, four_numbers}
 use Rattle.messages.specs.Grammar.{all_kinds}
 
+-- the number that stands for a kind, the first byte of a record
 abbrev pub kind_number : Kind → ℕ
 kind_number kinds.MakeVol = 1
 kind_number kinds.DropVol = 2
@@ -40,10 +41,11 @@ data_of (Write a v f b content) = content.0
 data_of (SetLabel a v bytes) = bytes ++ replicate 480 0
 data_of _ = replicate 512 0
 
+-- the record of a message: 8 bytes of head, then 512 of data
 abbrev pub record_of : Msg → List ℕ
 record_of m = record_head m ++ data_of m
 
--- Aggregate, volume and file have room in their bytes.
+-- Aggregate, volume and file fit into one byte each.
 abbrev pub FitsRecord : Msg → Type 0
 FitsRecord m = AllByRecursion (λ n. n < 256) (take 3 (four_numbers m))
 
@@ -54,6 +56,7 @@ abbrev pub numbered_among : List Kind → ℕ → Option Kind
 numbered_among [] n = None
 numbered_among (k ∷ ks) n = if n == kind_number k then Some k else numbered_among ks n
 
+-- the kind that has this number
 unfoldable pub kind_numbered : ℕ → Option Kind
 kind_numbered n = numbered_among all_kinds n
 

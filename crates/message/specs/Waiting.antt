@@ -2,9 +2,9 @@
 use Rattle.std.specs.Prelude.{◌≤◌, ◌+◌, ℕ, List, length, Option}
 use Rattle.std.specs.Io.KnownBytes.{append_known}
 
--- all that was answered, where it is known what the writer holds: what is written, and then what waits
-abbrev pub so_far : Option (List ℕ) → List ℕ → Option (List ℕ)
-so_far contents waiting = append_known contents waiting
+-- all output, where it is known what the writer holds: what is written, and then what waits to be
+abbrev pub all_output : Option (List ℕ) → List ℕ → Option (List ℕ)
+all_output contents waiting = append_known contents waiting
 
 -- The longest reply has room after what waits, of the 65,536 bytes that may wait.
 abbrev pub FitsReply : List ℕ → Type 0

@@ -1,5 +1,5 @@
-//! The digits of a block as bytes, 32 of them at once and with no branch on a digit: `hex`, which branches at each, takes many times as
-//! long.
+//! Decodes the digits of a block, 32 digits (16 bytes) at a time. No loop ends early at a byte that is no digit, so that the compiler can
+//! use vectors: `hex`, which ends at the first one, takes many times as long.
 
 ghost use Rattle.std.specs.Prelude.{◌≡◌, ◌≢◌, ◌+◌, ◌*◌, ◌%◌, ◌<◌, ◌≤◌, ℕ, length, slice_index, Ok, Some, None, IsErr, MatchResult};
 ghost use Rattle.std.specs.Option.{unwrap_or};
@@ -30,7 +30,7 @@ fn digit_value(digit: u8) -> u8
     }
 }
 
-/// Puts the values of the `2 * LANES` digits from here on in their order, and gives the greatest of them.
+/// Puts the values of the `2 * LANES` digits from `at` on into `values`, in order, and gives the greatest of them.
 #[inline(always)]
 fn values_at(digits: &[u8], at: usize, values: &mut [u8; 2 * LANES]) -> u8
     requires { at + 32 ≤ length digits.now }
@@ -47,7 +47,7 @@ fn values_at(digits: &[u8], at: usize, values: &mut [u8; 2 * LANES]) -> u8
     greatest
 }
 
-/// Puts the bytes of pairs of values in the places from here on. Where a value is no digit's, its byte is unspecified.
+/// Puts the byte of each pair of values into `out`, from `at` on. Where a value is no digit's, its byte is unspecified.
 #[inline(always)]
 fn put_pairs(values: &[u8; 2 * LANES], out: &mut [u8], at: usize)
     requires { at + 16 ≤ length out.old }
@@ -63,8 +63,8 @@ fn put_pairs(values: &[u8; 2 * LANES], out: &mut [u8], at: usize)
     }
 }
 
-/// Decodes the pairs of digits from a place on into their bytes, and gives the greatest of their values. Where that is no digit's, the
-/// bytes are unspecified.
+/// Decodes the pairs of digits from number `from` on into their bytes, and gives the greatest of their values. Where that is no digit's,
+/// the bytes are unspecified.
 fn decode_from(digits: &[u8], out: &mut [u8], from: usize) -> u8
     requires { length digits.now ≡ 2 * length out.old }
     ensures before { (i : ℕ) → i < from → slice_index out.new i ≡ slice_index out.old i }
@@ -101,9 +101,9 @@ fn decode_all(digits: &[u8], out: &mut [u8]) -> u8
     greatest.max(most)
 }
 
-/// Decodes digits into bytes, two into each, as `hex::decode_to_slice` does. It takes the same time
-/// whatever the digits are: they are tested once, at the end. Where they are not exactly twice as
-/// many as the bytes, these stay; where one is no digit, they are unspecified.
+/// Decodes digits into bytes, two into each, as `hex::decode_to_slice` does. It takes the same time whatever the digits are: they are
+/// tested once, at the end. If there are not exactly twice as many digits as bytes in `out`, `out` stays as it was; if one of them is no
+/// digit, the bytes of `out` are unspecified.
 pub(crate) fn decode_to_slice(digits: &[u8], out: &mut [u8]) -> Option<()>
     ensures value { MatchResult (decode_sized digits.now (length out.old))
         (λ bytes. (result ≡ Some tt) × (out.new ≡ bytes))

@@ -17,13 +17,13 @@ impl Loan for Brand {
     ghost name = { 0 };
 }
 
-/// A reader that is lent. Its type names the loan, so that what takes any reader can't put another
-/// loan in its place: whoever lent it knows what it has left.
+/// A reader that is lent. Its type names the loan, so that a function generic over its reader can't
+/// swap in another one: whoever lent it knows what it has left.
 ///
 /// A function that reads lines through a `&mut R` takes a `PhantomData<L>` for a loan `L`, and
 /// requires that the `&mut R` has the name of `L`. It makes `LineReader::new(LentReader { reader,
-/// of }, buffer)`, takes the reader out of `into_inner` again and gives it back. Its caller calls it
-/// at `Brand`, and picks the name of its own reader for the loan's in its `Invariants.antt`.
+/// of }, buffer)`, takes the reader out of `into_inner` again and gives it back. Its caller passes
+/// `Brand`, and its proof (`Invariants.antt`) sets the loan's name to that of its own reader.
 #[derive(Drop)]
 pub struct LentReader<'a, R, L: Loan> {
     pub reader: &'a mut R,

@@ -13,6 +13,7 @@ mod reply_buffer;
 
 pub use carried::{know_block, know_message};
 pub use heads::{Head, decode_block, head_of_line};
+// A reader that is lent to a `LineReader`; a `Loan` names which one.
 pub use lent_reader::{LentReader, Loan};
 pub use messages::{Block, Msg, Refusal, Reply};
 pub use parsing::parse_line;
@@ -21,7 +22,7 @@ pub use reading::{Found, LineReader, ReadFault};
 pub use records::{decode, encode};
 pub use reply_buffer::{REPLY_BUFFER_SIZE, ReplyBuffer, WriteFault};
 
-/// How many bytes a line of the input may have, its newline apart. A longer one is no message.
+/// How many bytes a line of the input may have, its newline not counted. A longer one is no message.
 pub const LONGEST_LINE: usize = 1100;
 
 /// How many bytes the longest reply line has, its newline included: `block `, two digits for each

@@ -1,7 +1,7 @@
 //! The line of a reply.
 
 ghost use Rattle.std.specs.Prelude.{◌≡◌, ◌<◌, ◌≤◌, ◌+◌, ◌*◌, length, take, drop};
-ghost use Rattle.messages.specs.Replies.{Appends, at_least_one, no_message, reply_line, reply_text, shown, spaced, without_zeros, reason};
+ghost use Rattle.messages.specs.Replies.{AppendsText, at_least_one, no_message, reply_line, reply_text, shown, spaced, without_trailing_zeros, reason};
 ghost use Rattle.messages.specs.declared.Reply.TheVariants.{Block as block_reply, Files as files_reply, Usage as usage_reply, Summary as summary_reply};
 
 use itoa::Buffer;
@@ -20,7 +20,7 @@ pub fn write_reply(reply: &Reply, out: &mut [u8; 1031]) -> usize
     append(b"\n", out, end)
 }
 
-/// The same for the reply that a block is, from where the block lies.
+/// The same for the reply `Block`, from a borrowed block: no `Reply` is made.
 pub(crate) fn write_block(content: &Block, out: &mut [u8; 1031]) -> usize
     ensures length { result ≡ length (reply_line (block_reply content.now)) }
     ensures line { take result out.new ≡ reply_line (block_reply content.now) }
@@ -41,7 +41,7 @@ pub fn no_message_line() -> &'static [u8]
 /// Writes the text of a reply into the front of `out`, and gives its length.
 #[inline(always)]
 fn write_text(reply: &Reply, out: &mut [u8; 1031]) -> usize
-    ensures text { Appends out.old out.new 0 result (reply_text reply.now) }
+    ensures text { AppendsText out.old out.new 0 result (reply_text reply.now) }
     ensures bound { result ≤ 1030 }
 {
     match reply {
@@ -70,9 +70,9 @@ fn write_text(reply: &Reply, out: &mut [u8; 1031]) -> usize
     }
 }
 
-/// Writes the text of the reply that a block is, and gives its length.
+/// Writes the text of the reply `Block`, and gives its length.
 fn write_block_text(content: &Block, out: &mut [u8; 1031]) -> usize
-    ensures text { Appends out.old out.new 0 result (reply_text (block_reply content.now)) }
+    ensures text { AppendsText out.old out.new 0 result (reply_text (block_reply content.now)) }
     ensures bound { result ≤ 1030 }
 {
     let end = append(b"block ", out, 0);
@@ -96,7 +96,7 @@ fn reason(why: Refusal) -> &'static [u8]
 /// Writes the text of the reply that lists files, and gives its length. It goes from each file that
 /// there is straight to the next.
 fn write_files(files: u64, out: &mut [u8; 1031]) -> usize
-    ensures text { Appends out.old out.new 0 result (reply_text (files_reply files)) }
+    ensures text { AppendsText out.old out.new 0 result (reply_text (files_reply files)) }
     ensures bound { result ≤ 1030 }
 {
     let mut end = append(b"files", out, 0);
@@ -114,7 +114,7 @@ fn write_files(files: u64, out: &mut [u8; 1031]) -> usize
 }
 
 fn write_usage(files: u32, blocks: u32, sealed: bool, out: &mut [u8; 1031]) -> usize
-    ensures text { Appends out.old out.new 0 result (reply_text (usage_reply files blocks sealed)) }
+    ensures text { AppendsText out.old out.new 0 result (reply_text (usage_reply files blocks sealed)) }
     ensures bound { result ≤ 1030 }
 {
     let end = append(b"usage", out, 0);
@@ -128,7 +128,7 @@ fn write_usage(files: u32, blocks: u32, sealed: bool, out: &mut [u8; 1031]) -> u
 }
 
 fn write_summary(volumes: u32, files: u32, blocks: u32, out: &mut [u8; 1031]) -> usize
-    ensures text { Appends out.old out.new 0 result (reply_text (summary_reply volumes files blocks)) }
+    ensures text { AppendsText out.old out.new 0 result (reply_text (summary_reply volumes files blocks)) }
     ensures bound { result ≤ 1030 }
 {
     let end = append(b"summary", out, 0);
@@ -140,7 +140,7 @@ fn write_summary(volumes: u32, files: u32, blocks: u32, out: &mut [u8; 1031]) ->
 /// Writes a text after the first `at` bytes, and gives where it ends.
 fn append(text: &[u8], out: &mut [u8; 1031], at: usize) -> usize
     requires { at + length text.now ≤ 1031 }
-    ensures { Appends out.old out.new at result text.now }
+    ensures { AppendsText out.old out.new at result text.now }
 {
     let end = at + text.len();
     out[at..end].copy_from_slice(text);
@@ -150,7 +150,7 @@ fn append(text: &[u8], out: &mut [u8; 1031], at: usize) -> usize
 /// Writes a space and a number after the first `at` bytes, and gives where they end.
 fn append_number(n: u32, out: &mut [u8; 1031], at: usize) -> usize
     requires { at + 11 ≤ 1031 }
-    ensures text { Appends out.old out.new at result (spaced n) }
+    ensures text { AppendsText out.old out.new at result (spaced n) }
     ensures bound { result ≤ at + 11 }
 {
     if n < 10 {
@@ -166,7 +166,7 @@ fn append_number(n: u32, out: &mut [u8; 1031], at: usize) -> usize
 fn append_digit(n: u8, out: &mut [u8; 1031], at: usize) -> usize
     requires digit { n < 10 }
     requires room { at + 11 ≤ 1031 }
-    ensures text { Appends out.old out.new at result (spaced n) }
+    ensures text { AppendsText out.old out.new at result (spaced n) }
     ensures bound { result ≤ at + 11 }
 {
     append(&[b' ', b'0' + n], out, at)
@@ -177,7 +177,7 @@ fn append_two_digits(n: u8, out: &mut [u8; 1031], at: usize) -> usize
     requires least { 10 ≤ n }
     requires most { n < 100 }
     requires room { at + 11 ≤ 1031 }
-    ensures text { Appends out.old out.new at result (spaced n) }
+    ensures text { AppendsText out.old out.new at result (spaced n) }
     ensures bound { result ≤ at + 11 }
 {
     append(&[b' ', b'0' + n / 10, b'0' + n % 10], out, at)
@@ -186,7 +186,7 @@ fn append_two_digits(n: u8, out: &mut [u8; 1031], at: usize) -> usize
 /// The same for any number.
 fn append_digits(n: u32, out: &mut [u8; 1031], at: usize) -> usize
     requires { at + 11 ≤ 1031 }
-    ensures text { Appends out.old out.new at result (spaced n) }
+    ensures text { AppendsText out.old out.new at result (spaced n) }
     ensures bound { result ≤ at + 11 }
 {
     let mut digits = Buffer::new();
@@ -198,7 +198,7 @@ fn append_digits(n: u32, out: &mut [u8; 1031], at: usize) -> usize
 fn append_shown(bytes: &[u8], out: &mut [u8; 1031], at: usize) -> usize
     requires some { 1 ≤ length bytes.now }
     requires room { at + 2 * length bytes.now ≤ 1030 }
-    ensures text { Appends out.old out.new at result (shown bytes.now) }
+    ensures text { AppendsText out.old out.new at result (shown bytes.now) }
     ensures bound { result ≤ 1030 }
 {
     let bytes = &bytes[..shown_size(bytes)];
@@ -210,7 +210,7 @@ fn append_shown(bytes: &[u8], out: &mut [u8; 1031], at: usize) -> usize
 /// How many of the bytes are shown: those up to the last that isn't 0, and one where all are 0.
 fn shown_size(bytes: &[u8]) -> usize
     requires { 1 ≤ length bytes.now }
-    ensures shown { take result bytes.now ≡ at_least_one (without_zeros bytes.now) }
+    ensures shown { take result bytes.now ≡ at_least_one (without_trailing_zeros bytes.now) }
     ensures some { 1 ≤ result }
     ensures bound { result ≤ length bytes.now }
 {

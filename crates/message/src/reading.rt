@@ -21,15 +21,15 @@ pub enum Found {
 #[derive(Clone, Copy, Debug, PartialEq, Eq)]
 pub struct ReadFault;
 
-/// What is read and not yet given, which is `buffer[start..end]`, and the line that was given last.
+/// The bytes that are read and not yet given, `buffer[start..end]`, and the line that was given last.
 #[derive(Drop)]
-struct Held {
+struct Buffered {
     buffer: Vec<u8>,
     line_start: usize,
     line_end: usize,
     start: usize,
 
-    /// Where the first newline of what is held is, or `end`.
+    /// Where the first newline of these bytes is, or `end`.
     newline: usize,
     end: usize,
     ghost room: { 1101 ≤ vec_len buffer },
@@ -81,16 +81,16 @@ fn read_over<R: Read>(reader: &mut R, buffer: &mut Vec<u8>, at: usize) -> Result
     read_at(reader, buffer.as_mut_slice(), at)
 }
 
-impl Held {
+impl Buffered {
     ghost use Rattle.messages.specs.FirstLine.{first_line, behind_first_line, IsWithinLine};
-    ghost use Rattle.message.specs.Reader.{held_bytes, held_line};
+    ghost use Rattle.message.specs.Reader.{buffered_bytes, given_line};
 
-    fn new(buffer: Vec<u8>) -> Held
+    fn new(buffer: Vec<u8>) -> Buffered
         requires { 1101 ≤ vec_len buffer }
-        ensures bytes { held_bytes result ≡ [] }
-        ensures line { held_line result ≡ [] }
+        ensures bytes { buffered_bytes result ≡ [] }
+        ensures line { given_line result ≡ [] }
     {
-        Held {
+        Buffered {
             buffer,
             line_start: 0,
             line_end: 0,
@@ -101,35 +101,35 @@ impl Held {
     }
 
     fn line(&self) -> &[u8]
-        ensures { result.now ≡ held_line self.now }
+        ensures { result.now ≡ given_line self.now }
     {
         &self.buffer.as_slice()[self.line_start..self.line_end]
     }
 
     fn is_empty(&self) -> bool
-        ensures { IsTrue result ↔ (held_bytes self.now ≡ []) }
+        ensures { IsTrue result ↔ (buffered_bytes self.now ≡ []) }
     {
         self.start == self.end
     }
 
     fn has_newline(&self) -> bool
-        ensures holds { IsTrue result ↔ Contains (held_bytes self.now) 10 }
-        ensures none { IsFalse result → IsWithinLine (held_bytes self.now) }
+        ensures holds { IsTrue result ↔ Contains (buffered_bytes self.now) 10 }
+        ensures none { IsFalse result → IsWithinLine (buffered_bytes self.now) }
     {
         self.newline < self.end
     }
 
     /// How many bytes of the first line are held.
     fn first_len(&self) -> usize
-        ensures { result ≡ length (first_line (held_bytes self.now)) }
+        ensures { result ≡ length (first_line (buffered_bytes self.now)) }
     {
         self.newline - self.start
     }
 
     /// Gives no line any more.
     fn forget_line(&mut self)
-        ensures bytes { held_bytes self.new ≡ held_bytes self.old }
-        ensures line { held_line self.new ≡ [] }
+        ensures bytes { buffered_bytes self.new ≡ buffered_bytes self.old }
+        ensures line { given_line self.new ≡ [] }
     {
         self.line_start = 0;
         self.line_end = 0;
@@ -137,8 +137,8 @@ impl Held {
 
     /// Drops the first line.
     fn pass_line(&mut self)
-        ensures bytes { held_bytes self.new ≡ behind_first_line (held_bytes self.old) }
-        ensures line { held_line self.new ≡ held_line self.old }
+        ensures bytes { buffered_bytes self.new ≡ behind_first_line (buffered_bytes self.old) }
+        ensures line { given_line self.new ≡ given_line self.old }
     {
         self.start = self.end.min(self.newline + 1);
         let behind = &self.buffer.as_slice()[self.start..self.end];
@@ -147,8 +147,8 @@ impl Held {
 
     /// Gives the first line.
     fn take_line(&mut self)
-        ensures bytes { held_bytes self.new ≡ behind_first_line (held_bytes self.old) }
-        ensures line { held_line self.new ≡ first_line (held_bytes self.old) }
+        ensures bytes { buffered_bytes self.new ≡ behind_first_line (buffered_bytes self.old) }
+        ensures line { given_line self.new ≡ first_line (buffered_bytes self.old) }
     {
         self.line_start = self.start;
         self.line_end = self.newline;
@@ -157,9 +157,9 @@ impl Held {
 
     /// Drops all bytes.
     fn clear(&mut self)
-        ensures bytes { held_bytes self.new ≡ [] }
+        ensures bytes { buffered_bytes self.new ≡ [] }
         ensures gone { self.new.start ≡ self.new.end }
-        ensures line { held_line self.new ≡ held_line self.old }
+        ensures line { given_line self.new ≡ given_line self.old }
     {
         self.start = 0;
         self.newline = 0;
@@ -168,9 +168,9 @@ impl Held {
 
     /// Moves what is held to the front of the buffer.
     fn move_to_front(&mut self)
-        requires { held_line self.old ≡ [] }
-        ensures bytes { held_bytes self.new ≡ held_bytes self.old }
-        ensures line { held_line self.new ≡ [] }
+        requires { given_line self.old ≡ [] }
+        ensures bytes { buffered_bytes self.new ≡ buffered_bytes self.old }
+        ensures line { given_line self.new ≡ [] }
         ensures front { self.new.start ≡ 0 }
         ensures end { self.new.end + self.old.start ≡ self.old.end }
         ensures newline { self.new.newline + self.old.start ≡ self.old.newline }
@@ -183,18 +183,18 @@ impl Held {
 
     /// Reads once, after what is held, and gives how many bytes came.
     fn read_behind<R: Read>(&mut self, reader: &mut R) -> Result<usize, ReadFault>
-        requires line { held_line self.old ≡ [] }
+        requires line { given_line self.old ≡ [] }
         requires no_newline { self.old.newline ≡ self.old.end }
         requires room { self.old.end < vec_len self.old.buffer }
-        ensures line { held_line self.new ≡ [] }
+        ensures line { given_line self.new ≡ [] }
         ensures bytes { IfOk result (λ n.
-            Keeps (prepend_known (held_bytes self.old) (R.remaining reader.old))
-            (prepend_known (held_bytes self.new) (R.remaining reader.new))) }
+            Keeps (prepend_known (buffered_bytes self.old) (R.remaining reader.old))
+            (prepend_known (buffered_bytes self.new) (R.remaining reader.new))) }
         ensures count { IfOk result
-            (λ n. length (held_bytes self.new) ≡ length (held_bytes self.old) + n) }
+            (λ n. length (buffered_bytes self.new) ≡ length (buffered_bytes self.old) + n) }
         ensures end { IfOk result (λ n. n ≡ 0 → IsAtEnd (R.remaining reader.new)) }
         ensures fault { OnErr result (Keeps (R.remaining reader.old) (R.remaining reader.new)) }
-        ensures kept { OnErr result (held_bytes self.new ≡ held_bytes self.old) }
+        ensures kept { OnErr result (buffered_bytes self.new ≡ buffered_bytes self.old) }
     {
         let at = self.end;
         let count = read_over(reader, &mut self.buffer, at)?;
@@ -206,18 +206,18 @@ impl Held {
 
     /// Reads once, as much as there is room for after what is held, and gives how many bytes came.
     fn fill<R: Read>(&mut self, reader: &mut R) -> Result<usize, ReadFault>
-        requires line { held_line self.old ≡ [] }
-        requires within_line { IsWithinLine (held_bytes self.old) }
-        requires room { length (held_bytes self.old) ≤ 1100 }
-        ensures line { held_line self.new ≡ [] }
+        requires line { given_line self.old ≡ [] }
+        requires within_line { IsWithinLine (buffered_bytes self.old) }
+        requires room { length (buffered_bytes self.old) ≤ 1100 }
+        ensures line { given_line self.new ≡ [] }
         ensures bytes { IfOk result (λ n.
-            Keeps (prepend_known (held_bytes self.old) (R.remaining reader.old))
-            (prepend_known (held_bytes self.new) (R.remaining reader.new))) }
+            Keeps (prepend_known (buffered_bytes self.old) (R.remaining reader.old))
+            (prepend_known (buffered_bytes self.new) (R.remaining reader.new))) }
         ensures count { IfOk result
-            (λ n. length (held_bytes self.new) ≡ length (held_bytes self.old) + n) }
+            (λ n. length (buffered_bytes self.new) ≡ length (buffered_bytes self.old) + n) }
         ensures end { IfOk result (λ n. n ≡ 0 → IsAtEnd (R.remaining reader.new)) }
         ensures fault { OnErr result (Keeps (R.remaining reader.old) (R.remaining reader.new)) }
-        ensures kept { OnErr result (held_bytes self.new ≡ held_bytes self.old) }
+        ensures kept { OnErr result (buffered_bytes self.new ≡ buffered_bytes self.old) }
     {
         self.move_to_front();
         self.read_behind(reader)
@@ -229,19 +229,19 @@ impl Held {
 #[derive(Drop)]
 pub struct LineReader<R> {
     reader: R,
-    held: Held,
+    buffered: Buffered,
 
     /// A read has reported the end. No other follows.
     ended: bool,
 
     /// A read has failed. No other follows, and nothing is held any more.
     failed: bool,
-    ghost nothing_kept: { failed ≡ true → (held.start ≡ held.end) × (ended ≡ false) },
+    ghost nothing_kept: { failed ≡ true → (buffered.start ≡ buffered.end) × (ended ≡ false) },
 }
 
 impl<R: Read> LineReader<R> {
-    ghost use Rattle.messages.specs.FirstLine.{first_line, behind_first_line, IsWithinLine, LosesFront, IsClosed};
-    ghost use Rattle.message.specs.Reader.{held_bytes, HoldsEnough, unread, line_of, HoldsLine, has_ended, has_failed, source, Finds, Closes, is_drained, KnowsEnd};
+    ghost use Rattle.messages.specs.FirstLine.{first_line, behind_first_line, IsWithinLine, LosesFront, HasWholeFirstLine};
+    ghost use Rattle.message.specs.Reader.{buffered_bytes, HoldsEnough, unread, line_of, HoldsLine, has_ended, has_failed, source, Finds, Closes, is_drained, KnowsEnd};
 
     /// A reader of lines over a reader, before its first read. The buffer has 1,101 bytes at least.
     /// A read fills it as far as the reader gives, so its length is how much is read at a time.
@@ -255,7 +255,7 @@ impl<R: Read> LineReader<R> {
     {
         LineReader {
             reader,
-            held: Held::new(buffer),
+            buffered: Buffered::new(buffer),
             ended: false,
             failed: false,
         }
@@ -265,14 +265,14 @@ impl<R: Read> LineReader<R> {
     pub fn line(&self) -> &[u8]
         ensures { result.now ≡ line_of self.now }
     {
-        self.held.line()
+        self.buffered.line()
     }
 
     /// Whether a whole line is held, its newline included. `next_line` then does not read.
     pub fn holds_line(&self) -> bool
         ensures { IsTrue result ↔ HoldsLine self.now }
     {
-        self.held.has_newline()
+        self.buffered.has_newline()
     }
 
     /// Whether the input has ended and all of it was given: what comes next is the end.
@@ -280,7 +280,7 @@ impl<R: Read> LineReader<R> {
         ensures value { result ≡ is_drained self.now }
         ensures nothing { IsTrue result → IfSome (unread R.remaining self.now) (λ bs. bs ≡ []) }
     {
-        self.ended && self.held.is_empty()
+        self.ended && self.buffered.is_empty()
     }
 
     /// Finds the next line, which `line` then shows. It reads only where no whole line is held. A
@@ -294,6 +294,7 @@ impl<R: Read> LineReader<R> {
     pub fn next_line(&mut self) -> Result<Found, ReadFault>
         ensures found { Finds result (unread R.remaining self.old)
             (line_of self.new) (unread R.remaining self.new) }
+        // A line that was found ends with a newline, or with the input.
         ensures closes { Closes result (unread R.remaining self.old) (is_drained self.new) }
         ensures short { result ≡ Ok Found.Line → length (line_of self.new) ≤ LONGEST_LINE }
         ensures no_line { result ≢ Ok Found.Line → line_of self.new ≡ [] }
@@ -308,10 +309,10 @@ impl<R: Read> LineReader<R> {
 
         // Once a read has reported the end, no other follows.
         ensures end { result ≡ Ok Found.End → IsTrue (has_ended self.new) }
-        ensures told { IsTrue (has_ended self.old) → source self.new ≡ source self.old }
+        ensures no_read_after_end { IsTrue (has_ended self.old) → source self.new ≡ source self.old }
         ensures at_end { KnowsEnd R.remaining self.old → KnowsEnd R.remaining self.new }
     {
-        self.held.forget_line();
+        self.buffered.forget_line();
         if self.failed {
             return Err(ReadFault);
         }
@@ -329,14 +330,14 @@ impl<R: Read> LineReader<R> {
     /// Whether a read is needed to know what is found.
     fn wants_more(&self) -> bool
         ensures open { IsTrue result → IsFalse (has_ended self.now) }
-        ensures within_line { IsTrue result → IsWithinLine (held_bytes self.now.held) }
-        ensures room { IsTrue result → length (held_bytes self.now.held) ≤ 1100 }
+        ensures within_line { IsTrue result → IsWithinLine (buffered_bytes self.now.buffered) }
+        ensures room { IsTrue result → length (buffered_bytes self.now.buffered) ≤ 1100 }
         ensures enough { IsFalse result → HoldsEnough self.now }
     {
-        if self.held.has_newline() || self.ended {
+        if self.buffered.has_newline() || self.ended {
             return false;
         }
-        self.held.first_len() <= LONGEST_LINE
+        self.buffered.first_len() <= LONGEST_LINE
     }
 
     /// Reads once.
@@ -344,8 +345,8 @@ impl<R: Read> LineReader<R> {
         requires line { line_of self.old ≡ [] }
         requires not_failed { IsFalse (has_failed self.old) }
         requires open { IsFalse (has_ended self.old) }
-        requires within_line { IsWithinLine (held_bytes self.old.held) }
-        requires room { length (held_bytes self.old.held) ≤ 1100 }
+        requires within_line { IsWithinLine (buffered_bytes self.old.buffered) }
+        requires room { length (buffered_bytes self.old.buffered) ≤ 1100 }
         ensures line { line_of self.new ≡ [] }
         ensures bytes { OnOk result
             (Keeps (unread R.remaining self.old) (unread R.remaining self.new)) }
@@ -354,15 +355,15 @@ impl<R: Read> LineReader<R> {
         ensures failed { has_failed self.new ≡ is_err result }
         ensures at_end { KnowsEnd R.remaining self.new }
         ensures more { OnOk result (IsTrue (has_ended self.new)
-            ⊎ (length (held_bytes self.old.held) < length (held_bytes self.new.held))) }
+            ⊎ (length (buffered_bytes self.old.buffered) < length (buffered_bytes self.new.buffered))) }
     {
-        match self.held.fill(&mut self.reader) {
+        match self.buffered.fill(&mut self.reader) {
             Ok(count) => {
                 self.ended = count == 0;
                 Ok(())
             }
             Err(fault) => {
-                self.held.clear();
+                self.buffered.clear();
                 self.failed = true;
                 Err(fault)
             }
@@ -381,7 +382,7 @@ impl<R: Read> LineReader<R> {
         ensures failed { has_failed self.new ≡ is_err result }
         ensures enough { OnOk result (HoldsEnough self.new) }
         ensures at_once { HoldsLine self.old → self.new ≡ self.old }
-        ensures told { IsTrue (has_ended self.old) → self.new ≡ self.old }
+        ensures no_read_after_end { IsTrue (has_ended self.old) → self.new ≡ self.old }
         ensures at_end { KnowsEnd R.remaining self.old → KnowsEnd R.remaining self.new }
     {
         while self.wants_more() {
@@ -395,7 +396,7 @@ impl<R: Read> LineReader<R> {
         requires line { line_of self.old ≡ [] }
         requires not_failed { IsFalse (has_failed self.old) }
         requires open { IsFalse (has_ended self.old) }
-        requires within_line { IsWithinLine (held_bytes self.old.held) }
+        requires within_line { IsWithinLine (buffered_bytes self.old.buffered) }
         ensures line { line_of self.new ≡ [] }
         ensures lost { IfSome (unread R.remaining self.old)
             (λ bs. LosesFront bs (unread R.remaining self.new)) }
@@ -404,13 +405,13 @@ impl<R: Read> LineReader<R> {
         ensures at_end { KnowsEnd R.remaining self.new }
     {
         for _ in 0..u64::MAX {
-            self.held.clear();
+            self.buffered.clear();
             self.refill()?;
-            if self.ended || self.held.has_newline() {
+            if self.ended || self.buffered.has_newline() {
                 return Ok(());
             }
         }
-        self.held.clear();
+        self.buffered.clear();
         self.failed = true;
         Err(ReadFault)
     }
@@ -422,19 +423,19 @@ impl<R: Read> LineReader<R> {
         ensures line { line_of self.new ≡ [] }
         ensures passed { OnOk result (IfSome (unread R.remaining self.old)
             (λ bs. unread R.remaining self.new ≡ Some (behind_first_line bs))) }
-        ensures closed { OnOk result (IsClosed (unread R.remaining self.old) (is_drained self.new)) }
+        ensures closed { OnOk result (HasWholeFirstLine (unread R.remaining self.old) (is_drained self.new)) }
         ensures lost { OnErr result (IfSome (unread R.remaining self.old)
             (λ bs. LosesFront bs (unread R.remaining self.new))) }
         ensures failed { has_failed self.new ≡ is_err result }
         ensures at_once { HoldsLine self.old → source self.new ≡ source self.old }
         ensures ready { HoldsLine self.old → IsOk result }
-        ensures told { IsTrue (has_ended self.old) → source self.new ≡ source self.old }
+        ensures no_read_after_end { IsTrue (has_ended self.old) → source self.new ≡ source self.old }
         ensures at_end { KnowsEnd R.remaining self.old → KnowsEnd R.remaining self.new }
     {
-        if !self.ended && !self.held.has_newline() {
+        if !self.ended && !self.buffered.has_newline() {
             self.skip()?;
         }
-        self.held.pass_line();
+        self.buffered.pass_line();
         Ok(())
     }
 
@@ -445,6 +446,7 @@ impl<R: Read> LineReader<R> {
         requires enough { HoldsEnough self.old }
         ensures found { Finds result (unread R.remaining self.old)
             (line_of self.new) (unread R.remaining self.new) }
+        // A line that was found ends with a newline, or with the input.
         ensures closes { Closes result (unread R.remaining self.old) (is_drained self.new) }
         ensures short { result ≡ Ok Found.Line → length (line_of self.new) ≤ 1100 }
         ensures no_line { result ≢ Ok Found.Line → line_of self.new ≡ [] }
@@ -452,17 +454,17 @@ impl<R: Read> LineReader<R> {
         ensures at_once { HoldsLine self.old → source self.new ≡ source self.old }
         ensures ready { HoldsLine self.old → IsOk result }
         ensures end { result ≡ Ok Found.End → IsTrue (has_ended self.new) }
-        ensures told { IsTrue (has_ended self.old) → source self.new ≡ source self.old }
+        ensures no_read_after_end { IsTrue (has_ended self.old) → source self.new ≡ source self.old }
         ensures at_end { KnowsEnd R.remaining self.old → KnowsEnd R.remaining self.new }
     {
-        if self.held.first_len() > LONGEST_LINE {
+        if self.buffered.first_len() > LONGEST_LINE {
             self.skip_line()?;
             return Ok(Found::TooLong);
         }
-        if self.held.is_empty() {
+        if self.buffered.is_empty() {
             return Ok(Found::End);
         }
-        self.held.take_line();
+        self.buffered.take_line();
         Ok(Found::Line)
     }
 }

@@ -4,7 +4,7 @@ ghost use Rattle.std.specs.Prelude.{◌≡◌, ◌+◌, ◌≤◌, ◌⊎◌, �
 ghost use Rattle.std.specs.Io.KnownBytes.{Appends};
 ghost use Rattle.message.specs.Reader.{HoldsLine};
 ghost use Rattle.messages.specs.Replies.{no_message, reply_line};
-ghost use Rattle.message.specs.Waiting.{FitsReply, so_far};
+ghost use Rattle.message.specs.Waiting.{FitsReply, all_output};
 ghost use Rattle.messages.specs.declared.Reply.TheVariants.{Done, Refused, Block as block_reply};
 
 use crate::printing::write_block;
@@ -116,7 +116,7 @@ fn put_block(content: &Block, bytes: &mut Vec<u8>, at: usize) -> usize
 }
 
 /// The lines of replies that wait to be written, in order. A contract sees the bytes that wait.
-/// Once made it takes no memory.
+/// Once made it allocates no more.
 #[derive(Drop)]
 pub struct ReplyBuffer {
     bytes: Vec<u8>,
@@ -182,8 +182,8 @@ impl ReplyBuffer {
     /// much of it was written.
     pub fn send<W: Write>(&mut self, w: &mut W) -> Result<(), WriteFault>
         ensures none_waits { OnOk result (self.new ≡ []) }
-        ensures kept { OnOk result (Appends (so_far (W.contents w.old) self.old)
-            (so_far (W.contents w.new) self.new) []) }
+        ensures kept { OnOk result (Appends (all_output (W.contents w.old) self.old)
+            (all_output (W.contents w.new) self.new) []) }
         ensures idle { self.old ≡ [] → IsOk result × (w.new ≡ w.old) }
         ensures unchanged { OnErr result (self.new ≡ self.old) }
     {
@@ -200,8 +200,8 @@ impl ReplyBuffer {
         Ok(())
     }
 
-    /// Writes all that waits before a read that may wait. Where a whole line is held it does not:
-    /// the next line is then found with no read.
+    /// Writes all that waits before a read that may block. Where the reader holds a whole line nothing
+    /// is written: the next line needs no read.
     ///
     /// # Errors
     ///
@@ -212,10 +212,9 @@ impl ReplyBuffer {
         w: &mut W,
     ) -> Result<(), WriteFault>
         ensures none_waits { OnOk result (HoldsLine lines.now ⊎ (self.new ≡ [])) }
-        ensures kept { OnOk result (Appends (so_far (W.contents w.old) self.old)
-            (so_far (W.contents w.new) self.new) []) }
-        ensures idle { HoldsLine lines.now →
-            IsOk result × (self.new ≡ self.old) × (w.new ≡ w.old) }
+        ensures kept { OnOk result (Appends (all_output (W.contents w.old) self.old)
+            (all_output (W.contents w.new) self.new) []) }
+        ensures idle { HoldsLine lines.now → IsOk result × (self.new ≡ self.old) × (w.new ≡ w.old) }
         ensures unchanged { OnErr result (self.new ≡ self.old) }
     {
         if lines.holds_line() {
@@ -232,8 +231,8 @@ impl ReplyBuffer {
     /// Those of `send`.
     pub fn make_room<W: Write>(&mut self, w: &mut W) -> Result<(), WriteFault>
         ensures room { OnOk result (FitsReply self.new) }
-        ensures kept { OnOk result (Appends (so_far (W.contents w.old) self.old)
-            (so_far (W.contents w.new) self.new) []) }
+        ensures kept { OnOk result (Appends (all_output (W.contents w.old) self.old)
+            (all_output (W.contents w.new) self.new) []) }
         ensures idle { FitsReply self.old → IsOk result × (self.new ≡ self.old) × (w.new ≡ w.old) }
         ensures unchanged { OnErr result (self.new ≡ self.old) }
     {
@@ -270,7 +269,7 @@ impl ReplyBuffer {
         self.len = put_line(line, &mut self.bytes, self.len);
     }
 
-    /// Adds the reply that a message was carried out: no reply is made for it.
+    /// Adds the line of `done`, without making a `Reply`.
     pub fn add_done(&mut self)
         requires { FitsReply self.old }
         ensures { self.new ≡ self.old ++ reply_line Done }

@@ -17,23 +17,23 @@ IsWithinLine bs = All (λ b. b ≢ 10) bs
 
 -- ---- what is found, where the bytes are known
 
--- The line is the first of the bytes, and those after it are left.
+-- A line was found: it is the first line of the bytes, and the bytes behind it are left.
 pub record GivesLine (line bs : List ℕ) (left : Option (List ℕ)) : Type 0 where
   pub more : bs ≢ []
   pub line_is : line ≡ first_line bs
   pub left_is : left ≡ Some (behind_first_line bs)
 
--- The first line of the bytes has more than 1,100 bytes, and those after it are left.
+-- A long line was skipped: the first line of the bytes has more than 1,100 bytes, and those after it are left.
 pub record PassesLine (bs : List ℕ) (left : Option (List ℕ)) : Type 0 where
   pub long : 1100 < length (first_line bs)
   pub left_is : left ≡ Some (behind_first_line bs)
 
--- There are no bytes, and none are left.
+-- The end was found: there are no bytes, and none are left.
 pub record IsAtEndOf (bs : List ℕ) (left : Option (List ℕ)) : Type 0 where
   pub none : bs ≡ []
   pub left_is : left ≡ Some []
 
--- Some of the bytes at the front were lost, none of them a newline, and the others are left.
+-- A read failed: some bytes at the front were lost, none of them a newline, and the others are left.
 pub record LosesFront (bs : List ℕ) (left : Option (List ℕ)) : Type 0 where
   pub got : List ℕ
   pub rest : List ℕ
@@ -43,6 +43,6 @@ pub record LosesFront (bs : List ℕ) (left : Option (List ℕ)) : Type 0 where
 
 -- ---- the end of the input
 
--- The bytes have a newline, or nothing is to come.
-abbrev pub IsClosed : Option (List ℕ) → Bool → Type 0
-IsClosed old drained = IfSome old (λ bs. Contains bs 10 ⊎ (drained ≡ true))
+-- Where the bytes are known, their first line is whole: it ends with a newline, or with the input, from which no further byte comes.
+abbrev pub HasWholeFirstLine : Option (List ℕ) → Bool → Type 0
+HasWholeFirstLine old drained = IfSome old (λ bs. Contains bs 10 ⊎ (drained ≡ true))

@@ -14,19 +14,20 @@ use Rattle.messages.specs.Messages.{kind, numbers}
 
 -- ---- by the words of a line: which message they make, if any
 
+-- the second function on the value of the first option, where it has one
 infixl 10 ◌>>=◌
 abbrev pub ◌>>=◌ : {A B : Type 0} → Option A → (A → Option B) → Option B
 (Some x) >>= f = f x
 None >>= f = None
 
--- the number that the first of several words encodes, and the words after it
+-- the number that the first word encodes, and the words after it, of which there is at least one
 abbrev pub first_number : List (List ℕ) → Option (ℕ × List (List ℕ))
 first_number (w ∷ v ∷ ws) = do
   n ← number_in_word w
   Some (n, v ∷ ws)
 first_number _ = None
 
--- the message with the numbers that these words encode, where they are two, three or four
+-- the message that `make` makes of two words: the numbers of an aggregate and a volume
 abbrev pub of_volume : (ℕ → ℕ → Msg) → List (List ℕ) → Option Msg
 of_volume make (a ∷ v ∷ []) = do
   aggregate ← number_in_word a
@@ -34,6 +35,7 @@ of_volume make (a ∷ v ∷ []) = do
   Some (make aggregate volume)
 of_volume make _ = None
 
+-- of three words: the numbers of an aggregate, a volume and a file
 abbrev pub of_file : (ℕ → ℕ → ℕ → Msg) → List (List ℕ) → Option Msg
 of_file make (a ∷ v ∷ f ∷ []) = do
   aggregate ← number_in_word a
@@ -42,6 +44,7 @@ of_file make (a ∷ v ∷ f ∷ []) = do
   Some (make aggregate volume file)
 of_file make _ = None
 
+-- of four words: the numbers of an aggregate, a volume, a file and a block
 abbrev pub of_block : (ℕ → ℕ → ℕ → ℕ → Msg) → List (List ℕ) → Option Msg
 of_block make (a ∷ v ∷ f ∷ b ∷ []) = do
   aggregate ← number_in_word a
@@ -51,7 +54,7 @@ of_block make (a ∷ v ∷ f ∷ b ∷ []) = do
   Some (make aggregate volume file block_number)
 of_block make _ = None
 
--- four numbers, and the digits of a block
+-- of five words: four numbers, and the digits of a block
 abbrev pub of_data : (ℕ → ℕ → ℕ → ℕ → Block → Msg) → List (List ℕ) → Option Msg
 of_data make (a ∷ v ∷ f ∷ b ∷ digits ∷ []) = do
   aggregate ← number_in_word a
@@ -62,7 +65,7 @@ of_data make (a ∷ v ∷ f ∷ b ∷ digits ∷ []) = do
   Some (make aggregate volume file block_number content)
 of_data make _ = None
 
--- two numbers, and the digits of a label
+-- of three words: two numbers, and the digits of a label
 abbrev pub of_label : (ℕ → ℕ → List ℕ → Msg) → List (List ℕ) → Option Msg
 of_label make (a ∷ v ∷ digits ∷ []) = do
   aggregate ← number_in_word a
@@ -71,7 +74,7 @@ of_label make (a ∷ v ∷ digits ∷ []) = do
   Some (make aggregate volume bytes)
 of_label make _ = None
 
--- no word at all
+-- the message m of no words
 abbrev pub of_nothing : Msg → List (List ℕ) → Option Msg
 of_nothing m [] = Some m
 of_nothing m _ = None
@@ -123,6 +126,7 @@ named_among (k ∷ ks) word = if bytes_eq word (keyword k) then Some k else name
 unfoldable pub kind_named : List ℕ → Option Kind
 kind_named word = named_among all_kinds word
 
+-- the message that the words of a line spell, if they spell one
 abbrev pub of_words : List (List ℕ) → Option Msg
 of_words [] = None
 of_words (word ∷ arguments) = do
@@ -140,7 +144,7 @@ abbrev pub SpellsBytes : ℕ → List ℕ → List ℕ → Type 0
 SpellsBytes size digits whole = (bytes : List ℕ) × (decode_of digits ≡ Ok bytes) × (1 ≤ length bytes) × (length bytes ≤ size)
     × (whole ≡ padded size bytes)
 
--- what comes after the numbers of a message
+-- These are the words after the numbers of the message: the digits of its block or label, or no word.
 abbrev pub IsData : Msg → List (List ℕ) → Type 0
 IsData (Write a v f b content) behind = (digits : List ℕ) × (behind ≡ digits ∷ []) × SpellsBytes 512 digits content.0
 IsData (SetLabel a v bytes) behind = (digits : List ℕ) × (behind ≡ digits ∷ []) × SpellsBytes 32 digits bytes

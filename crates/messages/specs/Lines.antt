@@ -29,10 +29,11 @@ is_numeral word = all_ascii_digits word && nat_lt 0 (length word) && (not (slice
 unfoldable pub number_in_word : List ℕ → Option ℕ
 number_in_word word = if is_numeral word && nat_lt (digits_value 10 word) 65536 then Some (digits_value 10 word) else None
 
--- the bytes, and zeros up to this many
+-- the bytes, with zeros after them up to `size` bytes
 abbrev pub padded : ℕ → List ℕ → List ℕ
 padded size bytes = bytes ++ replicate (size - length bytes) 0
 
+-- the bytes that decoding gave, with zeros after them up to `size` bytes; none where it failed
 abbrev pub padded_with : ℕ → Result (List ℕ) FromHexError → Option (List ℕ)
 padded_with size (Ok bytes) = Some (padded size bytes)
 padded_with size (Err e) = None

@@ -4,7 +4,7 @@ use Rattle.std.specs.List.{AllByRecursion}
 use Rattle.affinity.specs.declared.kinds.Kind.{Kind}
 use Rattle.affinity.specs.declared.kinds.Kind.TheVariants as kinds
 use Rattle.affinity.specs.declared.geometry.Geometry.{Geometry}
-use Rattle.affinity.specs.Place.{is_in_range as numbers_are_in_range, place as place_of}
+use Rattle.affinity.specs.Place.{is_in_range as numbers_are_in_range, path_of_kind}
 use Rattle.affinity.specs.Path.{Path}
 use Rattle.messages.specs.declared.Block.{Block}
 use Rattle.messages.specs.declared.Msg.{Msg}
@@ -43,7 +43,7 @@ numbers Summary = []
 numbers (SetLabel a v bytes) = a ∷ v ∷ []
 numbers (Label a v) = a ∷ v ∷ []
 
--- four numbers, with zeros for those that it doesn't have
+-- four numbers: those of the list, and zeros after them
 abbrev pub filled : List ℕ → List ℕ
 filled [] = 0 ∷ 0 ∷ 0 ∷ 0 ∷ []
 filled (a ∷ []) = a ∷ 0 ∷ 0 ∷ 0 ∷ []
@@ -51,26 +51,27 @@ filled (a ∷ v ∷ []) = a ∷ v ∷ 0 ∷ 0 ∷ []
 filled (a ∷ v ∷ f ∷ []) = a ∷ v ∷ f ∷ 0 ∷ []
 filled (a ∷ v ∷ f ∷ b ∷ more) = a ∷ v ∷ f ∷ b ∷ []
 
+-- the aggregate, volume, file and block of a message, with 0 for each that it doesn't have
 abbrev pub four_numbers : Msg → List ℕ
 four_numbers m = filled (numbers m)
 
--- each number that the message has is below its limit
+-- whether each number that the message has is below its limit
 abbrev pub is_in_range : Geometry → Msg → Bool
 is_in_range g m = numbers_are_in_range g (kind m) (four_numbers m)
 
--- the place of a message in the tree of affinities
-abbrev pub place : Geometry → Msg → Path
-place g m = place_of g (kind m) (four_numbers m)
+-- the path in the tree of affinities at which a message belongs
+abbrev pub path_of : Geometry → Msg → Path
+path_of g m = path_of_kind g (kind m) (four_numbers m)
 
--- `size` bytes
+-- The list is `size` bytes, numbers below 256.
 abbrev pub AreSizedBytes : ℕ → List ℕ → Type 0
 AreSizedBytes size bytes = (length bytes ≡ size) × AllByRecursion (λ b. b < 256) bytes
 
--- a block has 512 bytes
+-- The block is 512 bytes.
 abbrev pub IsBlock : Block → Type 0
 IsBlock content = AreSizedBytes 512 content.0
 
--- What a message carries are bytes, as many as there should be.
+-- The data of the message are bytes: 512 in a block, 32 in a label.
 abbrev pub IsMessage : Msg → Type 0
 IsMessage (Write a v f b content) = IsBlock content
 IsMessage (SetLabel a v bytes) = AreSizedBytes 32 bytes

@@ -14,19 +14,20 @@ before b [] = if b == 0 then [] else b ∷ []
 before b (c ∷ cs) = b ∷ c ∷ cs
 
 -- the bytes up to the last that isn't 0
-abbrev pub without_zeros : List ℕ → List ℕ
-without_zeros [] = []
-without_zeros (b ∷ bs) = before b (without_zeros bs)
+abbrev pub without_trailing_zeros : List ℕ → List ℕ
+without_trailing_zeros [] = []
+without_trailing_zeros (b ∷ bs) = before b (without_trailing_zeros bs)
 
 -- at least one byte: a zero where there is none
 abbrev pub at_least_one : List ℕ → List ℕ
 at_least_one [] = 0 ∷ []
 at_least_one (b ∷ bs) = b ∷ bs
 
--- the digits that show some bytes: those up to the last that isn't 0, and `00` where all are 0
+-- bytes in lower-case hexadecimal digits, up to the last byte that isn't 0; `00` where all are 0
 unfoldable pub shown : List ℕ → List ℕ
-shown bytes = encode_lower (at_least_one (without_zeros bytes))
+shown bytes = encode_lower (at_least_one (without_trailing_zeros bytes))
 
+-- the word that names a refusal
 abbrev pub reason : Refusal → List ℕ
 reason Range = codes "range"
 reason Volume = codes "volume"
@@ -35,7 +36,7 @@ reason Sealed = codes "sealed"
 reason File = codes "file"
 reason Space = codes "space"
 
--- whether a file is one of these: file f is bit f of the number
+-- whether file f is in the set `files`: it is bit f of that number
 abbrev pub has_file : ℕ → ℕ → Bool
 has_file files f = bit_at files f == 1
 
@@ -43,11 +44,12 @@ has_file files f = bit_at files f == 1
 abbrev pub spaced : ℕ → List ℕ
 spaced n = 32 ∷ decimal n
 
--- for each of the files below a number, in ascending order, a space and its number
+-- for each file of the set whose number is below the second argument, in ascending order: a space and the file's number
 abbrev pub files_below : ℕ → ℕ → List ℕ
 files_below files zero = []
 files_below files (suc f) = files_below files f ++ (if has_file files f then spaced f else [])
 
+-- a space and its number for each file of the set, in ascending order
 unfoldable pub files_text : ℕ → List ℕ
 files_text files = files_below files 64
 
@@ -67,6 +69,7 @@ reply_text (Refused why) = codes "error " ++ reason why
 abbrev pub output_line : List ℕ → List ℕ
 output_line text = text ++ 10 ∷ []
 
+-- the line of a reply, its newline included
 abbrev pub reply_line : Reply → List ℕ
 reply_line reply = output_line (reply_text reply)
 
@@ -77,7 +80,7 @@ no_message = output_line (codes "error line")
 -- ---- a line put together in a buffer
 
 -- A text comes after the first `at` bytes of a buffer, up to `end`, and the others are as they were.
-pub record Appends (old new : List ℕ) (at end : ℕ) (text : List ℕ) : Type 0 where
+pub record AppendsText (old new : List ℕ) (at end : ℕ) (text : List ℕ) : Type 0 where
   pub ends : end ≡ at + length text
   pub front : take end new ≡ take at old ++ text
   pub rest : drop end new ≡ drop end old

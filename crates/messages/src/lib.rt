@@ -5,7 +5,7 @@
 
 mod kinds;
 
-/// What a file holds at one of its places.
+/// The content of one block of a file.
 #[derive(Clone, Copy, Debug, PartialEq, Eq)]
 pub struct Block(pub [u8; 512]);
 

@@ -4,11 +4,11 @@ use Rattle.std.proofs.lemmas.Bool.{ne_eqb}
 use Rattle.disk.specs.Device.{Medium, IsSynced}
 use Rattle.disk.proofs.Leaves.{synced_left}
 use Rattle.disk.proofs.Moments.{weaker}
-use Rattle.device_map.specs.Layout.{Layout, part_bytes, root, half, image, other}
+use Rattle.device_map.specs.Layout.{Layout, part_bytes, root_part, half_part, image_part, other}
 use Rattle.oplog.specs.Front.{chain, front}
-use Rattle.oplog.specs.Recovery.{Decoding, named_area, current_of, run, recovers_as}
-use Rattle.oplog.specs.Changes.{IsSameBut, IsSameButChain, HasMore}
-use Rattle.oplog.specs.Crash.{RecoversBy, RecoversByNow, AppendRecovers, AllByArea, ImageByArea, ClearByArea, ChainByArea, ChainedByArea, TornRootRecovers, FlipByArea}
+use Rattle.oplog.specs.Recovery.{Decoding, named_area, current_of, run, recovers_by_area}
+use Rattle.oplog.specs.Changes.{IsSameBut, IsSameButChain, HasAppended}
+use Rattle.oplog.specs.Crash.{RecoversBy, CrashRecovers, AppendRecovers, AllRecover, ImageRecovers, ClearRecovers, ChainRecovers, ChainedRecovers, TornRootRecovers, FlipRecovers}
 use Rattle.oplog.proofs.Kept.{same_named, same_chain, grown_as, root_kept, half_kept, image_kept, chain_kept}
 
 -- a half that is current by itself has no chain
@@ -17,23 +17,23 @@ no_chain_by n true is_area is = absurd (omega (arith, is, is_area))
 no_chain_by n false is_area is = refl
 
 -- what the root zone names, while another part changes
-pub named_kept : (g : Layout) (p : ℕ) (a c : List ℕ) → root ≢ p → IsSameBut g p a c → named_area g c ≡ named_area g a
-named_kept g p a c apart same = ap (λ (l : List ℕ). cond (eqb (get_or l 0 0) 1) 1 0) (same.others root apart)
+pub named_kept : (g : Layout) (p : ℕ) (a c : List ℕ) → root_part ≢ p → IsSameBut g p a c → named_area g c ≡ named_area g a
+named_kept g p a c apart same = ap (λ (l : List ℕ). cond (eqb (get_or l 0 0) 1) 1 0) (same.others root_part apart)
 
 -- the current half of an area, while another part than its half changes
-pub current_kept : (g : Layout) (n p : ℕ) (a c : List ℕ) → half n ≢ p → IsSameBut g p a c → current_of g n c ≡ current_of g n a
-current_kept g n p a c apart same = ap (λ (l : List ℕ). cond (eqb (get_or l 0 0) 1) (other n) n) (same.others (half n) apart)
+pub current_kept : (g : Layout) (n p : ℕ) (a c : List ℕ) → half_part n ≢ p → IsSameBut g p a c → current_of g n c ≡ current_of g n a
+current_kept g n p a c apart same = ap (λ (l : List ℕ). cond (eqb (get_or l 0 0) 1) (other n) n) (same.others (half_part n) apart)
 
-module _ {S : Type 0} (means : Decoding S) where
-  more_by : {g : Layout} {n h : ℕ} {x : Option S} {more : List (List ℕ)} {a c : List ℕ} → n < 2 → h < 2 → HasMore g h more a c
-      → RecoversBy means g n h x a → RecoversBy means g n h (run means x more) c
+module _ {S : Type 0} (decoding : Decoding S) where
+  more_by : {g : Layout} {n h : ℕ} {x : Option S} {more : List (List ℕ)} {a c : List ℕ} → n < 2 → h < 2 → HasAppended g h more a c
+      → RecoversBy decoding g n h x a → RecoversBy decoding g n h (run decoding x more) c
   more_by {g} {n} {h} {more} {a} {c} is_area is_half has recovered_before = record {
-    named = same_named means g h more a c is_half has ∙ recovered_before.named;
-    current = ap (λ (b : ℕ). cond (eqb b 1) (other n) n) (same_chain means g h more a c is_half has n is_area) ∙ recovered_before.current;
-    is = grown_as means g h more a c is_half has n is_area recovered_before.current ∙ ap (λ (y : Option S). run means y more) recovered_before.is;
+    named = same_named decoding g h more a c is_half has ∙ recovered_before.named;
+    current = ap (λ (b : ℕ). cond (eqb b 1) (other n) n) (same_chain decoding g h more a c is_half has n is_area) ∙ recovered_before.current;
+    is = grown_as decoding g h more a c is_half has n is_area recovered_before.current ∙ ap (λ (y : Option S). run decoding y more) recovered_before.is;
   }
 
-  pub append_recovers : AppendRecovers means
+  pub append_recovers : AppendRecovers decoding
   append_recovers g n h x more w0 w1 is_area is_half before moments =
       weaker w0 w1 _ _ moments
       (λ c grew. record {
@@ -42,42 +42,42 @@ module _ {S : Type 0} (means : Decoding S) where
         by = more_by is_area is_half grew.has.change (before grew.has.old grew.has.left);
       })
 
-  pub all_by_area : AllByArea means
+  pub all_by_area : AllRecover decoding
   all_by_area g n h k x more w0 w1 is_area is_half before has c left =
       let after = has.left c left in
       more_by is_area is_half after.change (before after.old after.left)
 
-  pub image_by_area : ImageByArea means
+  pub image_by_area : ImageRecovers decoding
   image_by_area g n h x w0 w1 is_area before moments =
       weaker w0 w1 _ _ moments
       (λ c after.
       let recovered_before = before after.old after.left in
       record {
-        named = named_kept g (image (other n)) after.old c (λ is. omega (arith, is)) after.change ∙ recovered_before.named;
-        current = current_kept g n (image (other n)) after.old c (λ is. omega (arith, is, is_area)) after.change ∙ recovered_before.current;
-        is = image_kept means g n after.old c is_area after.change ∙ recovered_before.is;
+        named = named_kept g (image_part (other n)) after.old c (λ is. omega (arith, is)) after.change ∙ recovered_before.named;
+        current = current_kept g n (image_part (other n)) after.old c (λ is. omega (arith, is, is_area)) after.change ∙ recovered_before.current;
+        is = image_kept decoding g n after.old c is_area after.change ∙ recovered_before.is;
       })
 
-  pub clear_by_area : ClearByArea means
+  pub clear_by_area : ClearRecovers decoding
   clear_by_area g n x w0 w1 is_area before moments =
       weaker w0 w1 _ _ moments
       (λ c after.
       let recovered_before = before after.old after.left in
       record {
-        named = named_kept g (half (other n)) after.old c (λ is. omega (arith, is)) after.change.same ∙ recovered_before.named;
-        current = current_kept g n (half (other n)) after.old c (λ is. omega (arith, is, is_area)) after.change.same ∙ recovered_before.current;
-        is = half_kept means g n after.old c is_area (no_chain_by n (eqb (chain g n after.old) 1) is_area recovered_before.current) after.change.same ∙ recovered_before.is;
+        named = named_kept g (half_part (other n)) after.old c (λ is. omega (arith, is)) after.change.same ∙ recovered_before.named;
+        current = current_kept g n (half_part (other n)) after.old c (λ is. omega (arith, is, is_area)) after.change.same ∙ recovered_before.current;
+        is = half_kept decoding g n after.old c is_area (no_chain_by n (eqb (chain g n after.old) 1) is_area recovered_before.current) after.change.same ∙ recovered_before.is;
       })
 
   chain_by : {g : Layout} {n : ℕ} {x : Option S} {a c : List ℕ} → n < 2 → front g (other n) a ≡ [] → chain g (other n) a ≢ 1
-      → IsSameButChain g n a c → named_area g a ≡ n → recovers_as means g n a ≡ x → RecoversBy means g n (current_of g n c) x c
+      → IsSameButChain g n a c → named_area g a ≡ n → recovers_by_area decoding g n a ≡ x → RecoversBy decoding g n (current_of g n c) x c
   chain_by {g} {n} {a} {c} is_area none no_chain change named is = record {
-    named = named_kept g (half n) a c (λ is. omega (arith, is)) change.same ∙ named;
+    named = named_kept g (half_part n) a c (λ is. omega (arith, is)) change.same ∙ named;
     current = refl;
-    is = chain_kept means g n a c is_area (ne_eqb (chain g (other n) a) 1 no_chain) none change ∙ is;
+    is = chain_kept decoding g n a c is_area (ne_eqb (chain g (other n) a) 1 no_chain) none change ∙ is;
   }
 
-  pub chain_by_area : ChainByArea means
+  pub chain_by_area : ChainRecovers decoding
   chain_by_area g n x w0 w1 is_area before empty moments =
       weaker w0 w1 _ _ moments
       (λ c after.
@@ -86,36 +86,36 @@ module _ {S : Type 0} (means : Decoding S) where
       chain_by is_area none.0 none.1 after.change recovered_before.named recovered_before.is)
 
   -- at a device with nothing unsynced, of which a crash leaves what a read gives
-  committed : (g : Layout) (n h : ℕ) (x : Option S) (m : Medium) → IsSynced m → RecoversBy means g n h x m.now → RecoversByNow means g n h x m
-  committed g n h x m synced recovers c left = subst (λ (l : List ℕ). RecoversBy means g n h x l) (sym (synced_left m c synced left)) recovers
+  committed : (g : Layout) (n h : ℕ) (x : Option S) (m : Medium) → IsSynced m → RecoversBy decoding g n h x m.now → CrashRecovers decoding g n h x m
+  committed g n h x m synced recovers c left = subst (λ (l : List ℕ). RecoversBy decoding g n h x l) (sym (synced_left m c synced left)) recovers
 
-  pub chained_by_area : ChainedByArea means
+  pub chained_by_area : ChainedRecovers decoding
   chained_by_area g n x w0 w1 is_area before empty chained =
       let recovered_before = chain_by is_area empty.0 empty.1 chained.same before.named before.is in
       let follows : current_of g n w1.now ≡ other n = ap (λ (b : ℕ). cond (eqb b 1) (other n) n) chained.chain in
-      committed g n (other n) x w1 chained.synced (subst (λ (h : ℕ). RecoversBy means g n h x w1.now) follows recovered_before)
+      committed g n (other n) x w1 chained.synced (subst (λ (h : ℕ). RecoversBy decoding g n h x w1.now) follows recovered_before)
 
   either : (x : Option S) (P : ℕ → Option S) (t : Bool) → P 0 ≡ x → P 1 ≡ x → P (cond t 1 0) ≡ x
   either x P true first second = second
   either x P false first second = first
 
-  pub torn_root_recovers : TornRootRecovers means
+  pub torn_root_recovers : TornRootRecovers decoding
   torn_root_recovers g x w0 w1 before moments =
       weaker w0 w1 _ _ moments
       (λ c after.
       let both = before after.old after.left in
-      let kept : (n : ℕ) → recovers_as means g n c ≡ recovers_as means g n after.old = λ n. root_kept means g n after.old c after.change.same in
+      let kept : (n : ℕ) → recovers_by_area decoding g n c ≡ recovers_by_area decoding g n after.old = λ n. root_kept decoding g n after.old c after.change.same in
       record {
         named = refl;
         current = refl;
-        is = either x (λ (n : ℕ). recovers_as means g n c) (eqb (get_or (part_bytes g root c) 0 0) 1) (kept 0 ∙ both.0) (kept 1 ∙ both.1);
+        is = either x (λ (n : ℕ). recovers_by_area decoding g n c) (eqb (get_or (part_bytes g root_part c) 0 0) 1) (kept 0 ∙ both.0) (kept 1 ∙ both.1);
       })
 
-  pub flip_by_area : FlipByArea means
+  pub flip_by_area : FlipRecovers decoding
   flip_by_area g n h x w0 w1 flip current is =
       committed g n h x w1 flip.synced
       (record {
         named = flip.named;
-        current = current_kept g n root w0.now w1.now (λ is. omega (arith, is)) flip.same.same ∙ current;
-        is = root_kept means g n w0.now w1.now flip.same.same ∙ is;
+        current = current_kept g n root_part w0.now w1.now (λ is. omega (arith, is)) flip.same.same ∙ current;
+        is = root_kept decoding g n w0.now w1.now flip.same.same ∙ is;
       })

@@ -4,17 +4,17 @@ use Rattle.std.proofs.lemmas.Bool.{cases_lt}
 use Rattle.std.proofs.lemmas.List.{length-take-le, length-drop, get_or_past}
 use Rattle.disk.specs.Device.{AreBytes}
 use Rattle.disk.proofs.Bytes.{bytes-range, byte-get_or}
-use Rattle.message.proofs.RecordLemmas.{said_whole}
-use Rattle.device_map.specs.Layout.{part_at, part_size, half}
-use Rattle.oplog.specs.Changing.{RecordsAreBytes, BadRecordEncodesNoChange}
+use Rattle.message.proofs.RecordLemmas.{whole_if_decoded}
+use Rattle.device_map.specs.Layout.{part_at, part_size, half_part}
+use Rattle.oplog.specs.Changing.{RecordsAreBytes, BadRecordIsOfNoChange}
 use Rattle.oplog.proofs.Slices.{slice_slice, half_sized, half_inside}
 
 -- a record as a range of the device
 pub records_are_bytes : RecordsAreBytes
 records_are_bytes g h i c is_half few fits are =
     let size = half_sized g h is_half in
-    let at = part_at g (half h) + (64 + g.slots + i * 520) in
-    let is = slice_slice c (part_at g (half h)) (part_size g (half h)) (64 + g.slots + i * 520) 520 (omega (arith, size, few)) in (
+    let at = part_at g (half_part h) + (64 + g.capacity + i * 520) in
+    let is = slice_slice c (part_at g (half_part h)) (part_size g (half_part h)) (64 + g.capacity + i * 520) 520 (omega (arith, size, few)) in (
       ap length is ∙ length-take-le 520 (drop at c) (omega (arith, length-drop at c, fits, few, half_inside g h is_half)),
       subst AreBytes (sym is) (bytes-range at 520 c are),
     )
@@ -26,5 +26,5 @@ byte_at bytes are i =
     (λ (beyond : length bytes ≤ i). subst (λ (b : ℕ). b < 256) (sym (get_or_past bytes i 0 beyond)) (omega arith))
     (cases_lt i (length bytes))
 
-pub no_record_says_none : BadRecordEncodesNoChange
-no_record_says_none g bytes size are none m said logged is = none m (said_whole bytes m size (byte_at bytes are) said) logged is
+pub no_record_says_none : BadRecordIsOfNoChange
+no_record_says_none g bytes size are none m said logged is = none m (whole_if_decoded bytes m size (byte_at bytes are) said) logged is

@@ -6,9 +6,9 @@ use Rattle.disk.specs.Moments.{CrashImagesAre}
 use Rattle.disk.proofs.Moments.{started, weaker, then}
 use Rattle.messages.specs.declared.Msg.{Msg}
 use Rattle.message.specs.Records.{record_of}
-use Rattle.device_map.specs.Layout.{Layout, half}
+use Rattle.device_map.specs.Layout.{Layout, half_part}
 use Rattle.oplog.specs.Front.{front}
-use Rattle.oplog.specs.Changes.{HasMore, Grew, IsReady, HasAll}
+use Rattle.oplog.specs.Changes.{HasAppended, HasAppendedPrefix, IsReady, HasAppendedAll}
 use Rattle.oplog.specs.Changing.{records_of}
 use Rattle.oplog.proofs.Slices.{same_but_both, same_but_none}
 
@@ -26,20 +26,20 @@ take-further xs m n =
 
 -- ---- records added after records
 
-pub no_more : (g : Layout) (h : ℕ) (c : List ℕ) → HasMore g h [] c c
-no_more g h c = record { same = same_but_none g (half h) c; area = refl; front = sym (append-nil (front g h c)) }
+pub no_more : (g : Layout) (h : ℕ) (c : List ℕ) → HasAppended g h [] c c
+no_more g h c = record { same = same_but_none g (half_part h) c; chain_zone = refl; front = sym (append-nil (front g h c)) }
 
-pub more_then : {g : Layout} {h : ℕ} {more others : List (List ℕ)} {a b c : List ℕ} → HasMore g h more a b → HasMore g h others b c → HasMore g h (more ++ others) a c
+pub more_then : {g : Layout} {h : ℕ} {more others : List (List ℕ)} {a b c : List ℕ} → HasAppended g h more a b → HasAppended g h others b c → HasAppended g h (more ++ others) a c
 more_then {g} {h} {more} {others} {a} {b} {c} first second = record {
-  same = same_but_both g (half h) a b c first.same second.same;
-  area = second.area ∙ first.area;
+  same = same_but_both g (half_part h) a b c first.same second.same;
+  chain_zone = second.chain_zone ∙ first.chain_zone;
   front = second.front ∙ ap (λ (l : List (List ℕ)). l ++ others) first.front ∙ append_assoc (front g h a) more others;
 }
 
 -- Of all these records the first were added to half h, behind k others.
 pub record SoFar (g : Layout) (h k : ℕ) (more all : List (List ℕ)) (old new : Medium) : Type 0 where
-  pub moments : CrashImagesAre old new (Grew g h all old)
-  pub has : HasAll g h k more old new
+  pub moments : CrashImagesAre old new (HasAppendedPrefix g h all old)
+  pub has : HasAppendedAll g h k more old new
 
 pub begun : (g : Layout) (h k : ℕ) (all : List (List ℕ)) (m : Medium) → IsReady g h k m → SoFar g h k [] all m m
 begun g h k all m ready = record {
@@ -54,7 +54,7 @@ begun g h k all m ready = record {
 
 -- One batch more.
 module _ (g : Layout) (h k : ℕ) (more batch later : List (List ℕ)) (w0 w w' : Medium) (so_far : SoFar g h k more (more ++ (batch ++ later)) w0 w) where
-  pub batch_moments : CrashImagesAre w w' (Grew g h batch w) → CrashImagesAre w0 w' (Grew g h (more ++ (batch ++ later)) w0)
+  pub batch_moments : CrashImagesAre w w' (HasAppendedPrefix g h batch w) → CrashImagesAre w0 w' (HasAppendedPrefix g h (more ++ (batch ++ later)) w0)
   batch_moments moments =
       then w0 w w' _ so_far.moments
       (weaker w w' _ _ moments
@@ -69,11 +69,11 @@ module _ (g : Layout) (h k : ℕ) (more batch later : List (List ℕ)) (w0 w w' 
         has = record {
           old = before.old;
           left = before.left;
-          change = subst (λ (l : List (List ℕ)). HasMore g h l before.old c) are (more_then before.change grew.has.change);
+          change = subst (λ (l : List (List ℕ)). HasAppended g h l before.old c) are (more_then before.change grew.has.change);
         };
       }))
 
-  pub batch_more : CrashImagesAre w w' (Grew g h batch w) → HasAll g h (k + length more) batch w w' → SoFar g h k (more ++ batch) (more ++ (batch ++ later)) w0 w'
+  pub batch_more : CrashImagesAre w w' (HasAppendedPrefix g h batch w) → HasAppendedAll g h (k + length more) batch w w' → SoFar g h k (more ++ batch) (more ++ (batch ++ later)) w0 w'
   batch_more moments has = record {
     moments = batch_moments moments;
     has = record {
@@ -108,12 +108,12 @@ module _ (g : Layout) (h k m n : ℕ) (messages : List Msg) (inside : m + n ≤ 
     pub now_ready : IsReady g h (k + m) w
     now_ready = subst (λ (j : ℕ). IsReady g h (k + j) w) count so_far.has.ready
 
-    module _ (moments : CrashImagesAre w w' (Grew g h (records_of (take n (drop m messages))) w)) where
-      pub messages_moments : CrashImagesAre w0 w' (Grew g h (records_of messages) w0)
-      messages_moments = subst (λ (l : List (List ℕ)). CrashImagesAre w0 w' (Grew g h l w0)) parted (batch_moments g h k _ _ _ w0 w w' so_far' moments)
+    module _ (moments : CrashImagesAre w w' (HasAppendedPrefix g h (records_of (take n (drop m messages))) w)) where
+      pub messages_moments : CrashImagesAre w0 w' (HasAppendedPrefix g h (records_of messages) w0)
+      messages_moments = subst (λ (l : List (List ℕ)). CrashImagesAre w0 w' (HasAppendedPrefix g h l w0)) parted (batch_moments g h k _ _ _ w0 w w' so_far' moments)
 
-      pub messages_more : HasAll g h (k + m) (records_of (take n (drop m messages))) w w' → SoFar g h k (records_of (take (m + n) messages)) (records_of messages) w0 w'
+      pub messages_more : HasAppendedAll g h (k + m) (records_of (take n (drop m messages))) w w' → SoFar g h k (records_of (take (m + n) messages)) (records_of messages) w0 w'
       messages_more has =
-          let more = batch_more g h k _ _ _ w0 w w' so_far' moments (subst (λ (j : ℕ). HasAll g h (k + j) (records_of (take n (drop m messages))) w w') (sym count) has) in
+          let more = batch_more g h k _ _ _ w0 w w' so_far' moments (subst (λ (j : ℕ). HasAppendedAll g h (k + j) (records_of (take n (drop m messages))) w w') (sym count) has) in
           subst (λ (l : List (List ℕ)). SoFar g h k l (records_of messages) w0 w') joined
           (subst (λ (l : List (List ℕ)). SoFar g h k (records_of (take m messages) ++ records_of (take n (drop m messages))) l w0 w') parted more)

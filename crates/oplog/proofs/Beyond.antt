@@ -6,11 +6,11 @@ use Rattle.disk.specs.Device.{Medium, SameOutside, Syncs, moments}
 use Rattle.disk.proofs.Calls.{after_sync}
 use Rattle.disk.proofs.Moments.{leaves_now, same, started, then, weaker}
 use Rattle.oplog.specs.Beyond.{IsSameBeyond, KeepsBeyond}
-use Rattle.oplog.specs.Changes.{ChangesOnly}
+use Rattle.oplog.specs.Changes.{CrashesChangeOnly}
 use Rattle.device_map.specs.Layout.{Layout, device_size}
 
 module _ (g : Layout) where
-  pub beyond : (w0 w1 : Medium) (Change : List ℕ → List ℕ → Type 0) → ((o c : List ℕ) → Change o c → IsSameBeyond g o c) → ChangesOnly w0 w1 Change
+  pub beyond : (w0 w1 : Medium) (Change : List ℕ → List ℕ → Type 0) → ((o c : List ℕ) → Change o c → IsSameBeyond g o c) → CrashesChangeOnly w0 w1 Change
       → KeepsBeyond g w0 w1
   beyond w0 w1 Change enough changes =
       weaker w0 w1 _ _ changes (λ c after. record { old = after.old; left = after.left; change = enough after.old c after.change })
@@ -33,7 +33,7 @@ module _ (g : Layout) where
   beyond_read w0 w1 only = same w0 w0 w1 _ (beyond_none w0) only
 
   -- a write before their end
-  pub beyond_write : (at n : ℕ) (w0 w1 : Medium) → at + n ≤ device_size g → ChangesOnly w0 w1 (SameOutside at n) → KeepsBeyond g w0 w1
+  pub beyond_write : (at n : ℕ) (w0 w1 : Medium) → at + n ≤ device_size g → CrashesChangeOnly w0 w1 (SameOutside at n) → KeepsBeyond g w0 w1
   beyond_write at n w0 w1 before changes = beyond w0 w1 (SameOutside at n) behind changes
     where
       behind : (o c : List ℕ) → SameOutside at n o c → IsSameBeyond g o c

@@ -1,11 +1,11 @@
 -- Worked examples of the definitions, on a small server: one volume of two stripes that hold two blocks each, and four
 -- records in a half.
 use Rattle.std.proofs.Common.{◌≡◌, ℕ, zero, suc, ◌+◌, true, List, [], ◌∷◌, ◌++◌, length, take, get_or, replicate, Option, Some, None, refl, ap, subst, arith, length-append}
-use Rattle.disk.specs.Device.{Medium, begun}
+use Rattle.disk.specs.Device.{Medium, fresh_synced}
 use Rattle.disk.proofs.Leaves.{synced_left}
 use Rattle.device_map.specs.Layout.{Layout}
 use Rattle.oplog.specs.Front.{count_open, front}
-use Rattle.oplog.specs.Changes.{Grew}
+use Rattle.oplog.specs.Changes.{HasAppendedPrefix}
 use Rattle.oplog.specs.Recovery.{Decoding, named_area, in_force, current, recovers}
 
 -- ---- the front ends at the first gate that isn't 1
@@ -20,7 +20,7 @@ all_are_open = refl
 
 -- ---- a device of 8,840 bytes
 abbrev g : Layout
-g = record { slots = 4; image = 2208 }
+g = record { capacity = 4; image = 2208 }
 
 -- the record of a message of this kind, with zeros for its numbers
 abbrev record_of_kind : ℕ → List ℕ
@@ -71,10 +71,10 @@ too_short = refl
 
 -- ---- what is no growth of half 0, which has two records in its front and nothing unsynced
 abbrev before : Medium
-before = begun (device 0 0 0 (1 ∷ 1 ∷ 0 ∷ 0 ∷ []) (0 ∷ 0 ∷ 0 ∷ 0 ∷ []))
+before = fresh_synced (device 0 0 0 (1 ∷ 1 ∷ 0 ∷ 0 ∷ []) (0 ∷ 0 ∷ 0 ∷ 0 ∷ []))
 
 -- the front, if this is a growth
-front_after : (more : List (List ℕ)) (c : List ℕ) → (grew : Grew g 0 more before c) → front g 0 c ≡ front g 0 before.now ++ take grew.added more
+front_after : (more : List (List ℕ)) (c : List ℕ) → (grew : HasAppendedPrefix g 0 more before c) → front g 0 c ≡ front g 0 before.now ++ take grew.added more
 front_after more c grew =
     subst (λ (l : List ℕ). front g 0 c ≡ front g 0 l ++ take grew.added more) (synced_left before grew.has.old refl grew.has.left) grew.has.change.front
 
@@ -82,7 +82,7 @@ front_after more c grew =
 abbrev shut_again : List ℕ
 shut_again = device 0 0 0 (0 ∷ 0 ∷ 0 ∷ 0 ∷ []) (0 ∷ 0 ∷ 0 ∷ 0 ∷ [])
 
-earlier_gates_shut : (more : List (List ℕ)) → Grew g 0 more before shut_again → ⊥
+earlier_gates_shut : (more : List (List ℕ)) → HasAppendedPrefix g 0 more before shut_again → ⊥
 earlier_gates_shut more grew =
     let none : length (front g 0 shut_again) ≡ 0 = refl in
     let two : length (front g 0 before.now) ≡ 2 = refl in
@@ -105,5 +105,5 @@ no_third (suc j) is =
     let appended : third_kind (front g 0 before.now ++ take (suc j) (record_of_kind 3 ∷ [])) ≡ 3 = refl in
     omega (arith, zeros, appended, ap third_kind is)
 
-gate_open_early : Grew g 0 (record_of_kind 3 ∷ []) before open_early → ⊥
+gate_open_early : HasAppendedPrefix g 0 (record_of_kind 3 ∷ []) before open_early → ⊥
 gate_open_early grew = no_third grew.added (front_after (record_of_kind 3 ∷ []) open_early grew)

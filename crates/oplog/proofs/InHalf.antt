@@ -11,74 +11,76 @@ use Rattle.oplog.proofs.Gates.{torn_gates, full_gates, still_shut}
 use Rattle.oplog.proofs.RecordRows.{AreRows, rows_same, rows-add, rows_of}
 
 -- These records are behind the front, and what lies before the gates is as it was.
-pub record HasMoreIn (slots : ℕ) (more : List (List ℕ)) (old new : List ℕ) : Type 0 where
-  pub area : take 64 new ≡ take 64 old
-  pub front : front_in slots new ≡ front_in slots old ++ more
+pub record HasMoreIn (capacity : ℕ) (more : List (List ℕ)) (old new : List ℕ) : Type 0 where
+  pub chain_zone : take 64 new ≡ take 64 old
+  pub front : front_in capacity new ≡ front_in capacity old ++ more
 
 -- where the body of record k lies
 abbrev pub body_at : ℕ → ℕ → ℕ
-body_at slots k = 64 + slots + k * 520
+body_at capacity k = 64 + capacity + k * 520
 
 -- Bodies are written behind a front of k records.
-module _ (slots k n : ℕ) (old new : List ℕ) (used : count_open (gates_in slots old) ≡ k) (same : SameOutside (body_at slots k) n old new) where
-  same_gates : gates_in slots new ≡ gates_in slots old
-  same_gates = same_before (body_at slots k) n old new same 64 slots (omega arith)
+module _ (capacity k n : ℕ) (old new : List ℕ) (used : count_open (gates_in capacity old) ≡ k) (same : SameOutside (body_at capacity k) n old new) where
+  same_gates : gates_in capacity new ≡ gates_in capacity old
+  same_gates = same_before (body_at capacity k) n old new same 64 capacity (omega arith)
 
-  pub same_rows : rows 520 k (drop (64 + slots) new) ≡ rows 520 k (drop (64 + slots) old)
-  same_rows = rows_same k (drop (64 + slots) old) (drop (64 + slots) new) (same_before (body_at slots k) n old new same (64 + slots) (k * 520) (omega arith))
+  pub same_rows : rows 520 k (drop (64 + capacity) new) ≡ rows 520 k (drop (64 + capacity) old)
+  same_rows = rows_same k (drop (64 + capacity) old) (drop (64 + capacity) new) (same_before (body_at capacity k) n old new same (64 + capacity) (k * 520) (omega arith))
 
-  pub bodies_written : HasMoreIn slots [] old new
+  pub bodies_written : HasMoreIn capacity [] old new
   bodies_written = record {
-    area = same_take (body_at slots k) n old new same 64 (omega arith);
+    chain_zone = same_take (body_at capacity k) n old new same 64 (omega arith);
     front =
-        ap (λ (gates : List ℕ). rows 520 (count_open gates) (drop (64 + slots) new)) same_gates
-        ∙ subst (λ (j : ℕ). rows 520 j (drop (64 + slots) new) ≡ rows 520 j (drop (64 + slots) old)) (sym used) same_rows
-        ∙ sym (append-nil (front_in slots old));
+        ap (λ (gates : List ℕ). rows 520 (count_open gates) (drop (64 + capacity) new)) same_gates
+        ∙ subst (λ (j : ℕ). rows 520 j (drop (64 + capacity) new) ≡ rows 520 j (drop (64 + capacity) old)) (sym used) same_rows
+        ∙ sym (append-nil (front_in capacity old));
   }
 
 -- Then their gates are written, from `mid` on.
-module _ (slots k : ℕ) (more : List (List ℕ)) (sized : AreRows more) (room : k + length more ≤ slots) (old mid new : List ℕ)
-    (used : count_open (gates_in slots old) ≡ k) (shut : drop k (gates_in slots old) ≡ replicate (slots - k) 0)
-    (bodies : SameOutside (body_at slots k) (length more * 520) old mid) (stand : slice mid (body_at slots k) (length more * 520) ≡ concat more)
+module _ (capacity k : ℕ) (more : List (List ℕ)) (sized : AreRows more) (room : k + length more ≤ capacity) (old mid new : List ℕ)
+    (used : count_open (gates_in capacity old) ≡ k) (shut : drop k (gates_in capacity old) ≡ replicate (capacity - k) 0)
+    (bodies : SameOutside (body_at capacity k) (length more * 520) old mid) (stand : slice mid (body_at capacity k) (length more * 520) ≡ concat more)
     (gates : SameOutside (64 + k) (length more) mid new) where
-  area : take 64 new ≡ take 64 old
-  area = same_take (64 + k) (length more) mid new gates 64 (omega arith) ∙ same_take (body_at slots k) (length more * 520) old mid bodies 64 (omega arith)
+  chain_zone : take 64 new ≡ take 64 old
+  chain_zone = same_take (64 + k) (length more) mid new gates 64 (omega arith) ∙ same_take (body_at capacity k) (length more * 520) old mid bodies 64 (omega arith)
 
   -- the gates alone
-  gates_changed : SameOutside k (length more) (gates_in slots old) (gates_in slots new)
+  gates_changed : SameOutside k (length more) (gates_in capacity old) (gates_in capacity new)
   gates_changed =
-      let before : gates_in slots mid ≡ gates_in slots old = same_before (body_at slots k) (length more * 520) old mid bodies 64 slots (omega arith) in
-      subst (λ (l : List ℕ). SameOutside k (length more) l (gates_in slots new)) before (within 64 slots k (length more) mid new room gates)
+      let before : gates_in capacity mid ≡ gates_in capacity old = same_before (body_at capacity k) (length more * 520) old mid bodies 64 capacity (omega arith) in
+      subst (λ (l : List ℕ). SameOutside k (length more) l (gates_in capacity new)) before (within 64 capacity k (length more) mid new room gates)
 
   -- a prefix of the records is in force
-  fronts : (j : ℕ) → j ≤ length more → count_open (gates_in slots new) ≡ k + j → front_in slots new ≡ front_in slots old ++ take j more
+  fronts : (j : ℕ) → j ≤ length more → count_open (gates_in capacity new) ≡ k + j → front_in capacity new ≡ front_in capacity old ++ take j more
   fronts j few opened =
-      let records : drop (64 + slots) new ≡ drop (64 + slots) mid = same_drop (64 + k) (length more) mid new gates (64 + slots) (omega (arith, room)) in
-      let first : rows 520 k (drop (64 + slots) mid) ≡ front_in slots old = same_rows slots k (length more * 520) old mid used bodies ∙ sym (ap (λ (j : ℕ). rows 520 j (drop (64 + slots) old)) used) in
-      let behind : drop (k * 520) (drop (64 + slots) mid) ≡ concat more ++ drop (length more * 520) (drop (body_at slots k) mid) =
-      drop-drop (k * 520) (64 + slots) mid ∙ sym (take-append-drop (length more * 520) (drop (body_at slots k) mid))
-      ∙ ap (λ (l : List ℕ). l ++ drop (length more * 520) (drop (body_at slots k) mid)) stand in
-      (λ i. rows 520 (opened i) (records i)) ∙ rows-add k j (drop (64 + slots) mid)
+      let records : drop (64 + capacity) new ≡ drop (64 + capacity) mid = same_drop (64 + k) (length more) mid new gates (64 + capacity) (omega (arith, room)) in
+      let first : rows 520 k (drop (64 + capacity) mid) ≡ front_in capacity old = same_rows capacity k (length more * 520) old mid used bodies
+      ∙ sym (ap (λ (j : ℕ). rows 520 j (drop (64 + capacity) old)) used) in
+      let behind : drop (k * 520) (drop (64 + capacity) mid) ≡ concat more ++ drop (length more * 520) (drop (body_at capacity k) mid) =
+      drop-drop (k * 520) (64 + capacity) mid ∙ sym (take-append-drop (length more * 520) (drop (body_at capacity k) mid))
+      ∙ ap (λ (l : List ℕ). l ++ drop (length more * 520) (drop (body_at capacity k) mid)) stand in
+      (λ i. rows 520 (opened i) (records i)) ∙ rows-add k j (drop (64 + capacity) mid)
       ∙ (λ i. first i ++ rows 520 j (behind i))
-      ∙ ap (λ (l : List (List ℕ)). front_in slots old ++ l) (rows_of more (drop (length more * 520) (drop (body_at slots k) mid)) j few sized)
+      ∙ ap (λ (l : List (List ℕ)). front_in capacity old ++ l) (rows_of more (drop (length more * 520) (drop (body_at capacity k) mid)) j few sized)
 
-  pub gates_torn : (j : ℕ) × (j ≤ length more) × HasMoreIn slots (take j more) old new
+  pub gates_torn : (j : ℕ) × (j ≤ length more) × HasMoreIn capacity (take j more) old new
   gates_torn =
-      let torn = torn_gates k (length more) (slots - k) (gates_in slots old) (gates_in slots new) used shut gates_changed in
-      (torn.0, torn.1, record { area = area; front = fronts torn.0 torn.1 torn.2 })
+      let torn = torn_gates k (length more) (capacity - k) (gates_in capacity old) (gates_in capacity new) used shut gates_changed in
+      (torn.0, torn.1, record { chain_zone = chain_zone; front = fronts torn.0 torn.1 torn.2 })
 
   -- when all gates are open
   module _ (ones : slice new (64 + k) (length more) ≡ replicate (length more) 1) where
-    pub now_used : count_open (gates_in slots new) ≡ k + length more
-    now_used = full_gates k (length more) (slots - k) (gates_in slots old) (gates_in slots new) used shut gates_changed (slice_gates ∙ ones)
+    pub now_used : count_open (gates_in capacity new) ≡ k + length more
+    now_used = full_gates k (length more) (capacity - k) (gates_in capacity old) (gates_in capacity new) used shut gates_changed (slice_gates ∙ ones)
       where
-        slice_gates : slice (gates_in slots new) k (length more) ≡ slice new (64 + k) (length more)
-        slice_gates = slice_slice new 64 slots k (length more) room
+        slice_gates : slice (gates_in capacity new) k (length more) ≡ slice new (64 + k) (length more)
+        slice_gates = slice_slice new 64 capacity k (length more) room
 
-    pub now_shut : drop (k + length more) (gates_in slots new) ≡ replicate (slots - (k + length more)) 0
+    pub now_shut : drop (k + length more) (gates_in capacity new) ≡ replicate (capacity - (k + length more)) 0
     now_shut =
-        let left : slots - k - length more ≡ slots - (k + length more) = omega arith in
-        still_shut k (length more) (slots - k) (gates_in slots old) (gates_in slots new) used shut gates_changed ∙ ap (λ (m : ℕ). replicate m 0) left
+        let left : capacity - k - length more ≡ capacity - (k + length more) = omega arith in
+        still_shut k (length more) (capacity - k) (gates_in capacity old) (gates_in capacity new) used shut gates_changed ∙ ap (λ (m : ℕ). replicate m 0) left
 
-    pub gates_written : HasMoreIn slots more old new
-    gates_written = record { area = area; front = fronts (length more) (omega arith) now_used ∙ ap (λ (l : List (List ℕ)). front_in slots old ++ l) (take_all (length more) more (omega arith)) }
+    pub gates_written : HasMoreIn capacity more old new
+    gates_written = record
+        { chain_zone = chain_zone; front = fronts (length more) (omega arith) now_used ∙ ap (λ (l : List (List ℕ)). front_in capacity old ++ l) (take_all (length more) more (omega arith)) }

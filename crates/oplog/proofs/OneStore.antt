@@ -7,7 +7,7 @@ use Rattle.disk.proofs.Leaves.{synced_range}
 use Rattle.disk.proofs.Moments.{weaker}
 use Rattle.disk.proofs.Outside.{same_drop}
 use Rattle.disk.proofs.Overlays.{overlaid_outside, range-overlaid, length-overlaid, item-overlaid}
-use Rattle.device_map.specs.Layout.{Layout, slice, part_bytes, part_at, part_size, half, root, device_size}
+use Rattle.device_map.specs.Layout.{Layout, slice, part_bytes, part_at, part_size, half_part, root_part, device_size}
 use Rattle.oplog.specs.Front.{count_open, gates}
 use Rattle.oplog.specs.Changes.{IsSameButGates, IsSameButChain, IsSameButRoot, After, Cleared, Chained, Flipped}
 use Rattle.oplog.specs.Store.{Stored}
@@ -19,37 +19,37 @@ changed : (w0 w1 : Medium) (at : ℕ) (bytes : List ℕ) → Stored at bytes w0 
 changed w0 w1 at bytes stored = subst (λ (l : List ℕ). SameOutside at (length bytes) w0.now l) (sym stored.now) (overlaid_outside w0.now at bytes)
 
 -- ---- zeros over what lies before the records of half h
-module _ (g : Layout) (h at : ℕ) (bytes : List ℕ) (is_half : h < 2) (place : at ≡ part_at g (half h)) (are : bytes ≡ replicate (64 + g.slots) 0) where
-  few : length bytes ≡ 64 + g.slots
-  few = ap length are ∙ length-replicate (64 + g.slots) 0
+module _ (g : Layout) (h at : ℕ) (bytes : List ℕ) (is_half : h < 2) (place : at ≡ part_at g (half_part h)) (are : bytes ≡ replicate (64 + g.capacity) 0) where
+  few : length bytes ≡ 64 + g.capacity
+  few = ap length are ∙ length-replicate (64 + g.capacity) 0
 
   gates_alone : (old c : List ℕ) → SameOutside at (length bytes) old c → IsSameButGates g h old c
   gates_alone old c same =
-      let lies : LiesIn g (half h) 0 (length bytes) at = omega (arith, place, few, half_sized g h is_half) in
+      let lies : LiesIn g (half_part h) 0 (length bytes) at = omega (arith, place, few, half_sized g h is_half) in
       let same' = subst (λ (a : ℕ). SameOutside a (length bytes) old c) lies.place same in
       record {
         same = same_but lies same;
-        records = same_drop 0 (length bytes) (part_bytes g (half h) old) (part_bytes g (half h) c)
-            (within (part_at g (half h)) (part_size g (half h)) 0 (length bytes) old c lies.inside same') (64 + g.slots) (omega (arith, few));
+        records = same_drop 0 (length bytes) (part_bytes g (half_part h) old) (part_bytes g (half_part h) c)
+            (within (part_at g (half_part h)) (part_size g (half_part h)) 0 (length bytes) old c lies.inside same') (64 + g.capacity) (omega (arith, few));
       }
 
   pub clear_moments : (w0 w1 : Medium) → CrashImagesAre w0 w1 (After w0 (SameOutside {X = ℕ} at (length bytes))) → CrashImagesAre w0 w1 (After w0 (IsSameButGates g h))
   clear_moments w0 w1 moments = weaker w0 w1 _ _ moments (λ c after. record { old = after.old; left = after.left; change = gates_alone after.old c after.change })
 
   module _ (w0 w1 : Medium) (fits : device_size g ≤ length w0.now) (stored : Stored at bytes w0 w1) where
-    zeros : take (64 + g.slots) (part_bytes g (half h) w1.now) ≡ replicate (64 + g.slots) 0
+    zeros : take (64 + g.capacity) (part_bytes g (half_part h) w1.now) ≡ replicate (64 + g.capacity) 0
     zeros =
-        take-take (64 + g.slots) (part_size g (half h)) (drop (part_at g (half h)) w1.now) (omega (arith, half_sized g h is_half))
-        ∙ ap (λ (a : ℕ). slice w1.now a (64 + g.slots)) (sym place)
+        take-take (64 + g.capacity) (part_size g (half_part h)) (drop (part_at g (half_part h)) w1.now) (omega (arith, half_sized g h is_half))
+        ∙ ap (λ (a : ℕ). slice w1.now a (64 + g.capacity)) (sym place)
         ∙ ap (λ (n : ℕ). slice w1.now at n) (sym few)
         ∙ ap (λ (l : List ℕ). slice l at (length bytes)) stored.now
         ∙ range-overlaid w0.now at bytes (omega (arith, place, few, fits, half_inside g h is_half))
         ∙ are
 
-    shut : gates g h w1.now ≡ replicate g.slots 0
+    shut : gates g h w1.now ≡ replicate g.capacity 0
     shut =
-        let count : 64 + g.slots - 64 ≡ g.slots = omega arith in
-        sym (drop-take 64 g.slots (part_bytes g (half h) w1.now)) ∙ ap (λ (l : List ℕ). drop 64 l) zeros ∙ drop-replicate 64 (64 + g.slots) 0 ∙ ap (λ (n : ℕ). replicate n 0) count
+        let count : 64 + g.capacity - 64 ≡ g.capacity = omega arith in
+        sym (drop-take 64 g.capacity (part_bytes g (half_part h) w1.now)) ∙ ap (λ (l : List ℕ). drop 64 l) zeros ∙ drop-replicate 64 (64 + g.capacity) 0 ∙ ap (λ (n : ℕ). replicate n 0) count
 
     long : length w1.now ≡ length w0.now
     long = ap length stored.now ∙ length-overlaid w0.now at bytes
@@ -58,24 +58,26 @@ module _ (g : Layout) (h at : ℕ) (bytes : List ℕ) (is_half : h < 2) (place :
     cleared = record {
       same = gates_alone w0.now w1.now (changed w0 w1 at bytes stored);
       zeros = zeros;
-      chain = sym (get_or-take (64 + g.slots) (part_bytes g (half h) w1.now) 0 0 (omega arith)) ∙ ap (λ (l : List ℕ). get_or l 0 0) zeros ∙ get_or-replicate (64 + g.slots) 0 0 0 (omega arith);
+      chain = sym (get_or-take (64 + g.capacity) (part_bytes g (half_part h) w1.now) 0 0 (omega arith)) ∙ ap (λ (l : List ℕ). get_or l 0 0) zeros
+          ∙ get_or-replicate (64 + g.capacity) 0 0 0 (omega arith);
       ready = record {
-        used = ap count_open shut ∙ open_none g.slots;
-        shut = let all : g.slots ≡ g.slots - 0 = omega arith in shut ∙ ap (λ (n : ℕ). replicate n 0) all;
-        synced = synced_range (part_at g (half h)) (part_size g (half h)) w1 stored.synced (omega (arith, long, fits, half_sized g h is_half, half_inside g h is_half));
+        used = ap count_open shut ∙ open_none g.capacity;
+        shut = let all : g.capacity ≡ g.capacity - 0 = omega arith in shut ∙ ap (λ (n : ℕ). replicate n 0) all;
+        synced = synced_range (part_at g (half_part h)) (part_size g (half_part h)) w1 stored.synced (omega (arith, long, fits, half_sized g h is_half, half_inside g h is_half));
       };
       synced = stored.synced;
     }
 
 -- ---- the chain byte of half h
-module _ (g : Layout) (h at : ℕ) (is_half : h < 2) (place : at ≡ part_at g (half h)) where
+module _ (g : Layout) (h at : ℕ) (is_half : h < 2) (place : at ≡ part_at g (half_part h)) where
   chain_alone : (old c : List ℕ) → SameOutside at 1 old c → IsSameButChain g h old c
   chain_alone old c same =
-      let lies : LiesIn g (half h) 0 1 at = omega (arith, place, half_sized g h is_half) in
+      let lies : LiesIn g (half_part h) 0 1 at = omega (arith, place, half_sized g h is_half) in
       let same' = subst (λ (a : ℕ). SameOutside a 1 old c) lies.place same in
       record {
         same = same_but lies same;
-        beside = same_drop 0 1 (part_bytes g (half h) old) (part_bytes g (half h) c) (within (part_at g (half h)) (part_size g (half h)) 0 1 old c lies.inside same') 1 (omega arith);
+        beside = same_drop 0 1 (part_bytes g (half_part h) old) (part_bytes g (half_part h) c) (within (part_at g (half_part h)) (part_size g (half_part h)) 0 1 old c lies.inside same') 1
+            (omega arith);
       }
 
   pub chain_moments : (w0 w1 : Medium) → CrashImagesAre w0 w1 (After w0 (SameOutside {X = ℕ} at 1)) → CrashImagesAre w0 w1 (After w0 (IsSameButChain g h))
@@ -85,7 +87,7 @@ module _ (g : Layout) (h at : ℕ) (is_half : h < 2) (place : at ≡ part_at g (
   chained w0 w1 fits stored = record {
     same = chain_alone w0.now w1.now (changed w0 w1 at (1 ∷ []) stored);
     chain =
-        get_or-take (part_size g (half h)) (drop (part_at g (half h)) w1.now) 0 0 (omega (arith, half_sized g h is_half)) ∙ get_or-drop (part_at g (half h)) w1.now 0 0
+        get_or-take (part_size g (half_part h)) (drop (part_at g (half_part h)) w1.now) 0 0 (omega (arith, half_sized g h is_half)) ∙ get_or-drop (part_at g (half_part h)) w1.now 0 0
         ∙ ap (λ (a : ℕ). get_or w1.now a 0) (omega (arith, place)) ∙ ap (λ (l : List ℕ). get_or l at 0) stored.now
         ∙ item-overlaid w0.now at 1 0 [] (omega (arith, place, fits, half_inside g h is_half));
     synced = stored.synced;
@@ -96,7 +98,7 @@ module _ (g : Layout) (n : ℕ) where
   root_alone : (old c : List ℕ) → SameOutside 64 1 old c → IsSameButRoot g old c
   root_alone old c same = record {
     same = same_but {i = 0} (omega arith) same;
-    beside = same_drop 0 1 (part_bytes g root old) (part_bytes g root c) (within 64 64 0 1 old c (omega arith) same) 1 (omega arith);
+    beside = same_drop 0 1 (part_bytes g root_part old) (part_bytes g root_part c) (within 64 64 0 1 old c (omega arith) same) 1 (omega arith);
   }
 
   pub root_moments : (w0 w1 : Medium) → CrashImagesAre w0 w1 (After w0 (SameOutside {X = ℕ} 64 1)) → CrashImagesAre w0 w1 (After w0 (IsSameButRoot g))
@@ -110,7 +112,7 @@ module _ (g : Layout) (n : ℕ) where
   pub named : (w0 w1 : Medium) → n < 2 → device_size g ≤ length w0.now → Stored 64 (n ∷ []) w0 w1 → Flipped g n w0 w1
   named w0 w1 is_area fits stored = record {
     same = root_alone w0.now w1.now (changed w0 w1 64 (n ∷ []) stored);
-    named = named_by n (get_or (part_bytes g root w1.now) 0 0) is_area
+    named = named_by n (get_or (part_bytes g root_part w1.now) 0 0) is_area
         (get_or-take 64 (drop 64 w1.now) 0 0 (omega arith) ∙ get_or-drop 64 w1.now 0 0
         ∙ ap (λ (l : List ℕ). get_or l 64 0) stored.now ∙ item-overlaid w0.now 64 n 0 [] (omega (arith, fits)));
     synced = stored.synced;

@@ -9,7 +9,7 @@ use Rattle.disk.proofs.Moments.{started}
 use Rattle.disk.proofs.Outside.{same_all}
 use Rattle.disk.proofs.Overlays.{overlaid_outside, marked_outside}
 use Rattle.oplog.specs.Changes.{After}
-use Rattle.oplog.specs.Store.{Touched}
+use Rattle.oplog.specs.Store.{TouchesOnly}
 
 module _ (w0 w1 : Medium) (at : ℕ) (bytes : List ℕ) where
   pub written : (r : Result (Unit {0}) DiskFault) → at + length bytes ≤ length w0.now → AreBytes w0.now → Writes at bytes r w0 w1
@@ -20,11 +20,11 @@ module _ (w0 w1 : Medium) (at : ℕ) (bytes : List ℕ) where
       (λ c torn left same. record { old = c; left = left; change = same })
 
   -- done, or nothing done, or failed
-  pub touched : (r : Result (Unit {0}) DiskFault) → at + length bytes ≤ length w0.now → Writes at bytes r w0 w1 → Touched at (length bytes) w0 w1
+  pub touched : (r : Result (Unit {0}) DiskFault) → at + length bytes ≤ length w0.now → Writes at bytes r w0 w1 → TouchesOnly at (length bytes) w0 w1
   touched (Ok u) inside writes =
-      subst (λ (m : Medium). Touched at (length bytes) w0 m) (sym writes.ok) (record { now = overlaid_outside w0.now at bytes; unsynced = marked_outside w0.unsynced at (length bytes) })
+      subst (λ (m : Medium). TouchesOnly at (length bytes) w0 m) (sym writes.ok) (record { now = overlaid_outside w0.now at bytes; unsynced = marked_outside w0.unsynced at (length bytes) })
   touched (Err OutOfRange) inside writes =
-      subst (λ (m : Medium). Touched at (length bytes) w0 m) (sym (writes.outside refl)) (record { now = same_all at (length bytes) w0.now; unsynced = same_all at (length bytes) w0.unsynced })
+      subst (λ (m : Medium). TouchesOnly at (length bytes) w0 m) (sym (writes.outside refl)) (record { now = same_all at (length bytes) w0.now; unsynced = same_all at (length bytes) w0.unsynced })
   touched (Err Device) inside writes =
       let fails = writes.device refl in
       record { now = fails.bytes; unsynced = subst (λ l. SameOutside at (length bytes) w0.unsynced l) (sym fails.unsynced) (marked_outside w0.unsynced at (length bytes)) }

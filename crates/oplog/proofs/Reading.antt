@@ -1,6 +1,6 @@
 -- What a read of a part, of gates or of a record gives.
 use Rattle.std.proofs.Common.{◌≡◌, ℕ, ◌+◌, ◌-◌, ◌*◌, ◌<◌, List, [], length, take, drop, get_or, slice_range, sym, ◌∙◌, ap, arith}
-use Rattle.device_map.specs.Layout.{Layout, slice, part_bytes, part_at, part_size, half}
+use Rattle.device_map.specs.Layout.{Layout, slice, part_bytes, part_at, part_size, half_part}
 use Rattle.oplog.specs.Front.{gates, front, count_open, record_at}
 use Rattle.oplog.proofs.Slices.{LiesIn, slice_slice, half_sized}
 use Rattle.std.proofs.lemmas.List.{drop-drop}
@@ -16,20 +16,20 @@ part_read {g} {p} {i} {n} {at} now {out} lies size read =
 
 -- of half h
 module _ (g : Layout) (h : ℕ) (is_half : h < 2) (now : List ℕ) where
-  pub front_read : {at : ℕ} {out : List ℕ} → at ≡ part_at g (half h) + (64 + 0) → length out ≡ g.slots
+  pub front_read : {at : ℕ} {out : List ℕ} → at ≡ part_at g (half_part h) + (64 + 0) → length out ≡ g.capacity
       → out ≡ slice_range now at (at + length out) → count_open out ≡ length (front g h now)
   front_read {at} place size read =
-      let lies : LiesIn g (half h) 64 g.slots at = omega (arith, place, half_sized g h is_half) in
-      ap count_open (part_read now lies size read) ∙ sym (length-rows (count_open (gates g h now)) (drop (64 + g.slots) (part_bytes g (half h) now)))
+      let lies : LiesIn g (half_part h) 64 g.capacity at = omega (arith, place, half_sized g h is_half) in
+      ap count_open (part_read now lies size read) ∙ sym (length-rows (count_open (gates g h now)) (drop (64 + g.capacity) (part_bytes g (half_part h) now)))
 
-  pub record_read : (i : ℕ) {at : ℕ} {out : List ℕ} → i < g.slots → at ≡ part_at g (half h) + (64 + g.slots + i * 520)
+  pub record_read : (i : ℕ) {at : ℕ} {out : List ℕ} → i < g.capacity → at ≡ part_at g (half_part h) + (64 + g.capacity + i * 520)
       → length out ≡ 520 → out ≡ slice_range now at (at + length out) → out ≡ record_at g h i now
   record_read i {at} few place =
-      let lies : LiesIn g (half h) (64 + g.slots + i * 520) 520 at = omega (arith, few, place, half_sized g h is_half) in part_read now lies
+      let lies : LiesIn g (half_part h) (64 + g.capacity + i * 520) 520 at = omega (arith, few, place, half_sized g h is_half) in part_read now lies
 
 -- The records of the front are the ones that `record` reads.
 pub front_record : (g : Layout) (h i : ℕ) (c : List ℕ) → i < length (front g h c) → get_or (front g h c) i [] ≡ record_at g h i c
 front_record g h i c few =
-    get_or-rows (count_open (gates g h c)) i (drop (64 + g.slots) (part_bytes g (half h) c))
-    (omega (arith, few, length-rows (count_open (gates g h c)) (drop (64 + g.slots) (part_bytes g (half h) c))))
-    ∙ ap (λ (l : List ℕ). take 520 l) (drop-drop (i * 520) (64 + g.slots) (part_bytes g (half h) c))
+    get_or-rows (count_open (gates g h c)) i (drop (64 + g.capacity) (part_bytes g (half_part h) c))
+    (omega (arith, few, length-rows (count_open (gates g h c)) (drop (64 + g.capacity) (part_bytes g (half_part h) c))))
+    ∙ ap (λ (l : List ℕ). take 520 l) (drop-drop (i * 520) (64 + g.capacity) (part_bytes g (half_part h) c))

@@ -1,33 +1,34 @@
--- A half stays ready while other parts of the device change, and a cleared one is ready when it is named.
+-- A half is ready for an append if its front has `used` records, the gates behind it are 0, and nothing in it is unsynced. It stays
+-- so while other parts of the device change, and a cleared one is so when it is named.
 use Rattle.std.proofs.Common.{◌≡◌, ◌≢◌, ◌<◌, ◌≤◌, ℕ, Bool, true, false, cond, List, length, drop, sym, ◌∙◌, ap, subst, arith}
 use Rattle.std.proofs.lemmas.Bool.{eq-eqb}
 use Rattle.disk.specs.Device.{Medium, IsSynced}
 use Rattle.disk.proofs.Leaves.{synced_range}
-use Rattle.device_map.specs.Layout.{Layout, layout_of, part_at, part_size, half, other, device_size}
+use Rattle.device_map.specs.Layout.{Layout, layout_of, part_at, part_size, half_part, other, device_size}
 use Rattle.oplog.specs.Front.{count_open, gates_in}
 use Rattle.oplog.specs.Changes.{IsSameBut, IsReady, Cleared, Chained, Flipped}
 use Rattle.oplog.specs.Log.{Log, chained, flipped}
-use Rattle.oplog.specs.Store.{Touched}
+use Rattle.oplog.specs.Store.{TouchesOnly}
 use Rattle.oplog.proofs.Slices.{LiesIn, half_sized, half_inside, other_part}
 
-pub ready_kept : {g : Layout} {h k p : ℕ} {w w' : Medium} → h < 2 → half h ≢ p → device_size g ≤ length w'.now → IsReady g h k w
+pub ready_kept : {g : Layout} {h k p : ℕ} {w w' : Medium} → h < 2 → half_part h ≢ p → device_size g ≤ length w'.now → IsReady g h k w
     → IsSameBut g p w.now w'.now → IsSynced w' → IsReady g h k w'
 ready_kept {g} {h} {k} {w'} is_half apart fits ready same synced =
-    let kept = same.others (half h) apart in
+    let kept = same.others (half_part h) apart in
     record {
-      used = ap (λ (l : List ℕ). count_open (gates_in g.slots l)) kept ∙ ready.used;
-      shut = ap (λ (l : List ℕ). drop k (gates_in g.slots l)) kept ∙ ready.shut;
-      synced = synced_range (part_at g (half h)) (part_size g (half h)) w' synced (omega (arith, fits, half_sized g h is_half, half_inside g h is_half));
+      used = ap (λ (l : List ℕ). count_open (gates_in g.capacity l)) kept ∙ ready.used;
+      shut = ap (λ (l : List ℕ). drop k (gates_in g.capacity l)) kept ∙ ready.shut;
+      synced = synced_range (part_at g (half_part h)) (part_size g (half_part h)) w' synced (omega (arith, fits, half_sized g h is_half, half_inside g h is_half));
     }
 
 -- It stays so while a range of another part is written, synced or not.
-pub ready_beside : {g : Layout} {h k p i n at : ℕ} {w w' : Medium} → half h ≢ p → LiesIn g p i n at → Touched at n w w' → IsReady g h k w → IsReady g h k w'
+pub ready_beside : {g : Layout} {h k p i n at : ℕ} {w w' : Medium} → half_part h ≢ p → LiesIn g p i n at → TouchesOnly at n w w' → IsReady g h k w → IsReady g h k w'
 ready_beside {g} {h} {k} apart lies wrote ready =
-    let kept = other_part (half h) lies apart wrote.now in
+    let kept = other_part (half_part h) lies apart wrote.now in
     record {
-      used = ap (λ (l : List ℕ). count_open (gates_in g.slots l)) kept ∙ ready.used;
-      shut = ap (λ (l : List ℕ). drop k (gates_in g.slots l)) kept ∙ ready.shut;
-      synced = other_part (half h) lies apart wrote.unsynced ∙ ready.synced;
+      used = ap (λ (l : List ℕ). count_open (gates_in g.capacity l)) kept ∙ ready.used;
+      shut = ap (λ (l : List ℕ). drop k (gates_in g.capacity l)) kept ∙ ready.shut;
+      synced = other_part (half_part h) lies apart wrote.unsynced ∙ ready.synced;
     }
 
 -- The current half was the named one, the other was cleared, and then the chain to it was opened.

@@ -5,7 +5,7 @@ use Rattle.std.proofs.lemmas.List.{take-take, take-append-drop, drop-drop, drop-
 use Rattle.disk.specs.Device.{SameOutside, overlaid}
 use Rattle.disk.proofs.Outside.{same_before, same_behind, same_drop}
 use Rattle.disk.proofs.Overlays.{overlaid_outside, overlaid_parts, range-overlaid}
-use Rattle.device_map.specs.Layout.{Layout, slice, sizes, half_size, offset, part_bytes, part_at, part_size, device_size, half, image}
+use Rattle.device_map.specs.Layout.{Layout, slice, sizes, half_size, offset, part_bytes, part_at, part_size, device_size, half_part, image_part}
 use Rattle.oplog.specs.Changes.{IsSameBut}
 
 -- ---- a part of a part
@@ -115,17 +115,17 @@ pub same_but_none : (g : Layout) (p : ℕ) (xs : List ℕ) → IsSameBut g p xs 
 same_but_none g p xs = record { size = refl; others = λ q differs. refl; rest = refl }
 
 -- the size of either image
-pub image_sized : (g : Layout) (i : ℕ) → i < 2 → part_size g (image i) ≡ g.image
+pub image_sized : (g : Layout) (i : ℕ) → i < 2 → part_size g (image_part i) ≡ g.image
 image_sized g zero is_image = refl
 image_sized g (suc zero) is_image = refl
 image_sized g (suc (suc i)) is_image = absurd (omega (arith, is_image))
 
 -- the size of either half
-pub half_sized : (g : Layout) (h : ℕ) → h < 2 → part_size g (half h) ≡ half_size g.slots
+pub half_sized : (g : Layout) (h : ℕ) → h < 2 → part_size g (half_part h) ≡ half_size g.capacity
 half_sized g zero is_half = refl
 half_sized g (suc zero) is_half = refl
 half_sized g (suc (suc h)) is_half = absurd (omega (arith, is_half))
 
 -- a half lies on the device
-pub half_inside : (g : Layout) (h : ℕ) → h < 2 → part_at g (half h) + half_size g.slots ≤ device_size g
-half_inside g h is_half = omega (arith, offset_below (sizes g) (half h) 6 (omega (arith, is_half)), half_sized g h is_half)
+pub half_inside : (g : Layout) (h : ℕ) → h < 2 → part_at g (half_part h) + half_size g.capacity ≤ device_size g
+half_inside g h is_half = omega (arith, offset_below (sizes g) (half_part h) 6 (omega (arith, is_half)), half_sized g h is_half)

@@ -7,15 +7,15 @@ use Rattle.oplog.specs.declared.fault.LogFault.{LogFault}
 use Rattle.oplog.specs.declared.half.Half.{Half}
 use Rattle.device_map.specs.Layout.{layout_of, device_size, other}
 use Rattle.oplog.specs.Front.{front, record_at}
-use Rattle.oplog.specs.Changes.{ChangesOnly, Grew, HasAll, IsReady, IsSameButGates, IsSameButChain, IsSameButRoot, Cleared, Chained, Flipped}
+use Rattle.oplog.specs.Changes.{CrashesChangeOnly, HasAppendedPrefix, HasAppendedAll, IsReady, IsSameButGates, IsSameButChain, IsSameButRoot, Cleared, Chained, Flipped}
 use Rattle.oplog.specs.Changing.{records_of}
 use Rattle.oplog.specs.Log.{Log, layout, IsOfRecord}
 
 -- ---- what they ask
 
 -- The device is long enough for all its parts.
-abbrev pub HasParts : Log → Medium → Type 0
-HasParts log m = device_size (layout log) ≤ length m.now
+abbrev pub IsLongEnough : Log → Medium → Type 0
+IsLongEnough log m = device_size (layout log) ≤ length m.now
 
 -- The current half has as many records as the log says, shut gates behind them, and nothing unsynced.
 abbrev pub IsReadyFor : Log → Medium → Type 0
@@ -23,37 +23,41 @@ IsReadyFor log m = IsReady (layout log) log.current log.used m
 
 -- ---- what a crash leaves at any moment of a call, and what is there at `Ok`
 
--- The current half grows by a prefix of these messages.
+-- A crash at any moment leaves the current half with a prefix of these messages appended.
 abbrev pub Grows : Log → List Msg → Medium → Medium → Type 0
-Grows log messages old new = CrashImagesAre old new (Grew (layout log) log.current (records_of messages) old)
+Grows log messages old new = CrashImagesAre old new (HasAppendedPrefix (layout log) log.current (records_of messages) old)
 
+-- The current half has all of these messages appended, and none of them is unsynced.
 abbrev pub HasAdded : Log → List Msg → Medium → Medium → Type 0
-HasAdded log messages old new = HasAll (layout log) log.current log.used (records_of messages) old new
+HasAdded log messages old new = HasAppendedAll (layout log) log.current log.used (records_of messages) old new
 
--- In the half that isn't named only its chain area and gates change.
+-- In the half that isn't named only its chain zone and gates change.
 abbrev pub Clears : Log → Medium → Medium → Type 0
-Clears log old new = ChangesOnly old new (IsSameButGates (layout log) (other log.named))
+Clears log old new = CrashesChangeOnly old new (IsSameButGates (layout log) (other log.named))
 
+-- The half that isn't named is cleared, and nothing is unsynced.
 abbrev pub HasCleared : Log → Medium → Medium → Type 0
 HasCleared log old new = Cleared (layout log) (other log.named) old new
 
 -- Only the chain byte of the named half changes.
 abbrev pub Chains : Log → Medium → Medium → Type 0
-Chains log old new = ChangesOnly old new (IsSameButChain (layout log) log.named)
+Chains log old new = CrashesChangeOnly old new (IsSameButChain (layout log) log.named)
 
+-- The chain byte of the named half is 1, and nothing is unsynced.
 abbrev pub HasChained : Log → Medium → Medium → Type 0
 HasChained log old new = Chained (layout log) log.named old new
 
 -- Only the byte that names an area changes.
 abbrev pub Flips : Log → Medium → Medium → Type 0
-Flips log old new = ChangesOnly old new (IsSameButRoot (layout log))
+Flips log old new = CrashesChangeOnly old new (IsSameButRoot (layout log))
 
+-- The other area is named, and nothing is unsynced.
 abbrev pub HasFlipped : Log → Medium → Medium → Type 0
 HasFlipped log old new = Flipped (layout log) (other log.named) old new
 
 -- ---- what they read
 
--- The open front of half h has n records.
+-- The front of half h has n records.
 abbrev pub HasFront : Log → ℕ → ℕ → Medium → Type 0
 HasFront log h n m = n ≡ length (front (layout log) h m.now)
 
@@ -61,7 +65,7 @@ HasFront log h n m = n ≡ length (front (layout log) h m.now)
 abbrev pub IsOfRecordAt : Log → ℕ → ℕ → Medium → Result Msg LogFault → Type 0
 IsOfRecordAt log h i m result = IsOfRecord log.geometry (record_at (layout log) h i m.now) result
 
--- ---- the same of one half alone
+-- ---- what calls of one half ask and do
 
 abbrev pub HasHalf : Half → Medium → Type 0
 HasHalf half m = device_size (layout_of half.geometry) ≤ length m.now
@@ -70,7 +74,7 @@ abbrev pub IsHalfReady : Half → ℕ → Medium → Type 0
 IsHalfReady half used m = IsReady (layout_of half.geometry) half.number used m
 
 abbrev pub HalfGrows : Half → List Msg → Medium → Medium → Type 0
-HalfGrows half messages old new = CrashImagesAre old new (Grew (layout_of half.geometry) half.number (records_of messages) old)
+HalfGrows half messages old new = CrashImagesAre old new (HasAppendedPrefix (layout_of half.geometry) half.number (records_of messages) old)
 
 abbrev pub HalfHasAdded : Half → ℕ → List Msg → Medium → Medium → Type 0
-HalfHasAdded half used messages old new = HasAll (layout_of half.geometry) half.number used (records_of messages) old new
+HalfHasAdded half used messages old new = HasAppendedAll (layout_of half.geometry) half.number used (records_of messages) old new

@@ -14,11 +14,11 @@ use Rattle.oplog.specs.Front.{record_at}
 abbrev pub IsChangeInRange : Geometry → Msg → Type 0
 IsChangeInRange g m = (is_changing (kind m) ≡ true) × (is_in_range g m ≡ true)
 
--- These bytes are the record of no such message.
-abbrev pub IsNoRecord : Geometry → List ℕ → Type 0
-IsNoRecord g bytes = (m : Msg) → IsMessage m → IsChangeInRange g m → bytes ≢ record_of m
+-- These bytes are the record of no change in range.
+abbrev pub IsNoChangeRecord : Geometry → List ℕ → Type 0
+IsNoChangeRecord g bytes = (m : Msg) → IsMessage m → IsChangeInRange g m → bytes ≢ record_of m
 
--- each of them is such a message
+-- each of these messages is a change in range
 abbrev pub AreChangesInRange : Geometry → List Msg → Type 0
 AreChangesInRange g messages = All (λ (m : Msg). IsChangeInRange g m) messages
 
@@ -26,15 +26,15 @@ AreChangesInRange g messages = All (λ (m : Msg). IsChangeInRange g m) messages
 abbrev pub records_of : List Msg → List (List ℕ)
 records_of messages = map record_of messages
 
--- ---- which records are bad
+-- ---- laws of bad records: what a read answers with `BadRecord`, the record of no change in range
 
 -- On a device that is made of bytes each record is made of bytes, and `record_size` of them, whatever its gate is.
 abbrev pub RecordsAreBytes : Type 0
-RecordsAreBytes = (g : Layout) (h i : ℕ) (c : List ℕ) → h < 2 → i < g.slots → device_size g ≤ length c → AreBytes c
-    → (length (record_at g h i c) ≡ record_size) × AreBytes (record_at g h i c)
+RecordsAreBytes = (l : Layout) (h i : ℕ) (c : List ℕ) → h < 2 → i < l.capacity → device_size l ≤ length c → AreBytes c
+    → (length (record_at l h i c) ≡ record_size) × AreBytes (record_at l h i c)
 
--- Bytes of a record's size are no record. If their fields encode a change in range, its record isn't these bytes. This holds even for a
--- message whose data aren't bytes (`IsMessage` isn't asked for).
-abbrev pub BadRecordEncodesNoChange : Type 0
-BadRecordEncodesNoChange = (g : Geometry) (bytes : List ℕ) → length bytes ≡ record_size → AreBytes bytes → IsNoRecord g bytes
+-- The bytes of a bad record may still be read as a change in range (`message_in_fields`): even then they aren't the record of that change.
+-- `IsMessage` isn't asked for, so its data need not be bytes.
+abbrev pub BadRecordIsOfNoChange : Type 0
+BadRecordIsOfNoChange = (g : Geometry) (bytes : List ℕ) → length bytes ≡ record_size → AreBytes bytes → IsNoChangeRecord g bytes
     → (m : Msg) → message_in_fields bytes ≡ Some m → IsChangeInRange g m → bytes ≢ record_of m

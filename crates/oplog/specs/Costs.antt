@@ -2,14 +2,14 @@
 -- adds none.
 use Rattle.std.specs.Prelude.{◌≡◌, ◌≤◌, ℕ, ◌+◌, ◌-◌, ◌/◌, Result, Ok, Err}
 use Rattle.disk.specs.Device.{Medium}
-use Rattle.disk.specs.Moments.{moment}
-use Rattle.device_map.specs.Layout.{largest_batch}
+use Rattle.disk.specs.Moments.{moment_number}
+use Rattle.device_map.specs.Layout.{records_per_write}
 
 -- how many batches n records make
-abbrev pub batches : ℕ → ℕ
-batches n = (n + (largest_batch - 1)) / largest_batch
+abbrev pub write_groups : ℕ → ℕ
+write_groups n = (n + (records_per_write - 1)) / records_per_write
 
 -- A call with this result made n writes and syncs or, if it failed, at most n.
 abbrev pub Costs : {T E : Type 0} → Result T E → ℕ → Medium → Medium → Type 0
-Costs (Ok _) n old new = moment new ≡ moment old + n
-Costs (Err _) n old new = moment new ≤ moment old + n
+Costs (Ok _) n old new = moment_number new ≡ moment_number old + n
+Costs (Err _) n old new = moment_number new ≤ moment_number old + n

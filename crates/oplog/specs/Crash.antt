@@ -1,80 +1,80 @@
 -- Statement for engineers: What a device recovers to after a crash, for the layer above: in its words no place of a byte occurs. Each law
--- takes `RecoversByNow` of the device before a sequence of calls and gives `RecoversBy` of whatever a crash leaves during it, so that what
+-- takes `CrashRecovers` of the device before a sequence of calls and gives `RecoversBy` of whatever a crash leaves during it, so that what
 -- one law gives is what the next one takes.
 use Rattle.std.specs.Prelude.{◌≡◌, ◌≢◌, ◌<◌, ◌≤◌, ℕ, List, [], length, take, Option}
 use Rattle.disk.specs.Device.{Medium, IsCrashImage}
 use Rattle.disk.specs.Moments.{CrashImagesAre}
-use Rattle.device_map.specs.Layout.{Layout, image, other}
+use Rattle.device_map.specs.Layout.{Layout, image_part, other}
 use Rattle.oplog.specs.Front.{chain, front}
-use Rattle.oplog.specs.Recovery.{Decoding, named_area, current_of, recovers_as, run}
-use Rattle.oplog.specs.Changes.{After, Grew, HasAll, IsSameBut, IsSameButGates, IsSameButChain, IsSameButRoot, Chained, Flipped}
+use Rattle.oplog.specs.Recovery.{Decoding, named_area, current_of, recovers_by_area, run}
+use Rattle.oplog.specs.Changes.{After, HasAppendedPrefix, HasAppendedAll, IsSameBut, IsSameButGates, IsSameButChain, IsSameButRoot, Chained, Flipped}
 
-module _ {S : Type 0} (means : Decoding S) where
+module _ {S : Type 0} (decoding : Decoding S) where
   -- These bytes recover to x by area n, which they name, with half h as their current one. Where h is n it is by that
   -- area alone, and else both fronts are in force.
-  pub record RecoversBy (g : Layout) (n h : ℕ) (x : Option S) (c : List ℕ) : Type 0 where
-    pub named : named_area g c ≡ n
-    pub current : current_of g n c ≡ h
-    pub is : recovers_as means g n c ≡ x
+  pub record RecoversBy (l : Layout) (n h : ℕ) (x : Option S) (c : List ℕ) : Type 0 where
+    pub named : named_area l c ≡ n
+    pub current : current_of l n c ≡ h
+    pub is : recovers_by_area decoding l n c ≡ x
 
-  -- So does whatever a crash leaves now.
-  abbrev pub RecoversByNow : Layout → ℕ → ℕ → Option S → Medium → Type 0
-  RecoversByNow g n h x m = (c : List ℕ) → IsCrashImage m c → RecoversBy g n h x c
+  -- Whatever a crash leaves now recovers to x by area n, with half h as its current one.
+  abbrev pub CrashRecovers : Layout → ℕ → ℕ → Option S → Medium → Type 0
+  CrashRecovers l n h x m = (c : List ℕ) → IsCrashImage m c → RecoversBy l n h x c
 
   -- These bytes recover to x with a prefix of these records run on it.
-  pub record RecoversBySome (g : Layout) (n h : ℕ) (x : Option S) (more : List (List ℕ)) (c : List ℕ) : Type 0 where
+  pub record RecoversByPrefix (l : Layout) (n h : ℕ) (x : Option S) (more : List (List ℕ)) (c : List ℕ) : Type 0 where
     pub added : ℕ
     pub at_most : added ≤ length more
-    pub by : RecoversBy g n h (run means x (take added more)) c
+    pub by : RecoversBy l n h (run decoding x (take added more)) c
 
   -- These bytes recover to x by the area that they name, whichever half is current.
   abbrev pub RecoversByNamed : Layout → Option S → List ℕ → Type 0
-  RecoversByNamed g x c = RecoversBy g (named_area g c) (current_of g (named_area g c) c) x c
+  RecoversByNamed l x c = RecoversBy l (named_area l c) (current_of l (named_area l c) c) x c
 
   -- Whatever a crash leaves now would recover to x, whichever area it named.
   abbrev pub RecoversEitherWay : Layout → Option S → Medium → Type 0
-  RecoversEitherWay g x m = (c : List ℕ) → IsCrashImage m c → (recovers_as means g 0 c ≡ x) × (recovers_as means g 1 c ≡ x)
+  RecoversEitherWay l x m = (c : List ℕ) → IsCrashImage m c → (recovers_by_area decoding l 0 c ≡ x) × (recovers_by_area decoding l 1 c ≡ x)
 
   -- Records are appended to the current half. A crash at any moment leaves a prefix of them.
   abbrev pub AppendRecovers : Type 0
-  AppendRecovers = (g : Layout) (n h : ℕ) (x : Option S) (more : List (List ℕ)) (old new : Medium) → n < 2 → h < 2
-      → RecoversByNow g n h x old
-      → CrashImagesAre old new (Grew g h more old) → CrashImagesAre old new (RecoversBySome g n h x more)
+  AppendRecovers = (l : Layout) (n h : ℕ) (x : Option S) (more : List (List ℕ)) (old new : Medium) → n < 2 → h < 2
+      → CrashRecovers l n h x old
+      → CrashImagesAre old new (HasAppendedPrefix l h more old) → CrashImagesAre old new (RecoversByPrefix l n h x more)
 
-  -- Once all of them are there, a crash leaves all of them.
-  abbrev pub AllByArea : Type 0
-  AllByArea = (g : Layout) (n h k : ℕ) (x : Option S) (more : List (List ℕ)) (old new : Medium) → n < 2 → h < 2 → RecoversByNow g n h x old
-      → HasAll g h k more old new → RecoversByNow g n h (run means x more) new
+  -- Once all records are appended, whatever a crash leaves recovers to x with all of them run on it.
+  abbrev pub AllRecover : Type 0
+  AllRecover = (l : Layout) (n h k : ℕ) (x : Option S) (more : List (List ℕ)) (old new : Medium) → n < 2 → h < 2 → CrashRecovers l n h x old
+      → HasAppendedAll l h k more old new → CrashRecovers l n h (run decoding x more) new
 
-  -- The image that isn't named is written, be one front in force or both.
-  abbrev pub ImageByArea : Type 0
-  ImageByArea = (g : Layout) (n h : ℕ) (x : Option S) (old new : Medium) → n < 2 → RecoversByNow g n h x old
-      → CrashImagesAre old new (After old (IsSameBut g (image (other n)))) → CrashImagesAre old new (RecoversBy g n h x)
+  -- While the image that isn't named is written, be one front in force or both, whatever a crash leaves recovers to x.
+  abbrev pub ImageRecovers : Type 0
+  ImageRecovers = (l : Layout) (n h : ℕ) (x : Option S) (old new : Medium) → n < 2 → CrashRecovers l n h x old
+      → CrashImagesAre old new (After old (IsSameBut l (image_part (other n)))) → CrashImagesAre old new (RecoversBy l n h x)
 
-  -- The half that isn't named is cleared, while it isn't the current one.
-  abbrev pub ClearByArea : Type 0
-  ClearByArea = (g : Layout) (n : ℕ) (x : Option S) (old new : Medium) → n < 2 → RecoversByNow g n n x old
-      → CrashImagesAre old new (After old (IsSameButGates g (other n))) → CrashImagesAre old new (RecoversBy g n n x)
+  -- While the half that isn't named is cleared, and isn't the current one, whatever a crash leaves recovers to x.
+  abbrev pub ClearRecovers : Type 0
+  ClearRecovers = (l : Layout) (n : ℕ) (x : Option S) (old new : Medium) → n < 2 → CrashRecovers l n n x old
+      → CrashImagesAre old new (After old (IsSameButGates l (other n))) → CrashImagesAre old new (RecoversBy l n n x)
 
   -- The chain byte of the named half is written, while the other half has no record in its front and no chain.
-  -- Whatever becomes of the byte, the device recovers to the same.
-  abbrev pub ChainByArea : Type 0
-  ChainByArea = (g : Layout) (n : ℕ) (x : Option S) (old new : Medium) → n < 2 → RecoversByNow g n n x old
-      → ((c : List ℕ) → IsCrashImage old c → (front g (other n) c ≡ []) × (chain g (other n) c ≢ 1))
-      → CrashImagesAre old new (After old (IsSameButChain g n)) → CrashImagesAre old new (λ c. RecoversBy g n (current_of g n c) x c)
+  -- Whatever becomes of the byte, the device recovers to x.
+  abbrev pub ChainRecovers : Type 0
+  ChainRecovers = (l : Layout) (n : ℕ) (x : Option S) (old new : Medium) → n < 2 → CrashRecovers l n n x old
+      → ((c : List ℕ) → IsCrashImage old c → (front l (other n) c ≡ []) × (chain l (other n) c ≢ 1))
+      → CrashImagesAre old new (After old (IsSameButChain l n)) → CrashImagesAre old new (λ c. RecoversBy l n (current_of l n c) x c)
 
-  -- Once it is 1, the other half is current.
-  abbrev pub ChainedByArea : Type 0
-  ChainedByArea = (g : Layout) (n : ℕ) (x : Option S) (old new : Medium) → n < 2 → RecoversBy g n n x old.now
-      → (front g (other n) old.now ≡ []) × (chain g (other n) old.now ≢ 1) → Chained g n old new → RecoversByNow g n (other n) x new
+  -- Once the chain byte of the named half is 1, whatever a crash leaves recovers to x, with the other half as its current one.
+  abbrev pub ChainedRecovers : Type 0
+  ChainedRecovers = (l : Layout) (n : ℕ) (x : Option S) (old new : Medium) → n < 2 → RecoversBy l n n x old.now
+      → (front l (other n) old.now ≡ []) × (chain l (other n) old.now ≢ 1) → Chained l n old new → CrashRecovers l n (other n) x new
 
   -- The byte that names an area is written on a device that would recover to x either way. Whatever a crash leaves of
   -- that byte, the device recovers to x.
   abbrev pub TornRootRecovers : Type 0
-  TornRootRecovers = (g : Layout) (x : Option S) (old new : Medium) → RecoversEitherWay g x old
-      → CrashImagesAre old new (After old (IsSameButRoot g)) → CrashImagesAre old new (RecoversByNamed g x)
+  TornRootRecovers = (l : Layout) (x : Option S) (old new : Medium) → RecoversEitherWay l x old
+      → CrashImagesAre old new (After old (IsSameButRoot l)) → CrashImagesAre old new (RecoversByNamed l x)
 
-  -- Once area n is named, the device has what that area had.
-  abbrev pub FlipByArea : Type 0
-  FlipByArea = (g : Layout) (n h : ℕ) (x : Option S) (old new : Medium) → Flipped g n old new
-      → current_of g n old.now ≡ h → recovers_as means g n old.now ≡ x → RecoversByNow g n h x new
+  -- Once area n is named, whatever a crash leaves recovers to what the device would have recovered to by that area.
+  abbrev pub FlipRecovers : Type 0
+  FlipRecovers = (l : Layout) (n h : ℕ) (x : Option S) (old new : Medium) → Flipped l n old new
+      → current_of l n old.now ≡ h → recovers_by_area decoding l n old.now ≡ x → CrashRecovers l n h x new

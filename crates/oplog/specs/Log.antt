@@ -7,7 +7,7 @@ use Rattle.message.specs.Records.{record_of}
 use Rattle.oplog.specs.declared.fault.LogFault.{LogFault}
 use Rattle.oplog.specs.declared.fault.LogFault.TheVariants.{Device, BadRecord}
 use Rattle.device_map.specs.Layout.{Layout, layout_of, other}
-use Rattle.oplog.specs.Changing.{IsNoRecord}
+use Rattle.oplog.specs.Changing.{IsNoChangeRecord}
 
 pub record Log : Type 0 where
   pub geometry : Geometry
@@ -29,16 +29,17 @@ layout log = layout_of log.geometry
 abbrev pub new_log : Geometry → Log
 new_log g = record { geometry = g; named = 0; current = 0; used = g.half; cleared = false; failed = false }
 
--- with this half named and current, and no room
-abbrev pub renamed : ℕ → Log → Log
-renamed h log = record log {
+-- the log with this half named and current, and no room
+abbrev pub with_half_named : ℕ → Log → Log
+with_half_named h log = record log {
   named = h;
   current = h;
   used = log.geometry.half;
   cleared = log.cleared && (h == log.named) && (log.current == log.named);
 }
 
--- With the other half named. If the current half was the named one, it follows, and has room if it was cleared.
+-- The log with the other half named. If the current half was the named one, the other half becomes current too: with all its room if it
+-- was cleared, else with none.
 abbrev pub flipped : Log → Log
 flipped log =
     if log.current == log.named then record log {
@@ -49,11 +50,11 @@ flipped log =
     }
     else record log { named = other log.named; cleared = false }
 
--- With the other half's records in force behind those of the named one. The other half is current, with all its room.
+-- The log with the other half's records in force behind those of the named one: that half is current, with all its room.
 abbrev pub chained : Log → Log
 chained log = record log { current = other log.named; used = 0; cleared = false }
 
--- after a call with this answer: at `Ok` as given
+-- the log after a call with this answer: at `Ok` as given, at `Device` failed, and else as before
 abbrev pub log_after : {T : Type 0} → Result T LogFault → Log → Log → Log
 log_after (Ok _) log done = done
 log_after (Err Device) log done = record log { failed = true }
@@ -71,19 +72,19 @@ abbrev pub IsLogCall : {T : Type 0} → Result T LogFault → Medium → Medium 
 IsLogCall result old new = CountsLogFault result old.faults new.faults × (length new.now ≡ length old.now)
 
 -- The answer isn't that a record is bad.
-abbrev pub IsNotBad : {T : Type 0} → Result T LogFault → Type 0
-IsNotBad (Ok _) = Unit {0}
-IsNotBad (Err Device) = Unit {0}
-IsNotBad (Err (BadRecord h i)) = ⊥
+abbrev pub IsNotBadRecord : {T : Type 0} → Result T LogFault → Type 0
+IsNotBadRecord (Ok _) = Unit {0}
+IsNotBadRecord (Err Device) = Unit {0}
+IsNotBadRecord (Err (BadRecord h i)) = ⊥
 
 -- the answer to a call for the record with these bytes
 abbrev pub IsOfRecord : Geometry → List ℕ → Result Msg LogFault → Type 0
 IsOfRecord g bytes (Ok m) = bytes ≡ record_of m
 IsOfRecord g bytes (Err Device) = Unit {0}
-IsOfRecord g bytes (Err (BadRecord h i)) = IsNoRecord g bytes
+IsOfRecord g bytes (Err (BadRecord h i)) = IsNoChangeRecord g bytes
 
--- A bad record is named by its half and its number there.
-abbrev pub IsAbout : ℕ → ℕ → Result Msg LogFault → Type 0
-IsAbout h i (Ok m) = Unit {0}
-IsAbout h i (Err Device) = Unit {0}
-IsAbout h i (Err (BadRecord a b)) = (a ≡ h) × (b ≡ i)
+-- If the answer is that a record is bad, it names record i of half h.
+abbrev pub NamesRecord : ℕ → ℕ → Result Msg LogFault → Type 0
+NamesRecord h i (Ok m) = Unit {0}
+NamesRecord h i (Err Device) = Unit {0}
+NamesRecord h i (Err (BadRecord a b)) = (a ≡ h) × (b ≡ i)

@@ -1,5 +1,5 @@
 //! What goes wrong with a log.
-/// What a call of a log answers where it fails.
+/// Why a call of a log failed.
 #[derive(Clone, Copy, Debug, PartialEq, Eq)]
 pub enum LogFault {
     /// The device failed during the call.

@@ -1,24 +1,24 @@
 //! One half of a log: where its parts lie, and how records are added to it.
 ghost use Rattle.std.specs.Prelude.{◌≡◌, ◌+◌, ◌*◌, ◌<◌, ◌≤◌, length, IfOk, OnOk, IsErrOf, min, replicate, vec_len};
 ghost use Rattle.disk.specs.Device.{IsDeviceCall, SameOutside, moments};
-ghost use Rattle.oplog.specs.Changes.{ChangesOnly};
-ghost use Rattle.oplog.specs.Costs.{Costs, batches};
+ghost use Rattle.oplog.specs.Changes.{CrashesChangeOnly};
+ghost use Rattle.oplog.specs.Costs.{Costs, write_groups};
 ghost use Rattle.oplog.specs.Front.{front, count_open};
-ghost use Rattle.device_map.specs.Layout.{layout_of, part_at, half};
+ghost use Rattle.device_map.specs.Layout.{layout_of, part_at, half_part};
 ghost use Rattle.oplog.specs.Changing.{AreChangesInRange};
 ghost use Rattle.oplog.specs.Store.{Stored};
 
-use crate::layout::{BATCH, CHAIN_AREA, MOST_RECORDS, RECORD_SIZE, half_at};
+use crate::layout::{CHAIN_ZONE_SIZE, MOST_RECORDS, RECORD_SIZE, RECORDS_PER_WRITE, half_at};
 use crate::staging::stage;
 use crate::store::store;
 use affinity::Geometry;
 use disk::{Disk, DiskFault};
 use messages::Msg;
 
-const OPEN_GATES: [u8; BATCH] = [1; BATCH];
+const OPEN_GATES: [u8; RECORDS_PER_WRITE] = [1; RECORDS_PER_WRITE];
 
 /// What lies before the records of a half, at most.
-const MOST_BYTES_BEFORE_RECORDS: usize = CHAIN_AREA + MOST_RECORDS;
+const MOST_BYTES_BEFORE_RECORDS: usize = CHAIN_ZONE_SIZE + MOST_RECORDS;
 
 const ZEROS: [u8; MOST_BYTES_BEFORE_RECORDS] = [0; MOST_BYTES_BEFORE_RECORDS];
 
@@ -50,7 +50,7 @@ impl Half {
     ghost use Rattle.oplog.specs.Calls.{HasHalf, IsHalfReady, HalfGrows, HalfHasAdded};
 
     /// How many records it can hold.
-    pub(crate) fn slots(self) -> usize
+    pub(crate) fn capacity(self) -> usize
         ensures { result ≡ self.geometry.half }
     {
         usize::from(self.geometry.half)
@@ -58,7 +58,7 @@ impl Half {
 
     /// Where its chain byte lies on the device.
     pub(crate) fn start(self) -> u64
-        ensures { result ≡ part_at (layout_of self.geometry) (half self.number) }
+        ensures { result ≡ part_at (layout_of self.geometry) (half_part self.number) }
     {
         half_at(&self.geometry, self.number)
     }
@@ -66,33 +66,33 @@ impl Half {
     /// Where this gate lies.
     pub(crate) fn gate_at(self, i: usize) -> u64
         requires { i ≤ self.geometry.half }
-        ensures { result ≡ part_at (layout_of self.geometry) (half self.number) + (64 + i) }
+        ensures { result ≡ part_at (layout_of self.geometry) (half_part self.number) + (64 + i) }
     {
-        self.start() + (CHAIN_AREA + i) as u64
+        self.start() + (CHAIN_ZONE_SIZE + i) as u64
     }
 
     /// Where this record lies.
     pub(crate) fn record_at(self, i: usize) -> u64
         requires { i ≤ self.geometry.half }
         ensures { result ≡
-            part_at (layout_of self.geometry) (half self.number) + (64 + self.geometry.half + i * 520) }
+            part_at (layout_of self.geometry) (half_part self.number) + (64 + self.geometry.half + i * 520) }
     {
-        self.start() + (CHAIN_AREA + self.slots() + i * RECORD_SIZE) as u64
+        self.start() + (CHAIN_ZONE_SIZE + self.capacity() + i * RECORD_SIZE) as u64
     }
 
     /// Writes zeros over its chain byte, the bytes beside it and its gates, and syncs.
     pub(crate) fn clear<D: Disk>(self, disk: &mut D) -> Result<(), DiskFault>
         requires long_enough { HasHalf self (D.medium disk.old) }
-        ensures any_moment { D.keeps → ChangesOnly (D.medium disk.old) (D.medium disk.new)
-            (SameOutside (part_at (layout_of self.geometry) (half self.number)) (64 + self.geometry.half)) }
+        ensures any_moment { D.keeps → CrashesChangeOnly (D.medium disk.old) (D.medium disk.new)
+            (SameOutside (part_at (layout_of self.geometry) (half_part self.number)) (64 + self.geometry.half)) }
         ensures cleared { OnOk result (D.keeps →
-            Stored (part_at (layout_of self.geometry) (half self.number))
+            Stored (part_at (layout_of self.geometry) (half_part self.number))
             (replicate (64 + self.geometry.half) 0) (D.medium disk.old) (D.medium disk.new)) }
         ensures costs { D.keeps → Costs result 2 (D.medium disk.old) (D.medium disk.new) }
         ensures inside { IsErrOf result DiskFault.OutOfRange → ⊥ }
         ensures call { IsDeviceCall result (D.medium disk.old) (D.medium disk.new) }
     {
-        store(disk, self.start(), zeros(CHAIN_AREA + self.slots()))
+        store(disk, self.start(), zeros(CHAIN_ZONE_SIZE + self.capacity()))
     }
 
     /// Sets `count` gates to 1, from gate `first` on, and syncs: then their records are in the front, if all before them are.
@@ -100,10 +100,10 @@ impl Half {
         requires batch { count ≤ 64 }
         requires room { first + count ≤ self.geometry.half }
         requires long_enough { HasHalf self (D.medium disk.old) }
-        ensures any_moment { D.keeps → ChangesOnly (D.medium disk.old) (D.medium disk.new)
-            (SameOutside (part_at (layout_of self.geometry) (half self.number) + (64 + first)) count) }
+        ensures any_moment { D.keeps → CrashesChangeOnly (D.medium disk.old) (D.medium disk.new)
+            (SameOutside (part_at (layout_of self.geometry) (half_part self.number) + (64 + first)) count) }
         ensures opened { OnOk result (D.keeps →
-            Stored (part_at (layout_of self.geometry) (half self.number) + (64 + first))
+            Stored (part_at (layout_of self.geometry) (half_part self.number) + (64 + first))
             (replicate count 1) (D.medium disk.old) (D.medium disk.new)) }
         ensures costs { D.keeps → Costs result 2 (D.medium disk.old) (D.medium disk.new) }
         ensures inside { IsErrOf result DiskFault.OutOfRange → ⊥ }
@@ -125,11 +125,10 @@ impl Half {
         requires room { used + length messages.now ≤ self.geometry.half }
         requires buffer { length messages.now * 520 ≤ vec_len buffer.old }
         requires long_enough { HasHalf self (D.medium disk.old) }
+        // The front has `used` records, all gates behind it are 0, and nothing in this half is unsynced.
         requires ready { D.keeps → IsHalfReady self used (D.medium disk.old) }
-        ensures any_moment { D.keeps →
-            HalfGrows self messages.now (D.medium disk.old) (D.medium disk.new) }
-        ensures added { OnOk result (D.keeps →
-            HalfHasAdded self used messages.now (D.medium disk.old) (D.medium disk.new)) }
+        ensures any_moment { D.keeps → HalfGrows self messages.now (D.medium disk.old) (D.medium disk.new) }
+        ensures added { OnOk result (D.keeps → HalfHasAdded self used messages.now (D.medium disk.old) (D.medium disk.new)) }
         ensures costs { D.keeps → Costs result 4 (D.medium disk.old) (D.medium disk.new) }
         ensures buffer { vec_len buffer.new ≡ vec_len buffer.old }
         ensures inside { IsErrOf result DiskFault.OutOfRange → ⊥ }
@@ -141,7 +140,7 @@ impl Half {
         self.open_gates(disk, used, messages.len())
     }
 
-    /// Adds these messages after the records in use, as many at a time as the buffer holds.
+    /// Adds these messages after the records in use, up to 64 at a time.
     pub(crate) fn append<D: Disk>(
         self,
         disk: &mut D,
@@ -153,21 +152,19 @@ impl Half {
         requires room { used + length messages.now ≤ self.geometry.half }
         requires buffer { min self.geometry.half 64 * 520 ≤ vec_len buffer.old }
         requires long_enough { HasHalf self (D.medium disk.old) }
+        // The front has `used` records, all gates behind it are 0, and nothing in this half is unsynced.
         requires ready { D.keeps → IsHalfReady self used (D.medium disk.old) }
-        ensures any_moment { D.keeps →
-            HalfGrows self messages.now (D.medium disk.old) (D.medium disk.new) }
-        ensures added { OnOk result (D.keeps →
-            HalfHasAdded self used messages.now (D.medium disk.old) (D.medium disk.new)) }
+        ensures any_moment { D.keeps → HalfGrows self messages.now (D.medium disk.old) (D.medium disk.new) }
+        ensures added { OnOk result (D.keeps → HalfHasAdded self used messages.now (D.medium disk.old) (D.medium disk.new)) }
         ensures none { length messages.now ≡ 0 → disk.new ≡ disk.old }
-        ensures costs { D.keeps →
-            Costs result (4 * batches (length messages.now)) (D.medium disk.old) (D.medium disk.new) }
+        ensures costs { D.keeps → Costs result (4 * write_groups (length messages.now)) (D.medium disk.old) (D.medium disk.new) }
         ensures buffer { vec_len buffer.new ≡ vec_len buffer.old }
         ensures inside { IsErrOf result DiskFault.OutOfRange → ⊥ }
         ensures call { IsDeviceCall result (D.medium disk.old) (D.medium disk.new) }
     {
         let mut done = 0;
         while done < messages.len() {
-            let end = messages.len().min(done + BATCH);
+            let end = messages.len().min(done + RECORDS_PER_WRITE);
             self.append_batch(disk, used + done, &messages[done..end], buffer)?;
             done = end;
         }
@@ -178,8 +175,7 @@ impl Half {
     pub(crate) fn front<D: Disk>(self, disk: &mut D, gates: &mut [u8]) -> Result<usize, DiskFault>
         requires size { length gates.old ≡ self.geometry.half }
         requires long_enough { HasHalf self (D.medium disk.old) }
-        ensures front { IfOk result (λ n. D.keeps →
-            n ≡ length (front (layout_of self.geometry) self.number (D.medium disk.old).now)) }
+        ensures front { IfOk result (λ n. D.keeps → n ≡ length (front (layout_of self.geometry) self.number (D.medium disk.old).now)) }
         ensures within { IfOk result (λ n. n ≤ self.geometry.half) }
         ensures untouched { D.keeps → moments (D.medium disk.new) ≡ moments (D.medium disk.old) }
         ensures inside { IsErrOf result DiskFault.OutOfRange → ⊥ }

@@ -3,11 +3,11 @@ ghost use Rattle.std.specs.Prelude.{◌≡◌, ◌+◌, ◌*◌, ◌<◌, ◌≤
 ghost use Rattle.disk.specs.Device.{moments};
 ghost use Rattle.messages.specs.Messages.{IsMessage};
 ghost use Rattle.message.specs.Records.{record_of};
-ghost use Rattle.oplog.specs.Changing.{AreChangesInRange, IsChangeInRange, IsNoRecord};
+ghost use Rattle.oplog.specs.Changing.{AreChangesInRange, IsChangeInRange, IsNoChangeRecord};
 
 use crate::LogFault;
 use crate::half::Half;
-use crate::layout::{BATCH, MOST_RECORDS, RECORD_SIZE, ROOT_ZONE_AT};
+use crate::layout::{MOST_RECORDS, RECORD_SIZE, RECORDS_PER_WRITE, ROOT_ZONE_AT};
 use crate::store::store;
 use affinity::{Geometry, changing};
 use disk::Disk;
@@ -16,7 +16,8 @@ use messages::Msg;
 use std::alloc::{AllocError, Global};
 use std::marker::Model;
 
-/// The log of a device: which of its halves is named, which one records are appended to, and how many of its record slots are used.
+/// The log of a device: which of its halves is named, which is current (records are appended to it), and how many records the current one
+/// holds.
 ///
 /// Only `new` takes memory. After a device fault it has failed: only calls that don't use the device may be made.
 #[derive(Drop)]
@@ -25,6 +26,8 @@ pub struct Halves {
     named: usize,
     current: usize,
     used: usize,
+
+    /// Whether the half that isn't named was cleared since it was last named or current.
     cleared: bool,
     failed: bool,
 
@@ -34,7 +37,7 @@ pub struct Halves {
 
 impl Model for Halves {
     ghost use Rattle.std.specs.Prelude.{◌≡◌, ◌*◌, ◌<◌, ◌≤◌, min, vec_len};
-    ghost use Rattle.device_map.specs.Layout.{largest_batch, record_size};
+    ghost use Rattle.device_map.specs.Layout.{records_per_write, record_size};
     ghost use Rattle.oplog.specs.Log.{Log};
 
     ghost Value = { Log };
@@ -49,38 +52,39 @@ impl Model for Halves {
     } };
 
     ghost invariant = { λ h. (h.named < 2) × (h.current < 2) × (h.used ≤ h.geometry.half)
-        × (vec_len h.buffer ≡ min h.geometry.half largest_batch * record_size) };
+        × (vec_len h.buffer ≡ min h.geometry.half records_per_write * record_size) };
 }
 
 impl Halves {
-    ghost use Rattle.oplog.specs.Log.{new_log, renamed, flipped, chained, log_after, IsLogCall, IsNotBad, IsAbout};
-    ghost use Rattle.oplog.specs.Costs.{Costs, batches};
-    ghost use Rattle.oplog.specs.Calls.{HasParts, IsReadyFor, Grows, HasAdded, Clears, HasCleared, Chains, HasChained, Flips, HasFlipped, HasFront, IsOfRecordAt};
+    ghost use Rattle.oplog.specs.Log.{new_log, with_half_named, flipped, chained, log_after, IsLogCall, IsNotBadRecord, NamesRecord};
+    ghost use Rattle.oplog.specs.Costs.{Costs, write_groups};
+    ghost use Rattle.oplog.specs.Calls.{IsLongEnough, IsReadyFor, Grows, HasAdded, Clears, HasCleared, Chains, HasChained, Flips, HasFlipped, HasFront, IsOfRecordAt};
 
-    /// A log of which nothing is known: half 0 is named and current, and there is no room.
+    /// The log of a device that wasn't read yet: until `name`, half 0 counts as named and current, without room.
     /// `AllocError` where there is no memory.
     pub fn new(alloc: Global, g: &Geometry) -> Result<Halves, AllocError>
         ensures { IfOk result (λ log. log ≡ new_log g.now) }
     {
         let geometry = *g;
-        let slots = usize::from(geometry.half);
-        let buffer = vec![in alloc; 0u8; slots.min(BATCH) * RECORD_SIZE]?;
+        let capacity = usize::from(geometry.half);
+        let buffer = vec![in alloc; 0u8; capacity.min(RECORDS_PER_WRITE) * RECORD_SIZE]?;
         Ok(Halves {
             geometry,
             named: 0,
             current: 0,
-            used: slots,
+            used: capacity,
             cleared: false,
             failed: false,
             buffer,
         })
     }
 
-    /// Makes this half named and current, with no room. The device isn't touched.
+    /// Makes this half named and current, with no room. The device isn't touched. The other half stays cleared only if this half was named
+    /// and current already.
     pub fn name(&mut self, half: usize)
         requires not_failed { self.old.failed ≡ false }
         requires half { half < 2 }
-        ensures { self.new ≡ renamed half self.old }
+        ensures { self.new ≡ with_half_named half self.old }
     {
         self.cleared = self.cleared && half == self.named && self.current == self.named;
         self.named = half;
@@ -125,28 +129,26 @@ impl Halves {
         self.failed
     }
 
-    /// Appends these messages to the current half, in order: their records, a sync, their gates, a sync, for as many
-    /// of them at a time as the buffer holds. With no message the device isn't touched.
+    /// Appends these messages to the current half, in order: their records, a sync, their gates, a sync, for up to 64
+    /// of them at a time. With no message the device isn't touched.
     pub fn append<D: Disk>(&mut self, disk: &mut D, messages: &[Msg]) -> Result<(), LogFault>
         requires not_failed { self.old.failed ≡ false }
         requires changes { AreChangesInRange self.old.geometry messages.now }
         requires room { self.old.used + length messages.now ≤ self.old.geometry.half }
-        requires long_enough { HasParts self.old (D.medium disk.old) }
+        requires long_enough { IsLongEnough self.old (D.medium disk.old) }
+        // The current half's front has `used` records, all gates behind it are 0, and nothing in it is unsynced.
         requires ready { D.keeps → IsReadyFor self.old (D.medium disk.old) }
 
         // A crash at any moment of the call leaves the front with the first m of the messages.
-        ensures any_moment { D.keeps →
-            Grows self.old messages.now (D.medium disk.old) (D.medium disk.new) }
-        ensures added { OnOk result (D.keeps →
-            HasAdded self.old messages.now (D.medium disk.old) (D.medium disk.new)) }
+        ensures any_moment { D.keeps → Grows self.old messages.now (D.medium disk.old) (D.medium disk.new) }
+        ensures added { OnOk result (D.keeps → HasAdded self.old messages.now (D.medium disk.old) (D.medium disk.new)) }
         ensures none { length messages.now ≡ 0 → disk.new ≡ disk.old }
 
         // Four device calls for each batch: its records, a sync, its gates, a sync.
-        ensures costs { D.keeps →
-            Costs result (4 * batches (length messages.now)) (D.medium disk.old) (D.medium disk.new) }
+        ensures costs { D.keeps → Costs result (4 * write_groups (length messages.now)) (D.medium disk.old) (D.medium disk.new) }
         ensures log { self.new ≡ log_after result self.old
             (record self.old { used = self.old.used + length messages.now }) }
-        ensures not_bad { IsNotBad result }
+        ensures no_bad_record { IsNotBadRecord result }
         ensures call { IsLogCall result (D.medium disk.old) (D.medium disk.new) }
     {
         let half = Half {
@@ -169,13 +171,12 @@ impl Halves {
     pub fn clear_other<D: Disk>(&mut self, disk: &mut D) -> Result<(), LogFault>
         requires not_failed { self.old.failed ≡ false }
         requires current_is_named { self.old.current ≡ self.old.named }
-        requires long_enough { HasParts self.old (D.medium disk.old) }
+        requires long_enough { IsLongEnough self.old (D.medium disk.old) }
         ensures any_moment { D.keeps → Clears self.old (D.medium disk.old) (D.medium disk.new) }
-        ensures cleared { OnOk result (D.keeps →
-            HasCleared self.old (D.medium disk.old) (D.medium disk.new)) }
+        ensures cleared { OnOk result (D.keeps → HasCleared self.old (D.medium disk.old) (D.medium disk.new)) }
         ensures costs { D.keeps → Costs result 2 (D.medium disk.old) (D.medium disk.new) }
         ensures log { self.new ≡ log_after result self.old (record self.old { cleared = true }) }
-        ensures not_bad { IsNotBad result }
+        ensures no_bad_record { IsNotBadRecord result }
         ensures call { IsLogCall result (D.medium disk.old) (D.medium disk.new) }
     {
         let half = Half {
@@ -196,13 +197,12 @@ impl Halves {
         requires not_failed { self.old.failed ≡ false }
         requires current_is_named { self.old.current ≡ self.old.named }
         requires cleared { self.old.cleared ≡ true }
-        requires long_enough { HasParts self.old (D.medium disk.old) }
+        requires long_enough { IsLongEnough self.old (D.medium disk.old) }
         ensures any_moment { D.keeps → Chains self.old (D.medium disk.old) (D.medium disk.new) }
-        ensures chained { OnOk result (D.keeps →
-            HasChained self.old (D.medium disk.old) (D.medium disk.new)) }
+        ensures chained { OnOk result (D.keeps → HasChained self.old (D.medium disk.old) (D.medium disk.new)) }
         ensures costs { D.keeps → Costs result 2 (D.medium disk.old) (D.medium disk.new) }
         ensures log { self.new ≡ log_after result self.old (chained self.old) }
-        ensures not_bad { IsNotBad result }
+        ensures no_bad_record { IsNotBadRecord result }
         ensures call { IsLogCall result (D.medium disk.old) (D.medium disk.new) }
     {
         let half = Half {
@@ -219,18 +219,17 @@ impl Halves {
         Ok(())
     }
 
-    /// Names the other half, by the first byte of the root zone. If the current half was the named one, the other
-    /// half becomes current, with room for all records if it was cleared since it was last named or current. Else the
-    /// current half and its room stay.
+    /// Names the other half, by the first byte of the root zone. If the named half was also the current one, the other half becomes
+    /// current: with room for all records if it was cleared since it was last named or current, with none if it wasn't. If the other half
+    /// was current already, it stays so, with its room.
     pub fn flip_root<D: Disk>(&mut self, disk: &mut D) -> Result<(), LogFault>
         requires not_failed { self.old.failed ≡ false }
-        requires long_enough { HasParts self.old (D.medium disk.old) }
+        requires long_enough { IsLongEnough self.old (D.medium disk.old) }
         ensures any_moment { D.keeps → Flips self.old (D.medium disk.old) (D.medium disk.new) }
-        ensures flipped { OnOk result (D.keeps →
-            HasFlipped self.old (D.medium disk.old) (D.medium disk.new)) }
+        ensures flipped { OnOk result (D.keeps → HasFlipped self.old (D.medium disk.old) (D.medium disk.new)) }
         ensures costs { D.keeps → Costs result 2 (D.medium disk.old) (D.medium disk.new) }
         ensures log { self.new ≡ log_after result self.old (flipped self.old) }
-        ensures not_bad { IsNotBad result }
+        ensures no_bad_record { IsNotBadRecord result }
         ensures call { IsLogCall result (D.medium disk.old) (D.medium disk.new) }
     {
         let other = 1 - self.named;
@@ -255,12 +254,12 @@ impl Halves {
     pub fn front<D: Disk>(&mut self, disk: &mut D, half: usize) -> Result<usize, LogFault>
         requires not_failed { self.old.failed ≡ false }
         requires half { half < 2 }
-        requires long_enough { HasParts self.old (D.medium disk.old) }
+        requires long_enough { IsLongEnough self.old (D.medium disk.old) }
         ensures front { IfOk result (λ n. D.keeps → HasFront self.old half n (D.medium disk.old)) }
         ensures within { IfOk result (λ n. n ≤ self.old.geometry.half) }
         ensures untouched { D.keeps → moments (D.medium disk.new) ≡ moments (D.medium disk.old) }
         ensures log { self.new ≡ log_after result self.old self.old }
-        ensures not_bad { IsNotBad result }
+        ensures no_bad_record { IsNotBadRecord result }
         ensures call { IsLogCall result (D.medium disk.old) (D.medium disk.new) }
     {
         let half = Half {
@@ -268,7 +267,7 @@ impl Halves {
             number: half,
         };
         let mut gates = [0; MOST_RECORDS];
-        match half.front(disk, &mut gates[..half.slots()]) {
+        match half.front(disk, &mut gates[..half.capacity()]) {
             Ok(count) => Ok(count),
             Err(_) => {
                 self.failed = true;
@@ -283,20 +282,20 @@ impl Halves {
         requires not_failed { self.old.failed ≡ false }
         requires half { half < 2 }
         requires i { i < self.old.geometry.half }
-        requires long_enough { HasParts self.old (D.medium disk.old) }
+        requires long_enough { IsLongEnough self.old (D.medium disk.old) }
         ensures record { D.keeps → IsOfRecordAt self.old half i (D.medium disk.old) result }
         ensures change { IfOk result (λ m. IsMessage m × IsChangeInRange self.old.geometry m) }
-        ensures about { IsAbout half i result }
+        ensures names_record { NamesRecord half i result }
         ensures untouched { D.keeps → moments (D.medium disk.new) ≡ moments (D.medium disk.old) }
         ensures log { self.new ≡ log_after result self.old self.old }
         ensures call { IsLogCall result (D.medium disk.old) (D.medium disk.new) }
     {
-        let place = Half {
+        let log_half = Half {
             geometry: self.geometry,
             number: half,
         };
         let mut bytes = [0; RECORD_SIZE];
-        if disk.read_at(place.record_at(i), &mut bytes).is_err() {
+        if disk.read_at(log_half.record_at(i), &mut bytes).is_err() {
             self.failed = true;
             return Err(LogFault::Device);
         }
@@ -310,7 +309,7 @@ impl Halves {
 /// The changing message in range whose record these bytes are.
 fn change_in_record(g: &Geometry, bytes: &[u8; 520]) -> Option<Msg>
     ensures some { IfSome result (λ m. (bytes.now ≡ record_of m) × IsMessage m × IsChangeInRange g.now m) }
-    ensures none { IsNone result → IsNoRecord g.now bytes.now }
+    ensures none { IsNone result → IsNoChangeRecord g.now bytes.now }
 {
     decode(bytes, g).filter(|m| changing(m.kind()))
 }

@@ -4,7 +4,8 @@
 //!
 //! `Halves` appends records to the current half. A crash at any moment of an append leaves the front of this half as it was, with a prefix
 //! of the new records after it.
-//! `layout` names the map of such a device, `store` has the writes of a range, and `laws` state what a crash leaves.
+//! `layout` gives the layout of such a device, `store` writes a range of bytes, with a sync or without, and `laws` state what a crash
+//! leaves.
 #![tactic(auto)]
 
 mod fault;

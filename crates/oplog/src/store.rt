@@ -1,37 +1,33 @@
-//! Writes over a range of a device, with a sync or without.
+//! Writes over a range of a device, with a sync or without. `CrashesChangeOnly` says what a crash at any moment of the call leaves,
+//! `TouchesOnly` which bytes and unsynced flags differ after it.
 ghost use Rattle.std.specs.Prelude.{◌≡◌, ◌+◌, ◌≤◌, length, OnOk, IsErrOf};
 ghost use Rattle.disk.specs.Device.{SameOutside, IsDeviceCall, overlaid};
-ghost use Rattle.oplog.specs.Changes.{ChangesOnly};
+ghost use Rattle.oplog.specs.Changes.{CrashesChangeOnly};
 ghost use Rattle.oplog.specs.Costs.{Costs};
-ghost use Rattle.oplog.specs.Store.{Stored, Touched};
+ghost use Rattle.oplog.specs.Store.{Stored, TouchesOnly};
 
 use disk::{Disk, DiskFault};
 
 /// Writes these bytes from the byte `at` on. Until a sync succeeds, a crash may leave any bytes there.
-/// `Device` exactly where the device failed, and then what a read gives there is unspecified.
+/// Returns `Device` exactly if the device failed; then what a read gives there is unspecified.
 pub fn write<D: Disk>(disk: &mut D, at: u64, bytes: &[u8]) -> Result<(), DiskFault>
     requires { at + length bytes.now ≤ length (D.medium disk.old).now }
-    ensures any_moment { D.keeps →
-        ChangesOnly (D.medium disk.old) (D.medium disk.new) (SameOutside at (length bytes.now)) }
-    ensures touched { D.keeps →
-        Touched at (length bytes.now) (D.medium disk.old) (D.medium disk.new) }
+    ensures any_moment { D.keeps → CrashesChangeOnly (D.medium disk.old) (D.medium disk.new) (SameOutside at (length bytes.now)) }
+    ensures touched { D.keeps → TouchesOnly at (length bytes.now) (D.medium disk.old) (D.medium disk.new) }
     ensures costs { D.keeps → Costs result 1 (D.medium disk.old) (D.medium disk.new) }
-    ensures written { OnOk result (D.keeps →
-        (D.medium disk.new).now ≡ overlaid (D.medium disk.old).now at bytes.now) }
+    ensures written { OnOk result (D.keeps → (D.medium disk.new).now ≡ overlaid (D.medium disk.old).now at bytes.now) }
     ensures inside { IsErrOf result DiskFault.OutOfRange → ⊥ }
     ensures call { IsDeviceCall result (D.medium disk.old) (D.medium disk.new) }
 {
     disk.write_at(at, bytes)
 }
 
-/// Writes these bytes from the byte `at` on, and syncs: then nothing on the device is unsynced. `Device`
-/// exactly where the device failed, and then what a read gives there is unspecified.
+/// Writes these bytes from the byte `at` on, and syncs: then nothing on the device is unsynced. Returns
+/// `Device` exactly if the device failed; then what a read gives there is unspecified.
 pub fn store<D: Disk>(disk: &mut D, at: u64, bytes: &[u8]) -> Result<(), DiskFault>
     requires { at + length bytes.now ≤ length (D.medium disk.old).now }
-    ensures any_moment { D.keeps →
-        ChangesOnly (D.medium disk.old) (D.medium disk.new) (SameOutside at (length bytes.now)) }
-    ensures stored { OnOk result (D.keeps →
-        Stored at bytes.now (D.medium disk.old) (D.medium disk.new)) }
+    ensures any_moment { D.keeps → CrashesChangeOnly (D.medium disk.old) (D.medium disk.new) (SameOutside at (length bytes.now)) }
+    ensures stored { OnOk result (D.keeps → Stored at bytes.now (D.medium disk.old) (D.medium disk.new)) }
     ensures costs { D.keeps → Costs result 2 (D.medium disk.old) (D.medium disk.new) }
     ensures inside { IsErrOf result DiskFault.OutOfRange → ⊥ }
     ensures call { IsDeviceCall result (D.medium disk.old) (D.medium disk.new) }

@@ -4,11 +4,11 @@ use Rattle.std.specs.Prelude.{◌-◌, ◌&&◌, ◌==◌, None, is_some, IfSome
 use Rattle.std.proofs.lemmas.Bool.{eqb-true, eq-eqb, true≢false}
 use Rattle.std.proofs.lemmas.List.{get_or-set_same, get_or-set_other}
 use Rattle.std.proofs.Math.Seq.{take-length}
-use Rattle.affinity.specs.Path.{Path, begins, are_related}
+use Rattle.affinity.specs.Path.{Path, is_prefix, are_related}
 use Rattle.affinity.proofs.Paths.{related_below, related_first, related_rest}
 use Rattle.parcel.specs.Fits.{EachFits}
 use Rattle.parcel.specs.Levels.{IsRowPath, TakesNothing, HandsBack}
-use Rattle.parcel.specs.Nodes.{Node, Nodes, in_child, in_row, put_at, TakesOut, PutsBack, SameNodes}
+use Rattle.parcel.specs.Nodes.{Node, Nodes, child_nodes, children_nodes, put_at, TakesOut, PutsBack, SameNodes}
 use Rattle.parcel.specs.Tree.{IsOut}
 use Rattle.parcel.specs.declared.parts.Parcels.{Parcels}
 
@@ -36,67 +36,68 @@ module _ {X : Type 0} (nodes : X → Nodes) (own : Node) (xs : List (Option X)) 
   same_there : (j : ℕ) → i ≡ j → slice_index_or (slice_set xs i y) j None ≡ y
   same_there j e = subst (λ k. slice_index_or (slice_set xs i y) k None ≡ y) e (get_or-set_same xs i y None there)
 
-  taken_cell : (p : Path) (j : ℕ) (q : Path) (b : Bool) → (i == j) ≡ b → TakesOut p (in_child nodes (slice_index_or xs i None)) (in_child nodes y)
-      → in_child nodes (slice_index_or (slice_set xs i y) j None) q ≡ (if b && begins p q then None else in_child nodes (slice_index_or xs j None) q)
+  taken_cell : (p : Path) (j : ℕ) (q : Path) (b : Bool) → (i == j) ≡ b → TakesOut p (child_nodes nodes (slice_index_or xs i None)) (child_nodes nodes y)
+      → child_nodes nodes (slice_index_or (slice_set xs i y) j None) q ≡ (if b && is_prefix p q then None else child_nodes nodes (slice_index_or xs j None) q)
   taken_cell p j q true e h =
       let here : i ≡ j = eqb-true i j e in
-      ap (λ c. in_child nodes c q) (same_there j here) ∙ h q
-      ∙ ap (λ k. if begins p q then None else in_child nodes (slice_index_or xs k None) q) here
+      ap (λ c. child_nodes nodes c q) (same_there j here) ∙ h q
+      ∙ ap (λ k. if is_prefix p q then None else child_nodes nodes (slice_index_or xs k None) q) here
   taken_cell p j q false e h =
-      ap (λ c. in_child nodes c q) (get_or-set_other xs i j y None (λ (s : j ≡ i). true≢false (sym (eq-eqb i j (sym s)) ∙ e)))
+      ap (λ c. child_nodes nodes c q) (get_or-set_other xs i j y None (λ (s : j ≡ i). true≢false (sym (eq-eqb i j (sym s)) ∙ e)))
 
-  row_taken : (p : Path) → TakesOut p (in_child nodes (slice_index_or xs i None)) (in_child nodes y) → TakesOut (i ∷ p) (in_row nodes own xs) (in_row nodes own (slice_set xs i y))
+  row_taken : (p : Path) → TakesOut p (child_nodes nodes (slice_index_or xs i None)) (child_nodes nodes y)
+      → TakesOut (i ∷ p) (children_nodes nodes own xs) (children_nodes nodes own (slice_set xs i y))
   row_taken p h [] = refl
   row_taken p h (j ∷ q) = taken_cell p j q (i == j) refl h
 
-  put_cell : (p : Path) (part : Nodes) (j : ℕ) (q : Path) (b : Bool) → (i == j) ≡ b → PutsBack p part (in_child nodes (slice_index_or xs i None)) (in_child nodes y)
-      → in_child nodes (slice_index_or (slice_set xs i y) j None) q ≡ (if b then put_at p part (in_child nodes (slice_index_or xs j None)) q else in_child nodes (slice_index_or xs j None) q)
+  put_cell : (p : Path) (part : Nodes) (j : ℕ) (q : Path) (b : Bool) → (i == j) ≡ b → PutsBack p part (child_nodes nodes (slice_index_or xs i None)) (child_nodes nodes y)
+      → child_nodes nodes (slice_index_or (slice_set xs i y) j None) q ≡ (if b then put_at p part (child_nodes nodes (slice_index_or xs j None)) q else child_nodes nodes (slice_index_or xs j None) q)
   put_cell p part j q true e h =
       let here : i ≡ j = eqb-true i j e in
-      ap (λ c. in_child nodes c q) (same_there j here) ∙ h q
-      ∙ ap (λ k. put_at p part (in_child nodes (slice_index_or xs k None)) q) here
+      ap (λ c. child_nodes nodes c q) (same_there j here) ∙ h q
+      ∙ ap (λ k. put_at p part (child_nodes nodes (slice_index_or xs k None)) q) here
   put_cell p part j q false e h =
-      ap (λ c. in_child nodes c q) (get_or-set_other xs i j y None (λ (s : j ≡ i). true≢false (sym (eq-eqb i j (sym s)) ∙ e)))
+      ap (λ c. child_nodes nodes c q) (get_or-set_other xs i j y None (λ (s : j ≡ i). true≢false (sym (eq-eqb i j (sym s)) ∙ e)))
 
-  pub row_put : (p : Path) (part : Nodes) → PutsBack p part (in_child nodes (slice_index_or xs i None)) (in_child nodes y)
-      → PutsBack (i ∷ p) part (in_row nodes own xs) (in_row nodes own (slice_set xs i y))
+  pub row_put : (p : Path) (part : Nodes) → PutsBack p part (child_nodes nodes (slice_index_or xs i None)) (child_nodes nodes y)
+      → PutsBack (i ∷ p) part (children_nodes nodes own xs) (children_nodes nodes own (slice_set xs i y))
   row_put p part h [] = refl
   row_put p part h (j ∷ q) = put_cell p part j q (i == j) refl h
 
-  same_cell : (j : ℕ) (q : Path) (b : Bool) → (i == j) ≡ b → SameNodes (in_child nodes (slice_index_or xs i None)) (in_child nodes y)
-      → in_child nodes (slice_index_or (slice_set xs i y) j None) q ≡ in_child nodes (slice_index_or xs j None) q
+  same_cell : (j : ℕ) (q : Path) (b : Bool) → (i == j) ≡ b → SameNodes (child_nodes nodes (slice_index_or xs i None)) (child_nodes nodes y)
+      → child_nodes nodes (slice_index_or (slice_set xs i y) j None) q ≡ child_nodes nodes (slice_index_or xs j None) q
   same_cell j q true e h =
       let here : i ≡ j = eqb-true i j e in
-      ap (λ c. in_child nodes c q) (same_there j here) ∙ h q
-      ∙ ap (λ k. in_child nodes (slice_index_or xs k None) q) here
+      ap (λ c. child_nodes nodes c q) (same_there j here) ∙ h q
+      ∙ ap (λ k. child_nodes nodes (slice_index_or xs k None) q) here
   same_cell j q false e h =
-      ap (λ c. in_child nodes c q) (get_or-set_other xs i j y None (λ (s : j ≡ i). true≢false (sym (eq-eqb i j (sym s)) ∙ e)))
+      ap (λ c. child_nodes nodes c q) (get_or-set_other xs i j y None (λ (s : j ≡ i). true≢false (sym (eq-eqb i j (sym s)) ∙ e)))
 
-  row_same : SameNodes (in_child nodes (slice_index_or xs i None)) (in_child nodes y) → SameNodes (in_row nodes own xs) (in_row nodes own (slice_set xs i y))
+  row_same : SameNodes (child_nodes nodes (slice_index_or xs i None)) (child_nodes nodes y) → SameNodes (children_nodes nodes own xs) (children_nodes nodes own (slice_set xs i y))
   row_same h [] = refl
   row_same h (j ∷ q) = same_cell j q (i == j) refl h
 
   -- ---- the sentence of a child, and that of its row
 
-  row_all_in : {IsBelow : Path → Type 0} (count : ℕ) (p : Path) → ((q : Path) → IsBelow q → are_related p q ≡ true → is_some (in_child nodes (slice_index_or xs i None) q) ≡ true)
-      → (q : Path) → IsRowPath count IsBelow q → are_related (i ∷ p) q ≡ true → is_some (in_row nodes own xs q) ≡ true
+  row_all_in : {IsBelow : Path → Type 0} (count : ℕ) (p : Path) → ((q : Path) → IsBelow q → are_related p q ≡ true → is_some (child_nodes nodes (slice_index_or xs i None) q) ≡ true)
+      → (q : Path) → IsRowPath count IsBelow q → are_related (i ∷ p) q ≡ true → is_some (children_nodes nodes own xs q) ≡ true
   row_all_in count p h [] path related = refl
   row_all_in count p h (j ∷ q) path related =
-      subst (λ k. is_some (in_child nodes (slice_index_or xs k None) q) ≡ true) (related_first i j p q related) (h q path.1 (related_rest i j p q related))
+      subst (λ k. is_some (child_nodes nodes (slice_index_or xs k None) q) ≡ true) (related_first i j p q related) (h q path.1 (related_rest i j p q related))
 
-  pub row_refused : (IsBelow : Path → Type 0) (count : ℕ) (p : Path) → i < count → TakesNothing IsBelow p (in_child nodes (slice_index_or xs i None)) (in_child nodes y)
-      → TakesNothing (IsRowPath count IsBelow) (i ∷ p) (in_row nodes own xs) (in_row nodes own (slice_set xs i y))
+  pub row_refused : (IsBelow : Path → Type 0) (count : ℕ) (p : Path) → i < count → TakesNothing IsBelow p (child_nodes nodes (slice_index_or xs i None)) (child_nodes nodes y)
+      → TakesNothing (IsRowPath count IsBelow) (i ∷ p) (children_nodes nodes own xs) (children_nodes nodes own (slice_set xs i y))
   row_refused IsBelow count p below h = record {
     gap = (i ∷ h.gap.0, (below, h.gap.1), related_below i p h.gap.0 h.gap.2, h.gap.3);
     same = row_same h.same;
   }
 
-  out_row : (p : Path) → IsOut (i ∷ p) (in_row nodes own xs) → IsOut p (in_child nodes (slice_index_or xs i None))
+  out_row : (p : Path) → IsOut (i ∷ p) (children_nodes nodes own xs) → IsOut p (child_nodes nodes (slice_index_or xs i None))
   out_row [] h = h.0
   out_row (j ∷ p) h = h
 
-  pub row_handed_back : (IsKind : Type 0) (p : Path) (parcels back : Parcels) → HandsBack IsKind p parcels back (in_child nodes (slice_index_or xs i None)) (in_child nodes y)
-      → HandsBack IsKind (i ∷ p) parcels back (in_row nodes own xs) (in_row nodes own (slice_set xs i y))
+  pub row_handed_back : (IsKind : Type 0) (p : Path) (parcels back : Parcels) → HandsBack IsKind p parcels back (child_nodes nodes (slice_index_or xs i None)) (child_nodes nodes y)
+      → HandsBack IsKind (i ∷ p) parcels back (children_nodes nodes own xs) (children_nodes nodes own (slice_set xs i y))
   row_handed_back IsKind p parcels back h = record { back = h.back; why = λ out kind. h.why (out_row p out) kind; same = row_same h.same }
 
 -- ---- the first of a path, and the rest

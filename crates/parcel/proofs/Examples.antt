@@ -5,8 +5,8 @@ use Rattle.std.proofs.lemmas.Bool.{true≢false}
 use Rattle.affinity.specs.Geometry.{small}
 use Rattle.affinity.specs.Interval.{IsPath}
 use Rattle.affinity.specs.Path.{Path, are_related}
-use Rattle.parcel.specs.Nodes.{Node, Nodes, in_row, put_at}
-use Rattle.parcel.specs.Nodes.Node.{Inner, Marks, Files, Slots, Text}
+use Rattle.parcel.specs.Nodes.{Node, Nodes, children_nodes, put_at}
+use Rattle.parcel.specs.Nodes.Node.{Inner, VolumeFlags, Files, StripeBlocks, LabelBytes}
 use Rattle.stripe.specs.Entries.{entry_bytes}
 use Rattle.stripe.specs.Stripe.{StripePart}
 use Rattle.parcel.specs.Pieces.{spelled, decoded_label, decoded_piece}
@@ -18,17 +18,17 @@ no_blocks = record { quota = 2; entries = [] }
 
 -- a node with what is below it: each child is nodes, or out
 abbrev below : Node → List (Option Nodes) → Nodes
-below own children = in_row (λ (n : Nodes). n) own children
+below own children = children_nodes (λ (n : Nodes). n) own children
 
 abbrev leaf_of : Node → Nodes
 leaf_of own = below own []
 
 abbrev tree_with : Option Nodes → Nodes
-tree_with first = below Inner (Some (below Inner (Some (below (Marks true false)
-    (Some (below (Files 1) (first ∷ Some (leaf_of (Slots no_blocks)) ∷ [])) ∷ Some (leaf_of (Text None)) ∷ [])) ∷ [])) ∷ [])
+tree_with first = below Inner (Some (below Inner (Some (below (VolumeFlags true false)
+    (Some (below (Files 1) (first ∷ Some (leaf_of (StripeBlocks no_blocks)) ∷ [])) ∷ Some (leaf_of (LabelBytes None)) ∷ [])) ∷ [])) ∷ [])
 
 abbrev whole : Nodes
-whole = tree_with (Some (leaf_of (Slots no_blocks)))
+whole = tree_with (Some (leaf_of (StripeBlocks no_blocks)))
 
 abbrev without_first : Nodes
 without_first = tree_with None
@@ -44,7 +44,7 @@ files_are_in : IsOut (0 ∷ 0 ∷ 0 ∷ []) without_first → ⊥
 files_are_in h = true≢false (ap is_some h.0)
 
 -- a stripe is not out by itself where its files are out with it
-stripe_of_no_files : IsOut (0 ∷ 0 ∷ 0 ∷ 0 ∷ []) (below Inner (Some (below Inner (Some (below (Marks true false) (None ∷ Some (leaf_of (Text None)) ∷ [])) ∷ [])) ∷ [])) → ⊥
+stripe_of_no_files : IsOut (0 ∷ 0 ∷ 0 ∷ 0 ∷ []) (below Inner (Some (below Inner (Some (below (VolumeFlags true false) (None ∷ Some (leaf_of (LabelBytes None)) ∷ [])) ∷ [])) ∷ [])) → ⊥
 stripe_of_no_files h = true≢false (sym h.1)
 
 -- what is related to the first stripe or lies above it has a gap
@@ -97,10 +97,10 @@ standing_at_volume : standing_at (0 ∷ 0 ∷ []) whole ≡ record { made = fals
 standing_at_volume = refl
 
 -- to put the stripe back gives the whole tree again, at each place
-put_back_stripe : put_at (0 ∷ 0 ∷ 0 ∷ 0 ∷ []) (leaf_of (Slots no_blocks)) without_first (0 ∷ 0 ∷ 0 ∷ 0 ∷ []) ≡ whole (0 ∷ 0 ∷ 0 ∷ 0 ∷ [])
+put_back_stripe : put_at (0 ∷ 0 ∷ 0 ∷ 0 ∷ []) (leaf_of (StripeBlocks no_blocks)) without_first (0 ∷ 0 ∷ 0 ∷ 0 ∷ []) ≡ whole (0 ∷ 0 ∷ 0 ∷ 0 ∷ [])
 put_back_stripe = refl
 
-put_back_other : put_at (0 ∷ 0 ∷ 0 ∷ 0 ∷ []) (leaf_of (Slots no_blocks)) without_first (0 ∷ 0 ∷ 0 ∷ 1 ∷ []) ≡ whole (0 ∷ 0 ∷ 0 ∷ 1 ∷ [])
+put_back_other : put_at (0 ∷ 0 ∷ 0 ∷ 0 ∷ []) (leaf_of (StripeBlocks no_blocks)) without_first (0 ∷ 0 ∷ 0 ∷ 1 ∷ []) ≡ whole (0 ∷ 0 ∷ 0 ∷ 1 ∷ [])
 put_back_other = refl
 
 -- ---- a volume's piece

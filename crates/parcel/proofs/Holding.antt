@@ -4,21 +4,21 @@ use Rattle.std.specs.Prelude.{◌||◌, ◌==◌, not, Option, None, Some, is_so
 use Rattle.std.proofs.lemmas.Bool.{and_parts, and_from, cond-false, cond-true, eq-eqb, false_from_ne_true, not_from_false, not-true, or_cases, or_left, or_parts, or_right, true≢false}
 use Rattle.affinity.specs.declared.geometry.Geometry.{Geometry}
 use Rattle.affinity.specs.Interval.{IsPath}
-use Rattle.affinity.specs.Path.{Path, begins, are_related}
-use Rattle.affinity.proofs.Paths.{begins-refl, unrelated_below, unrelated_turned}
-use Rattle.affinity.proofs.Placed.{IsPath-place}
+use Rattle.affinity.specs.Path.{Path, is_prefix, are_related}
+use Rattle.affinity.proofs.Paths.{is_prefix-refl, unrelated_below, unrelated_turned}
+use Rattle.affinity.proofs.Placed.{IsPath-path_of_kind}
 use Rattle.messages.specs.declared.Msg.{Msg}
-use Rattle.messages.specs.Messages.{place, is_in_range, kind, four_numbers, IsMessage}
+use Rattle.messages.specs.Messages.{path_of, is_in_range, kind, four_numbers, IsMessage}
 use Rattle.meaning.specs.State.{State, IsState}
 use Rattle.meaning.specs.Serial.{reply_to, next_state}
-use Rattle.meaning.specs.Shares.{AgreeOn}
+use Rattle.meaning.specs.Subtrees.{AgreeOn}
 use Rattle.meaning.specs.Laws.{outside}
 use Rattle.meaning.proofs.Agree.{agree-refl, agree-sym, agree-trans, agree_either, agree_everywhere, agree_within}
 use Rattle.meaning.proofs.Frame.{changes_only}
 use Rattle.meaning.proofs.Kept.{step_kept}
 use Rattle.parcel.specs.Fits.{Fits}
 use Rattle.parcel.specs.Holding.{TreeHolds, IsApart, IsJobOut, nowhere, with_place}
-use Rattle.parcel.specs.Nodes.{Node, Nodes, in_parcels, tree_state}
+use Rattle.parcel.specs.Nodes.{Node, Nodes, parcels_nodes, tree_state}
 use Rattle.parcel.specs.Run.{JobView, IsJobRun, Shows}
 use Rattle.parcel.specs.RunLaws.{CanBeRestored, LendsJob, job_place}
 use Rattle.parcel.specs.Tree.{IsIn, HasGap, IsOut, LendsAt, RestoresAt, path_above}
@@ -42,17 +42,17 @@ above_path g (a ∷ v ∷ suc zero ∷ []) h = h
 above_path g (a ∷ v ∷ suc zero ∷ x ∷ p) h = absurd h
 above_path g (a ∷ v ∷ suc (suc i) ∷ p) h = absurd h
 
-above_begins : (p : Path) → begins (path_above p) p ≡ true
+above_begins : (p : Path) → is_prefix (path_above p) p ≡ true
 above_begins [] = refl
 above_begins (x ∷ []) = refl
 above_begins (x ∷ y ∷ p) = and_from (x == x) _ (eq-eqb x x refl) (above_begins (y ∷ p))
 
-begins-path_above : (x : ℕ) (p : Path) → begins (x ∷ p) (path_above (x ∷ p)) ≡ false
-begins-path_above x [] = refl
-begins-path_above x (y ∷ p) = false_from_ne_true _ (λ e. true≢false (sym (and_parts (x == x) (begins (y ∷ p) (path_above (y ∷ p))) e).1 ∙ begins-path_above y p))
+is_prefix-path_above : (x : ℕ) (p : Path) → is_prefix (x ∷ p) (path_above (x ∷ p)) ≡ false
+is_prefix-path_above x [] = refl
+is_prefix-path_above x (y ∷ p) = false_from_ne_true _ (λ e. true≢false (sym (and_parts (x == x) (is_prefix (y ∷ p) (path_above (y ∷ p))) e).1 ∙ is_prefix-path_above y p))
 
 above_related : (p : Path) → are_related p (path_above p) ≡ true
-above_related p = or_right (begins p (path_above p)) (begins (path_above p) p) (above_begins p)
+above_related p = or_right (is_prefix p (path_above p)) (is_prefix (path_above p) p) (above_begins p)
 
 is_there : (o : Option Node) → (o ≡ None → ⊥) → is_some o ≡ true
 is_there None h = absurd (h refl)
@@ -68,22 +68,22 @@ pub lent_is_out : (g : Geometry) (p : Path) (t : Standing) (l : Parcels) (old le
 lent_is_out g [] t l old lent path h = h.rest []
 lent_is_out g (x ∷ p) t l old lent path h =
     let up = path_above (x ∷ p) in (
-      h.rest (x ∷ p) ∙ cond-true (begins (x ∷ p) (x ∷ p)) None (old (x ∷ p)) (begins-refl (x ∷ p)),
-      ap is_some (h.rest up ∙ cond-false (begins (x ∷ p) up) None (old up) (begins-path_above x p)) ∙ h.all_in up (above_path g (x ∷ p) path) (above_related (x ∷ p)),
+      h.rest (x ∷ p) ∙ cond-true (is_prefix (x ∷ p) (x ∷ p)) None (old (x ∷ p)) (is_prefix-refl (x ∷ p)),
+      ap is_some (h.rest up ∙ cond-false (is_prefix (x ∷ p) up) None (old up) (is_prefix-path_above x p)) ∙ h.all_in up (above_path g (x ∷ p) path) (above_related (x ∷ p)),
     )
 
-pub place_is_path : (g : Geometry) (m : Msg) → is_in_range g m ≡ true → IsPath g (place g m)
-place_is_path g m h = IsPath-place g (kind m) (four_numbers m) h
+pub place_is_path : (g : Geometry) (m : Msg) → is_in_range g m ≡ true → IsPath g (path_of g m)
+place_is_path g m h = IsPath-path_of_kind g (kind m) (four_numbers m) h
 
 pub ran_goes_back : (job : JobView) (done : Done) (old lent : Nodes) → LendsJob job old lent → IsJobRun job done
     → CanBeRestored job.geometry (job_place job) done.parcels lent
 ran_goes_back job done old lent h ran =
     let g = job.geometry in
-    let p = place g job.message in
+    let p = path_of g job.message in
     record {
-      out = lent_is_out g p job.standing job.parcels old lent (place_is_path g job.message ran.suits.range) h;
-      kind = kind_of g p done.parcels ran.suits.fits;
-      fits = ran.suits.fits;
+      out = lent_is_out g p job.standing job.parcels old lent (place_is_path g job.message ran.runnable.range) h;
+      kind = kind_of g p done.parcels ran.runnable.fits;
+      fits = ran.runnable.fits;
     }
 
 -- ---- where nothing is out
@@ -117,8 +117,8 @@ module _ (g : Geometry) (out : Path → Bool) (p : Path) (apart : IsApart p out)
   not_out : (q : Path) → are_related p q ≡ true → out q ≡ false
   not_out q related = false_from_ne_true (out q) (λ is. true≢false (sym related ∙ apart q is))
 
-  below_not_out : (q : Path) → begins p q ≡ true → out q ≡ false
-  below_not_out q below = not_out q (or_left (begins p q) (begins q p) below)
+  below_not_out : (q : Path) → is_prefix p q ≡ true → out q ≡ false
+  below_not_out q below = not_out q (or_left (is_prefix p q) (is_prefix q p) below)
 
   pub can_be_lent : (n : Nodes) (x : State) → TreeHolds g out n x → HasGap g p n → ⊥
   can_be_lent n x h gap = true≢false (sym (h.others gap.0 gap.1 gap.3) ∙ not_out gap.0 gap.2)
@@ -129,15 +129,15 @@ module _ (g : Geometry) (out : Path → Bool) (p : Path) (apart : IsApart p out)
   pub lent_holds : (t : Standing) (l : Parcels) (n lent : Nodes) (x : State) → TreeHolds g out n x → LendsAt g p t l n lent → TreeHolds g (with_place p out) lent x
   lent_holds t l n lent x h taken = record {
     agrees = agree-trans
-        (agree_within (λ q r. not_from_false (begins p q) (or_parts (begins p q) (out q) (not-true (begins p q || out q) r)).0) (taken_leaves g p n lent taken.rest))
-        (agree_within (λ q r. not_from_false (out q) (or_parts (begins p q) (out q) (not-true (begins p q || out q) r)).1) h.agrees);
-    others = λ q path none. elim (begins p q) as (λ b. begins p q ≡ b → (b || out q) ≡ true) [
+        (agree_within (λ q r. not_from_false (is_prefix p q) (or_parts (is_prefix p q) (out q) (not-true (is_prefix p q || out q) r)).0) (taken_leaves g p n lent taken.rest))
+        (agree_within (λ q r. not_from_false (out q) (or_parts (is_prefix p q) (out q) (not-true (is_prefix p q || out q) r)).1) h.agrees);
+    others = λ q path none. elim (is_prefix p q) as (λ b. is_prefix p q ≡ b → (b || out q) ≡ true) [
       | true ↦ λ e. refl
-      | false ↦ λ e. h.others q path (sym (taken.rest q ∙ cond-false (begins p q) None (n q) e) ∙ none)
+      | false ↦ λ e. h.others q path (sym (taken.rest q ∙ cond-false (is_prefix p q) None (n q) e) ∙ none)
     ] refl;
-    gone = λ q is. elim (begins p q) as (λ b. begins p q ≡ b → (b || out q) ≡ true → lent q ≡ None) [
-      | true ↦ λ e r. taken.rest q ∙ cond-true (begins p q) None (n q) e
-      | false ↦ λ e r. taken.rest q ∙ cond-false (begins p q) None (n q) e ∙ h.gone q r
+    gone = λ q is. elim (is_prefix p q) as (λ b. is_prefix p q ≡ b → (b || out q) ≡ true → lent q ≡ None) [
+      | true ↦ λ e r. taken.rest q ∙ cond-true (is_prefix p q) None (n q) e
+      | false ↦ λ e r. taken.rest q ∙ cond-false (is_prefix p q) None (n q) e ∙ h.gone q r
     ] refl is;
     state = h.state;
   }
@@ -145,80 +145,81 @@ module _ (g : Geometry) (out : Path → Bool) (p : Path) (apart : IsApart p out)
   -- ---- it is out as well, and comes back
 
   pub place_is_out : (n : Nodes) (x : State) → IsPath g p → TreeHolds g (with_place p out) n x → IsOut p n
-  place_is_out n x path h = by p path (begins-refl p) (λ q. apart q) h
+  place_is_out n x path h = by p path (is_prefix-refl p) (λ q. apart q) h
     where
-      by : (r : Path) → IsPath g r → begins r r ≡ true → IsApart r out → TreeHolds g (with_place r out) n x → IsOut r n
+      by : (r : Path) → IsPath g r → is_prefix r r ≡ true → IsApart r out → TreeHolds g (with_place r out) n x → IsOut r n
       by [] path self far h = h.gone [] refl
       by (y ∷ r) path self far h =
           let up = path_above (y ∷ r) in
           let stays : out up ≡ false = false_from_ne_true (out up) (λ is. true≢false (sym (above_related (y ∷ r)) ∙ far up is)) in (
-            h.gone (y ∷ r) (or_left (begins (y ∷ r) (y ∷ r)) (out (y ∷ r)) self),
+            h.gone (y ∷ r) (or_left (is_prefix (y ∷ r) (y ∷ r)) (out (y ∷ r)) self),
             is_there (n up) (λ none. ⊎_elim
-                (λ is. true≢false (sym is ∙ begins-path_above y r))
+                (λ is. true≢false (sym is ∙ is_prefix-path_above y r))
                 (λ is. true≢false (sym is ∙ stays))
-                (or_cases (begins (y ∷ r) up) (out up) (h.others up (above_path g (y ∷ r) path) none))),
+                (or_cases (is_prefix (y ∷ r) up) (out up) (h.others up (above_path g (y ∷ r) path) none))),
           )
 
-  module _ (m : Msg) (at : place g m ≡ p) (t : Standing) (l : Parcels) (n new : Nodes) (x : State) (h : TreeHolds g (with_place p out) n x) (put : RestoresAt g p l n new)
+  module _ (m : Msg) (at : path_of g m ≡ p) (t : Standing) (l : Parcels) (n new : Nodes) (x : State) (h : TreeHolds g (with_place p out) n x) (put : RestoresAt g p l n new)
       (fits : Fits g p l) (shows : Shows g p t l (next_state g x m)) (message : IsMessage m) where
-    here : AgreeOn g (begins p) (tree_state g new) (next_state g x m)
-    here = agree-trans (agree-sym (put.share t)) (agree_within (λ q r. or_left (begins p q) (begins q p) r) shows)
+    here : AgreeOn g (is_prefix p) (tree_state g new) (next_state g x m)
+    here = agree-trans (agree-sym (put.subtree t)) (agree_within (λ q r. or_left (is_prefix p q) (is_prefix q p) r) shows)
 
     changes : AgreeOn g (outside p) (next_state g x m) x
     changes = subst (λ (r : Path). AgreeOn g (outside r) (next_state g x m) x) at (changes_only g x m)
 
-    still : (q : Path) → begins p q ≡ false → out q ≡ false → (begins p q || out q) ≡ false
+    still : (q : Path) → is_prefix p q ≡ false → out q ≡ false → (is_prefix p q || out q) ≡ false
     still q e d = ap (λ b. b || out q) e ∙ d
 
     elsewhere : AgreeOn g (λ q. not (with_place p out q)) (tree_state g new) (next_state g x m)
     elsewhere =
-        let beside : (q : Path) → not (with_place p out q) ≡ true → outside p q ≡ true = λ q r. not_from_false (begins p q) (or_parts (begins p q) (out q) (not-true (begins p q || out q) r)).0 in
-        agree-trans (agree_within beside (put_leaves g p (in_parcels l) n new put.nodes)) (agree-trans h.agrees (agree_within beside (agree-sym changes)))
+        let beside : (q : Path) → not (with_place p out q) ≡ true → outside p q
+        ≡ true = λ q r. not_from_false (is_prefix p q) (or_parts (is_prefix p q) (out q) (not-true (is_prefix p q || out q) r)).0 in
+        agree-trans (agree_within beside (put_leaves g p (parcels_nodes l) n new put.nodes)) (agree-trans h.agrees (agree_within beside (agree-sym changes)))
 
-    either_way : (q : Path) → not (out q) ≡ true → (begins p q || not (with_place p out q)) ≡ true
-    either_way q r = elim (begins p q) as (λ b. (b || not (b || out q)) ≡ true) [ true ↦ refl | false ↦ r ]
+    either_way : (q : Path) → not (out q) ≡ true → (is_prefix p q || not (with_place p out q)) ≡ true
+    either_way q r = elim (is_prefix p q) as (λ b. (b || not (b || out q)) ≡ true) [ true ↦ refl | false ↦ r ]
 
-    back_in : (q : Path) → IsPath g q → begins p q ≡ true → is_some (new q) ≡ true
+    back_in : (q : Path) → IsPath g q → is_prefix p q ≡ true → is_some (new q) ≡ true
     back_in q path below =
         let rest = begins_split p q below in
         subst (λ (r : Path). is_some (new r) ≡ true) (sym rest.1) (restored_is_in g p l n put.nodes fits rest.0 (subst (λ (r : Path). IsPath g r) rest.1 path))
 
-    unchanged : (q : Path) → begins p q ≡ false → new q ≡ n q
-    unchanged q beside = put.nodes q ∙ put_outside p (in_parcels l) n q beside
+    unchanged : (q : Path) → is_prefix p q ≡ false → new q ≡ n q
+    unchanged q beside = put.nodes q ∙ put_outside p (parcels_nodes l) n q beside
 
     pub restored_holds : TreeHolds g out new (next_state g x m)
     restored_holds = record {
       agrees = agree_within either_way (agree_either here elsewhere);
-      others = λ q path none. elim (begins p q) as (λ b. begins p q ≡ b → out q ≡ true) [
+      others = λ q path none. elim (is_prefix p q) as (λ b. is_prefix p q ≡ b → out q ≡ true) [
         | true ↦ λ below. absurd (not_there (new q) none (back_in q path below))
         | false ↦ λ beside. ⊎_elim
             (λ is. absurd (true≢false (sym is ∙ beside)))
             (λ is. is)
-            (or_cases (begins p q) (out q) (h.others q path (sym (unchanged q beside) ∙ none)))
+            (or_cases (is_prefix p q) (out q) (h.others q path (sym (unchanged q beside) ∙ none)))
       ] refl;
-      gone = λ q is. unchanged q (false_from_ne_true (begins p q) (λ below. true≢false (sym is ∙ below_not_out q below))) ∙ h.gone q (or_right (begins p q) (out q) is);
+      gone = λ q is. unchanged q (false_from_ne_true (is_prefix p q) (λ below. true≢false (sym is ∙ below_not_out q below))) ∙ h.gone q (or_right (is_prefix p q) (out q) is);
       state = step_kept g x m h.state message;
     }
 
 -- ---- a step elsewhere
 
-pub shows_still : (g : Geometry) (p : Path) (t : Standing) (l : Parcels) (x : State) (m : Msg) → are_related p (place g m) ≡ false → Shows g p t l x → Shows g p t l (next_state g x m)
-shows_still g p t l x m apart shows = agree-trans shows (agree_within (λ q related. not_from_false (begins (place g m) q) (beside q related)) (agree-sym (changes_only g x m)))
+pub shows_still : (g : Geometry) (p : Path) (t : Standing) (l : Parcels) (x : State) (m : Msg) → are_related p (path_of g m) ≡ false → Shows g p t l x → Shows g p t l (next_state g x m)
+shows_still g p t l x m apart shows = agree-trans shows (agree_within (λ q related. not_from_false (is_prefix (path_of g m) q) (beside q related)) (agree-sym (changes_only g x m)))
   where
-    beside : (q : Path) → are_related p q ≡ true → begins (place g m) q ≡ false
-    beside q related = false_from_ne_true (begins (place g m) q) (λ below. true≢false
-        (sym related ∙ unrelated_turned q p (unrelated_below (place g m) p q (unrelated_turned p (place g m) apart) below)))
+    beside : (q : Path) → are_related p q ≡ true → is_prefix (path_of g m) q ≡ false
+    beside q related = false_from_ne_true (is_prefix (path_of g m) q) (λ below. true≢false
+        (sym related ∙ unrelated_turned q p (unrelated_below (path_of g m) p q (unrelated_turned p (path_of g m) apart) below)))
 
 -- ---- a job that is out, and what it left when it ran
 
 pub job_goes_back : (out : Path → Bool) (job : JobView) (done : Done) (n : Nodes) (x : State) → IsJobOut out job n x → IsJobRun job done → CanBeRestored job.geometry (job_place job) done.parcels n
 job_goes_back out job done n x h ran =
     let g = job.geometry in
-    let p = place g job.message in
+    let p = path_of g job.message in
     record {
-      out = place_is_out g out p h.apart n x (place_is_path g job.message ran.suits.range) h.holds;
-      kind = kind_of g p done.parcels ran.suits.fits;
-      fits = ran.suits.fits;
+      out = place_is_out g out p h.apart n x (place_is_path g job.message ran.runnable.range) h.holds;
+      kind = kind_of g p done.parcels ran.runnable.fits;
+      fits = ran.runnable.fits;
     }
 
 pub job_reply : (out : Path → Bool) (job : JobView) (done : Done) (n : Nodes) (x : State) → IsJobOut out job n x → IsJobRun job done → done.reply ≡ reply_to job.geometry x job.message
@@ -227,4 +228,4 @@ job_reply out job done n x h ran = (serial_run job done x ran h.shows).reply
 pub job_is_back : {out : Path → Bool} {job : JobView} {done : Done} {n new : Nodes} {x : State} → IsJobOut out job n x → IsJobRun job done → IsMessage job.message
     → RestoresAt job.geometry (job_place job) done.parcels n new → TreeHolds job.geometry out new (next_state job.geometry x job.message)
 job_is_back {out} {job} {done} {n} {new} {x} h ran message put =
-    restored_holds job.geometry out (job_place job) h.apart job.message refl job.standing done.parcels n new x h.holds put ran.suits.fits (serial_run job done x ran h.shows).shows message
+    restored_holds job.geometry out (job_place job) h.apart job.message refl job.standing done.parcels n new x h.holds put ran.runnable.fits (serial_run job done x ran h.shows).shows message

@@ -7,13 +7,13 @@ use Rattle.affinity.specs.Interval.{IsPath}
 use Rattle.affinity.specs.Path.{Path}
 use Rattle.parcel.specs.Fits.{Fits, IsKindOf}
 use Rattle.parcel.specs.Levels.{IsRootPath, TakesNothing, TakesParcels, Puts}
-use Rattle.parcel.specs.Nodes.{Nodes, in_parcels, put_at, PutsBack, SameNodes}
+use Rattle.parcel.specs.Nodes.{Nodes, parcels_nodes, put_at, PutsBack, SameNodes}
 use Rattle.parcel.specs.Tree.{HasGap, LendsAt, RestoresAt, standing_at}
 use Rattle.parcel.specs.declared.parts.Parcels.{Parcels}
 use Rattle.parcel.specs.declared.parts.Parcels.TheVariants as parcels
 use Rattle.parcel.specs.declared.parts.Standing.{Standing}
 use Rattle.parcel.proofs.Whole.{root_all_in, aggregate_all_in, volume_all_in, logical_all_in}
-use Rattle.parcel.proofs.Shows.{share_shown, related_shown}
+use Rattle.parcel.proofs.Shows.{subtree_shown, related_shown}
 
 pub path_there : (g : Geometry) (q : Path) → IsRootPath g q → IsPath g q
 path_there g [] h = tt
@@ -68,11 +68,11 @@ restored_from_put g p l old new h kind = record {
   out = h.out;
   kind = kind;
   nodes = h.nodes;
-  share = λ t. share_shown g p t l new kind (λ q. h.nodes (p ++ q) ∙ put_there p q (in_parcels l) old);
+  subtree = λ t. subtree_shown g p t l new kind (λ q. h.nodes (p ++ q) ∙ put_there p q (parcels_nodes l) old);
 }
 
 -- Parcels that fit are whole: each path from theirs on is in.
-whole_is_in : (g : Geometry) (p : Path) (l : Parcels) → Fits g p l → (q : Path) → IsPath g (p ++ q) → is_some (in_parcels l q) ≡ true
+whole_is_in : (g : Geometry) (p : Path) (l : Parcels) → Fits g p l → (q : Path) → IsPath g (p ++ q) → is_some (parcels_nodes l q) ≡ true
 whole_is_in g [] (parcels.Root r) h q path = root_all_in g (Some r) h.0 h.1 q (root_path g q path)
 whole_is_in g (a ∷ []) (parcels.Aggr r) h q path = aggregate_all_in g (Some r) h.0 h.1 q (root_path g (a ∷ q) path).1
 whole_is_in g (a ∷ v ∷ []) (parcels.Vol w) h q path = volume_all_in g (Some w) h.0 h.1 q (root_path g (a ∷ v ∷ q) path).1.1
@@ -83,6 +83,6 @@ whole_is_in g (a ∷ v ∷ suc zero ∷ []) (parcels.Label l) h [] path = refl
 whole_is_in g (a ∷ v ∷ suc zero ∷ []) (parcels.Label l) h (i ∷ q) path = absurd path
 whole_is_in g p l h q path = absurd h
 
-pub restored_is_in : (g : Geometry) (p : Path) (l : Parcels) (old : Nodes) {new : Nodes} → PutsBack p (in_parcels l) old new → Fits g p l
+pub restored_is_in : (g : Geometry) (p : Path) (l : Parcels) (old : Nodes) {new : Nodes} → PutsBack p (parcels_nodes l) old new → Fits g p l
     → (q : Path) → IsPath g (p ++ q) → is_some (new (p ++ q)) ≡ true
-restored_is_in g p l old h fits q path = ap is_some (h (p ++ q) ∙ put_there p q (in_parcels l) old) ∙ whole_is_in g p l fits q path
+restored_is_in g p l old h fits q path = ap is_some (h (p ++ q) ∙ put_there p q (parcels_nodes l) old) ∙ whole_is_in g p l fits q path

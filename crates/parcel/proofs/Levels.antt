@@ -6,7 +6,7 @@ use Rattle.affinity.specs.Path.{Path}
 use Rattle.affinity.specs.declared.geometry.Geometry.{Geometry}
 use Rattle.parcel.specs.Fits.{Fits, IsKindOf}
 use Rattle.parcel.specs.Levels.{IsLeafPath, IsLogicalPath, IsVolumePath, TakesNothing, HandsBack}
-use Rattle.parcel.specs.Nodes.{Nodes, in_child, in_volume, in_logical, in_label, SameNodes}
+use Rattle.parcel.specs.Nodes.{Nodes, child_nodes, volume_nodes, logical_nodes, label_nodes, SameNodes}
 use Rattle.parcel.specs.Tree.{IsOut}
 use Rattle.parcel.specs.declared.parts.Label.{Label}
 use Rattle.parcel.specs.declared.parts.Logical.{Logical}
@@ -65,33 +65,33 @@ module _ (g : Geometry) (w : Vol) (y : Option Logical) where
   abbrev after_logical : Vol
   after_logical = record { made = w.made; sealed = w.sealed; logical = y; label = w.label }
 
-  logical_same : SameNodes (in_child in_logical w.logical) (in_child in_logical y) → SameNodes (in_volume w) (in_volume after_logical)
+  logical_same : SameNodes (child_nodes logical_nodes w.logical) (child_nodes logical_nodes y) → SameNodes (volume_nodes w) (volume_nodes after_logical)
   logical_same h [] = refl
   logical_same h (zero ∷ q) = h q
   logical_same h (suc zero ∷ q) = refl
   logical_same h (suc (suc i) ∷ q) = refl
 
-  pub logical_refused : (p : Path) → TakesNothing (IsLogicalPath g) p (in_child in_logical w.logical) (in_child in_logical y)
-      → TakesNothing (IsVolumePath g) (0 ∷ p) (in_volume w) (in_volume after_logical)
+  pub logical_refused : (p : Path) → TakesNothing (IsLogicalPath g) p (child_nodes logical_nodes w.logical) (child_nodes logical_nodes y)
+      → TakesNothing (IsVolumePath g) (0 ∷ p) (volume_nodes w) (volume_nodes after_logical)
   logical_refused p h = record { gap = (0 ∷ h.gap.0, h.gap.1, related_below 0 p h.gap.0 h.gap.2, h.gap.3); same = logical_same h.same }
 
-  label_same : (z : Option Label) → SameNodes (in_child in_label w.label) (in_child in_label z)
-      → SameNodes (in_volume w) (in_volume (record { made = w.made; sealed = w.sealed; logical = w.logical; label = z }))
+  label_same : (z : Option Label) → SameNodes (child_nodes label_nodes w.label) (child_nodes label_nodes z)
+      → SameNodes (volume_nodes w) (volume_nodes (record { made = w.made; sealed = w.sealed; logical = w.logical; label = z }))
   label_same z h [] = refl
   label_same z h (zero ∷ q) = refl
   label_same z h (suc zero ∷ q) = h q
   label_same z h (suc (suc i) ∷ q) = refl
 
-  out_below : (p : Path) → IsOut (0 ∷ p) (in_volume w) → IsOut p (in_child in_logical w.logical)
+  out_below : (p : Path) → IsOut (0 ∷ p) (volume_nodes w) → IsOut p (child_nodes logical_nodes w.logical)
   out_below [] h = h.0
   out_below (i ∷ p) h = h
 
-  pub logical_handed_back : (IsKind : Type 0) (p : Path) (parcels returned : Parcels) → HandsBack IsKind p parcels returned (in_child in_logical w.logical) (in_child in_logical y)
-      → HandsBack IsKind (0 ∷ p) parcels returned (in_volume w) (in_volume after_logical)
+  pub logical_handed_back : (IsKind : Type 0) (p : Path) (parcels returned : Parcels) → HandsBack IsKind p parcels returned (child_nodes logical_nodes w.logical) (child_nodes logical_nodes y)
+      → HandsBack IsKind (0 ∷ p) parcels returned (volume_nodes w) (volume_nodes after_logical)
   logical_handed_back IsKind p parcels returned h = record { back = h.back; why = λ out kind. h.why (out_below p out) kind; same = logical_same h.same }
 
-  pub label_handed_back : (z : Option Label) (IsKind : Type 0) (parcels returned : Parcels) → HandsBack IsKind [] parcels returned (in_child in_label w.label) (in_child in_label z)
-      → HandsBack IsKind (1 ∷ []) parcels returned (in_volume w) (in_volume (record { made = w.made; sealed = w.sealed; logical = w.logical; label = z }))
+  pub label_handed_back : (z : Option Label) (IsKind : Type 0) (parcels returned : Parcels) → HandsBack IsKind [] parcels returned (child_nodes label_nodes w.label) (child_nodes label_nodes z)
+      → HandsBack IsKind (1 ∷ []) parcels returned (volume_nodes w) (volume_nodes (record { made = w.made; sealed = w.sealed; logical = w.logical; label = z }))
   label_handed_back z IsKind parcels returned h = record { back = h.back; why = λ out kind. h.why out.0 kind; same = label_same z h.same }
 
 pub label_path : (g : Geometry) (p : Path) → 0 < length p → (slice_index_or p 0 0 ≡ 0 → ⊥) → IsVolumePath g p → p ≡ 1 ∷ []

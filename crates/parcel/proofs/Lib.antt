@@ -1,5 +1,5 @@
--- ---- for the crates above: what was run fits where it was lent (Serving), and a tree beside the serial
--- state while parcels are out (Holding)
+-- ---- for the crates above: what comes back from a run fits where it was lent (Serving), and how a tree agrees
+-- with the serial server's state while parcels are out (Holding)
 pub mod Serving
 pub mod Holding
 -- ---- this crate's own

@@ -3,7 +3,7 @@ use Rattle.std.proofs.Common.{◌≡◌, ℕ, Bool, true, false, Option, Some, N
 use Rattle.std.specs.Prelude.{◌&&◌, ◌||◌, ◌==◌, not, nat_lt, is_some, if◌then◌else◌}
 use Rattle.std.proofs.lemmas.Bool.{eq-eqb}
 use Rattle.affinity.specs.declared.geometry.Geometry.{Geometry}
-use Rattle.affinity.specs.Geometry.{group}
+use Rattle.affinity.specs.Geometry.{stripe_of}
 use Rattle.messages.specs.declared.Block.{Block}
 use Rattle.messages.specs.declared.Msg.{Msg}
 use Rattle.messages.specs.declared.Msg.TheVariants.{Create, Delete, Write, Punch, List as ListFiles, Usage as AskUsage}
@@ -12,88 +12,88 @@ use Rattle.messages.specs.declared.Refusal.TheVariants.{Range, Volume, Exists, F
 use Rattle.messages.specs.declared.Reply.{Reply}
 use Rattle.messages.specs.declared.Reply.TheVariants.{Refused}
 use Rattle.messages.specs.Messages.{is_in_range}
-use Rattle.meaning.specs.State.{State, group_count}
-use Rattle.meaning.specs.Serial.{refusal, effect, accepted_reply, outcome}
+use Rattle.meaning.specs.State.{State, blocks_in_stripe}
+use Rattle.meaning.specs.Serial.{refusal, effect, accepted_reply, reply_and_state}
 use Rattle.parcel.specs.Run.{IsSerialStep}
-use Rattle.parcel.specs.Steps.{unless, unless_closed}
-use Rattle.parcel.specs.Volume.{Facts, facts_if, only}
+use Rattle.parcel.specs.Steps.{guard, guard_open}
+use Rattle.parcel.specs.Volume.{VolumeFacts, facts_if, one_volume}
 
 -- ---- a step, by its refusal
 
 pub refused : (g : Geometry) (x : State) (m : Msg) (why : Refusal) → refusal g x m ≡ Some why → IsSerialStep g x m (Refused why) x
 refused g x m why e = record {
-  reply = λ i. (outcome (sym e i) (accepted_reply g x m) (effect x m) x).0;
-  state = λ i. (outcome (sym e i) (accepted_reply g x m) (effect x m) x).1;
+  reply = λ i. (reply_and_state (sym e i) (accepted_reply g x m) (effect x m) x).0;
+  state = λ i. (reply_and_state (sym e i) (accepted_reply g x m) (effect x m) x).1;
 }
 
-pub passed : (g : Geometry) (x : State) (m : Msg) (told : Reply) (y : State) → refusal g x m ≡ None → told ≡ accepted_reply g x m → y ≡ effect x m → IsSerialStep g x m told y
-passed g x m told y e same new = record {
-  reply = same ∙ (λ i. (outcome (sym e i) (accepted_reply g x m) (effect x m) x).0);
-  state = new ∙ (λ i. (outcome (sym e i) (accepted_reply g x m) (effect x m) x).1);
+pub passed : (g : Geometry) (x : State) (m : Msg) (given : Reply) (y : State) → refusal g x m ≡ None → given ≡ accepted_reply g x m → y ≡ effect x m → IsSerialStep g x m given y
+passed g x m given y e same new = record {
+  reply = same ∙ (λ i. (reply_and_state (sym e i) (accepted_reply g x m) (effect x m) x).0);
+  state = new ∙ (λ i. (reply_and_state (sym e i) (accepted_reply g x m) (effect x m) x).1);
 }
 
 -- ---- what the volume has
 
-pub at_volume : (a v : ℕ) (h : Facts) → facts_if ((a == a) && (v == v)) h ≡ h
+pub at_volume : (a v : ℕ) (h : VolumeFacts) → facts_if ((a == a) && (v == v)) h ≡ h
 at_volume a v h = λ i. facts_if (eq-eqb a a refl i && eq-eqb v v refl i) h
 
 module _ (g : Geometry) (a v : ℕ) where
   -- the tests of a write, where its stripe has n blocks
-  pub write_tests : (f b : ℕ) (content : Block) (h : Facts) {n : ℕ} → is_in_range g (Write a v f b content) ≡ true → group_count g (only a v h) a v (group g f b) ≡ n
-      → refusal g (only a v h) (Write a v f b content) ≡ unless_closed h.made h.sealed (unless (h.files f) File (unless (is_some (h.blocks f b) || nat_lt n g.quota) Space None))
+  pub write_tests : (f b : ℕ) (content : Block) (h : VolumeFacts) {n : ℕ} → is_in_range g (Write a v f b content) ≡ true → blocks_in_stripe g (one_volume a v h) a v (stripe_of g f b) ≡ n
+      → refusal g (one_volume a v h) (Write a v f b content) ≡ guard_open h.made h.sealed (guard (h.files f) File (guard (is_some (h.blocks f b) || nat_lt n g.quota) Space None))
   write_tests f b content h range count =
       let at = at_volume a v h in
-      λ i. unless (range i) Range (unless_closed (at i).made (at i).sealed (unless ((at i).files f) File (unless (is_some ((at i).blocks f b) || nat_lt (count i) g.quota) Space None)))
+      λ i. guard (range i) Range (guard_open (at i).made (at i).sealed (guard ((at i).files f) File (guard (is_some ((at i).blocks f b) || nat_lt (count i) g.quota) Space None)))
 
   -- the tests of a message that changes a file
-  pub punch_tests : (f b : ℕ) (h : Facts) → is_in_range g (Punch a v f b) ≡ true
-      → refusal g (only a v h) (Punch a v f b) ≡ unless_closed h.made h.sealed (unless (h.files f) File None)
-  punch_tests f b h range = let at = at_volume a v h in λ i. unless (range i) Range (unless_closed (at i).made (at i).sealed (unless ((at i).files f) File None))
+  pub punch_tests : (f b : ℕ) (h : VolumeFacts) → is_in_range g (Punch a v f b) ≡ true
+      → refusal g (one_volume a v h) (Punch a v f b) ≡ guard_open h.made h.sealed (guard (h.files f) File None)
+  punch_tests f b h range = let at = at_volume a v h in λ i. guard (range i) Range (guard_open (at i).made (at i).sealed (guard ((at i).files f) File None))
 
-  pub delete_tests : (f : ℕ) (h : Facts) → is_in_range g (Delete a v f) ≡ true
-      → refusal g (only a v h) (Delete a v f) ≡ unless_closed h.made h.sealed (unless (h.files f) File None)
-  delete_tests f h range = let at = at_volume a v h in λ i. unless (range i) Range (unless_closed (at i).made (at i).sealed (unless ((at i).files f) File None))
+  pub delete_tests : (f : ℕ) (h : VolumeFacts) → is_in_range g (Delete a v f) ≡ true
+      → refusal g (one_volume a v h) (Delete a v f) ≡ guard_open h.made h.sealed (guard (h.files f) File None)
+  delete_tests f h range = let at = at_volume a v h in λ i. guard (range i) Range (guard_open (at i).made (at i).sealed (guard ((at i).files f) File None))
 
-  pub create_tests : (f : ℕ) (h : Facts) → is_in_range g (Create a v f) ≡ true
-      → refusal g (only a v h) (Create a v f) ≡ unless_closed h.made h.sealed (unless (not (h.files f)) Exists None)
-  create_tests f h range = let at = at_volume a v h in λ i. unless (range i) Range (unless_closed (at i).made (at i).sealed (unless (not ((at i).files f)) Exists None))
+  pub create_tests : (f : ℕ) (h : VolumeFacts) → is_in_range g (Create a v f) ≡ true
+      → refusal g (one_volume a v h) (Create a v f) ≡ guard_open h.made h.sealed (guard (not (h.files f)) Exists None)
+  create_tests f h range = let at = at_volume a v h in λ i. guard (range i) Range (guard_open (at i).made (at i).sealed (guard (not ((at i).files f)) Exists None))
 
-  pub list_tests : (h : Facts) → is_in_range g (ListFiles a v) ≡ true → refusal g (only a v h) (ListFiles a v) ≡ unless h.made Volume None
-  list_tests h range = let at = at_volume a v h in λ i. unless (range i) Range (unless (at i).made Volume None)
+  pub list_tests : (h : VolumeFacts) → is_in_range g (ListFiles a v) ≡ true → refusal g (one_volume a v h) (ListFiles a v) ≡ guard h.made Volume None
+  list_tests h range = let at = at_volume a v h in λ i. guard (range i) Range (guard (at i).made Volume None)
 
-  pub usage_tests : (h : Facts) → is_in_range g (AskUsage a v) ≡ true → refusal g (only a v h) (AskUsage a v) ≡ unless h.made Volume None
-  usage_tests h range = let at = at_volume a v h in λ i. unless (range i) Range (unless (at i).made Volume None)
+  pub usage_tests : (h : VolumeFacts) → is_in_range g (AskUsage a v) ≡ true → refusal g (one_volume a v h) (AskUsage a v) ≡ guard h.made Volume None
+  usage_tests h range = let at = at_volume a v h in λ i. guard (range i) Range (guard (at i).made Volume None)
 
 -- ---- effects
 
-module _ (h : Facts) where
-  same_made : (k : Facts) → k.made ≡ h.made → (t : Bool) → (facts_if t k).made ≡ (facts_if t h).made
+module _ (h : VolumeFacts) where
+  same_made : (k : VolumeFacts) → k.made ≡ h.made → (t : Bool) → (facts_if t k).made ≡ (facts_if t h).made
   same_made k e true = e
   same_made k e false = refl
 
-  same_sealed : (k : Facts) → k.sealed ≡ h.sealed → (t : Bool) → (facts_if t k).sealed ≡ (facts_if t h).sealed
+  same_sealed : (k : VolumeFacts) → k.sealed ≡ h.sealed → (t : Bool) → (facts_if t k).sealed ≡ (facts_if t h).sealed
   same_sealed k e true = e
   same_sealed k e false = refl
 
-  same_files : (k : Facts) → k.files ≡ h.files → (t : Bool) → (facts_if t k).files ≡ (facts_if t h).files
+  same_files : (k : VolumeFacts) → k.files ≡ h.files → (t : Bool) → (facts_if t k).files ≡ (facts_if t h).files
   same_files k e true = e
   same_files k e false = refl
 
-  same_label : (k : Facts) → k.label ≡ h.label → (t : Bool) → (facts_if t k).label ≡ (facts_if t h).label
+  same_label : (k : VolumeFacts) → k.label ≡ h.label → (t : Bool) → (facts_if t k).label ≡ (facts_if t h).label
   same_label k e true = e
   same_label k e false = refl
 
-  same_blocks : (k : Facts) → k.blocks ≡ h.blocks → (t : Bool) → (facts_if t k).blocks ≡ (facts_if t h).blocks
+  same_blocks : (k : VolumeFacts) → k.blocks ≡ h.blocks → (t : Bool) → (facts_if t k).blocks ≡ (facts_if t h).blocks
   same_blocks k e true = e
   same_blocks k e false = refl
 
   -- other blocks, and the rest stays
   module _ (a v : ℕ) (blocks' : ℕ → ℕ → Option Block) where
-    abbrev with_blocks : Facts
+    abbrev with_blocks : VolumeFacts
     with_blocks = record h { blocks = blocks' }
 
     pub effect_write : (f b : ℕ) (content : Block) → ((i j : ℕ) → blocks' i j ≡ (if (f == i) && (b == j) then Some content else h.blocks i j))
-        → only a v with_blocks ≡ effect (only a v h) (Write a v f b content)
+        → one_volume a v with_blocks ≡ effect (one_volume a v h) (Write a v f b content)
     effect_write f b content e = λ i. record {
       made = λ k. same_made with_blocks refl ((a == k.0) && (v == k.1)) i;
       sealed = λ k. same_sealed with_blocks refl ((a == k.0) && (v == k.1)) i;
@@ -106,7 +106,7 @@ module _ (h : Facts) where
         blocks true i j = e i j
         blocks false i j = refl
 
-    pub effect_punch : (f b : ℕ) → ((i j : ℕ) → blocks' i j ≡ (if (f == i) && (b == j) then None else h.blocks i j)) → only a v with_blocks ≡ effect (only a v h) (Punch a v f b)
+    pub effect_punch : (f b : ℕ) → ((i j : ℕ) → blocks' i j ≡ (if (f == i) && (b == j) then None else h.blocks i j)) → one_volume a v with_blocks ≡ effect (one_volume a v h) (Punch a v f b)
     effect_punch f b e = λ i. record {
       made = λ k. same_made with_blocks refl ((a == k.0) && (v == k.1)) i;
       sealed = λ k. same_sealed with_blocks refl ((a == k.0) && (v == k.1)) i;
@@ -121,10 +121,10 @@ module _ (h : Facts) where
 
   -- other files, and the rest stays
   module _ (a v : ℕ) (files' : ℕ → Bool) where
-    abbrev with_files : Facts
+    abbrev with_files : VolumeFacts
     with_files = record h { files = files' }
 
-    pub effect_create : (f : ℕ) → ((i : ℕ) → files' i ≡ ((f == i) || h.files i)) → only a v with_files ≡ effect (only a v h) (Create a v f)
+    pub effect_create : (f : ℕ) → ((i : ℕ) → files' i ≡ ((f == i) || h.files i)) → one_volume a v with_files ≡ effect (one_volume a v h) (Create a v f)
     effect_create f e = λ i. record {
       made = λ k. same_made with_files refl ((a == k.0) && (v == k.1)) i;
       sealed = λ k. same_sealed with_files refl ((a == k.0) && (v == k.1)) i;
@@ -139,11 +139,11 @@ module _ (h : Facts) where
 
   -- other files and blocks, and the rest stays
   module _ (a v : ℕ) (files' : ℕ → Bool) (blocks' : ℕ → ℕ → Option Block) where
-    abbrev with_both : Facts
+    abbrev with_both : VolumeFacts
     with_both = record h { files = files'; blocks = blocks' }
 
     pub effect_delete : (f : ℕ) → ((i : ℕ) → files' i ≡ (not (f == i) && h.files i))
-        → ((i j : ℕ) → blocks' i j ≡ (if f == i then None else h.blocks i j)) → only a v with_both ≡ effect (only a v h) (Delete a v f)
+        → ((i j : ℕ) → blocks' i j ≡ (if f == i then None else h.blocks i j)) → one_volume a v with_both ≡ effect (one_volume a v h) (Delete a v f)
     effect_delete f e d = λ i. record {
       made = λ k. same_made with_both refl ((a == k.0) && (v == k.1)) i;
       sealed = λ k. same_sealed with_both refl ((a == k.0) && (v == k.1)) i;

@@ -1,9 +1,9 @@
--- A part of a volume was read, and the volume is where the tree has it.
+-- A piece of a volume was read (part 0: its own, part s + 1: that of stripe s), and the volume is where the tree has it.
 use Rattle.std.proofs.Common.{◌≡◌, ℕ, zero, suc, ◌*◌, ◌%◌, ◌^◌, ◌<◌, Bool, true, false, List, [], ◌∷◌, length, get_or, slice_index_or, Option, Some, None, IfSome, is_some, refl, sym, ◌∙◌, ap, subst, arith, true≢false, mod-lt}
 use Rattle.std.specs.Prelude.{◌↔◌, ◌==◌, if◌then◌else◌, IsTrue, IsFalse}
 use Rattle.std.specs.List.{AllByRecursion}
 use Rattle.std.proofs.lemmas.Nat.{pow_pos}
-use Rattle.affinity.specs.Geometry.{group}
+use Rattle.affinity.specs.Geometry.{stripe_of}
 use Rattle.affinity.specs.Path.{Path}
 use Rattle.affinity.specs.declared.geometry.Geometry.{Geometry}
 use Rattle.byteorder.specs.Endian.{little_number}
@@ -14,9 +14,9 @@ use Rattle.stripe.specs.Stripe.{StripePart}
 use Rattle.image.specs.Pieces.{block_in, bytes_at, piece_count, aggregate_of, volume_of as volume_number}
 use Rattle.image.proofs.Numbers.{in_aggregates, in_volumes}
 use Rattle.parcel.specs.Fits.{FitsLogical, FitsVolume, FitsAggregate, FitsRoot, IsWholeChild, IsWholeLogical, IsWholeVolume, IsWholeAggregate, IsWholeRoot}
-use Rattle.parcel.specs.Levels.{volume_below, volume_in, is_whole_root}
-use Rattle.parcel.specs.Nodes.{Nodes, in_child, in_stripe, in_label, in_logical, in_volume, in_aggregate, in_root, marks_made, marks_sealed, files_have, slots_hold, text_of, tree_state}
-use Rattle.parcel.specs.Pieces.{HasFacts, IsPartRead, spelled, decoded_piece, volume_with, with_files}
+use Rattle.parcel.specs.Levels.{volume_below, volume_of_tree, is_whole_root}
+use Rattle.parcel.specs.Nodes.{Nodes, child_nodes, stripe_nodes, label_nodes, logical_nodes, volume_nodes, aggregate_nodes, root_nodes, node_made, node_sealed, node_has_file, node_block, node_label, tree_state}
+use Rattle.parcel.specs.Pieces.{HasFacts, IsPieceOfVolumeRead, spelled, decoded_piece, volume_with, with_files}
 use Rattle.parcel.specs.Shown.{volume_facts, files_in, blocks_below, blocks_in, blocks_of, shown_label}
 use Rattle.parcel.specs.Tree.{IsIn}
 use Rattle.parcel.specs.declared.parts.Label.{Label}
@@ -34,7 +34,7 @@ use Rattle.parcel.proofs.Whole.{root_whole, root_gap, child_whole_at}
 
 pub volume_is_read : {version : ℕ} {g : Geometry} {bytes : List ℕ} {good : Bool} {old new : Vol} → FitsVolume g old → IsWholeVolume old
     → (IsTrue good ↔ (bytes ≡ spelled (decoded_piece version g bytes))) → (IsTrue good → new ≡ volume_with (decoded_piece version g bytes) old) → (IsFalse good → new ≡ old)
-    → IsPartRead version g zero bytes good old new
+    → IsPieceOfVolumeRead version g zero bytes good old new
 volume_is_read {version} {g} {bytes} {good} {old} {new} fits whole is taken kept = record {
   fits = by_fits good refl;
   whole = by_whole good refl;
@@ -70,8 +70,8 @@ all_bytes (b ∷ bytes) each = (each 0, all_bytes bytes (λ i. each (suc i)))
 pub stripe_is_read : {version : ℕ} {g : Geometry} {s : ℕ} {bytes : List ℕ} {good : Bool} {old : Vol} {l k : Logical} → old.logical ≡ Some l
     → IsWholeVolume old → FitsLogical g k → IsWholeLogical k → k.files ≡ l.files
     → (IsTrue good ↔ IsStripePiece g l.files s bytes)
-    → (IsTrue good → (f b : ℕ) → blocks_of g k.stripes.items f b ≡ (if group g f b == s then block_in g bytes f b else blocks_of g l.stripes.items f b))
-    → AreSizedBytes (g.quota * 520) bytes → IsPartRead version g (suc s) bytes good old (record old { logical = Some k })
+    → (IsTrue good → (f b : ℕ) → blocks_of g k.stripes.items f b ≡ (if stripe_of g f b == s then block_in g bytes f b else blocks_of g l.stripes.items f b))
+    → AreSizedBytes (g.quota * 520) bytes → IsPieceOfVolumeRead version g (suc s) bytes good old (record old { logical = Some k })
 stripe_is_read {g} {s} {bytes} {old} {l} was whole fits now_whole files piece blocks are = record {
   fits = record { logical = fits };
   whole = (now_whole, whole.1);
@@ -83,7 +83,7 @@ stripe_is_read {g} {s} {bytes} {old} {l} was whole fits now_whole files piece bl
     made = old.made;
     sealed = old.sealed;
     files = λ f. (ap (λ n. has_file n f) files ∙ sym (ap (λ o. files_in o f) was)) i;
-    blocks = λ f b. (blocks on f b ∙ sym (ap (λ o. if group g f b == s then block_in g bytes f b else blocks_below g o f b) was)) i;
+    blocks = λ f b. (blocks on f b ∙ sym (ap (λ o. if stripe_of g f b == s then block_in g bytes f b else blocks_below g o f b) was)) i;
     label = shown_label old.label;
   };
 }
@@ -91,7 +91,7 @@ stripe_is_read {g} {s} {bytes} {old} {l} was whole fits now_whole files piece bl
 -- ---- the volume, where the tree has it
 
 module _ (g : Geometry) where
-  pub tree_whole : (o : Option Root) → IfSome o (FitsRoot g) → IsIn g [] (in_child in_root o) → IsWholeChild IsWholeRoot o
+  pub tree_whole : (o : Option Root) → IfSome o (FitsRoot g) → IsIn g [] (child_nodes root_nodes o) → IsWholeChild IsWholeRoot o
   tree_whole o fits all = by (is_whole_root o) refl
     where
       by : (t : Bool) → is_whole_root o ≡ t → IsWholeChild IsWholeRoot o
@@ -110,7 +110,7 @@ module _ (g : Geometry) where
       let within : v < length r.volumes.items = omega (arith, below, fits.count) in
       (fits_in_place (λ v. FitsVolume g) r.volumes.items fits.volumes v _ refl, child_whole_at IsWholeVolume r.volumes.items v within whole)
 
-  volume_is_there : (a v : ℕ) → a < g.aggregates → v < g.volumes → (o : Option Root) → IfSome o (FitsRoot g) → IsWholeChild IsWholeRoot o → IsThere (volume_in o a v)
+  volume_is_there : (a v : ℕ) → a < g.aggregates → v < g.volumes → (o : Option Root) → IfSome o (FitsRoot g) → IsWholeChild IsWholeRoot o → IsThere (volume_of_tree o a v)
   volume_is_there a v first second None fits whole = absurd whole
   volume_is_there a v first second (Some r) fits whole =
       let within : a < length r.aggregates.items = omega (arith, first, fits.count) in
@@ -119,44 +119,44 @@ module _ (g : Geometry) where
       (child_whole_at IsWholeAggregate r.aggregates.items a within whole)
 
   -- the volume of a piece, where nothing is out
-  pub piece_is_there : (o : Option Root) → IfSome o (FitsRoot g) → IsIn g [] (in_child in_root o) → (n : ℕ) → n < piece_count g
-      → {a v : ℕ} → a ≡ aggregate_of g n → v ≡ volume_number g n → IsThere (volume_in o a v)
+  pub piece_is_there : (o : Option Root) → IfSome o (FitsRoot g) → IsIn g [] (child_nodes root_nodes o) → (n : ℕ) → n < piece_count g
+      → {a v : ℕ} → a ≡ aggregate_of g n → v ≡ volume_number g n → IsThere (volume_of_tree o a v)
   piece_is_there o fits all n below {a} {v} aggregate volume =
       volume_is_there a v (subst (λ (k : ℕ). k < g.aggregates) (sym aggregate) (in_aggregates g n below))
       (subst (λ (k : ℕ). k < g.volumes) (sym volume) (in_volumes g n)) o fits (tree_whole o fits all)
 
   -- ---- the nodes and the state there
 
-  pub nodes_there : (a v : ℕ) (o : Option Root) (q : Path) → in_child in_root o (a ∷ v ∷ q) ≡ in_child in_volume (volume_in o a v) q
+  pub nodes_there : (a v : ℕ) (o : Option Root) (q : Path) → child_nodes root_nodes o (a ∷ v ∷ q) ≡ child_nodes volume_nodes (volume_of_tree o a v) q
   nodes_there a v None q = refl
   nodes_there a v (Some r) q = by (slice_index_or r.aggregates.items a None)
     where
-      by : (x : Option Aggr) → in_child in_aggregate x (v ∷ q) ≡ in_child in_volume (volume_below x v) q
+      by : (x : Option Aggr) → child_nodes aggregate_nodes x (v ∷ q) ≡ child_nodes volume_nodes (volume_below x v) q
       by None = refl
       by (Some r) = refl
 
-  files_same : (o : Option Logical) (f : ℕ) → files_have (in_child in_logical o []) f ≡ files_in o f
+  files_same : (o : Option Logical) (f : ℕ) → node_has_file (child_nodes logical_nodes o []) f ≡ files_in o f
   files_same None f = refl
   files_same (Some l) f = refl
 
-  stripe_same : (o : Option StripePart) (f b : ℕ) → slots_hold (in_child in_stripe o []) f b ≡ blocks_in o f b
+  stripe_same : (o : Option StripePart) (f b : ℕ) → node_block (child_nodes stripe_nodes o []) f b ≡ blocks_in o f b
   stripe_same None f b = refl
   stripe_same (Some p) f b = refl
 
-  blocks_same : (o : Option Logical) (f b : ℕ) → slots_hold (in_child in_logical o (group g f b ∷ [])) f b ≡ blocks_below g o f b
+  blocks_same : (o : Option Logical) (f b : ℕ) → node_block (child_nodes logical_nodes o (stripe_of g f b ∷ [])) f b ≡ blocks_below g o f b
   blocks_same None f b = refl
-  blocks_same (Some l) f b = stripe_same (slice_index_or l.stripes.items (group g f b) None) f b
+  blocks_same (Some l) f b = stripe_same (slice_index_or l.stripes.items (stripe_of g f b) None) f b
 
-  label_same : (o : Option Label) → text_of (in_child in_label o []) ≡ shown_label o
+  label_same : (o : Option Label) → node_label (child_nodes label_nodes o []) ≡ shown_label o
   label_same None = refl
   label_same (Some l) = refl
 
   -- the state of nodes has there what the volume has
-  pub state_there : (n : Nodes) (a v : ℕ) (w : Vol) → ((q : Path) → n (a ∷ v ∷ q) ≡ in_volume w q) → HasFacts (tree_state g n) a v (volume_facts g w)
+  pub state_there : (n : Nodes) (a v : ℕ) (w : Vol) → ((q : Path) → n (a ∷ v ∷ q) ≡ volume_nodes w q) → HasFacts (tree_state g n) a v (volume_facts g w)
   state_there n a v w at = record {
-    made = ap marks_made (at []);
-    sealed = ap marks_sealed (at []);
-    files = λ f. ap (λ o. files_have o f) (at (0 ∷ [])) ∙ files_same w.logical f;
-    blocks = λ f b. ap (λ o. slots_hold o f b) (at (0 ∷ group g f b ∷ [])) ∙ blocks_same w.logical f b;
-    label = ap text_of (at (1 ∷ [])) ∙ label_same w.label;
+    made = ap node_made (at []);
+    sealed = ap node_sealed (at []);
+    files = λ f. ap (λ o. node_has_file o f) (at (0 ∷ [])) ∙ files_same w.logical f;
+    blocks = λ f b. ap (λ o. node_block o f b) (at (0 ∷ stripe_of g f b ∷ [])) ∙ blocks_same w.logical f b;
+    label = ap node_label (at (1 ∷ [])) ∙ label_same w.label;
   }

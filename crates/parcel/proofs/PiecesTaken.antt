@@ -2,23 +2,23 @@
 use Rattle.std.proofs.Common.{◌≡◌, ℕ, zero, suc, Bool, true, false, ◌&&◌, List, [], ◌∷◌, Option, Some, None, is_some, refl, sym, ◌∙◌, ap, subst}
 use Rattle.std.specs.Prelude.{◌↔◌, ◌==◌, if◌then◌else◌, IsTrue}
 use Rattle.std.proofs.lemmas.Bool.{and_parts, and_from, eqb-true, eq-eqb, not-true}
-use Rattle.affinity.specs.Geometry.{group}
+use Rattle.affinity.specs.Geometry.{stripe_of}
 use Rattle.affinity.specs.Interval.{IsPath}
-use Rattle.affinity.specs.Path.{Path, begins, volume}
+use Rattle.affinity.specs.Path.{Path, is_prefix, volume}
 use Rattle.affinity.specs.declared.geometry.Geometry.{Geometry}
 use Rattle.messages.specs.Messages.{AreSizedBytes}
 use Rattle.messages.specs.Replies.{has_file}
 use Rattle.meaning.specs.Laws.{outside}
-use Rattle.meaning.specs.Shares.{AgreeOn}
+use Rattle.meaning.specs.Subtrees.{AgreeOn}
 use Rattle.meaning.specs.State.{State, IsState, is_volume}
 use Rattle.meaning.proofs.Agree.{agree-sym, agree-trans}
-use Rattle.meaning.proofs.ShareLaws.{agree_in_and_out}
+use Rattle.meaning.proofs.SubtreeLaws.{agree_in_and_out}
 use Rattle.image.specs.Pieces.{part_piece, piece_part_size, with_part, is_made_in, is_sealed_in, has_file_in, label_in as decoded_label_in, block_in}
-use Rattle.parcel.specs.Nodes.{Nodes, in_child, in_logical, in_volume, files_bits, tree_state}
+use Rattle.parcel.specs.Nodes.{Nodes, child_nodes, logical_nodes, volume_nodes, node_files, tree_state}
 use Rattle.parcel.specs.Pieces.{HasFacts, IsRead, facts_with}
 use Rattle.parcel.specs.Shown.{volume_facts, files_in}
 use Rattle.parcel.specs.Tree.{IsIn}
-use Rattle.parcel.specs.Volume.{Facts}
+use Rattle.parcel.specs.Volume.{VolumeFacts}
 use Rattle.parcel.specs.declared.parts.Logical.{Logical}
 use Rattle.parcel.specs.declared.parts.Vol.{Vol}
 use Rattle.parcel.specs.declared.parts.Parcels.TheVariants as parcels
@@ -33,18 +33,18 @@ use Rattle.parcel.proofs.VolumePieces.{volume_decoded, volume_state}
 -- ---- states that have the same there
 
 module _ (g : Geometry) (a v : ℕ) where
-  there_from : (x y : ℕ) (q : Path) → begins (volume a v) (x ∷ y ∷ q) ≡ true → (a ≡ x) × (v ≡ y)
+  there_from : (x y : ℕ) (q : Path) → is_prefix (volume a v) (x ∷ y ∷ q) ≡ true → (a ≡ x) × (v ≡ y)
   there_from x y q on =
       let first = and_parts (a == x) ((v == y) && true) on in
       let second = and_parts (v == y) true first.1 in
       (eqb-true a x first.0, eqb-true v y second.0)
 
-  pub same_there : (x y : State) (h : Facts) → HasFacts x a v h → HasFacts y a v h → AgreeOn g (begins (volume a v)) x y
+  pub same_there : (x y : State) (h : VolumeFacts) → HasFacts x a v h → HasFacts y a v h → AgreeOn g (is_prefix (volume a v)) x y
   same_there x y h one two = record {
     made = λ k r. let s = there_from k.0 k.1 [] r in sym (λ i. x.made (s.0 i, s.1 i)) ∙ one.made ∙ sym two.made ∙ (λ i. y.made (s.0 i, s.1 i));
     sealed = λ k r. let s = there_from k.0 k.1 [] r in sym (λ i. x.sealed (s.0 i, s.1 i)) ∙ one.sealed ∙ sym two.sealed ∙ (λ i. y.sealed (s.0 i, s.1 i));
     files = λ k r. let s = there_from k.0 k.1 (0 ∷ []) r in sym (λ i. x.files (s.0 i, s.1 i, k.2)) ∙ one.files k.2 ∙ sym (two.files k.2) ∙ (λ i. y.files (s.0 i, s.1 i, k.2));
-    blocks = λ k r. let s = there_from k.0 k.1 (0 ∷ group g k.2 k.3 ∷ []) r in sym (λ i. x.blocks (s.0 i, s.1 i, k.2, k.3)) ∙ one.blocks k.2 k.3
+    blocks = λ k r. let s = there_from k.0 k.1 (0 ∷ stripe_of g k.2 k.3 ∷ []) r in sym (λ i. x.blocks (s.0 i, s.1 i, k.2, k.3)) ∙ one.blocks k.2 k.3
         ∙ sym (two.blocks k.2 k.3) ∙ (λ i. y.blocks (s.0 i, s.1 i, k.2, k.3));
     labels = λ k r. let s = there_from k.0 k.1 (1 ∷ []) r in sym (λ i. x.labels (s.0 i, s.1 i)) ∙ one.label ∙ sym two.label ∙ (λ i. y.labels (s.0 i, s.1 i));
   }
@@ -53,7 +53,8 @@ module _ (g : Geometry) (a v : ℕ) where
   here = and_from (a == a) (v == v) (eq-eqb a a refl) (eq-eqb v v refl)
 
   -- what a state has there with a piece taken in
-  pub facts_taken : (version : ℕ) (x : State) (h : Facts) → HasFacts x a v h → (part : ℕ) (bytes : List ℕ) → HasFacts (with_part version g x a v part bytes) a v (facts_with version g h part bytes)
+  pub facts_taken : (version : ℕ) (x : State) (h : VolumeFacts) → HasFacts x a v h → (part : ℕ) (bytes : List ℕ)
+      → HasFacts (with_part version g x a v part bytes) a v (facts_with version g h part bytes)
   facts_taken version x h has zero bytes = record {
     made = ap (λ (t : Bool). if t then is_made_in bytes else x.made (a, v)) here;
     sealed = ap (λ (t : Bool). if t then is_sealed_in bytes else x.sealed (a, v)) here;
@@ -65,12 +66,12 @@ module _ (g : Geometry) (a v : ℕ) where
     made = has.made;
     sealed = has.sealed;
     files = has.files;
-    blocks = λ f b. (λ i. if here i && (group g f b == s) then block_in g bytes f b else has.blocks f b i);
+    blocks = λ f b. (λ i. if here i && (stripe_of g f b == s) then block_in g bytes f b else has.blocks f b i);
     label = has.label;
   }
 
   not_there : (x y : ℕ) (q : Path) → outside (volume a v) (x ∷ y ∷ q) ≡ true → is_volume a v (x, y) ≡ false
-  not_there x y q off = both (a == x) (v == y) (not-true (begins (volume a v) (x ∷ y ∷ q)) off)
+  not_there x y q off = both (a == x) (v == y) (not-true (is_prefix (volume a v) (x ∷ y ∷ q)) off)
     where
       both : (s t : Bool) → (s && (t && true)) ≡ false → (s && t) ≡ false
       both true true e = e
@@ -89,13 +90,13 @@ module _ (g : Geometry) (a v : ℕ) where
     made = λ k r. refl;
     sealed = λ k r. refl;
     files = λ k r. refl;
-    blocks = λ k r. ap (λ (t : Bool). if t && (group g k.2 k.3 == s) then block_in g bytes k.2 k.3 else x.blocks k) (not_there k.0 k.1 (0 ∷ group g k.2 k.3 ∷ []) r);
+    blocks = λ k r. ap (λ (t : Bool). if t && (stripe_of g k.2 k.3 == s) then block_in g bytes k.2 k.3 else x.blocks k) (not_there k.0 k.1 (0 ∷ stripe_of g k.2 k.3 ∷ []) r);
     labels = λ k r. refl;
   }
 
 -- ---- the state stays one of the geometry
 
-files_told : (o : Option Logical) (f : ℕ) → files_in o f ≡ has_file (files_bits (in_child in_logical o [])) f
+files_told : (o : Option Logical) (f : ℕ) → files_in o f ≡ has_file (node_files (child_nodes logical_nodes o [])) f
 files_told None f = sym (has_none f)
 files_told (Some l) f = refl
 
@@ -105,33 +106,33 @@ pub part_state : (version : ℕ) {g : Geometry} {x : State} → IsState g x → 
 part_state version {g} {x} is {a} {v} path w has {part = zero} empty {bytes} are good =
     volume_state version g bytes (good ∙ volume_decoded version g x a v bytes) x is a v path.0 path.1 (empty refl) are
 part_state version {g} {x} is {a} {v} path w has {part = suc s} empty {bytes} are good =
-    let files : ℕ = files_bits (in_child in_logical w.logical []) in
+    let files : ℕ = node_files (child_nodes logical_nodes w.logical []) in
     let told : (f : ℕ) → x.files (a, v, f) ≡ has_file files f = λ f. has.files f ∙ files_told w.logical f in
     stripe_state g x is a v s files told bytes are (stripe_is_piece g x is a v s files told bytes are good)
 
 -- ---- in the tree
 
 module _ {version : ℕ} {g : Geometry} {part : ℕ} {bytes : List ℕ} {good : Bool} {a v : ℕ} {found : Option Vol} {old new : Nodes} (read : IsRead version g part bytes good (volume a v) found old new)
-    (at : (q : Path) → old (a ∷ v ∷ q) ≡ in_child in_volume found q) where
+    (at : (q : Path) → old (a ∷ v ∷ q) ≡ child_nodes volume_nodes found q) where
   pub has_then : HasFacts (tree_state g old) a v (volume_facts g read.was)
-  has_then = state_there g old a v read.was (λ q. at q ∙ ap (λ o. in_child in_volume o q) read.there)
+  has_then = state_there g old a v read.was (λ q. at q ∙ ap (λ o. child_nodes volume_nodes o q) read.there)
 
   pub read_good : IsState g (tree_state g old) → IsTrue good ↔ (bytes ≡ part_piece version g (with_part version g (tree_state g old) a v part bytes) a v part)
   read_good is = read.read.spelled (tree_state g old) a v is has_then
 
   pub read_taken : IsTrue good → tree_state g new ≡ with_part version g (tree_state g old) a v part bytes
   read_taken on =
-      let now = state_there g new a v read.now (λ q. read.nodes (a ∷ v ∷ q) ∙ put_there (volume a v) q (in_volume read.now) old) in
-      let told = subst (λ (h : Facts). HasFacts (tree_state g new) a v h) (read.read.facts on) now in
+      let now = state_there g new a v read.now (λ q. read.nodes (a ∷ v ∷ q) ∙ put_there (volume a v) q (volume_nodes read.now) old) in
+      let told = subst (λ (h : VolumeFacts). HasFacts (tree_state g new) a v h) (read.read.facts on) now in
       agree_in_and_out g (volume a v) (tree_state g new) (with_part version g (tree_state g old) a v part bytes)
       (same_there g a v (tree_state g new) (with_part version g (tree_state g old) a v part bytes) _ told (facts_taken g a v version (tree_state g old) (volume_facts g read.was) has_then part bytes))
-      (agree-trans (put_leaves g (volume a v) (in_volume read.now) old new read.nodes) (agree-sym (elsewhere_taken g a v version (tree_state g old) part bytes)))
+      (agree-trans (put_leaves g (volume a v) (volume_nodes read.now) old new read.nodes) (agree-sym (elsewhere_taken g a v version (tree_state g old) part bytes)))
 
   pub read_in : IsIn g [] old → IsIn g [] new
   read_in whole q path related =
-      elim (begins (volume a v) q) as (λ b. begins (volume a v) q ≡ b → is_some (new q) ≡ true) [
+      elim (is_prefix (volume a v) q) as (λ b. is_prefix (volume a v) q ≡ b → is_some (new q) ≡ true) [
         | true ↦ λ e. let rest = begins_split (volume a v) q e in
             subst (λ r. is_some (new r) ≡ true) (sym rest.1) (restored_is_in g (volume a v) (parcels.Vol read.now) old read.nodes
             (read.read.fits, read.read.whole) rest.0 (subst (λ r. IsPath g r) rest.1 path))
-        | false ↦ λ e. ap is_some (read.nodes q ∙ put_outside (volume a v) (in_volume read.now) old q e) ∙ whole q path refl
+        | false ↦ λ e. ap is_some (read.nodes q ∙ put_outside (volume a v) (volume_nodes read.now) old q e) ∙ whole q path refl
       ] refl

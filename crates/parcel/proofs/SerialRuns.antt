@@ -4,17 +4,17 @@ use Rattle.std.specs.Prelude.{◌&&◌, ◌==◌, not, None, is_some}
 use Rattle.std.proofs.lemmas.Bool.{and_parts, cond-false, eqb-true, or_left, or_right, true≢false}
 use Rattle.affinity.specs.declared.geometry.Geometry.{Geometry}
 use Rattle.affinity.specs.Interval.{IsPath}
-use Rattle.affinity.specs.Path.{Path, begins, are_related}
-use Rattle.messages.specs.Messages.{place, IsMessage}
+use Rattle.affinity.specs.Path.{Path, is_prefix, are_related}
+use Rattle.messages.specs.Messages.{path_of, IsMessage}
 use Rattle.meaning.specs.State.{State, IsState}
 use Rattle.meaning.specs.Serial.{next_state}
-use Rattle.meaning.specs.Shares.{AgreeOn, share, standing}
+use Rattle.meaning.specs.Subtrees.{AgreeOn, subtree, standing}
 use Rattle.meaning.specs.Laws.{outside}
 use Rattle.meaning.proofs.Agree.{agree-sym, agree-trans, agree_within}
 use Rattle.meaning.proofs.Frame.{reads_only, changes_only}
 use Rattle.meaning.proofs.Kept.{step_kept}
-use Rattle.meaning.proofs.ShareLaws.{agree_in_and_out, part_from_agree}
-use Rattle.parcel.specs.Nodes.{Nodes, in_parcels, tree_state}
+use Rattle.meaning.proofs.SubtreeLaws.{agree_in_and_out, part_from_agree}
+use Rattle.parcel.specs.Nodes.{Nodes, parcels_nodes, tree_state}
 use Rattle.parcel.specs.Run.{JobView, IsJobRun, IsSerialStep, Shows}
 use Rattle.parcel.specs.RunLaws.{IsLentOf, IsSerialStepOf, LendsRunsRestores}
 use Rattle.parcel.specs.Shown.{shown_state}
@@ -29,7 +29,7 @@ pub serial_run : (job : JobView) (done : Done) (x : State) → IsJobRun job done
 serial_run job done x run lent =
     let g = job.geometry in
     let m = job.message in
-    let p = place g m in
+    let p = path_of g m in
     let same = reads_only g (are_related p) (shown_state g p job.standing job.parcels) x m lent (λ q r. r) in
     record {
       reply = run.step.reply ∙ same.0;
@@ -42,32 +42,32 @@ pub served_step : (job : JobView) (done : Done) (old lent new : Nodes) → Lends
 served_step job done old lent new h =
     let g = job.geometry in
     let m = job.message in
-    let p = place g m in
+    let p = path_of g m in
     let x = tree_state g old in
     let run = serial_run job done x h.ran h.taken.shows in
-    let there : AgreeOn g (begins p) (tree_state g new) (next_state g x m) =
-    agree-trans (agree-sym (h.put.share job.standing)) (agree_within (λ q r. or_left (begins p q) (begins q p) r) run.shows) in
+    let there : AgreeOn g (is_prefix p) (tree_state g new) (next_state g x m) =
+    agree-trans (agree-sym (h.put.subtree job.standing)) (agree_within (λ q r. or_left (is_prefix p q) (is_prefix q p) r) run.shows) in
     let elsewhere : AgreeOn g (outside p) (tree_state g new) (next_state g x m) =
-    agree-trans (put_leaves g p (in_parcels done.parcels) lent new h.put.nodes) (agree-trans (taken_leaves g p old lent h.taken.rest) (agree-sym (changes_only g x m))) in
+    agree-trans (put_leaves g p (parcels_nodes done.parcels) lent new h.put.nodes) (agree-trans (taken_leaves g p old lent h.taken.rest) (agree-sym (changes_only g x m))) in
     record { reply = run.reply; state = agree_in_and_out g p (tree_state g new) (next_state g x m) there elsewhere }
 
 -- what begins with a path is that path and the rest
-pub begins_split : (p q : Path) → begins p q ≡ true → (r : Path) × (q ≡ p ++ r)
+pub begins_split : (p q : Path) → is_prefix p q ≡ true → (r : Path) × (q ≡ p ++ r)
 begins_split [] q h = (q, refl)
 begins_split (x ∷ p) [] h = absurd (true≢false (sym h))
 begins_split (x ∷ p) (y ∷ q) h =
-    let both = and_parts (x == y) (begins p q) h in
+    let both = and_parts (x == y) (is_prefix p q) h in
     let rest = begins_split p q both.1 in
     (rest.0, sym (ap (λ z. z ∷ q) (eqb-true x y both.0)) ∙ ap (λ r. x ∷ r) rest.1)
 
 pub served_is_in : (job : JobView) (done : Done) (old lent new : Nodes) → LendsRunsRestores job done old lent new → IsIn job.geometry [] old → IsIn job.geometry [] new
 served_is_in job done old lent new h whole q path related =
     let g = job.geometry in
-    let p = place g job.message in
-    elim (begins p q) as (λ b. begins p q ≡ b → is_some (new q) ≡ true) [
+    let p = path_of g job.message in
+    elim (is_prefix p q) as (λ b. is_prefix p q ≡ b → is_some (new q) ≡ true) [
       | true ↦ λ e. let rest = begins_split p q e in
-          subst (λ r. is_some (new r) ≡ true) (sym rest.1) (restored_is_in g p done.parcels lent h.put.nodes h.ran.suits.fits rest.0 (subst (λ r. IsPath g r) rest.1 path))
-      | false ↦ λ e. ap is_some (h.put.nodes q ∙ put_outside p (in_parcels done.parcels) lent q e ∙ h.taken.rest q ∙ cond-false (begins p q) None (old q) e) ∙ whole q path refl
+          subst (λ r. is_some (new r) ≡ true) (sym rest.1) (restored_is_in g p done.parcels lent h.put.nodes h.ran.runnable.fits rest.0 (subst (λ r. IsPath g r) rest.1 path))
+      | false ↦ λ e. ap is_some (h.put.nodes q ∙ put_outside p (parcels_nodes done.parcels) lent q e ∙ h.taken.rest q ∙ cond-false (is_prefix p q) None (old q) e) ∙ whole q path refl
     ] refl
 
 pub served_state : (job : JobView) (done : Done) (old lent new : Nodes) → LendsRunsRestores job done old lent new → IsMessage job.message
@@ -75,11 +75,12 @@ pub served_state : (job : JobView) (done : Done) (old lent new : Nodes) → Lend
 served_state job done old lent new h message is = subst (λ (y : State). IsState job.geometry y) (sym (served_step job done old lent new h).state)
     (step_kept job.geometry (tree_state job.geometry old) job.message is message)
 
--- ---- to show a state is to have its share and its standing
+-- ---- to show a state is to have its subtree and its standing
 
-pub shown_share : (g : Geometry) (p : Path) (t : Standing) (l : Parcels) (x : State) → Shows g p t l x → share g p (shown_state g p t l) ≡ share g p x
-shown_share g p t l x h = part_from_agree g (begins p) (shown_state g p t l) x (agree_within (λ q r. or_left (begins p q) (begins q p) r) h)
+pub shown_subtree : (g : Geometry) (p : Path) (t : Standing) (l : Parcels) (x : State) → Shows g p t l x → subtree g p (shown_state g p t l) ≡ subtree g p x
+shown_subtree g p t l x h = part_from_agree g (is_prefix p) (shown_state g p t l) x (agree_within (λ q r. or_left (is_prefix p q) (is_prefix q p) r) h)
 
 pub shown_standing : (g : Geometry) (p : Path) (t : Standing) (l : Parcels) (x : State) → Shows g p t l x → standing g p (shown_state g p t l) ≡ standing g p x
 shown_standing g p t l x h =
-    part_from_agree g (λ q. begins q p && not (begins p q)) (shown_state g p t l) x (agree_within (λ q r. or_right (begins p q) (begins q p) (and_parts (begins q p) (not (begins p q)) r).0) h)
+    part_from_agree g (λ q. is_prefix q p && not (is_prefix p q)) (shown_state g p t l) x
+    (agree_within (λ q r. or_right (is_prefix p q) (is_prefix q p) (and_parts (is_prefix q p) (not (is_prefix p q)) r).0) h)

@@ -4,15 +4,15 @@ use Rattle.std.specs.Prelude.{◌&&◌, ◌==◌, None, Some, slice_index_or}
 use Rattle.std.proofs.lemmas.Bool.{and_parts, and_from, eqb-true, eq-eqb, true≢false}
 use Rattle.std.proofs.lemmas.Nat.Bits.{bit_at-zero}
 use Rattle.affinity.specs.declared.geometry.Geometry.{Geometry}
-use Rattle.affinity.specs.Geometry.{group}
-use Rattle.affinity.specs.Path.{Path, begins, are_related}
-use Rattle.meaning.specs.Shares.{AgreeOn}
+use Rattle.affinity.specs.Geometry.{stripe_of}
+use Rattle.affinity.specs.Path.{Path, is_prefix, are_related}
+use Rattle.meaning.specs.Subtrees.{AgreeOn}
 use Rattle.stripe.specs.Stripe.{StripePart}
-use Rattle.parcel.specs.Volume.{Facts, facts_if, state_by, only}
-use Rattle.parcel.specs.Shown.{has_file, blocks_in, by_stripe, by_logical, by_label, files_in, blocks_below, shown_label, volume_facts, by_child, by_aggregate, shown_state}
+use Rattle.parcel.specs.Volume.{VolumeFacts, facts_if, state_with, one_volume}
+use Rattle.parcel.specs.Shown.{has_file, blocks_in, stripe_facts, logical_facts, label_facts, files_in, blocks_below, shown_label, volume_facts, child_facts, aggregate_facts, shown_state}
 use Rattle.parcel.specs.Fits.{IsKindOf}
-use Rattle.parcel.specs.Nodes.{Node, Nodes, in_child, in_stripe, in_label, in_logical, in_volume, in_aggregate, in_root, in_parcels, marks_made, marks_sealed, files_have, files_bits, slots_hold, text_of, tree_state}
-use Rattle.parcel.specs.Nodes.Node.{Inner, Marks, Files, Slots, Text}
+use Rattle.parcel.specs.Nodes.{Node, Nodes, child_nodes, stripe_nodes, label_nodes, logical_nodes, volume_nodes, aggregate_nodes, root_nodes, parcels_nodes, node_made, node_sealed, node_has_file, node_files, node_block, node_label, tree_state}
+use Rattle.parcel.specs.Nodes.Node.{Inner, VolumeFlags, Files, StripeBlocks, LabelBytes}
 use Rattle.parcel.specs.Run.{Shows}
 use Rattle.parcel.specs.Tree.{standing_at}
 use Rattle.parcel.specs.declared.parts.Label.{Label}
@@ -25,42 +25,42 @@ use Rattle.parcel.specs.declared.parts.Standing.{Standing}
 use Rattle.affinity.proofs.Paths.{related_first, related_rest}
 
 -- The facts of a volume are those of the nodes from it on, at the homes that the test picks.
-pub record HoldsAt (g : Geometry) (R : Path → Bool) (h : Facts) (n : Nodes) : Type 0 where
-  made : R [] ≡ true → h.made ≡ marks_made (n [])
-  sealed : R [] ≡ true → h.sealed ≡ marks_sealed (n [])
-  files : (f : ℕ) → R (0 ∷ []) ≡ true → h.files f ≡ files_have (n (0 ∷ [])) f
-  blocks : (f b : ℕ) → R (0 ∷ group g f b ∷ []) ≡ true → h.blocks f b ≡ slots_hold (n (0 ∷ group g f b ∷ [])) f b
-  label : R (1 ∷ []) ≡ true → h.label ≡ text_of (n (1 ∷ []))
+pub record HoldsAt (g : Geometry) (R : Path → Bool) (h : VolumeFacts) (n : Nodes) : Type 0 where
+  made : R [] ≡ true → h.made ≡ node_made (n [])
+  sealed : R [] ≡ true → h.sealed ≡ node_sealed (n [])
+  files : (f : ℕ) → R (0 ∷ []) ≡ true → h.files f ≡ node_has_file (n (0 ∷ [])) f
+  blocks : (f b : ℕ) → R (0 ∷ stripe_of g f b ∷ []) ≡ true → h.blocks f b ≡ node_block (n (0 ∷ stripe_of g f b ∷ [])) f b
+  label : R (1 ∷ []) ≡ true → h.label ≡ node_label (n (1 ∷ []))
 
 module _ (g : Geometry) (R : Path → Bool) where
-  holds_same : (h : Facts) (m n : Nodes) → ((q : Path) → m q ≡ n q) → HoldsAt g R h n → HoldsAt g R h m
+  holds_same : (h : VolumeFacts) (m n : Nodes) → ((q : Path) → m q ≡ n q) → HoldsAt g R h n → HoldsAt g R h m
   holds_same h m n e k = record {
-    made = λ r. k.made r ∙ ap marks_made (sym (e []));
-    sealed = λ r. k.sealed r ∙ ap marks_sealed (sym (e []));
-    files = λ f r. k.files f r ∙ ap (λ o. files_have o f) (sym (e (0 ∷ [])));
-    blocks = λ f b r. k.blocks f b r ∙ ap (λ o. slots_hold o f b) (sym (e (0 ∷ group g f b ∷ [])));
-    label = λ r. k.label r ∙ ap text_of (sym (e (1 ∷ [])));
+    made = λ r. k.made r ∙ ap node_made (sym (e []));
+    sealed = λ r. k.sealed r ∙ ap node_sealed (sym (e []));
+    files = λ f r. k.files f r ∙ ap (λ o. node_has_file o f) (sym (e (0 ∷ [])));
+    blocks = λ f b r. k.blocks f b r ∙ ap (λ o. node_block o f b) (sym (e (0 ∷ stripe_of g f b ∷ [])));
+    label = λ r. k.label r ∙ ap node_label (sym (e (1 ∷ [])));
   }
 
   -- ---- by the parcels of a volume and above
 
-  stripe_blocks : (x : Option StripePart) (f b : ℕ) → blocks_in x f b ≡ slots_hold (in_child in_stripe x []) f b
+  stripe_blocks : (x : Option StripePart) (f b : ℕ) → blocks_in x f b ≡ node_block (child_nodes stripe_nodes x []) f b
   stripe_blocks None f b = refl
   stripe_blocks (Some p) f b = refl
 
-  logical_files : (x : Option Logical) (f : ℕ) → files_in x f ≡ files_have (in_child in_logical x []) f
+  logical_files : (x : Option Logical) (f : ℕ) → files_in x f ≡ node_has_file (child_nodes logical_nodes x []) f
   logical_files None f = refl
   logical_files (Some l) f = refl
 
-  logical_blocks : (x : Option Logical) (f b : ℕ) → blocks_below g x f b ≡ slots_hold (in_child in_logical x (group g f b ∷ [])) f b
+  logical_blocks : (x : Option Logical) (f b : ℕ) → blocks_below g x f b ≡ node_block (child_nodes logical_nodes x (stripe_of g f b ∷ [])) f b
   logical_blocks None f b = refl
-  logical_blocks (Some l) f b = stripe_blocks (slice_index_or l.stripes.items (group g f b) None) f b
+  logical_blocks (Some l) f b = stripe_blocks (slice_index_or l.stripes.items (stripe_of g f b) None) f b
 
-  label_text : (x : Option Label) → shown_label x ≡ text_of (in_child in_label x [])
+  label_text : (x : Option Label) → shown_label x ≡ node_label (child_nodes label_nodes x [])
   label_text None = refl
   label_text (Some l) = refl
 
-  volume_holds : (x : Option Vol) → HoldsAt g R (by_child (volume_facts g) x) (in_child in_volume x)
+  volume_holds : (x : Option Vol) → HoldsAt g R (child_facts (volume_facts g) x) (child_nodes volume_nodes x)
   volume_holds None = record { made = λ r. refl; sealed = λ r. refl; files = λ f r. refl; blocks = λ f b r. refl; label = λ r. refl }
   volume_holds (Some w) = record {
     made = λ r. refl;
@@ -70,14 +70,14 @@ module _ (g : Geometry) (R : Path → Bool) where
     label = λ r. label_text w.label;
   }
 
-  aggregate_holds : (x : Option Aggr) (v : ℕ) → HoldsAt g R (by_child (λ r. by_aggregate g r v) x) (λ q. in_child in_aggregate x (v ∷ q))
+  aggregate_holds : (x : Option Aggr) (v : ℕ) → HoldsAt g R (child_facts (λ r. aggregate_facts g r v) x) (λ q. child_nodes aggregate_nodes x (v ∷ q))
   aggregate_holds None v = record { made = λ r. refl; sealed = λ r. refl; files = λ f r. refl; blocks = λ f b r. refl; label = λ r. refl }
   aggregate_holds (Some r) v = volume_holds (slice_index_or r.volumes.items v None)
 
 -- ---- from a volume to the state
 
 module _ (g : Geometry) (R : Path → Bool) (n : Nodes) where
-  all_agree : (H : ℕ → ℕ → Facts) → ((a v : ℕ) → HoldsAt g (λ q. R (a ∷ v ∷ q)) (H a v) (λ q. n (a ∷ v ∷ q))) → AgreeOn g R (state_by H) (tree_state g n)
+  all_agree : (H : ℕ → ℕ → VolumeFacts) → ((a v : ℕ) → HoldsAt g (λ q. R (a ∷ v ∷ q)) (H a v) (λ q. n (a ∷ v ∷ q))) → AgreeOn g R (state_with H) (tree_state g n)
   all_agree H each = record {
     made = λ k r. (each k.0 k.1).made r;
     sealed = λ k r. (each k.0 k.1).sealed r;
@@ -86,88 +86,88 @@ module _ (g : Geometry) (R : Path → Bool) (n : Nodes) where
     labels = λ k r. (each k.0 k.1).label r;
   }
 
-  here : (a v x y : ℕ) (h : Facts) → a ≡ x → v ≡ y → facts_if ((a == x) && (v == y)) h ≡ h
+  here : (a v x y : ℕ) (h : VolumeFacts) → a ≡ x → v ≡ y → facts_if ((a == x) && (v == y)) h ≡ h
   here a v x y h d e = ap (λ b. facts_if b h) (and_from (a == x) (v == y) (eq-eqb a x d) (eq-eqb v y e))
 
   moved : (a v x y : ℕ) (q : Path) → a ≡ x → v ≡ y → n (a ∷ v ∷ q) ≡ n (x ∷ y ∷ q)
   moved a v x y q d e = ap (λ i. n (i ∷ v ∷ q)) d ∙ ap (λ j. n (x ∷ j ∷ q)) e
 
-  only_agree : (a v : ℕ) (below : Path → Bool) (h : Facts) → ((x y : ℕ) (q : Path) → R (x ∷ y ∷ q) ≡ true → (a ≡ x) × (v ≡ y) × (below q ≡ true))
-      → HoldsAt g below h (λ q. n (a ∷ v ∷ q)) → AgreeOn g R (only a v h) (tree_state g n)
+  only_agree : (a v : ℕ) (below : Path → Bool) (h : VolumeFacts) → ((x y : ℕ) (q : Path) → R (x ∷ y ∷ q) ≡ true → (a ≡ x) × (v ≡ y) × (below q ≡ true))
+      → HoldsAt g below h (λ q. n (a ∷ v ∷ q)) → AgreeOn g R (one_volume a v h) (tree_state g n)
   only_agree a v below h step k = record {
-    made = λ (x : ℕ × ℕ) r. let s = step x.0 x.1 [] r in ap (λ z. z.made) (here a v x.0 x.1 h s.0 s.1) ∙ k.made s.2 ∙ ap marks_made (moved a v x.0 x.1 [] s.0 s.1);
-    sealed = λ (x : ℕ × ℕ) r. let s = step x.0 x.1 [] r in ap (λ z. z.sealed) (here a v x.0 x.1 h s.0 s.1) ∙ k.sealed s.2 ∙ ap marks_sealed (moved a v x.0 x.1 [] s.0 s.1);
+    made = λ (x : ℕ × ℕ) r. let s = step x.0 x.1 [] r in ap (λ z. z.made) (here a v x.0 x.1 h s.0 s.1) ∙ k.made s.2 ∙ ap node_made (moved a v x.0 x.1 [] s.0 s.1);
+    sealed = λ (x : ℕ × ℕ) r. let s = step x.0 x.1 [] r in ap (λ z. z.sealed) (here a v x.0 x.1 h s.0 s.1) ∙ k.sealed s.2 ∙ ap node_sealed (moved a v x.0 x.1 [] s.0 s.1);
     files = λ (x : ℕ × ℕ × ℕ) r. let s = step x.0 x.1 (0 ∷ []) r in ap (λ z. z.files x.2) (here a v x.0 x.1 h s.0 s.1) ∙ k.files x.2 s.2
-        ∙ ap (λ o. files_have o x.2) (moved a v x.0 x.1 (0 ∷ []) s.0 s.1);
-    blocks = λ (x : ℕ × ℕ × ℕ × ℕ) r. let s = step x.0 x.1 (0 ∷ group g x.2 x.3 ∷ []) r in ap (λ z. z.blocks x.2 x.3) (here a v x.0 x.1 h s.0 s.1)
-        ∙ k.blocks x.2 x.3 s.2 ∙ ap (λ o. slots_hold o x.2 x.3) (moved a v x.0 x.1 (0 ∷ group g x.2 x.3 ∷ []) s.0 s.1);
-    labels = λ (x : ℕ × ℕ) r. let s = step x.0 x.1 (1 ∷ []) r in ap (λ z. z.label) (here a v x.0 x.1 h s.0 s.1) ∙ k.label s.2 ∙ ap text_of (moved a v x.0 x.1 (1 ∷ []) s.0 s.1);
+        ∙ ap (λ o. node_has_file o x.2) (moved a v x.0 x.1 (0 ∷ []) s.0 s.1);
+    blocks = λ (x : ℕ × ℕ × ℕ × ℕ) r. let s = step x.0 x.1 (0 ∷ stripe_of g x.2 x.3 ∷ []) r in ap (λ z. z.blocks x.2 x.3) (here a v x.0 x.1 h s.0 s.1)
+        ∙ k.blocks x.2 x.3 s.2 ∙ ap (λ o. node_block o x.2 x.3) (moved a v x.0 x.1 (0 ∷ stripe_of g x.2 x.3 ∷ []) s.0 s.1);
+    labels = λ (x : ℕ × ℕ) r. let s = step x.0 x.1 (1 ∷ []) r in ap (λ z. z.label) (here a v x.0 x.1 h s.0 s.1) ∙ k.label s.2 ∙ ap node_label (moved a v x.0 x.1 (1 ∷ []) s.0 s.1);
   }
 
-  aggregate_agree : (a : ℕ) (H : ℕ → Facts) → ((x : ℕ) (q : Path) → R (x ∷ q) ≡ true → a ≡ x)
-      → ((v : ℕ) → HoldsAt g (λ q. true) (H v) (λ q. n (a ∷ v ∷ q))) → AgreeOn g R (state_by (λ x y. facts_if (a == x) (H y))) (tree_state g n)
+  aggregate_agree : (a : ℕ) (H : ℕ → VolumeFacts) → ((x : ℕ) (q : Path) → R (x ∷ q) ≡ true → a ≡ x)
+      → ((v : ℕ) → HoldsAt g (λ q. true) (H v) (λ q. n (a ∷ v ∷ q))) → AgreeOn g R (state_with (λ x y. facts_if (a == x) (H y))) (tree_state g n)
   aggregate_agree a H first each = record {
-    made = λ (x : ℕ × ℕ) r. let e = first x.0 (x.1 ∷ []) r in ap (λ b. (facts_if b (H x.1)).made) (eq-eqb a x.0 e) ∙ (each x.1).made refl ∙ ap (λ i. marks_made (n (i ∷ x.1 ∷ []))) e;
-    sealed = λ (x : ℕ × ℕ) r. let e = first x.0 (x.1 ∷ []) r in ap (λ b. (facts_if b (H x.1)).sealed) (eq-eqb a x.0 e) ∙ (each x.1).sealed refl ∙ ap (λ i. marks_sealed (n (i ∷ x.1 ∷ []))) e;
+    made = λ (x : ℕ × ℕ) r. let e = first x.0 (x.1 ∷ []) r in ap (λ b. (facts_if b (H x.1)).made) (eq-eqb a x.0 e) ∙ (each x.1).made refl ∙ ap (λ i. node_made (n (i ∷ x.1 ∷ []))) e;
+    sealed = λ (x : ℕ × ℕ) r. let e = first x.0 (x.1 ∷ []) r in ap (λ b. (facts_if b (H x.1)).sealed) (eq-eqb a x.0 e) ∙ (each x.1).sealed refl ∙ ap (λ i. node_sealed (n (i ∷ x.1 ∷ []))) e;
     files = λ (x : ℕ × ℕ × ℕ) r. let e = first x.0 (x.1 ∷ 0 ∷ []) r in ap (λ b. (facts_if b (H x.1)).files x.2) (eq-eqb a x.0 e)
-        ∙ (each x.1).files x.2 refl ∙ ap (λ i. files_have (n (i ∷ x.1 ∷ 0 ∷ [])) x.2) e;
-    blocks = λ (x : ℕ × ℕ × ℕ × ℕ) r. let e = first x.0 (x.1 ∷ 0 ∷ group g x.2 x.3 ∷ []) r
+        ∙ (each x.1).files x.2 refl ∙ ap (λ i. node_has_file (n (i ∷ x.1 ∷ 0 ∷ [])) x.2) e;
+    blocks = λ (x : ℕ × ℕ × ℕ × ℕ) r. let e = first x.0 (x.1 ∷ 0 ∷ stripe_of g x.2 x.3 ∷ []) r
         in ap (λ b. (facts_if b (H x.1)).blocks x.2 x.3) (eq-eqb a x.0 e) ∙ (each x.1).blocks x.2 x.3 refl
-        ∙ ap (λ i. slots_hold (n (i ∷ x.1 ∷ 0 ∷ group g x.2 x.3 ∷ [])) x.2 x.3) e;
-    labels = λ (x : ℕ × ℕ) r. let e = first x.0 (x.1 ∷ 1 ∷ []) r in ap (λ b. (facts_if b (H x.1)).label) (eq-eqb a x.0 e) ∙ (each x.1).label refl ∙ ap (λ i. text_of (n (i ∷ x.1 ∷ 1 ∷ []))) e;
+        ∙ ap (λ i. node_block (n (i ∷ x.1 ∷ 0 ∷ stripe_of g x.2 x.3 ∷ [])) x.2 x.3) e;
+    labels = λ (x : ℕ × ℕ) r. let e = first x.0 (x.1 ∷ 1 ∷ []) r in ap (λ b. (facts_if b (H x.1)).label) (eq-eqb a x.0 e) ∙ (each x.1).label refl ∙ ap (λ i. node_label (n (i ∷ x.1 ∷ 1 ∷ []))) e;
   }
 
 -- ---- the standing
 
 -- what lies above a path below a volume, where the test picks it
 pub record StandsAt (R : Path → Bool) (t : Standing) (n : Nodes) : Type 0 where
-  made : R [] ≡ true → t.made ≡ marks_made (n [])
-  sealed : R [] ≡ true → t.sealed ≡ marks_sealed (n [])
+  made : R [] ≡ true → t.made ≡ node_made (n [])
+  sealed : R [] ≡ true → t.sealed ≡ node_sealed (n [])
 
 module _ (g : Geometry) (R : Path → Bool) (t : Standing) (n : Nodes) (stands : StandsAt R t n) where
-  stripe_holds : (s : ℕ) (part : StripePart) → ((f : ℕ) → R (0 ∷ []) ≡ true → has_file t.files f ≡ files_have (n (0 ∷ [])) f)
-      → ((i : ℕ) → R (0 ∷ i ∷ []) ≡ true → i ≡ s) → (R (1 ∷ []) ≡ true → ⊥) → n (0 ∷ s ∷ []) ≡ Some (Slots part) → HoldsAt g R (by_stripe t part) n
+  stripe_holds : (s : ℕ) (part : StripePart) → ((f : ℕ) → R (0 ∷ []) ≡ true → has_file t.files f ≡ node_has_file (n (0 ∷ [])) f)
+      → ((i : ℕ) → R (0 ∷ i ∷ []) ≡ true → i ≡ s) → (R (1 ∷ []) ≡ true → ⊥) → n (0 ∷ s ∷ []) ≡ Some (StripeBlocks part) → HoldsAt g R (stripe_facts t part) n
   stripe_holds s part files one other at = record {
     made = stands.made;
     sealed = stands.sealed;
     files = files;
-    blocks = λ f b r. ap (λ o. slots_hold o f b) (sym (ap (λ i. n (0 ∷ i ∷ [])) (one (group g f b) r) ∙ at));
+    blocks = λ f b r. ap (λ o. node_block o f b) (sym (ap (λ i. n (0 ∷ i ∷ [])) (one (stripe_of g f b) r) ∙ at));
     label = λ r. absurd (other r);
   }
 
-  logical_holds : (l : Logical) → (R (1 ∷ []) ≡ true → ⊥) → ((q : Path) → n (0 ∷ q) ≡ in_logical l q) → HoldsAt g R (by_logical g t l) n
+  logical_holds : (l : Logical) → (R (1 ∷ []) ≡ true → ⊥) → ((q : Path) → n (0 ∷ q) ≡ logical_nodes l q) → HoldsAt g R (logical_facts g t l) n
   logical_holds l other at = record {
     made = stands.made;
     sealed = stands.sealed;
-    files = λ f r. ap (λ o. files_have o f) (sym (at []));
-    blocks = λ f b r. stripe_blocks g R (slice_index_or l.stripes.items (group g f b) None) f b ∙ ap (λ o. slots_hold o f b) (sym (at (group g f b ∷ [])));
+    files = λ f r. ap (λ o. node_has_file o f) (sym (at []));
+    blocks = λ f b r. stripe_blocks g R (slice_index_or l.stripes.items (stripe_of g f b) None) f b ∙ ap (λ o. node_block o f b) (sym (at (stripe_of g f b ∷ [])));
     label = λ r. absurd (other r);
   }
 
-  label_holds : (l : Label) → ((q : Path) → R (0 ∷ q) ≡ true → ⊥) → n (1 ∷ []) ≡ Some (Text l.bytes) → HoldsAt g R (by_label t l) n
+  label_holds : (l : Label) → ((q : Path) → R (0 ∷ q) ≡ true → ⊥) → n (1 ∷ []) ≡ Some (LabelBytes l.bytes) → HoldsAt g R (label_facts t l) n
   label_holds l other at = record {
     made = stands.made;
     sealed = stands.sealed;
     files = λ f r. absurd (other [] r);
-    blocks = λ f b r. absurd (other (group g f b ∷ []) r);
-    label = λ r. ap text_of (sym at);
+    blocks = λ f b r. absurd (other (stripe_of g f b ∷ []) r);
+    label = λ r. ap node_label (sym at);
   }
 
 pub has_none : (f : ℕ) → has_file 0 f ≡ false
 has_none f = ap (λ n. n == 1) (bit_at-zero f)
 
-bits_have : (o : Option Node) (f : ℕ) → has_file (files_bits o) f ≡ files_have o f
+bits_have : (o : Option Node) (f : ℕ) → has_file (node_files o) f ≡ node_has_file o f
 bits_have None f = has_none f
 bits_have (Some Inner) f = has_none f
-bits_have (Some (Marks made sealed)) f = has_none f
+bits_have (Some (VolumeFlags made sealed)) f = has_none f
 bits_have (Some (Files bits)) f = refl
-bits_have (Some (Slots p)) f = has_none f
-bits_have (Some (Text b)) f = has_none f
+bits_have (Some (StripeBlocks p)) f = has_none f
+bits_have (Some (LabelBytes b)) f = has_none f
 
-begins_below : (a v x y : ℕ) (p q : Path) → begins (a ∷ v ∷ p) (x ∷ y ∷ q) ≡ true → (a ≡ x) × (v ≡ y) × (begins p q ≡ true)
+begins_below : (a v x y : ℕ) (p q : Path) → is_prefix (a ∷ v ∷ p) (x ∷ y ∷ q) ≡ true → (a ≡ x) × (v ≡ y) × (is_prefix p q ≡ true)
 begins_below a v x y p q r =
-    let first = and_parts (a == x) ((v == y) && begins p q) r in
-    let second = and_parts (v == y) (begins p q) first.1 in
+    let first = and_parts (a == x) ((v == y) && is_prefix p q) r in
+    let second = and_parts (v == y) (is_prefix p q) first.1 in
     (eqb-true a x first.0, eqb-true v y second.0, second.1)
 
 related_below : (a v x y : ℕ) (p q : Path) → are_related (a ∷ v ∷ p) (x ∷ y ∷ q) ≡ true → (a ≡ x) × (v ≡ y) × (are_related p q ≡ true)
@@ -175,53 +175,54 @@ related_below a v x y p q r =
     let rest = related_rest a x (v ∷ p) (y ∷ q) r in
     (related_first a x (v ∷ p) (y ∷ q) r, related_first v y p q rest, related_rest v y p q rest)
 
-no_marks : (p : Path) (x : ℕ) (t : Standing) (n : Nodes) → StandsAt (begins (x ∷ p)) t n
+no_marks : (p : Path) (x : ℕ) (t : Standing) (n : Nodes) → StandsAt (is_prefix (x ∷ p)) t n
 no_marks p x t n = record { made = λ r. absurd (true≢false (sym r)); sealed = λ r. absurd (true≢false (sym r)) }
 
--- Parcels at a path show the share of the nodes there.
-pub share_shown : (g : Geometry) (p : Path) (t : Standing) (l : Parcels) (n : Nodes) → IsKindOf p l → ((q : Path) → n (p ++ q) ≡ in_parcels l q)
-    → AgreeOn g (begins p) (shown_state g p t l) (tree_state g n)
-share_shown g [] t (parcels.Root r) n kind at =
-    all_agree g (begins []) n _ (λ a v. holds_same g _ _ (λ q. n (a ∷ v ∷ q)) (λ q. in_root r (a ∷ v ∷ q)) (λ q. at (a ∷ v ∷ q)) (aggregate_holds g _ (slice_index_or r.aggregates.items a None) v))
-share_shown g (a ∷ []) t (parcels.Aggr r) n kind at =
-    aggregate_agree g (begins (a ∷ [])) n a (by_aggregate g r) (λ x q e. eqb-true a x (and_parts (a == x) true e).0)
-    (λ v. holds_same g _ _ (λ q. n (a ∷ v ∷ q)) (λ q. in_aggregate r (v ∷ q)) (λ q. at (v ∷ q)) (volume_holds g _ (slice_index_or r.volumes.items v None)))
-share_shown g (a ∷ v ∷ []) t (parcels.Vol w) n kind at =
-    only_agree g (begins (a ∷ v ∷ [])) n a v (begins []) (volume_facts g w) (λ x y q. begins_below a v x y [] q)
-    (holds_same g _ _ (λ q. n (a ∷ v ∷ q)) (in_volume w) at (volume_holds g _ (Some w)))
-share_shown g (a ∷ v ∷ zero ∷ []) t (parcels.Logical l) n kind at =
-    only_agree g (begins (a ∷ v ∷ 0 ∷ [])) n a v (begins (0 ∷ [])) (by_logical g t l) (λ x y q. begins_below a v x y (0 ∷ []) q)
-    (logical_holds g (begins (0 ∷ [])) t (λ q. n (a ∷ v ∷ q)) (no_marks [] 0 t _) l (λ r. true≢false (sym r)) at)
-share_shown g (a ∷ v ∷ zero ∷ s ∷ []) t (parcels.Stripe p) n kind at =
-    only_agree g (begins (a ∷ v ∷ 0 ∷ s ∷ [])) n a v (begins (0 ∷ s ∷ [])) (by_stripe t p) (λ x y q. begins_below a v x y (0 ∷ s ∷ []) q)
-    (stripe_holds g (begins (0 ∷ s ∷ [])) t (λ q. n (a ∷ v ∷ q)) (no_marks (s ∷ []) 0 t _) s p (λ f r. absurd (true≢false (sym r)))
+-- Parcels at a path show the subtree of the nodes there.
+pub subtree_shown : (g : Geometry) (p : Path) (t : Standing) (l : Parcels) (n : Nodes) → IsKindOf p l → ((q : Path) → n (p ++ q) ≡ parcels_nodes l q)
+    → AgreeOn g (is_prefix p) (shown_state g p t l) (tree_state g n)
+subtree_shown g [] t (parcels.Root r) n kind at =
+    all_agree g (is_prefix []) n _
+    (λ a v. holds_same g _ _ (λ q. n (a ∷ v ∷ q)) (λ q. root_nodes r (a ∷ v ∷ q)) (λ q. at (a ∷ v ∷ q)) (aggregate_holds g _ (slice_index_or r.aggregates.items a None) v))
+subtree_shown g (a ∷ []) t (parcels.Aggr r) n kind at =
+    aggregate_agree g (is_prefix (a ∷ [])) n a (aggregate_facts g r) (λ x q e. eqb-true a x (and_parts (a == x) true e).0)
+    (λ v. holds_same g _ _ (λ q. n (a ∷ v ∷ q)) (λ q. aggregate_nodes r (v ∷ q)) (λ q. at (v ∷ q)) (volume_holds g _ (slice_index_or r.volumes.items v None)))
+subtree_shown g (a ∷ v ∷ []) t (parcels.Vol w) n kind at =
+    only_agree g (is_prefix (a ∷ v ∷ [])) n a v (is_prefix []) (volume_facts g w) (λ x y q. begins_below a v x y [] q)
+    (holds_same g _ _ (λ q. n (a ∷ v ∷ q)) (volume_nodes w) at (volume_holds g _ (Some w)))
+subtree_shown g (a ∷ v ∷ zero ∷ []) t (parcels.Logical l) n kind at =
+    only_agree g (is_prefix (a ∷ v ∷ 0 ∷ [])) n a v (is_prefix (0 ∷ [])) (logical_facts g t l) (λ x y q. begins_below a v x y (0 ∷ []) q)
+    (logical_holds g (is_prefix (0 ∷ [])) t (λ q. n (a ∷ v ∷ q)) (no_marks [] 0 t _) l (λ r. true≢false (sym r)) at)
+subtree_shown g (a ∷ v ∷ zero ∷ s ∷ []) t (parcels.Stripe p) n kind at =
+    only_agree g (is_prefix (a ∷ v ∷ 0 ∷ s ∷ [])) n a v (is_prefix (0 ∷ s ∷ [])) (stripe_facts t p) (λ x y q. begins_below a v x y (0 ∷ s ∷ []) q)
+    (stripe_holds g (is_prefix (0 ∷ s ∷ [])) t (λ q. n (a ∷ v ∷ q)) (no_marks (s ∷ []) 0 t _) s p (λ f r. absurd (true≢false (sym r)))
     (λ i r. sym (eqb-true s i (and_parts (s == i) true r).0)) (λ r. true≢false (sym r)) (at []))
-share_shown g (a ∷ v ∷ suc zero ∷ []) t (parcels.Label l) n kind at =
-    only_agree g (begins (a ∷ v ∷ 1 ∷ [])) n a v (begins (1 ∷ [])) (by_label t l) (λ x y q. begins_below a v x y (1 ∷ []) q)
-    (label_holds g (begins (1 ∷ [])) t (λ q. n (a ∷ v ∷ q)) (no_marks [] 1 t _) l (λ q r. true≢false (sym r)) (at []))
-share_shown g p t l n kind at = absurd kind
+subtree_shown g (a ∷ v ∷ suc zero ∷ []) t (parcels.Label l) n kind at =
+    only_agree g (is_prefix (a ∷ v ∷ 1 ∷ [])) n a v (is_prefix (1 ∷ [])) (label_facts t l) (λ x y q. begins_below a v x y (1 ∷ []) q)
+    (label_holds g (is_prefix (1 ∷ [])) t (λ q. n (a ∷ v ∷ q)) (no_marks [] 1 t _) l (λ q r. true≢false (sym r)) (at []))
+subtree_shown g p t l n kind at = absurd kind
 
 -- With the standing there, they show all that is related to the path.
-pub related_shown : (g : Geometry) (p : Path) (t : Standing) (l : Parcels) (n : Nodes) → IsKindOf p l → ((q : Path) → n (p ++ q) ≡ in_parcels l q)
+pub related_shown : (g : Geometry) (p : Path) (t : Standing) (l : Parcels) (n : Nodes) → IsKindOf p l → ((q : Path) → n (p ++ q) ≡ parcels_nodes l q)
     → t ≡ standing_at p n → Shows g p t l (tree_state g n)
 related_shown g [] t (parcels.Root r) n kind at stands =
-    all_agree g (are_related []) n _ (λ a v. holds_same g _ _ (λ q. n (a ∷ v ∷ q)) (λ q. in_root r (a ∷ v ∷ q)) (λ q. at (a ∷ v ∷ q))
+    all_agree g (are_related []) n _ (λ a v. holds_same g _ _ (λ q. n (a ∷ v ∷ q)) (λ q. root_nodes r (a ∷ v ∷ q)) (λ q. at (a ∷ v ∷ q))
     (aggregate_holds g _ (slice_index_or r.aggregates.items a None) v))
 related_shown g (a ∷ []) t (parcels.Aggr r) n kind at stands =
-    aggregate_agree g (are_related (a ∷ [])) n a (by_aggregate g r) (λ x q e. related_first a x [] q e)
-    (λ v. holds_same g _ _ (λ q. n (a ∷ v ∷ q)) (λ q. in_aggregate r (v ∷ q)) (λ q. at (v ∷ q)) (volume_holds g _ (slice_index_or r.volumes.items v None)))
+    aggregate_agree g (are_related (a ∷ [])) n a (aggregate_facts g r) (λ x q e. related_first a x [] q e)
+    (λ v. holds_same g _ _ (λ q. n (a ∷ v ∷ q)) (λ q. aggregate_nodes r (v ∷ q)) (λ q. at (v ∷ q)) (volume_holds g _ (slice_index_or r.volumes.items v None)))
 related_shown g (a ∷ v ∷ []) t (parcels.Vol w) n kind at stands =
     only_agree g (are_related (a ∷ v ∷ [])) n a v (are_related []) (volume_facts g w) (λ x y q. related_below a v x y [] q)
-    (holds_same g _ _ (λ q. n (a ∷ v ∷ q)) (in_volume w) at (volume_holds g _ (Some w)))
+    (holds_same g _ _ (λ q. n (a ∷ v ∷ q)) (volume_nodes w) at (volume_holds g _ (Some w)))
 related_shown g (a ∷ v ∷ zero ∷ []) t (parcels.Logical l) n kind at stands =
-    only_agree g (are_related (a ∷ v ∷ 0 ∷ [])) n a v (are_related (0 ∷ [])) (by_logical g t l) (λ x y q. related_below a v x y (0 ∷ []) q)
+    only_agree g (are_related (a ∷ v ∷ 0 ∷ [])) n a v (are_related (0 ∷ [])) (logical_facts g t l) (λ x y q. related_below a v x y (0 ∷ []) q)
     (logical_holds g (are_related (0 ∷ [])) t (λ q. n (a ∷ v ∷ q)) (record { made = λ r. ap (λ z. z.made) stands; sealed = λ r. ap (λ z. z.sealed) stands }) l (λ r. true≢false (sym r)) at)
 related_shown g (a ∷ v ∷ zero ∷ s ∷ []) t (parcels.Stripe p) n kind at stands =
-    only_agree g (are_related (a ∷ v ∷ 0 ∷ s ∷ [])) n a v (are_related (0 ∷ s ∷ [])) (by_stripe t p) (λ x y q. related_below a v x y (0 ∷ s ∷ []) q)
+    only_agree g (are_related (a ∷ v ∷ 0 ∷ s ∷ [])) n a v (are_related (0 ∷ s ∷ [])) (stripe_facts t p) (λ x y q. related_below a v x y (0 ∷ s ∷ []) q)
     (stripe_holds g (are_related (0 ∷ s ∷ [])) t (λ q. n (a ∷ v ∷ q)) (record { made = λ r. ap (λ z. z.made) stands; sealed = λ r. ap (λ z. z.sealed) stands }) s p
     (λ f r. ap (λ z. has_file z.files f) stands ∙ bits_have (n (a ∷ v ∷ 0 ∷ [])) f)
     (λ i r. sym (related_first s i [] [] (related_rest 0 0 (s ∷ []) (i ∷ []) r))) (λ r. true≢false (sym r)) (at []))
 related_shown g (a ∷ v ∷ suc zero ∷ []) t (parcels.Label l) n kind at stands =
-    only_agree g (are_related (a ∷ v ∷ 1 ∷ [])) n a v (are_related (1 ∷ [])) (by_label t l) (λ x y q. related_below a v x y (1 ∷ []) q)
+    only_agree g (are_related (a ∷ v ∷ 1 ∷ [])) n a v (are_related (1 ∷ [])) (label_facts t l) (λ x y q. related_below a v x y (1 ∷ []) q)
     (label_holds g (are_related (1 ∷ [])) t (λ q. n (a ∷ v ∷ q)) (record { made = λ r. ap (λ z. z.made) stands; sealed = λ r. ap (λ z. z.sealed) stands }) l (λ q r. true≢false (sym r)) (at []))
 related_shown g p t l n kind at stands = absurd kind

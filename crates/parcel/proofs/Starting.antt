@@ -5,13 +5,13 @@ use Rattle.std.specs.List.{AllByRecursion}
 use Rattle.std.proofs.lemmas.Bool.{true≢false}
 use Rattle.std.proofs.lemmas.Nat.{pow_pos}
 use Rattle.affinity.specs.declared.geometry.Geometry.{Geometry}
-use Rattle.affinity.specs.Geometry.{group}
+use Rattle.affinity.specs.Geometry.{stripe_of}
 use Rattle.meaning.specs.State.{empty}
 use Rattle.stripe.specs.Stripe.{StripePart, content_at}
 use Rattle.parcel.specs.Shown.{has_file}
 use Rattle.parcel.specs.Fits.{EachFits, FitsStripe, FitsLogical, FitsVolume, FitsAggregate, FitsRoot, IsWholeChild, IsWholeLogical, IsWholeVolume, IsWholeAggregate, IsWholeRoot}
 use Rattle.parcel.specs.Levels.{IsNewLogical, IsNewVolume, IsNewAggregate, IsNewRoot}
-use Rattle.parcel.specs.Nodes.{Nodes, in_child, in_stripe, in_label, in_logical, in_volume, in_aggregate, in_root, marks_made, marks_sealed, files_have, slots_hold, text_of, tree_state}
+use Rattle.parcel.specs.Nodes.{Nodes, child_nodes, stripe_nodes, label_nodes, logical_nodes, volume_nodes, aggregate_nodes, root_nodes, node_made, node_sealed, node_has_file, node_block, node_label, tree_state}
 use Rattle.parcel.specs.Tree.{IsIn}
 use Rattle.parcel.specs.declared.parts.Label.{Label}
 use Rattle.parcel.specs.declared.parts.Logical.{Logical}
@@ -92,36 +92,36 @@ module _ (g : Geometry) where
   root_is_whole : (r : Root) → IsNewRoot g r → IsWholeRoot r
   root_is_whole r h = each_whole (IsNewAggregate g) IsWholeAggregate aggregate_is_whole r.aggregates.items h.1
 
-  pub new_all_in : (r : Root) → IsNewRoot g r → IsIn g [] (in_child in_root (Some r))
+  pub new_all_in : (r : Root) → IsNewRoot g r → IsIn g [] (child_nodes root_nodes (Some r))
   new_all_in r h q path related = root_all_in g (Some r) (root_fits r h) (root_is_whole r h) q (root_path g q path)
 
   -- ---- the state
 
-  stripe_empty : (x : Option StripePart) (f b : ℕ) → IfSome x IsNewStripe → slots_hold (in_child in_stripe x []) f b ≡ None
+  stripe_empty : (x : Option StripePart) (f b : ℕ) → IfSome x IsNewStripe → node_block (child_nodes stripe_nodes x []) f b ≡ None
   stripe_empty None f b h = refl
   stripe_empty (Some p) f b h = no_content p f b h
 
-  files_empty : (x : Option Logical) (f : ℕ) → IsWholeChild (IsNewLogical g) x → files_have (in_child in_logical x []) f ≡ false
+  files_empty : (x : Option Logical) (f : ℕ) → IsWholeChild (IsNewLogical g) x → node_has_file (child_nodes logical_nodes x []) f ≡ false
   files_empty None f h = refl
   files_empty (Some l) f h = ap (λ n. has_file n f) h.0 ∙ has_none f
 
-  blocks_empty : (x : Option Logical) (s f b : ℕ) → IsWholeChild (IsNewLogical g) x → slots_hold (in_child in_logical x (s ∷ [])) f b ≡ None
+  blocks_empty : (x : Option Logical) (s f b : ℕ) → IsWholeChild (IsNewLogical g) x → node_block (child_nodes logical_nodes x (s ∷ [])) f b ≡ None
   blocks_empty None s f b h = refl
   blocks_empty (Some l) s f b h = stripe_empty (slice_index_or l.stripes.items s None) f b (new_at IsNewStripe l.stripes.items s h.2)
 
-  text_empty : (x : Option Label) → IsWholeChild (λ l. l.bytes ≡ None) x → text_of (in_child in_label x []) ≡ None
+  text_empty : (x : Option Label) → IsWholeChild (λ l. l.bytes ≡ None) x → node_label (child_nodes label_nodes x []) ≡ None
   text_empty None h = refl
   text_empty (Some l) h = h
 
   -- the nodes from a volume on hold nothing
   record IsEmptyAt (n : Nodes) : Type 0 where
-    made : marks_made (n []) ≡ false
-    sealed : marks_sealed (n []) ≡ false
-    files : (f : ℕ) → files_have (n (0 ∷ [])) f ≡ false
-    blocks : (s f b : ℕ) → slots_hold (n (0 ∷ s ∷ [])) f b ≡ None
-    label : text_of (n (1 ∷ [])) ≡ None
+    made : node_made (n []) ≡ false
+    sealed : node_sealed (n []) ≡ false
+    files : (f : ℕ) → node_has_file (n (0 ∷ [])) f ≡ false
+    blocks : (s f b : ℕ) → node_block (n (0 ∷ s ∷ [])) f b ≡ None
+    label : node_label (n (1 ∷ [])) ≡ None
 
-  volume_empty : (x : Option Vol) → IfSome x (IsNewVolume g) → IsEmptyAt (in_child in_volume x)
+  volume_empty : (x : Option Vol) → IfSome x (IsNewVolume g) → IsEmptyAt (child_nodes volume_nodes x)
   volume_empty None h = record { made = refl; sealed = refl; files = λ f. refl; blocks = λ s f b. refl; label = refl }
   volume_empty (Some w) h = record {
     made = h.made;
@@ -131,18 +131,18 @@ module _ (g : Geometry) where
     label = text_empty w.label h.label;
   }
 
-  aggregate_empty : (x : Option Aggr) (v : ℕ) → IfSome x (IsNewAggregate g) → IsEmptyAt (λ q. in_child in_aggregate x (v ∷ q))
+  aggregate_empty : (x : Option Aggr) (v : ℕ) → IfSome x (IsNewAggregate g) → IsEmptyAt (λ q. child_nodes aggregate_nodes x (v ∷ q))
   aggregate_empty None v h = record { made = refl; sealed = refl; files = λ f. refl; blocks = λ s f b. refl; label = refl }
   aggregate_empty (Some r) v h = volume_empty (slice_index_or r.volumes.items v None) (new_at (IsNewVolume g) r.volumes.items v h.1)
 
-  root_empty : (r : Root) → IsNewRoot g r → (a v : ℕ) → IsEmptyAt (λ q. in_root r (a ∷ v ∷ q))
+  root_empty : (r : Root) → IsNewRoot g r → (a v : ℕ) → IsEmptyAt (λ q. root_nodes r (a ∷ v ∷ q))
   root_empty r h a v = aggregate_empty (slice_index_or r.aggregates.items a None) v (new_at (IsNewAggregate g) r.aggregates.items a h.1)
 
-  pub new_state : (r : Root) → IsNewRoot g r → tree_state g (in_child in_root (Some r)) ≡ empty
+  pub new_state : (r : Root) → IsNewRoot g r → tree_state g (child_nodes root_nodes (Some r)) ≡ empty
   new_state r h i = record {
     made = λ k. (root_empty r h k.0 k.1).made i;
     sealed = λ k. (root_empty r h k.0 k.1).sealed i;
     files = λ k. (root_empty r h k.0 k.1).files k.2 i;
-    blocks = λ k. (root_empty r h k.0 k.1).blocks (group g k.2 k.3) k.2 k.3 i;
+    blocks = λ k. (root_empty r h k.0 k.1).blocks (stripe_of g k.2 k.3) k.2 k.3 i;
     labels = λ k. (root_empty r h k.0 k.1).label i;
   }

@@ -3,22 +3,22 @@ use Rattle.std.proofs.Common.{◌≡◌, ℕ, ◌≤◌, false, List, Some, None
 use Rattle.std.specs.Prelude.{Option, IfSome}
 use Rattle.affinity.specs.declared.geometry.Geometry.{Geometry}
 use Rattle.messages.specs.declared.Block.{Block}
-use Rattle.meaning.specs.State.{State, group_count}
+use Rattle.meaning.specs.State.{State, blocks_in_stripe}
 use Rattle.meaning.proofs.Sums.{sum_same, sum_zero}
 use Rattle.parcel.specs.Fits.{FitsStripe}
 use Rattle.parcel.specs.Shown.{blocks_in, blocks_of}
 use Rattle.stripe.specs.Stripe.{StripePart, StripeRule}
 use Rattle.parcel.specs.Totals.{entry_count, file_total, block_total, totals_of, sum_totals}
-use Rattle.parcel.specs.Volume.{nothing, state_by}
+use Rattle.parcel.specs.Volume.{no_facts, state_with}
 use Rattle.parcel.proofs.GroupCounts.{count_is_length, count_is_none}
 
 -- a state in which each volume has these blocks
 abbrev pub holding : (ℕ → ℕ → Option Block) → State
-holding blocks = state_by (λ a v. record nothing { blocks = blocks })
+holding blocks = state_with (λ a v. record no_facts { blocks = blocks })
 
--- the blocks of group s are those that lie at place s
+-- the blocks of stripe s are those that lie in child s
 pub count_at : (g : Geometry) (row : List (Option StripePart)) (s : ℕ) (place : Option StripePart) → slice_index_or row s None ≡ place → IfSome place StripeRule → IfSome place (FitsStripe g s)
-    → group_count g (holding (blocks_of g row)) 0 0 s ≡ entry_count place
+    → blocks_in_stripe g (holding (blocks_of g row)) 0 0 s ≡ entry_count place
 count_at g row s None at kept fits = count_is_none g s (holding (blocks_of g row)) 0 0 (λ f b e. ap (λ k. blocks_in (slice_index_or row k None) f b) e ∙ ap (λ o. blocks_in o f b) at)
 count_at g row s (Some p) at kept fits = count_is_length g s (holding (blocks_of g row)) 0 0 p kept fits (λ f b e. ap (λ k. blocks_in (slice_index_or row k None) f b) e ∙ ap (λ o. blocks_in o f b) at)
 
@@ -37,10 +37,10 @@ no_files g = sum_zero g.files
 pub no_blocks : (g : Geometry) → block_total g (λ f b. None) ≡ 0
 no_blocks g = sum_same g.files _ (λ f. 0) (λ f. sum_zero g.blocks) ∙ sum_zero g.files
 
-pub no_totals : (g : Geometry) → record { volumes = 0; files = 0; blocks = 0 } ≡ totals_of g nothing
+pub no_totals : (g : Geometry) → record { volumes = 0; files = 0; blocks = 0 } ≡ totals_of g no_facts
 no_totals g i = record { volumes = 0; files = sym (no_files g) i; blocks = sym (no_blocks g) i }
 
-pub no_totals_at_all : (g : Geometry) (n : ℕ) → record { volumes = 0; files = 0; blocks = 0 } ≡ sum_totals n (λ v. totals_of g nothing)
+pub no_totals_at_all : (g : Geometry) (n : ℕ) → record { volumes = 0; files = 0; blocks = 0 } ≡ sum_totals n (λ v. totals_of g no_facts)
 no_totals_at_all g n i = record {
   volumes = sym (sum_zero n) i;
   files = sym (sum_same n _ (λ v. 0) (λ v. no_files g) ∙ sum_zero n) i;

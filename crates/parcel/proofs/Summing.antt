@@ -6,7 +6,7 @@ use Rattle.affinity.specs.declared.geometry.Geometry.{Geometry}
 use Rattle.meaning.specs.State.{sum_below, count_below}
 use Rattle.meaning.proofs.Sums.{one_if-le, count_below-le, sum_below-le_times}
 use Rattle.parcel.specs.Totals.{totals_of, sum_totals}
-use Rattle.parcel.specs.Volume.{Facts}
+use Rattle.parcel.specs.Volume.{VolumeFacts}
 use Rattle.parcel.specs.declared.running.totals.Totals.{Totals}
 
 -- a sum, one number further
@@ -19,7 +19,7 @@ pub record IsFew (n : ℕ) (t : Totals) : Type 0 where
   pub files : t.files ≤ n * 64
   pub blocks : t.blocks ≤ n * 16384
 
-pub few_of_one : (g : Geometry) (h : Facts) → IsFew 1 (totals_of g h)
+pub few_of_one : (g : Geometry) (h : VolumeFacts) → IsFew 1 (totals_of g h)
 few_of_one g h = record {
   volumes = one_if-le h.made;
   files = let few = count_below-le g.files h.files in let most = g.files_range.1 in omega arith;
@@ -45,7 +45,7 @@ sum_totals_step n each t u r before here added =
     ∙ (λ i. record { volumes = (before i).volumes + (here i).volumes; files = (before i).files + (here i).files; blocks = (before i).blocks + (here i).blocks })
     ∙ (λ i. record { volumes = sym (sum_step n (λ k. (each k).volumes)) i; files = sym (sum_step n (λ k. (each k).files)) i; blocks = sym (sum_step n (λ k. (each k).blocks)) i })
 
-pub few_of_aggregates : (g : Geometry) (n : ℕ) (facts : ℕ → ℕ → Facts) → IsFew (n * 64) (sum_totals n (λ a. sum_totals g.volumes (λ v. totals_of g (facts a v))))
+pub few_of_aggregates : (g : Geometry) (n : ℕ) (facts : ℕ → ℕ → VolumeFacts) → IsFew (n * 64) (sum_totals n (λ a. sum_totals g.volumes (λ v. totals_of g (facts a v))))
 few_of_aggregates g n facts = record {
   volumes = let most : sum_below n (λ a. sum_below g.volumes (λ v. (totals_of g (facts a v)).volumes)) ≤ n * 64 = sum_below-le_times n 64 _
       (λ a lt. let h = (each a).volumes in omega (arith, h, range)) in most;

@@ -14,7 +14,7 @@ use Rattle.meaning.specs.Serial.{file_bits, no_label}
 use Rattle.meaning.specs.State.{State, VolumeKey, FileKey, BlockKey, IsState, is_volume, sum_below, one_if}
 use Rattle.image.specs.Pieces.{volume_piece, label_bytes, bytes_at, is_made_in, is_sealed_in, has_file_in, label_in as decoded_label_in, with_volume_piece}
 use Rattle.parcel.specs.Fits.{FitsLogical, FitsVolume, IsWholeChild, IsWholeLogical, IsWholeVolume}
-use Rattle.parcel.specs.Nodes.{in_child, in_logical, files_bits}
+use Rattle.parcel.specs.Nodes.{child_nodes, logical_nodes, node_files}
 use Rattle.parcel.specs.Pieces.{HasFacts, spelled, decoded_label, decoded_piece, volume_piece_of, volume_with, with_files, facts_with}
 use Rattle.parcel.specs.Shown.{volume_facts, files_in, blocks_below}
 use Rattle.parcel.specs.declared.parts.Logical.{Logical}
@@ -41,7 +41,7 @@ volume_spelled version g x k {p} made sealed files label = by p.made refl
         ∙ sym (ap (λ (t : Bool). if t then 1 ∷ one_if p.sealed ∷ [] ++ replicate 6 0 ++ little_bytes 8 p.files ++ p.label ++ replicate 16 0 else replicate 64 0) off)
 
 files_are : (g : Geometry) (x : State) (a v : ℕ) (o : Option Logical) → IfSome o (FitsLogical g) → IsWholeChild IsWholeLogical o → ((f : ℕ) → x.files (a, v, f) ≡ files_in o f)
-    → file_bits g x a v ≡ files_bits (in_child in_logical o [])
+    → file_bits g x a v ≡ node_files (child_nodes logical_nodes o [])
 files_are g x a v None fits whole has = absurd whole
 files_are g x a v (Some l) fits whole has = (λ i. sum_below g.files (λ f. if has f i then 2 ^ f else 0)) ∙ bits_back g.files l.files fits.files
 

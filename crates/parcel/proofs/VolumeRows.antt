@@ -8,49 +8,49 @@ use Rattle.messages.specs.declared.Msg.TheVariants.{MakeVol, DropVol}
 use Rattle.messages.specs.declared.Refusal.TheVariants.{Range, Exists}
 use Rattle.messages.specs.Messages.{is_in_range}
 use Rattle.meaning.specs.Serial.{refusal, effect, no_label}
-use Rattle.parcel.specs.Shown.{by_aggregate, by_child, volume_facts}
-use Rattle.parcel.specs.Steps.{unless, unless_closed, at_aggregate}
+use Rattle.parcel.specs.Shown.{aggregate_facts, child_facts, volume_facts}
+use Rattle.parcel.specs.Steps.{guard, guard_open, at_aggregate}
 use Rattle.parcel.specs.Totals.{with_made}
-use Rattle.parcel.specs.Volume.{Facts, nothing, facts_if, state_by}
+use Rattle.parcel.specs.Volume.{VolumeFacts, no_facts, facts_if, state_with}
 use Rattle.parcel.specs.declared.parts.Aggr.{Aggr}
 use Rattle.parcel.specs.declared.parts.Vol.{Vol}
 
 -- ---- the row
 
-abbrev pub changed_if : (Facts → Facts) → Bool → Facts → Facts
+abbrev pub changed_if : (VolumeFacts → VolumeFacts) → Bool → VolumeFacts → VolumeFacts
 changed_if change true h = change h
 changed_if change false h = h
 
-pub set_changes : (g : Geometry) (change : Facts → Facts) (xs : List (Option Vol)) (v : ℕ) (y : Option Vol) → v < length xs
-    → by_child (volume_facts g) y ≡ change (by_child (volume_facts g) (slice_index_or xs v None))
-    → (q : ℕ) → by_child (volume_facts g) (slice_index_or (slice_set xs v y) q None) ≡ changed_if change (v == q) (by_child (volume_facts g) (slice_index_or xs q None))
+pub set_changes : (g : Geometry) (change : VolumeFacts → VolumeFacts) (xs : List (Option Vol)) (v : ℕ) (y : Option Vol) → v < length xs
+    → child_facts (volume_facts g) y ≡ change (child_facts (volume_facts g) (slice_index_or xs v None))
+    → (q : ℕ) → child_facts (volume_facts g) (slice_index_or (slice_set xs v y) q None) ≡ changed_if change (v == q) (child_facts (volume_facts g) (slice_index_or xs q None))
 set_changes g change xs v y lt e q =
     ⊎_elim
     (λ is.
-    ap (λ k. by_child (volume_facts g) (slice_index_or (slice_set xs v y) k None)) (sym is)
-    ∙ ap (by_child (volume_facts g)) (get_or-set_same xs v y None lt)
+    ap (λ k. child_facts (volume_facts g) (slice_index_or (slice_set xs v y) k None)) (sym is)
+    ∙ ap (child_facts (volume_facts g)) (get_or-set_same xs v y None lt)
     ∙ e
-    ∙ ap (λ k. change (by_child (volume_facts g) (slice_index_or xs k None))) is
-    ∙ ap (λ t. changed_if change t (by_child (volume_facts g) (slice_index_or xs q None))) (sym (eq-eqb v q is)))
+    ∙ ap (λ k. change (child_facts (volume_facts g) (slice_index_or xs k None))) is
+    ∙ ap (λ t. changed_if change t (child_facts (volume_facts g) (slice_index_or xs q None))) (sym (eq-eqb v q is)))
     (λ ne.
-    ap (by_child (volume_facts g)) (get_or-set_other xs v q y None (λ is. ne (sym is)))
-    ∙ ap (λ t. changed_if change t (by_child (volume_facts g) (slice_index_or xs q None))) (sym (ne_eqb v q ne)))
+    ap (child_facts (volume_facts g)) (get_or-set_other xs v q y None (λ is. ne (sym is)))
+    ∙ ap (λ t. changed_if change t (child_facts (volume_facts g) (slice_index_or xs q None))) (sym (ne_eqb v q ne)))
     (cases_eq v q)
 
 -- ---- tests and effects
 
-at_itself : (a : ℕ) (h : Facts) → facts_if (a == a) h ≡ h
+at_itself : (a : ℕ) (h : VolumeFacts) → facts_if (a == a) h ≡ h
 at_itself a h i = facts_if (eq-eqb a a refl i) h
 
-pub make_tests : (g : Geometry) (a v : ℕ) (r : Aggr) → is_in_range g (MakeVol a v) ≡ true → refusal g (at_aggregate g a r) (MakeVol a v) ≡ unless (not (by_aggregate g r v).made) Exists None
-make_tests g a v r range = let at = at_itself a (by_aggregate g r v) in λ i. unless (range i) Range (unless (not (at i).made) Exists None)
+pub make_tests : (g : Geometry) (a v : ℕ) (r : Aggr) → is_in_range g (MakeVol a v) ≡ true → refusal g (at_aggregate g a r) (MakeVol a v) ≡ guard (not (aggregate_facts g r v).made) Exists None
+make_tests g a v r range = let at = at_itself a (aggregate_facts g r v) in λ i. guard (range i) Range (guard (not (at i).made) Exists None)
 
 pub drop_tests : (g : Geometry) (a v : ℕ) (r : Aggr) → is_in_range g (DropVol a v) ≡ true → refusal g (at_aggregate g a r) (DropVol a v)
-    ≡ unless_closed (by_aggregate g r v).made (by_aggregate g r v).sealed None
-drop_tests g a v r range = let at = at_itself a (by_aggregate g r v) in λ i. unless (range i) Range (unless_closed (at i).made (at i).sealed None)
+    ≡ guard_open (aggregate_facts g r v).made (aggregate_facts g r v).sealed None
+drop_tests g a v r range = let at = at_itself a (aggregate_facts g r v) in λ i. guard (range i) Range (guard_open (at i).made (at i).sealed None)
 
-module _ (a v : ℕ) (old new : ℕ → Facts) where
-  pub effect_make : ((q : ℕ) → new q ≡ changed_if with_made (v == q) (old q)) → state_by (λ p q. facts_if (a == p) (new q)) ≡ effect (state_by (λ p q. facts_if (a == p) (old q))) (MakeVol a v)
+module _ (a v : ℕ) (old new : ℕ → VolumeFacts) where
+  pub effect_make : ((q : ℕ) → new q ≡ changed_if with_made (v == q) (old q)) → state_with (λ p q. facts_if (a == p) (new q)) ≡ effect (state_with (λ p q. facts_if (a == p) (old q))) (MakeVol a v)
   effect_make e i = record {
     made = λ k. (ap (λ h. (facts_if (a == k.0) h).made) (e k.1) ∙ made (a == k.0) (v == k.1) (old k.1)) i;
     sealed = λ k. (ap (λ h. (facts_if (a == k.0) h).sealed) (e k.1) ∙ sealed (a == k.0) (v == k.1) (old k.1)) i;
@@ -59,34 +59,35 @@ module _ (a v : ℕ) (old new : ℕ → Facts) where
     labels = λ k. (ap (λ h. (facts_if (a == k.0) h).label) (e k.1) ∙ label (a == k.0) (v == k.1) (old k.1)) i;
   }
     where
-      made : (s t : Bool) (h : Facts) → (facts_if s (changed_if with_made t h)).made ≡ ((s && t) || (facts_if s h).made)
+      made : (s t : Bool) (h : VolumeFacts) → (facts_if s (changed_if with_made t h)).made ≡ ((s && t) || (facts_if s h).made)
       made true true h = refl
       made true false h = refl
       made false true h = refl
       made false false h = refl
 
-      sealed : (s t : Bool) (h : Facts) → (facts_if s (changed_if with_made t h)).sealed ≡ (facts_if s h).sealed
+      sealed : (s t : Bool) (h : VolumeFacts) → (facts_if s (changed_if with_made t h)).sealed ≡ (facts_if s h).sealed
       sealed true true h = refl
       sealed true false h = refl
       sealed false t h = refl
 
-      files : (s t : Bool) (h : Facts) (f : ℕ) → (facts_if s (changed_if with_made t h)).files f ≡ (facts_if s h).files f
+      files : (s t : Bool) (h : VolumeFacts) (f : ℕ) → (facts_if s (changed_if with_made t h)).files f ≡ (facts_if s h).files f
       files true true h f = refl
       files true false h f = refl
       files false t h f = refl
 
-      blocks : (s t : Bool) (h : Facts) (f b : ℕ) → (facts_if s (changed_if with_made t h)).blocks f b ≡ (facts_if s h).blocks f b
+      blocks : (s t : Bool) (h : VolumeFacts) (f b : ℕ) → (facts_if s (changed_if with_made t h)).blocks f b ≡ (facts_if s h).blocks f b
       blocks true true h f b = refl
       blocks true false h f b = refl
       blocks false t h f b = refl
 
-      label : (s t : Bool) (h : Facts) → (facts_if s (changed_if with_made t h)).label ≡ (if s && t then Some no_label else (facts_if s h).label)
+      label : (s t : Bool) (h : VolumeFacts) → (facts_if s (changed_if with_made t h)).label ≡ (if s && t then Some no_label else (facts_if s h).label)
       label true true h = refl
       label true false h = refl
       label false true h = refl
       label false false h = refl
 
-  pub effect_drop : ((q : ℕ) → new q ≡ changed_if (λ h. nothing) (v == q) (old q)) → state_by (λ p q. facts_if (a == p) (new q)) ≡ effect (state_by (λ p q. facts_if (a == p) (old q))) (DropVol a v)
+  pub effect_drop : ((q : ℕ) → new q ≡ changed_if (λ h. no_facts) (v == q) (old q)) → state_with (λ p q. facts_if (a == p) (new q))
+      ≡ effect (state_with (λ p q. facts_if (a == p) (old q))) (DropVol a v)
   effect_drop e i = record {
     made = λ k. (ap (λ h. (facts_if (a == k.0) h).made) (e k.1) ∙ made (a == k.0) (v == k.1) (old k.1)) i;
     sealed = λ k. (ap (λ h. (facts_if (a == k.0) h).sealed) (e k.1) ∙ sealed (a == k.0) (v == k.1) (old k.1)) i;
@@ -95,31 +96,31 @@ module _ (a v : ℕ) (old new : ℕ → Facts) where
     labels = λ k. (ap (λ h. (facts_if (a == k.0) h).label) (e k.1) ∙ label (a == k.0) (v == k.1) (old k.1)) i;
   }
     where
-      made : (s t : Bool) (h : Facts) → (facts_if s (changed_if (λ h. nothing) t h)).made ≡ (not (s && t) && (facts_if s h).made)
+      made : (s t : Bool) (h : VolumeFacts) → (facts_if s (changed_if (λ h. no_facts) t h)).made ≡ (not (s && t) && (facts_if s h).made)
       made true true h = refl
       made true false h = refl
       made false true h = refl
       made false false h = refl
 
-      sealed : (s t : Bool) (h : Facts) → (facts_if s (changed_if (λ h. nothing) t h)).sealed ≡ (not (s && t) && (facts_if s h).sealed)
+      sealed : (s t : Bool) (h : VolumeFacts) → (facts_if s (changed_if (λ h. no_facts) t h)).sealed ≡ (not (s && t) && (facts_if s h).sealed)
       sealed true true h = refl
       sealed true false h = refl
       sealed false true h = refl
       sealed false false h = refl
 
-      files : (s t : Bool) (h : Facts) (f : ℕ) → (facts_if s (changed_if (λ h. nothing) t h)).files f ≡ (not (s && t) && (facts_if s h).files f)
+      files : (s t : Bool) (h : VolumeFacts) (f : ℕ) → (facts_if s (changed_if (λ h. no_facts) t h)).files f ≡ (not (s && t) && (facts_if s h).files f)
       files true true h f = refl
       files true false h f = refl
       files false true h f = refl
       files false false h f = refl
 
-      blocks : (s t : Bool) (h : Facts) (f b : ℕ) → (facts_if s (changed_if (λ h. nothing) t h)).blocks f b ≡ (if s && t then None else (facts_if s h).blocks f b)
+      blocks : (s t : Bool) (h : VolumeFacts) (f b : ℕ) → (facts_if s (changed_if (λ h. no_facts) t h)).blocks f b ≡ (if s && t then None else (facts_if s h).blocks f b)
       blocks true true h f b = refl
       blocks true false h f b = refl
       blocks false true h f b = refl
       blocks false false h f b = refl
 
-      label : (s t : Bool) (h : Facts) → (facts_if s (changed_if (λ h. nothing) t h)).label ≡ (if s && t then None else (facts_if s h).label)
+      label : (s t : Bool) (h : VolumeFacts) → (facts_if s (changed_if (λ h. no_facts) t h)).label ≡ (if s && t then None else (facts_if s h).label)
       label true true h = refl
       label true false h = refl
       label false true h = refl

@@ -2,10 +2,10 @@
 use Rattle.std.specs.Prelude.{◌≡◌, ℕ, zero, suc, ◌<◌, ◌^◌, true, List, [], ◌∷◌, length, Option, Some, None, is_some, IfSome}
 use Rattle.std.specs.List.{AllByRecursion}
 use Rattle.affinity.specs.declared.geometry.Geometry.{Geometry}
-use Rattle.affinity.specs.Geometry.{group}
+use Rattle.affinity.specs.Geometry.{stripe_of}
 use Rattle.affinity.specs.Path.{Path}
 use Rattle.messages.specs.declared.Msg.{Msg}
-use Rattle.messages.specs.Messages.{place, is_in_range}
+use Rattle.messages.specs.Messages.{path_of, is_in_range}
 use Rattle.stripe.specs.Stripe.{StripePart, content_at}
 use Rattle.parcel.specs.declared.parts.Logical.{Logical}
 use Rattle.parcel.specs.declared.parts.Vol.{Vol}
@@ -14,16 +14,17 @@ use Rattle.parcel.specs.declared.parts.Root.{Root}
 use Rattle.parcel.specs.declared.parts.Parcels.{Parcels}
 use Rattle.parcel.specs.declared.parts.Parcels.TheVariants as parcels
 
--- Stripe s: it has the quota of the geometry, and each of its blocks is in range and of its group.
+-- The parcel fits as stripe s: it has the quota of the geometry, and each of its blocks is in range and lies in stripe s.
 pub record FitsStripe (g : Geometry) (s : ℕ) (p : StripePart) : Type 0 where
   pub quota : p.quota ≡ g.quota
-  pub lies : (f b : ℕ) → is_some (content_at p.entries f b) ≡ true → (f < g.files) × (b < g.blocks) × (group g f b ≡ s)
+  pub lies : (f b : ℕ) → is_some (content_at p.entries f b) ≡ true → (f < g.files) × (b < g.blocks) × (stripe_of g f b ≡ s)
 
--- Each that is in a list, from number i on, fits at its number.
+-- Each child that is in fits at its number, where the list's first child is number i.
 abbrev pub EachFits : {X : Type 0} → (ℕ → X → Type 0) → ℕ → List (Option X) → Type 0
 EachFits Fits i [] = Unit {0}
 EachFits Fits i (x ∷ xs) = IfSome x (Fits i) × EachFits Fits (suc i) xs
 
+-- At the levels above a stripe: there are as many children as the geometry has, and each that is in fits.
 pub record FitsLogical (g : Geometry) (l : Logical) : Type 0 where
   pub files : l.files < 2 ^ g.files
   pub count : length l.stripes.items ≡ g.stripes
@@ -42,6 +43,7 @@ pub record FitsRoot (g : Geometry) (r : Root) : Type 0 where
 
 -- ---- whole: nothing below is out
 
+-- The child is in, and nothing below it is out.
 abbrev pub IsWholeChild : {X : Type 0} → (X → Type 0) → Option X → Type 0
 IsWholeChild IsWhole None = ⊥
 IsWholeChild IsWhole (Some x) = IsWhole x
@@ -60,7 +62,7 @@ IsWholeRoot r = AllByRecursion (IsWholeChild IsWholeAggregate) r.aggregates.item
 
 -- ---- parcels at a path
 
--- They are of the kind of the path.
+-- The parcels are of the kind that lies at the path.
 abbrev pub IsKindOf : Path → Parcels → Type 0
 IsKindOf [] (parcels.Root r) = Unit {0}
 IsKindOf (a ∷ []) (parcels.Aggr r) = Unit {0}
@@ -70,7 +72,7 @@ IsKindOf (a ∷ v ∷ zero ∷ s ∷ []) (parcels.Stripe p) = Unit {0}
 IsKindOf (a ∷ v ∷ suc zero ∷ []) (parcels.Label l) = Unit {0}
 IsKindOf _ _ = ⊥
 
--- They are of its kind, whole, and of the geometry.
+-- The parcels are of the kind that lies at the path, of the geometry, and whole.
 abbrev pub Fits : Geometry → Path → Parcels → Type 0
 Fits g [] (parcels.Root r) = FitsRoot g r × IsWholeRoot r
 Fits g (a ∷ []) (parcels.Aggr r) = FitsAggregate g r × IsWholeAggregate r
@@ -81,6 +83,6 @@ Fits g (a ∷ v ∷ suc zero ∷ []) (parcels.Label l) = Unit {0}
 Fits g _ _ = ⊥
 
 -- The message is in range, and the parcels are those of its place.
-pub record Suits (g : Geometry) (m : Msg) (p : Parcels) : Type 0 where
+pub record IsRunnable (g : Geometry) (m : Msg) (p : Parcels) : Type 0 where
   pub range : is_in_range g m ≡ true
-  pub fits : Fits g (place g m) p
+  pub fits : Fits g (path_of g m) p

@@ -5,7 +5,7 @@ use Rattle.affinity.specs.declared.geometry.Geometry.{Geometry}
 use Rattle.affinity.specs.Path.{Path, are_related}
 use Rattle.stripe.specs.Stripe.{StripePart}
 use Rattle.parcel.specs.Fits.{IsWholeChild}
-use Rattle.parcel.specs.Nodes.{Nodes, in_parcels, TakesOut, PutsBack, SameNodes}
+use Rattle.parcel.specs.Nodes.{Nodes, parcels_nodes, TakesOut, PutsBack, SameNodes}
 use Rattle.parcel.specs.Tree.{IsOut}
 use Rattle.parcel.specs.declared.parts.Label.{Label}
 use Rattle.parcel.specs.declared.parts.Logical.{Logical}
@@ -16,10 +16,12 @@ use Rattle.parcel.specs.declared.parts.Parcels.{Parcels}
 
 -- ---- the paths that there are, from a level on
 
+-- A path from a node without children on: the empty one.
 abbrev pub IsLeafPath : Path → Type 0
 IsLeafPath [] = Unit {0}
 IsLeafPath (i ∷ q) = ⊥
 
+-- A path from a node with `count` children on, each of which has the paths `IsBelow`.
 abbrev pub IsRowPath : ℕ → (Path → Type 0) → Path → Type 0
 IsRowPath count IsBelow [] = Unit {0}
 IsRowPath count IsBelow (i ∷ q) = (i < count) × IsBelow q
@@ -41,15 +43,15 @@ IsRootPath g = IsRowPath g.aggregates (IsAggregatePath g)
 
 -- ---- taking out
 
--- Nothing was taken: among these paths is one that is related to the path and out.
+-- Nothing was taken at path p, and nothing changed: of the paths that there are, one that is related to p is out.
 pub record TakesNothing (IsThere : Path → Type 0) (p : Path) (old new : Nodes) : Type 0 where
   pub gap : (q : Path) × IsThere q × (are_related p q ≡ true) × (old q ≡ None)
   pub same : SameNodes old new
 
--- These parcels were taken out at the path: they are what was there, whole, and the rest stays.
+-- The parcels `lent` were taken out at path p: they are what was there, whole, and the rest stays.
 pub record TakesParcels (IsThere : Path → Type 0) (p : Path) (lent : Parcels) (old new : Nodes) : Type 0 where
   pub all_in : (q : Path) → IsThere q → are_related p q ≡ true → is_some (old q) ≡ true
-  pub parcels : (q : Path) → old (p ++ q) ≡ in_parcels lent q
+  pub parcels : (q : Path) → old (p ++ q) ≡ parcels_nodes lent q
   pub rest : TakesOut p old new
 
 -- whether nothing at a place or below it is out
@@ -69,23 +71,23 @@ abbrev pub is_whole_root : Option Root → Bool
 is_whole_root None = false
 is_whole_root (Some r) = list_all is_whole_aggregate r.aggregates.items
 
--- a volume, where it and its aggregate are in
+-- volume v of an aggregate, where both are in; and volume v of aggregate a of a root
 abbrev pub volume_below : Option Aggr → ℕ → Option Vol
 volume_below None v = None
 volume_below (Some r) v = slice_index_or r.volumes.items v None
 
-abbrev pub volume_in : Option Root → ℕ → ℕ → Option Vol
-volume_in None a v = None
-volume_in (Some r) a v = volume_below (slice_index_or r.aggregates.items a None) v
+abbrev pub volume_of_tree : Option Root → ℕ → ℕ → Option Vol
+volume_of_tree None a v = None
+volume_of_tree (Some r) a v = volume_below (slice_index_or r.aggregates.items a None) v
 
 -- ---- putting back
 
--- The parcels were put back at the path, at which they were out, and the rest stays.
+-- The parcels were put back at path p, which was out, and the rest stays.
 pub record Puts (p : Path) (parcels : Parcels) (old new : Nodes) : Type 0 where
   pub out : IsOut p old
-  pub nodes : PutsBack p (in_parcels parcels) old new
+  pub nodes : PutsBack p (parcels_nodes parcels) old new
 
--- They came back and nothing changed, since the path isn't out or they are not of this kind.
+-- The parcels came back and nothing changed, since path p isn't out or they are not of the kind that lies there.
 pub record HandsBack (IsKind : Type 0) (p : Path) (parcels returned : Parcels) (old new : Nodes) : Type 0 where
   pub back : returned ≡ parcels
   pub why : IsOut p old → IsKind → ⊥

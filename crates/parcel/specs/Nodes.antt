@@ -1,8 +1,8 @@
 -- Statement for operators: The tree as a map from paths to what each node has of its own. A path at which nothing is in has none.
 use Rattle.std.specs.Prelude.{◌≡◌, ℕ, zero, suc, Bool, false, ◌==◌, if◌then◌else◌, List, [], ◌∷◌, slice_index_or, Option, Some, None}
 use Rattle.affinity.specs.declared.geometry.Geometry.{Geometry}
-use Rattle.affinity.specs.Geometry.{group}
-use Rattle.affinity.specs.Path.{Path, begins, volume, logical, stripe, label}
+use Rattle.affinity.specs.Geometry.{stripe_of}
+use Rattle.affinity.specs.Path.{Path, is_prefix, volume, logical, stripe, label}
 use Rattle.messages.specs.declared.Block.{Block}
 use Rattle.meaning.specs.State.{State}
 use Rattle.stripe.specs.Stripe.{StripePart, content_at}
@@ -15,71 +15,76 @@ use Rattle.parcel.specs.declared.parts.Root.{Root}
 use Rattle.parcel.specs.declared.parts.Parcels.{Parcels}
 use Rattle.parcel.specs.declared.parts.Parcels.TheVariants as parcels
 
--- what one node has of its own
+-- what one node has of its own: nothing (the root, an aggregate), a volume's flags, its files as bits, a stripe's blocks, a label's bytes
 pub data Node : Type 0 where
   Inner : Node
-  Marks : (made sealed : Bool) → Node
+  VolumeFlags : (made sealed : Bool) → Node
   Files : (bits : ℕ) → Node
-  Slots : (part : StripePart) → Node
-  Text : (bytes : Option (List ℕ)) → Node
+  StripeBlocks : (part : StripePart) → Node
+  LabelBytes : (bytes : Option (List ℕ)) → Node
 
+-- the tree as a map: at each path what the node there has of its own, and `None` where nothing is in
 abbrev pub Nodes : Type 0
 Nodes = Path → Option Node
 
-abbrev pub in_child : {X : Type 0} → (X → Nodes) → Option X → Nodes
-in_child nodes None q = None
-in_child nodes (Some x) q = nodes x q
+-- the nodes of a child: none where it is out
+abbrev pub child_nodes : {X : Type 0} → (X → Nodes) → Option X → Nodes
+child_nodes nodes None q = None
+child_nodes nodes (Some x) q = nodes x q
 
-abbrev pub in_row : {X : Type 0} → (X → Nodes) → Node → List (Option X) → Nodes
-in_row nodes own xs [] = Some own
-in_row nodes own xs (i ∷ q) = in_child nodes (slice_index_or xs i None) q
+-- the nodes of a node with children, by what it has of its own and by the list of the children
+abbrev pub children_nodes : {X : Type 0} → (X → Nodes) → Node → List (Option X) → Nodes
+children_nodes nodes own xs [] = Some own
+children_nodes nodes own xs (i ∷ q) = child_nodes nodes (slice_index_or xs i None) q
 
+-- the nodes of a node without children
 abbrev pub leaf : Node → Nodes
 leaf own [] = Some own
 leaf own (i ∷ q) = None
 
-abbrev pub in_stripe : StripePart → Nodes
-in_stripe p = leaf (Slots p)
+abbrev pub stripe_nodes : StripePart → Nodes
+stripe_nodes p = leaf (StripeBlocks p)
 
-abbrev pub in_label : Label → Nodes
-in_label l = leaf (Text l.bytes)
+abbrev pub label_nodes : Label → Nodes
+label_nodes l = leaf (LabelBytes l.bytes)
 
-abbrev pub in_logical : Logical → Nodes
-in_logical l = in_row in_stripe (Files l.files) l.stripes.items
+abbrev pub logical_nodes : Logical → Nodes
+logical_nodes l = children_nodes stripe_nodes (Files l.files) l.stripes.items
 
-abbrev pub in_volume : Vol → Nodes
-in_volume w [] = Some (Marks w.made w.sealed)
-in_volume w (zero ∷ q) = in_child in_logical w.logical q
-in_volume w (suc zero ∷ q) = in_child in_label w.label q
-in_volume w (suc (suc i) ∷ q) = None
+abbrev pub volume_nodes : Vol → Nodes
+volume_nodes w [] = Some (VolumeFlags w.made w.sealed)
+volume_nodes w (zero ∷ q) = child_nodes logical_nodes w.logical q
+volume_nodes w (suc zero ∷ q) = child_nodes label_nodes w.label q
+volume_nodes w (suc (suc i) ∷ q) = None
 
-abbrev pub in_aggregate : Aggr → Nodes
-in_aggregate r = in_row in_volume Inner r.volumes.items
+abbrev pub aggregate_nodes : Aggr → Nodes
+aggregate_nodes r = children_nodes volume_nodes Inner r.volumes.items
 
-abbrev pub in_root : Root → Nodes
-in_root r = in_row in_aggregate Inner r.aggregates.items
+abbrev pub root_nodes : Root → Nodes
+root_nodes r = children_nodes aggregate_nodes Inner r.aggregates.items
 
 -- the nodes of parcels, by the paths from their own place on
-abbrev pub in_parcels : Parcels → Nodes
-in_parcels (parcels.Root r) = in_root r
-in_parcels (parcels.Aggr r) = in_aggregate r
-in_parcels (parcels.Vol w) = in_volume w
-in_parcels (parcels.Logical l) = in_logical l
-in_parcels (parcels.Stripe p) = in_stripe p
-in_parcels (parcels.Label l) = in_label l
+abbrev pub parcels_nodes : Parcels → Nodes
+parcels_nodes (parcels.Root r) = root_nodes r
+parcels_nodes (parcels.Aggr r) = aggregate_nodes r
+parcels_nodes (parcels.Vol w) = volume_nodes w
+parcels_nodes (parcels.Logical l) = logical_nodes l
+parcels_nodes (parcels.Stripe p) = stripe_nodes p
+parcels_nodes (parcels.Label l) = label_nodes l
 
 -- ---- changes
 
 -- All is out at this path and below, and elsewhere as it was.
 abbrev pub TakesOut : Path → Nodes → Nodes → Type 0
-TakesOut p old new = (q : Path) → new q ≡ (if begins p q then None else old q)
+TakesOut p old new = (q : Path) → new q ≡ (if is_prefix p q then None else old q)
 
--- these nodes at a path and below
+-- the nodes `old` with the nodes `part` in their place at path p and below
 abbrev pub put_at : Path → Nodes → Nodes → Nodes
 put_at [] part old q = part q
 put_at (x ∷ p) part old [] = old []
 put_at (x ∷ p) part old (y ∷ q) = if x == y then put_at p part (λ r. old (y ∷ r)) q else old (y ∷ q)
 
+-- The nodes `part` are at path p and below, and elsewhere all is as it was.
 abbrev pub PutsBack : Path → Nodes → Nodes → Nodes → Type 0
 PutsBack p part old new = (q : Path) → new q ≡ put_at p part old q
 
@@ -88,36 +93,37 @@ SameNodes old new = (q : Path) → new q ≡ old q
 
 -- ---- the state of nodes
 
-abbrev pub marks_made : Option Node → Bool
-marks_made (Some (Marks made sealed)) = made
-marks_made _ = false
+-- What a node shows of the state: a volume's flags, its files, a block, a label. A node of another kind, or none, shows nothing.
+abbrev pub node_made : Option Node → Bool
+node_made (Some (VolumeFlags made sealed)) = made
+node_made _ = false
 
-abbrev pub marks_sealed : Option Node → Bool
-marks_sealed (Some (Marks made sealed)) = sealed
-marks_sealed _ = false
+abbrev pub node_sealed : Option Node → Bool
+node_sealed (Some (VolumeFlags made sealed)) = sealed
+node_sealed _ = false
 
-abbrev pub files_have : Option Node → ℕ → Bool
-files_have (Some (Files bits)) f = has_file bits f
-files_have _ f = false
+abbrev pub node_has_file : Option Node → ℕ → Bool
+node_has_file (Some (Files bits)) f = has_file bits f
+node_has_file _ f = false
 
-abbrev pub files_bits : Option Node → ℕ
-files_bits (Some (Files bits)) = bits
-files_bits _ = 0
+abbrev pub node_files : Option Node → ℕ
+node_files (Some (Files bits)) = bits
+node_files _ = 0
 
-abbrev pub slots_hold : Option Node → ℕ → ℕ → Option Block
-slots_hold (Some (Slots p)) f b = content_at p.entries f b
-slots_hold _ f b = None
+abbrev pub node_block : Option Node → ℕ → ℕ → Option Block
+node_block (Some (StripeBlocks p)) f b = content_at p.entries f b
+node_block _ f b = None
 
-abbrev pub text_of : Option Node → Option (List ℕ)
-text_of (Some (Text bytes)) = bytes
-text_of _ = None
+abbrev pub node_label : Option Node → Option (List ℕ)
+node_label (Some (LabelBytes bytes)) = bytes
+node_label _ = None
 
 -- The state that the nodes hold: it has nothing of what is out.
 abbrev pub tree_state : Geometry → Nodes → State
 tree_state g n = record {
-  made = λ k. marks_made (n (volume k.0 k.1));
-  sealed = λ k. marks_sealed (n (volume k.0 k.1));
-  files = λ k. files_have (n (logical k.0 k.1)) k.2;
-  blocks = λ k. slots_hold (n (stripe k.0 k.1 (group g k.2 k.3))) k.2 k.3;
-  labels = λ k. text_of (n (label k.0 k.1));
+  made = λ k. node_made (n (volume k.0 k.1));
+  sealed = λ k. node_sealed (n (volume k.0 k.1));
+  files = λ k. node_has_file (n (logical k.0 k.1)) k.2;
+  blocks = λ k. node_block (n (stripe k.0 k.1 (stripe_of g k.2 k.3))) k.2 k.3;
+  labels = λ k. node_label (n (label k.0 k.1));
 }

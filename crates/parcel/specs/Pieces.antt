@@ -1,6 +1,6 @@
 -- Inner: The pieces of an image, by what one volume of the tree has.
 use Rattle.std.specs.Prelude.{◌≡◌, ◌↔◌, ℕ, Bool, zero, suc, ◌==◌, ◌%◌, ◌^◌, if◌then◌else◌, List, [], ◌∷◌, ◌++◌, replicate, unwrap_or, Option, Some, None, IfSome, IsTrue}
-use Rattle.affinity.specs.Geometry.{group}
+use Rattle.affinity.specs.Geometry.{stripe_of}
 use Rattle.affinity.specs.Path.{Path}
 use Rattle.affinity.specs.declared.geometry.Geometry.{Geometry}
 use Rattle.byteorder.specs.Endian.{little_bytes, little_number}
@@ -10,9 +10,9 @@ use Rattle.meaning.specs.State.{State, IsState, one_if}
 use Rattle.meaning.specs.Serial.{no_label}
 use Rattle.image.specs.Pieces.{is_made_in, is_sealed_in, has_file_in, label_in as decoded_label_in, block_in, bytes_at, part_piece, with_part}
 use Rattle.parcel.specs.Fits.{FitsStripe, FitsVolume, IsWholeChild, IsWholeVolume}
-use Rattle.parcel.specs.Nodes.{Nodes, in_volume, files_bits, PutsBack}
+use Rattle.parcel.specs.Nodes.{Nodes, volume_nodes, node_files, PutsBack}
 use Rattle.parcel.specs.Shown.{blocks_in, volume_facts, shown_label}
-use Rattle.parcel.specs.Volume.{Facts}
+use Rattle.parcel.specs.Volume.{VolumeFacts}
 use Rattle.parcel.specs.declared.parts.Logical.{Logical}
 use Rattle.parcel.specs.declared.parts.Vol.{Vol}
 use Rattle.parcel.specs.declared.pieces.volumes.VolumePiece.{VolumePiece}
@@ -30,39 +30,38 @@ decoded_label version bytes = if version == 2 then bytes_at 16 32 bytes else no_
 
 -- what bytes decode to as a volume's piece, of the files that the geometry has
 abbrev pub decoded_piece : ℕ → Geometry → List ℕ → VolumePiece
-decoded_piece version g bytes =
-    record {
-      made = is_made_in bytes;
-      sealed = is_sealed_in bytes;
-      files = little_number 8 (bytes_at 8 8 bytes) % 2 ^ g.files;
-      label = decoded_label version bytes;
-    }
+decoded_piece version g bytes = record {
+  made = is_made_in bytes;
+  sealed = is_sealed_in bytes;
+  files = little_number 8 (bytes_at 8 8 bytes) % 2 ^ g.files;
+  label = decoded_label version bytes;
+}
 
 -- the piece of a volume of the tree
 abbrev pub volume_piece_of : Vol → VolumePiece
 volume_piece_of w = record {
   made = w.made;
   sealed = w.sealed;
-  files = files_bits (in_volume w (0 ∷ []));
+  files = node_files (volume_nodes w (0 ∷ []));
   label = unwrap_or (shown_label w.label) no_label;
 }
 
+-- a volume's files and stripes, with these files
 abbrev pub with_files : ℕ → Option Logical → Option Logical
 with_files files None = None
 with_files files (Some l) = Some (record l { files = files })
 
--- the volume with what a piece decodes to
+-- a volume with the flags, the files and the label of a piece
 abbrev pub volume_with : VolumePiece → Vol → Vol
-volume_with p w =
-    record {
-      made = p.made;
-      sealed = p.sealed;
-      logical = with_files p.files w.logical;
-      label = Some (record { bytes = if p.made then Some p.label else None });
-    }
+volume_with p w = record {
+  made = p.made;
+  sealed = p.sealed;
+  logical = with_files p.files w.logical;
+  label = Some (record { bytes = if p.made then Some p.label else None });
+}
 
--- A volume of a state has these facts.
-pub record HasFacts (x : State) (a v : ℕ) (h : Facts) : Type 0 where
+-- Volume v of aggregate a has these facts in state x.
+pub record HasFacts (x : State) (a v : ℕ) (h : VolumeFacts) : Type 0 where
   pub made : x.made (a, v) ≡ h.made
   pub sealed : x.sealed (a, v) ≡ h.sealed
   pub files : (f : ℕ) → x.files (a, v, f) ≡ h.files f
@@ -70,36 +69,35 @@ pub record HasFacts (x : State) (a v : ℕ) (h : Facts) : Type 0 where
   pub label : x.labels (a, v) ≡ h.label
 
 -- what the volume has once these bytes were taken in as its piece, or as that of one of its stripes
-abbrev pub facts_with : ℕ → Geometry → Facts → ℕ → List ℕ → Facts
-facts_with version g h zero bytes =
-    record {
-      made = is_made_in bytes;
-      sealed = is_sealed_in bytes;
-      files = has_file_in bytes;
-      blocks = h.blocks;
-      label = decoded_label_in version bytes;
-    }
-facts_with version g h (suc s) bytes = record h { blocks = λ f b. if group g f b == s then block_in g bytes f b else h.blocks f b }
+abbrev pub facts_with : ℕ → Geometry → VolumeFacts → ℕ → List ℕ → VolumeFacts
+facts_with version g h zero bytes = record {
+  made = is_made_in bytes;
+  sealed = is_sealed_in bytes;
+  files = has_file_in bytes;
+  blocks = h.blocks;
+  label = decoded_label_in version bytes;
+}
+facts_with version g h (suc s) bytes = record h { blocks = λ f b. if stripe_of g f b == s then block_in g bytes f b else h.blocks f b }
 
--- The bytes were read as this part of a volume: good where they spell what they decode to, in each state in which the volume has what it
--- had, and then it has what they decode to.
-pub record IsPartRead (version : ℕ) (g : Geometry) (part : ℕ) (bytes : List ℕ) (good : Bool) (old new : Vol) : Type 0 where
+-- The bytes were read into a volume as its own piece (part 0) or as that of stripe part - 1. They are good exactly if they are that piece
+-- of what they decode to, and then the volume has that.
+pub record IsPieceOfVolumeRead (version : ℕ) (g : Geometry) (part : ℕ) (bytes : List ℕ) (good : Bool) (old new : Vol) : Type 0 where
   pub fits : FitsVolume g new
   pub whole : IsWholeVolume new
   pub spelled : (x : State) (a v : ℕ) → IsState g x → HasFacts x a v (volume_facts g old)
       → IsTrue good ↔ (bytes ≡ part_piece version g (with_part version g x a v part bytes) a v part)
   pub facts : IsTrue good → volume_facts g new ≡ facts_with version g (volume_facts g old) part bytes
 
--- They were read at a path, at which this volume was: the nodes there are those of the volume now, and the rest stays.
+-- The bytes were read into the volume found at path p: the nodes there are those of the volume as it is now, and the rest stays.
 pub record IsRead (version : ℕ) (g : Geometry) (part : ℕ) (bytes : List ℕ) (good : Bool) (p : Path) (found : Option Vol)
     (old new : Nodes) : Type 0 where
   pub was : Vol
   pub now : Vol
   pub there : found ≡ Some was
-  pub read : IsPartRead version g part bytes good was now
-  pub nodes : PutsBack p (in_volume now) old new
+  pub read : IsPieceOfVolumeRead version g part bytes good was now
+  pub nodes : PutsBack p (volume_nodes now) old new
 
--- They were read as the piece of the stripe at one place, of a volume with these files.
+-- The bytes were read as the piece of stripe s of a volume with these files.
 pub record IsStripeRead (g : Geometry) (files s : ℕ) (bytes : List ℕ) (good : Bool) (new : Option StripePart) : Type 0 where
   pub fits : IfSome new (FitsStripe g s)
   pub whole : IsWholeChild (λ (p : StripePart). Unit {0}) new

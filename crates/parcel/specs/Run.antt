@@ -4,17 +4,17 @@ use Rattle.affinity.specs.declared.geometry.Geometry.{Geometry}
 use Rattle.affinity.specs.Path.{Path, are_related}
 use Rattle.messages.specs.declared.Msg.{Msg}
 use Rattle.messages.specs.declared.Reply.{Reply}
-use Rattle.messages.specs.Messages.{place}
+use Rattle.messages.specs.Messages.{path_of}
 use Rattle.meaning.specs.State.{State}
 use Rattle.meaning.specs.Serial.{reply_to, next_state}
-use Rattle.meaning.specs.Shares.{AgreeOn}
-use Rattle.parcel.specs.Fits.{Suits}
+use Rattle.meaning.specs.Subtrees.{AgreeOn}
+use Rattle.parcel.specs.Fits.{IsRunnable}
 use Rattle.parcel.specs.Shown.{shown_state}
 use Rattle.parcel.specs.declared.parts.Parcels.{Parcels}
 use Rattle.parcel.specs.declared.parts.Standing.{Standing}
 use Rattle.parcel.specs.declared.job.Done.{Done}
 
--- a message, with a ticket, and what it runs on
+-- what contracts see of a `Job`: a message with its ticket, and what it runs on
 pub record JobView : Type 0 where
   pub geometry : Geometry
   pub ticket : ℕ
@@ -23,8 +23,8 @@ pub record JobView : Type 0 where
   pub parcels : Parcels
 
 -- The step of a message leads from one state to another, and this is its reply.
-pub record IsSerialStep (g : Geometry) (x : State) (m : Msg) (told : Reply) (y : State) : Type 0 where
-  pub reply : told ≡ reply_to g x m
+pub record IsSerialStep (g : Geometry) (x : State) (m : Msg) (given : Reply) (y : State) : Type 0 where
+  pub reply : given ≡ reply_to g x m
   pub state : y ≡ next_state g x m
 
 -- The parcels and the standing show what a state has at a path: the parcels what lies there and below, the standing what is seen of the
@@ -37,7 +37,7 @@ Shows g p t parcels x = AgreeOn g (are_related p) (shown_state g p t parcels) x
 pub record IsJobRun (job : JobView) (done : Done) : Type 0 where
   pub ticket : done.ticket ≡ job.ticket
   pub message : done.message ≡ job.message
-  pub suits : Suits job.geometry job.message done.parcels
-  pub step : let p = place job.geometry job.message in
+  pub runnable : IsRunnable job.geometry job.message done.parcels
+  pub step : let p = path_of job.geometry job.message in
       IsSerialStep job.geometry (shown_state job.geometry p job.standing job.parcels) job.message done.reply
       (shown_state job.geometry p job.standing done.parcels)

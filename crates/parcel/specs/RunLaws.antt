@@ -1,6 +1,6 @@
 -- Statement for engineers: What a run means for any state of which its job had a part, and for the tree that lent it.
 use Rattle.std.specs.Prelude.{◌≡◌}
-use Rattle.messages.specs.Messages.{place}
+use Rattle.messages.specs.Messages.{path_of}
 use Rattle.meaning.specs.State.{State}
 use Rattle.meaning.specs.Serial.{reply_to, next_state}
 use Rattle.affinity.specs.declared.geometry.Geometry.{Geometry}
@@ -14,7 +14,7 @@ use Rattle.parcel.specs.declared.parts.Parcels.{Parcels}
 
 -- the place of the message of a job
 abbrev pub job_place : JobView → Path
-job_place job = place job.geometry job.message
+job_place job = path_of job.geometry job.message
 
 -- The job was lent from a state: its parcels and standing show what lies there at the message's place, below it and above it.
 abbrev pub IsLentOf : JobView → State → Type 0

@@ -1,14 +1,14 @@
--- Statement for engineers: The state that parcels show, together with their standing. Of what is neither there nor above, they show
--- nothing.
+-- Statement for engineers: The state that parcels show, together with their standing. Of what lies neither at their affinity, nor below or
+-- above it, they show nothing.
 use Rattle.std.specs.Prelude.{ℕ, Bool, false, ◌==◌, List, [], ◌∷◌, slice_index_or, Option, Some, None}
 use Rattle.affinity.specs.declared.geometry.Geometry.{Geometry}
-use Rattle.affinity.specs.Geometry.{group}
+use Rattle.affinity.specs.Geometry.{stripe_of}
 use Rattle.affinity.specs.Path.{Path}
 use Rattle.messages.specs.declared.Block.{Block}
 pub use Rattle.messages.specs.Replies.{has_file}
 use Rattle.meaning.specs.State.{State}
 use Rattle.stripe.specs.Stripe.{StripePart, content_at}
-use Rattle.parcel.specs.Volume.{Facts, nothing, facts_if, state_by, only}
+use Rattle.parcel.specs.Volume.{VolumeFacts, no_facts, facts_if, state_with, one_volume}
 use Rattle.parcel.specs.declared.parts.Label.{Label}
 use Rattle.parcel.specs.declared.parts.Logical.{Logical}
 use Rattle.parcel.specs.declared.parts.Vol.{Vol}
@@ -23,20 +23,21 @@ abbrev pub blocks_in : Option StripePart → ℕ → ℕ → Option Block
 blocks_in None f b = None
 blocks_in (Some p) f b = content_at p.entries f b
 
--- the blocks of a list of stripes, each in the stripe of its group
+-- the blocks of a list of stripes, each in its own stripe
 abbrev pub blocks_of : Geometry → List (Option StripePart) → ℕ → ℕ → Option Block
-blocks_of g row f b = blocks_in (slice_index_or row (group g f b) None) f b
+blocks_of g row f b = blocks_in (slice_index_or row (stripe_of g f b) None) f b
 
 -- ---- one volume, by a parcel of it and the standing
 
-abbrev pub by_stripe : Standing → StripePart → Facts
-by_stripe t p = record { made = t.made; sealed = t.sealed; files = has_file t.files; blocks = content_at p.entries; label = None }
+abbrev pub stripe_facts : Standing → StripePart → VolumeFacts
+stripe_facts t p = record { made = t.made; sealed = t.sealed; files = has_file t.files; blocks = content_at p.entries; label = None }
 
-abbrev pub by_logical : Geometry → Standing → Logical → Facts
-by_logical g t l = record { made = t.made; sealed = t.sealed; files = has_file l.files; blocks = blocks_of g l.stripes.items; label = None }
+abbrev pub logical_facts : Geometry → Standing → Logical → VolumeFacts
+logical_facts g t l =
+    record { made = t.made; sealed = t.sealed; files = has_file l.files; blocks = blocks_of g l.stripes.items; label = None }
 
-abbrev pub by_label : Standing → Label → Facts
-by_label t l = record { made = t.made; sealed = t.sealed; files = λ f. false; blocks = λ f b. None; label = l.bytes }
+abbrev pub label_facts : Standing → Label → VolumeFacts
+label_facts t l = record { made = t.made; sealed = t.sealed; files = λ f. false; blocks = λ f b. None; label = l.bytes }
 
 abbrev pub files_in : Option Logical → ℕ → Bool
 files_in None f = false
@@ -50,7 +51,7 @@ abbrev pub shown_label : Option Label → Option (List ℕ)
 shown_label None = None
 shown_label (Some l) = l.bytes
 
-abbrev pub volume_facts : Geometry → Vol → Facts
+abbrev pub volume_facts : Geometry → Vol → VolumeFacts
 volume_facts g w = record {
   made = w.made;
   sealed = w.sealed;
@@ -59,16 +60,18 @@ volume_facts g w = record {
   label = shown_label w.label;
 }
 
-abbrev pub by_child : {X : Type 0} → (X → Facts) → Option X → Facts
-by_child facts None = nothing
-by_child facts (Some x) = facts x
+-- the facts of a child, and `no_facts` where it is out
+abbrev pub child_facts : {X : Type 0} → (X → VolumeFacts) → Option X → VolumeFacts
+child_facts facts None = no_facts
+child_facts facts (Some x) = facts x
 
--- volume v of an aggregate, and of aggregate a
-abbrev pub by_aggregate : Geometry → Aggr → ℕ → Facts
-by_aggregate g r v = by_child (volume_facts g) (slice_index_or r.volumes.items v None)
+-- the facts of volume v of an aggregate
+abbrev pub aggregate_facts : Geometry → Aggr → ℕ → VolumeFacts
+aggregate_facts g r v = child_facts (volume_facts g) (slice_index_or r.volumes.items v None)
 
-abbrev pub by_root : Geometry → Root → ℕ → ℕ → Facts
-by_root g r a v = by_child (λ x. by_aggregate g x v) (slice_index_or r.aggregates.items a None)
+-- the facts of volume v of aggregate a
+abbrev pub root_facts : Geometry → Root → ℕ → ℕ → VolumeFacts
+root_facts g r a v = child_facts (λ x. aggregate_facts g x v) (slice_index_or r.aggregates.items a None)
 
 -- ---- the state
 
@@ -81,10 +84,11 @@ abbrev pub path_volume : Path → ℕ
 path_volume [] = 0
 path_volume (a ∷ p) = path_aggregate p
 
+-- the state that parcels at path p show, together with their standing
 abbrev pub shown_state : Geometry → Path → Standing → Parcels → State
-shown_state g p t (parcels.Stripe s) = only (path_aggregate p) (path_volume p) (by_stripe t s)
-shown_state g p t (parcels.Label l) = only (path_aggregate p) (path_volume p) (by_label t l)
-shown_state g p t (parcels.Logical l) = only (path_aggregate p) (path_volume p) (by_logical g t l)
-shown_state g p t (parcels.Vol w) = only (path_aggregate p) (path_volume p) (volume_facts g w)
-shown_state g p t (parcels.Aggr r) = state_by (λ a v. facts_if (path_aggregate p == a) (by_aggregate g r v))
-shown_state g p t (parcels.Root r) = state_by (by_root g r)
+shown_state g p t (parcels.Stripe s) = one_volume (path_aggregate p) (path_volume p) (stripe_facts t s)
+shown_state g p t (parcels.Label l) = one_volume (path_aggregate p) (path_volume p) (label_facts t l)
+shown_state g p t (parcels.Logical l) = one_volume (path_aggregate p) (path_volume p) (logical_facts g t l)
+shown_state g p t (parcels.Vol w) = one_volume (path_aggregate p) (path_volume p) (volume_facts g w)
+shown_state g p t (parcels.Aggr r) = state_with (λ a v. facts_if (path_aggregate p == a) (aggregate_facts g r v))
+shown_state g p t (parcels.Root r) = state_with (root_facts g r)

@@ -1,4 +1,4 @@
--- Inner: A message about one volume: its tests, and its step on what the volume has.
+-- Inner: A message about one volume: its checks, and its step on what the volume has.
 use Rattle.std.specs.Prelude.{◌≡◌, ℕ, Bool, true, not, if◌then◌else◌, ◌==◌, Option, Some}
 use Rattle.affinity.specs.declared.geometry.Geometry.{Geometry}
 use Rattle.messages.specs.declared.Msg.{Msg}
@@ -8,22 +8,23 @@ use Rattle.messages.specs.declared.Reply.{Reply}
 use Rattle.messages.specs.Messages.{is_in_range}
 use Rattle.meaning.specs.State.{State}
 use Rattle.parcel.specs.Run.{IsSerialStep}
-use Rattle.parcel.specs.Shown.{by_aggregate}
-use Rattle.parcel.specs.Volume.{Facts, facts_if, only, state_by}
+use Rattle.parcel.specs.Shown.{aggregate_facts}
+use Rattle.parcel.specs.Volume.{VolumeFacts, facts_if, one_volume, state_with}
 use Rattle.parcel.specs.declared.parts.Aggr.{Aggr}
 
--- refused for this reason where the test fails, else as the later tests decide
-abbrev pub unless : Bool → Refusal → Option Refusal → Option Refusal
-unless passes why later = if not passes then Some why else later
+-- refused for this reason where the check fails, else as the later checks decide
+abbrev pub guard : Bool → Refusal → Option Refusal → Option Refusal
+guard passes why later = if not passes then Some why else later
 
--- the tests of a message that changes what a volume has
-abbrev pub unless_closed : Bool → Bool → Option Refusal → Option Refusal
-unless_closed made sealed later = unless made Volume (unless (not sealed) Sealed later)
+-- refused where the volume isn't made or is sealed, else as the later checks decide: for a message that changes what a volume has
+abbrev pub guard_open : Bool → Bool → Option Refusal → Option Refusal
+guard_open made sealed later = guard made Volume (guard (not sealed) Sealed later)
 
--- Whichever volume it is, this is the step of the message where that volume alone has anything.
-abbrev pub IsStepWithin : Geometry → (ℕ → ℕ → Msg) → Facts → Reply → Facts → Type 0
-IsStepWithin g m old told new = (a v : ℕ) → is_in_range g (m a v) ≡ true → IsSerialStep g (only a v old) (m a v) told (only a v new)
+-- Where one volume alone has anything, the message's serial step changes its facts from `old` to `new`, whichever volume it is.
+abbrev pub IsStepWithin : Geometry → (ℕ → ℕ → Msg) → VolumeFacts → Reply → VolumeFacts → Type 0
+IsStepWithin g m old given new = (a v : ℕ) → is_in_range g (m a v) ≡ true
+    → IsSerialStep g (one_volume a v old) (m a v) given (one_volume a v new)
 
 -- the state in which aggregate a alone has anything
 abbrev pub at_aggregate : Geometry → ℕ → Aggr → State
-at_aggregate g a r = state_by (λ p q. facts_if (a == p) (by_aggregate g r q))
+at_aggregate g a r = state_with (λ p q. facts_if (a == p) (aggregate_facts g r q))

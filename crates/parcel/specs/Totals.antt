@@ -5,7 +5,7 @@ use Rattle.messages.specs.declared.Block.{Block}
 use Rattle.meaning.specs.State.{sum_below, count_below, one_if}
 use Rattle.meaning.specs.Serial.{no_label}
 use Rattle.stripe.specs.Stripe.{StripePart}
-use Rattle.parcel.specs.Volume.{Facts}
+use Rattle.parcel.specs.Volume.{VolumeFacts}
 use Rattle.parcel.specs.declared.running.totals.Totals.{Totals}
 
 -- how many blocks lie in a stripe, where it is in
@@ -22,10 +22,10 @@ abbrev pub block_total : Geometry → (ℕ → ℕ → Option Block) → ℕ
 block_total g blocks = sum_below g.files (λ f. count_below g.blocks (λ b. is_some (blocks f b)))
 
 -- how much one volume holds, and whether it is made
-abbrev pub totals_of : Geometry → Facts → Totals
+abbrev pub totals_of : Geometry → VolumeFacts → Totals
 totals_of g h = record { volumes = one_if h.made; files = file_total g h.files; blocks = block_total g h.blocks }
 
--- the sums over the numbers below n
+-- the sums of the totals of each number below n
 abbrev pub sum_totals : ℕ → (ℕ → Totals) → Totals
 sum_totals n each = record {
   volumes = sum_below n (λ i. (each i).volumes);
@@ -33,6 +33,6 @@ sum_totals n each = record {
   blocks = sum_below n (λ i. (each i).blocks);
 }
 
--- the volume made, with a label of zeros
-abbrev pub with_made : Facts → Facts
+-- the facts of a volume once it is made: it gets a label of zeros
+abbrev pub with_made : VolumeFacts → VolumeFacts
 with_made h = record h { made = true; label = Some no_label }

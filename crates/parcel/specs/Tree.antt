@@ -2,11 +2,11 @@
 use Rattle.std.specs.Prelude.{◌≡◌, zero, true, false, [], ◌∷◌, ◌++◌, Option, None, is_some, IfSome}
 use Rattle.affinity.specs.declared.geometry.Geometry.{Geometry}
 use Rattle.affinity.specs.Interval.{IsPath}
-use Rattle.affinity.specs.Path.{Path, begins, are_related, volume, logical}
+use Rattle.affinity.specs.Path.{Path, is_prefix, are_related, volume, logical}
 use Rattle.meaning.specs.State.{State, IsState}
 use Rattle.parcel.specs.Fits.{Fits, FitsRoot, IsKindOf}
-use Rattle.parcel.specs.Nodes.{Nodes, in_child, in_root, in_parcels, marks_made, marks_sealed, files_bits, tree_state, TakesOut, PutsBack}
-use Rattle.meaning.specs.Shares.{AgreeOn}
+use Rattle.parcel.specs.Nodes.{Nodes, child_nodes, root_nodes, parcels_nodes, node_made, node_sealed, node_files, tree_state, TakesOut, PutsBack}
+use Rattle.meaning.specs.Subtrees.{AgreeOn}
 use Rattle.parcel.specs.Run.{Shows}
 use Rattle.parcel.specs.Shown.{shown_state}
 use Rattle.parcel.specs.declared.parts.Root.{Root}
@@ -22,12 +22,13 @@ pub record TreeView : Type 0 where
 abbrev pub IsWellFormed : TreeView → Type 0
 IsWellFormed t = IfSome t.root (FitsRoot t.geometry)
 
-abbrev pub in_tree : TreeView → Nodes
-in_tree t = in_child in_root t.root
+-- the nodes of a tree
+abbrev pub tree_nodes : TreeView → Nodes
+tree_nodes t = child_nodes root_nodes t.root
 
 -- the state of all that is in
 abbrev pub state_in : TreeView → State
-state_in t = tree_state t.geometry (in_tree t)
+state_in t = tree_state t.geometry (tree_nodes t)
 
 -- Nothing at this path, above it or below it is out.
 abbrev pub IsIn : Geometry → Path → Nodes → Type 0
@@ -35,20 +36,20 @@ IsIn g p n = (q : Path) → IsPath g q → are_related p q ≡ true → is_some 
 
 -- Nothing of the tree is out, and it holds a state of its geometry.
 pub record IsWholeTree (t : TreeView) : Type 0 where
-  pub all_in : IsIn t.geometry [] (in_tree t)
+  pub all_in : IsIn t.geometry [] (tree_nodes t)
   pub state : IsState t.geometry (state_in t)
 
 -- Something at this path, above it or below it is out.
 abbrev pub HasGap : Geometry → Path → Nodes → Type 0
 HasGap g p n = (q : Path) × IsPath g q × (are_related p q ≡ true) × (n q ≡ None)
 
--- the path of the node above
+-- the path of the node above (of the root, its own)
 abbrev pub path_above : Path → Path
 path_above [] = []
 path_above (x ∷ []) = []
 path_above (x ∷ y ∷ p) = x ∷ path_above (y ∷ p)
 
--- The place is out: it is not there, and the one above it is, or it has none.
+-- The node at the path is out, and the node above it is in, or it is the root.
 abbrev pub IsOut : Path → Nodes → Type 0
 IsOut [] n = n [] ≡ None
 IsOut (x ∷ p) n = (n (x ∷ p) ≡ None) × (is_some (n (path_above (x ∷ p))) ≡ true)
@@ -57,18 +58,18 @@ IsOut (x ∷ p) n = (n (x ∷ p) ≡ None) × (is_some (n (path_above (x ∷ p))
 -- flags
 abbrev pub standing_at : Path → Nodes → Standing
 standing_at (a ∷ v ∷ zero ∷ s ∷ _) n = record {
-  made = marks_made (n (volume a v));
-  sealed = marks_sealed (n (volume a v));
-  files = files_bits (n (logical a v));
+  made = node_made (n (volume a v));
+  sealed = node_sealed (n (volume a v));
+  files = node_files (n (logical a v));
 }
-standing_at (a ∷ v ∷ c ∷ []) n = record { made = marks_made (n (volume a v)); sealed = marks_sealed (n (volume a v)); files = 0 }
+standing_at (a ∷ v ∷ c ∷ []) n = record { made = node_made (n (volume a v)); sealed = node_sealed (n (volume a v)); files = 0 }
 standing_at _ n = record { made = false; sealed = false; files = 0 }
 
 -- These parcels, with this standing, were lent from a path: they are what was there, whole, and the rest stays.
 pub record LendsAt (g : Geometry) (p : Path) (t : Standing) (lent : Parcels) (old new : Nodes) : Type 0 where
   pub all_in : IsIn g p old
   pub fits : Fits g p lent
-  pub parcels : (q : Path) → old (p ++ q) ≡ in_parcels lent q
+  pub parcels : (q : Path) → old (p ++ q) ≡ parcels_nodes lent q
   pub standing : t ≡ standing_at p old
   pub shows : Shows g p t lent (tree_state g old)
   pub rest : TakesOut p old new
@@ -77,6 +78,6 @@ pub record LendsAt (g : Geometry) (p : Path) (t : Standing) (lent : Parcels) (ol
 pub record RestoresAt (g : Geometry) (p : Path) (parcels : Parcels) (old new : Nodes) : Type 0 where
   pub out : IsOut p old
   pub kind : IsKindOf p parcels
-  pub nodes : PutsBack p (in_parcels parcels) old new
-  -- what they show is the share there
-  pub share : (t : Standing) → AgreeOn g (begins p) (shown_state g p t parcels) (tree_state g new)
+  pub nodes : PutsBack p (parcels_nodes parcels) old new
+  -- what they show is the subtree there
+  pub subtree : (t : Standing) → AgreeOn g (is_prefix p) (shown_state g p t parcels) (tree_state g new)

@@ -1,27 +1,28 @@
--- Statement for engineers: One volume by what can be asked of it, and a state as one of these for each volume.
+-- Statement for engineers: One volume by what can be asked of it (its facts), and a state by the facts of each volume.
 use Rattle.std.specs.Prelude.{ℕ, Bool, true, false, ◌&&◌, ◌==◌, List, Option, None}
 use Rattle.messages.specs.declared.Block.{Block}
 use Rattle.meaning.specs.State.{State}
 
-pub record Facts : Type 0 where
+-- what one volume has
+pub record VolumeFacts : Type 0 where
   pub made : Bool
   pub sealed : Bool
   pub files : ℕ → Bool
   pub blocks : ℕ → ℕ → Option Block
   pub label : Option (List ℕ)
 
--- a volume of which nothing is there
-abbrev pub nothing : Facts
-nothing = record { made = false; sealed = false; files = λ f. false; blocks = λ f b. None; label = None }
+-- the facts of a volume of which nothing is there
+abbrev pub no_facts : VolumeFacts
+no_facts = record { made = false; sealed = false; files = λ f. false; blocks = λ f b. None; label = None }
 
 -- these facts where the test holds, else nothing
-abbrev pub facts_if : Bool → Facts → Facts
+abbrev pub facts_if : Bool → VolumeFacts → VolumeFacts
 facts_if true h = h
-facts_if false h = nothing
+facts_if false h = no_facts
 
--- the state in which volume v of aggregate a has these facts
-abbrev pub state_by : (ℕ → ℕ → Facts) → State
-state_by h = record {
+-- the state in which volume v of aggregate a has the facts h a v, for each a and v
+abbrev pub state_with : (ℕ → ℕ → VolumeFacts) → State
+state_with h = record {
   made = λ k. (h k.0 k.1).made;
   sealed = λ k. (h k.0 k.1).sealed;
   files = λ k. (h k.0 k.1).files k.2;
@@ -29,6 +30,6 @@ state_by h = record {
   labels = λ k. (h k.0 k.1).label;
 }
 
--- one volume has these facts, and the others have nothing
-abbrev pub only : ℕ → ℕ → Facts → State
-only a v h = state_by (λ x y. facts_if ((a == x) && (v == y)) h)
+-- the state in which volume v of aggregate a has these facts, and no other volume has anything
+abbrev pub one_volume : ℕ → ℕ → VolumeFacts → State
+one_volume a v h = state_with (λ x y. facts_if ((a == x) && (v == y)) h)

@@ -1,6 +1,6 @@
 //! A job: a message with the parcels that it runs on; and its result.
 ghost use Rattle.std.specs.Prelude.{◌≡◌};
-ghost use Rattle.parcel.specs.Fits.{Suits};
+ghost use Rattle.parcel.specs.Fits.{IsRunnable};
 
 use crate::{Parcels, Standing};
 use affinity::Geometry;
@@ -19,7 +19,7 @@ pub struct Job {
 
 impl Model for Job {
     ghost use Rattle.parcel.specs.Run.{JobView};
-    ghost use Rattle.parcel.specs.Fits.{Suits};
+    ghost use Rattle.parcel.specs.Fits.{IsRunnable};
 
     ghost Value = { JobView };
 
@@ -31,7 +31,7 @@ impl Model for Job {
       parcels = j.parcels;
     } };
 
-    ghost invariant = { λ j. Suits j.geometry j.message j.parcels };
+    ghost invariant = { λ j. IsRunnable j.geometry j.message j.parcels };
 }
 
 impl Job {
@@ -39,7 +39,7 @@ impl Job {
 
     /// The job of a message that is in range, on the parcels of its place, with what the message sees of those above.
     pub fn new(g: Geometry, ticket: u64, msg: Msg, s: Standing, p: Parcels) -> Job
-        requires { Suits g msg p }
+        requires { IsRunnable g msg p }
         ensures { result ≡ record { geometry = g; ticket = ticket; message = msg; standing = s; parcels = p } }
     {
         Job {

@@ -6,14 +6,14 @@ ghost use Rattle.affinity.specs.Interval.{IsPath};
 ghost use Rattle.affinity.specs.Path.{Path, are_related};
 ghost use Rattle.affinity.specs.declared.geometry.Geometry.{Geometry};
 ghost use Rattle.messages.specs.declared.Msg.{Msg};
-ghost use Rattle.messages.specs.Messages.{IsMessage, place};
+ghost use Rattle.messages.specs.Messages.{IsMessage, path_of};
 ghost use Rattle.meaning.specs.Laws.{outside};
 ghost use Rattle.meaning.specs.Serial.{next_state, reply_to};
-ghost use Rattle.meaning.specs.Shares.{AgreeOn, share, standing};
+ghost use Rattle.meaning.specs.Subtrees.{AgreeOn, subtree, standing};
 ghost use Rattle.meaning.specs.State.{State, IsState};
 ghost use Rattle.parcel.specs.Fits.{Fits, IsKindOf};
 ghost use Rattle.parcel.specs.Holding.{IsApart, IsJobOut, TreeHolds, nowhere, with_place};
-ghost use Rattle.parcel.specs.Nodes.{Nodes, in_parcels, tree_state, TakesOut, PutsBack};
+ghost use Rattle.parcel.specs.Nodes.{Nodes, parcels_nodes, tree_state, TakesOut, PutsBack};
 ghost use Rattle.parcel.specs.Run.{JobView, IsJobRun, IsSerialStep, Shows};
 ghost use Rattle.parcel.specs.RunLaws.{CanBeRestored, LendsJob, IsLentOf, IsSerialStepOf, LendsRunsRestores, job_place};
 ghost use Rattle.parcel.specs.Shown.{shown_state};
@@ -38,7 +38,7 @@ pub fn tree_agrees_elsewhere()
 
 /// Where parcels that fit are put back, nothing at their path or below it is out.
 pub fn restored_parcels_are_in()
-    ensures { (g : Geometry) (p : Path) (l : Parcels) (old new : Nodes) → PutsBack p (in_parcels l) old new → Fits g p l → (q : Path)
+    ensures { (g : Geometry) (p : Path) (l : Parcels) (old new : Nodes) → PutsBack p (parcels_nodes l) old new → Fits g p l → (q : Path)
         → IsPath g (p ++ q) → is_some (new (p ++ q)) ≡ true }
 {}
 
@@ -54,14 +54,14 @@ pub fn lent_run_and_restored_is_a_step()
         → IsMessage job.message → IsState job.geometry (tree_state job.geometry old) → IsState job.geometry (tree_state job.geometry new) }
 {}
 
-/// To show what a state has at a path, below it and above it, is to have its share and its standing
+/// To show what a state has at a path, below it and above it, is to have its subtree and its standing
 /// there.
-pub fn shown_is_share_and_standing()
-    ensures has_share { (g : Geometry) (p : Path) (t : Standing) (l : Parcels) (x : State) → Shows g p t l x
-        → share g p (shown_state g p t l) ≡ share g p x }
+pub fn shown_is_subtree_and_standing()
+    ensures has_subtree { (g : Geometry) (p : Path) (t : Standing) (l : Parcels) (x : State) → Shows g p t l x
+        → subtree g p (shown_state g p t l) ≡ subtree g p x }
     ensures has_standing { (g : Geometry) (p : Path) (t : Standing) (l : Parcels) (x : State) → Shows g p t l x
         → standing g p (shown_state g p t l) ≡ standing g p x }
-    ensures shows { (g : Geometry) (p : Path) (t : Standing) (l : Parcels) (x : State) → share g p (shown_state g p t l) ≡ share g p x
+    ensures shows { (g : Geometry) (p : Path) (t : Standing) (l : Parcels) (x : State) → subtree g p (shown_state g p t l) ≡ subtree g p x
         → standing g p (shown_state g p t l) ≡ standing g p x → Shows g p t l x }
 {}
 
@@ -77,10 +77,8 @@ pub fn lent_and_run_can_be_put_back()
 
 /// A tree of which nothing is out holds the state of its nodes, and no other.
 pub fn whole_tree_holds_its_state()
-    ensures start { (g : Geometry) (n : Nodes) (x : State) → IsIn g [] n → tree_state g n ≡ x →
-        IsState g x → TreeHolds g nowhere n x }
-    ensures whole { (g : Geometry) (n : Nodes) (x : State) → TreeHolds g nowhere n x →
-        IsIn g [] n × (tree_state g n ≡ x) }
+    ensures start { (g : Geometry) (n : Nodes) (x : State) → IsIn g [] n → tree_state g n ≡ x → IsState g x → TreeHolds g nowhere n x }
+    ensures whole { (g : Geometry) (n : Nodes) (x : State) → TreeHolds g nowhere n x → IsIn g [] n × (tree_state g n ≡ x) }
 {}
 
 /// Where a place is unrelated to all that is out of a tree that holds a state, the tree lends it:
@@ -102,7 +100,7 @@ pub fn place_apart_is_lent()
 /// A serial step at an unrelated place leaves what is out showing the new state.
 pub fn step_elsewhere_is_shown()
     ensures { (g : Geometry) (p : Path) (t : Standing) (l : Parcels) (x : State) (m : Msg) →
-        are_related p (place g m) ≡ false → Shows g p t l x → Shows g p t l (next_state g x m) }
+        are_related p (path_of g m) ≡ false → Shows g p t l x → Shows g p t l (next_state g x m) }
 {}
 
 /// A job whose parcels are out of a tree that holds a state, whatever else is out, can be put back

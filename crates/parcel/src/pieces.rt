@@ -6,9 +6,9 @@ ghost use Rattle.image.specs.Pieces.{piece_count, piece_of, piece_size, with_pie
 ghost use Rattle.meaning.specs.State.{State, IsState};
 ghost use Rattle.parcel.specs.Fits.{FitsAggregate, FitsRoot, FitsVolume};
 ghost use Rattle.parcel.specs.Fits.{IsWholeAggregate, IsWholeChild, IsWholeRoot, IsWholeVolume};
-ghost use Rattle.parcel.specs.Pieces.{HasFacts, IsPartRead, IsRead};
-ghost use Rattle.parcel.specs.Levels.{volume_below, volume_in};
-ghost use Rattle.parcel.specs.Nodes.{in_aggregate, in_child, in_root, in_volume};
+ghost use Rattle.parcel.specs.Pieces.{HasFacts, IsPieceOfVolumeRead, IsRead};
+ghost use Rattle.parcel.specs.Levels.{volume_below, volume_of_tree};
+ghost use Rattle.parcel.specs.Nodes.{aggregate_nodes, child_nodes, root_nodes, volume_nodes};
 ghost use Rattle.parcel.specs.Shown.{volume_facts};
 ghost use Rattle.parcel.specs.Tree.{IsWholeTree, state_in};
 
@@ -100,8 +100,8 @@ fn write_part(volume: &Vol, g: &Geometry, part: usize, out: &mut [u8])
 }
 
 /// Reads `bytes` into the tree as piece `n`, in place of what the tree has there. `BadPiece` exactly
-/// where they aren't piece `n`, in an image of version 2, of the state that results; what the tree has
-/// there is then unspecified. Nothing of the tree may be out, and before a volume's own piece is read
+/// where they differ from the encoding (in version 2 of an image) of what they decode to; what the tree
+/// has there is then unspecified. Nothing of the tree may be out, and before a volume's own piece is read
 /// the tree has no block of that volume.
 pub fn read_piece(t: &mut Tree, n: usize, bytes: &[u8]) -> Result<(), BadPiece>
     requires whole { IsWholeTree t.old }
@@ -116,7 +116,7 @@ pub fn read_piece(t: &mut Tree, n: usize, bytes: &[u8]) -> Result<(), BadPiece>
     ensures whole { OnOk result (IsWholeTree t.new) }
     ensures geometry { t.new.geometry ≡ t.old.geometry }
 {
-    read_version(t, VERSION, n, bytes)
+    read_piece_of_version(t, VERSION, n, bytes)
 }
 
 /// The same for an image of version 1, which has zeros instead of labels: each volume that is made
@@ -134,11 +134,11 @@ pub fn read_piece_1(t: &mut Tree, n: usize, bytes: &[u8]) -> Result<(), BadPiece
     ensures whole { OnOk result (IsWholeTree t.new) }
     ensures geometry { t.new.geometry ≡ t.old.geometry }
 {
-    read_version(t, FIRST_VERSION, n, bytes)
+    read_piece_of_version(t, FIRST_VERSION, n, bytes)
 }
 
 // Takes in bytes as piece `n` of an image of a version.
-fn read_version(t: &mut Tree, version: u8, n: usize, bytes: &[u8]) -> Result<(), BadPiece>
+fn read_piece_of_version(t: &mut Tree, version: u8, n: usize, bytes: &[u8]) -> Result<(), BadPiece>
     requires whole { IsWholeTree t.old }
     requires piece { n < piece_count t.old.geometry }
     requires size { length bytes.now ≡ piece_size t.old.geometry n }
@@ -159,7 +159,8 @@ fn read_version(t: &mut Tree, version: u8, n: usize, bytes: &[u8]) -> Result<(),
     Ok(())
 }
 
-// Takes in bytes as a piece of what lies in the tree, and returns whether they are good.
+// Takes in bytes as a piece of what lies in the tree, and returns whether they are good. (`child_nodes root_nodes t` are the nodes of the
+// tree by their paths, `volume_of_tree t a v` is its volume v of aggregate a.)
 fn read_in_root(
     tree: &mut Option<Root>,
     g: &Geometry,
@@ -175,8 +176,8 @@ fn read_in_root(
     requires size { length bytes.now ≡ piece_part_size g.now place.part }
     ensures fits { IfSome tree.new (FitsRoot g.now) }
     ensures read { IsRead version g.now place.part bytes.now result
-        (place.aggregate ∷ place.volume ∷ []) (volume_in tree.old place.aggregate place.volume)
-        (in_child in_root tree.old) (in_child in_root tree.new) }
+        (place.aggregate ∷ place.volume ∷ []) (volume_of_tree tree.old place.aggregate place.volume)
+        (child_nodes root_nodes tree.old) (child_nodes root_nodes tree.new) }
 {
     match tree {
         Some(root) => read_in_aggregate(
@@ -206,7 +207,7 @@ fn read_in_aggregate(
     ensures fits { IfSome at.new (FitsAggregate g.now) }
     ensures read { IsRead version g.now place.part bytes.now result
         (place.volume ∷ []) (volume_below at.old place.volume)
-        (in_child in_aggregate at.old) (in_child in_aggregate at.new) }
+        (child_nodes aggregate_nodes at.old) (child_nodes aggregate_nodes at.new) }
 {
     match at {
         Some(aggregate) => read_in_volume(
@@ -234,7 +235,7 @@ fn read_in_volume(
     requires size { length bytes.now ≡ piece_part_size g.now part }
     ensures fits { IfSome at.new (FitsVolume g.now) }
     ensures read { IsRead version g.now part bytes.now result
-        [] at.old (in_child in_volume at.old) (in_child in_volume at.new) }
+        [] at.old (child_nodes volume_nodes at.old) (child_nodes volume_nodes at.new) }
 {
     match at {
         Some(volume) => read_part(volume, g, part, version, bytes),
@@ -248,7 +249,7 @@ fn read_part(volume: &mut Vol, g: &Geometry, part: usize, version: u8, bytes: &[
     requires whole { IsWholeVolume volume.old }
     requires part { part ≤ g.now.stripes }
     requires size { length bytes.now ≡ piece_part_size g.now part }
-    ensures { IsPartRead version g.now part bytes.now result volume.old volume.new }
+    ensures { IsPieceOfVolumeRead version g.now part bytes.now result volume.old volume.new }
 {
     if part == 0 {
         return read_volume(volume, g, version, bytes);

@@ -1,7 +1,7 @@
 //! Runs a message on its parcels: for each kind a small function at the level where it runs.
 
-ghost use Rattle.messages.specs.Messages.{place};
-ghost use Rattle.parcel.specs.Fits.{Suits};
+ghost use Rattle.messages.specs.Messages.{path_of};
+ghost use Rattle.parcel.specs.Fits.{IsRunnable};
 ghost use Rattle.parcel.specs.Run.{IsJobRun, IsSerialStep};
 ghost use Rattle.parcel.specs.Shown.{shown_state};
 
@@ -49,10 +49,10 @@ pub fn run(job: Job) -> Done
 // Runs a message on the parcels of its place, and gives its reply.
 #[inline(never)]
 fn run_on(parcels: &mut Parcels, g: &Geometry, standing: Standing, message: &Msg) -> Reply
-    requires { Suits g.now message.now parcels.old }
-    ensures step { IsSerialStep g.now (shown_state g.now (place g.now message.now) standing parcels.old) message.now result
-        (shown_state g.now (place g.now message.now) standing parcels.new) }
-    ensures suits { Suits g.now message.now parcels.new }
+    requires { IsRunnable g.now message.now parcels.old }
+    ensures step { IsSerialStep g.now (shown_state g.now (path_of g.now message.now) standing parcels.old) message.now result
+        (shown_state g.now (path_of g.now message.now) standing parcels.new) }
+    ensures runnable { IsRunnable g.now message.now parcels.new }
 {
     match parcels {
         Parcels::Root(root) => run_at_root(root, g, message),

@@ -5,7 +5,7 @@ ghost use Rattle.affinity.specs.Path.{Path};
 ghost use Rattle.meaning.specs.State.{empty};
 ghost use Rattle.parcel.specs.Fits.{Fits, IsKindOf};
 ghost use Rattle.parcel.specs.Nodes.{SameNodes};
-ghost use Rattle.parcel.specs.Tree.{TreeView, in_tree, state_in, IsIn, HasGap, IsOut, LendsAt, RestoresAt};
+ghost use Rattle.parcel.specs.Tree.{TreeView, tree_nodes, state_in, IsIn, HasGap, IsOut, LendsAt, RestoresAt};
 
 use crate::parts::{new_root, put_at, standing_at, take_at};
 use crate::{Parcels, Root, Standing};
@@ -35,7 +35,7 @@ impl Tree {
     pub fn new(alloc: Global, g: Geometry) -> Result<Tree, AllocError>
         ensures geometry { IfOk result (λ t. t.geometry ≡ g) }
         ensures empty { IfOk result (λ t. state_in t ≡ empty) }
-        ensures all_in { IfOk result (λ t. IsIn g [] (in_tree t)) }
+        ensures all_in { IfOk result (λ t. IsIn g [] (tree_nodes t)) }
     {
         let root = new_root(alloc, &g)?;
         Ok(Tree {
@@ -58,9 +58,9 @@ impl Tree {
         requires affinity { IsAffinity self.old.geometry a }
         ensures geometry { self.new.geometry ≡ self.old.geometry }
         ensures none { IfNone result ((p : Path) → IsAffinityOf self.old.geometry p a →
-            HasGap self.old.geometry p (in_tree self.old) × SameNodes (in_tree self.old) (in_tree self.new)) }
+            HasGap self.old.geometry p (tree_nodes self.old) × SameNodes (tree_nodes self.old) (tree_nodes self.new)) }
         ensures some { IfSome result (λ r. (p : Path) → IsAffinityOf self.old.geometry p a →
-            LendsAt self.old.geometry p r.0 r.1 (in_tree self.old) (in_tree self.new)) }
+            LendsAt self.old.geometry p r.0 r.1 (tree_nodes self.old) (tree_nodes self.new)) }
     {
         let g = self.geometry;
         let place = a.place(&g);
@@ -70,18 +70,18 @@ impl Tree {
     }
 
     /// Puts parcels back at an affinity of the tree's geometry. Where they are of the affinity's kind, they have to be whole and of this
-    /// geometry. They come back where that place isn't out, or the node above it is out too, and where they are of another kind: then
-    /// nothing changes.
+    /// geometry. They are handed back as `Err`, and nothing changes, where what lies there isn't out, where the node above it is out too,
+    /// or where they are of another kind.
     pub fn restore(&mut self, a: Affinity, p: Parcels) -> Result<(), Parcels>
         requires affinity { IsAffinity self.old.geometry a }
         requires fits { (q : Path) → IsAffinityOf self.old.geometry q a → IsKindOf q p → Fits self.old.geometry q p }
         ensures geometry { self.new.geometry ≡ self.old.geometry }
         ensures ok { OnOk result ((q : Path) → IsAffinityOf self.old.geometry q a →
-            RestoresAt self.old.geometry q p (in_tree self.old) (in_tree self.new)) }
+            RestoresAt self.old.geometry q p (tree_nodes self.old) (tree_nodes self.new)) }
         ensures back { IfErr result (λ back. back ≡ p) }
         ensures err { IfErr result (λ back. (q : Path) → IsAffinityOf self.old.geometry q a →
-            IsOut q (in_tree self.old) → IsKindOf q p → ⊥) }
-        ensures same { IfErr result (λ back. SameNodes (in_tree self.old) (in_tree self.new)) }
+            IsOut q (tree_nodes self.old) → IsKindOf q p → ⊥) }
+        ensures same { IfErr result (λ back. SameNodes (tree_nodes self.old) (tree_nodes self.new)) }
     {
         let g = self.geometry;
         let place = a.place(&g);

@@ -55,7 +55,7 @@ pub fn checks(rt: &impl Abort, name: &str, arena: &mut Arena<char>, calls: &[Cal
     }
 }
 
-/// An arena. Where memory is refused once, the same call gives it.
+/// An arena. If memory is refused, the call is made once more, and has to succeed then: `tests/run calls` refuses requests.
 pub fn made(alloc: Global, slots: usize, chains: usize) -> Result<Arena<char>, AllocError>
     requires { slots + chains < usize.MAX }
 {

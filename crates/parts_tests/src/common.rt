@@ -1,4 +1,4 @@
-//! What tests share: assertions that are called with rows.
+//! What tests share: assertions, called for each row of a test's table: as functions they are proved once.
 
 use std::process::Abort;
 

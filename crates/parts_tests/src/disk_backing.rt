@@ -4,7 +4,7 @@ ghost use Rattle.disk.specs.BackingFile.{device_result};
 
 use crate::common::{holds, same};
 use crate::disk_calls::{Call, FAULT, FINE, OUTSIDE, answers, expect};
-use crate::disk_files::Place;
+use crate::disk_files::TestFile;
 use disk::{BackingFile, Disk, DiskFault, FileBacked, HostFile, MemDisk};
 use std::alloc::{AllocError, Global};
 use std::fs::{File, Metadata, OpenFile, OpenOptions};
@@ -153,7 +153,7 @@ const ANSWERS: [Result<(), DiskFault>; 7] = [FINE, FINE, FINE, OUTSIDE, FINE, FI
 /// The system may transfer less than it was asked, and may be interrupted.
 #[test]
 fn what_a_file_transfers_in_parts_is_whole(rt: HostRuntime) -> Result<(), Fail> {
-    let place = Place::new(&rt, "parts")?;
+    let place = TestFile::new(&rt, "parts")?;
     place.write(&rt, b"000000000000")?;
     let file = OpenOptions::new()
         .read(true)
@@ -166,7 +166,7 @@ fn what_a_file_transfers_in_parts_is_whole(rt: HostRuntime) -> Result<(), Fail> 
         calls,
         syncs: &syncs,
     };
-    let mut disk = FileBacked::new(HostFile::synced(file, 12));
+    let mut disk = FileBacked::new(HostFile::opened_synced(file, 12));
     expect(&rt, rt.alloc(), &mut disk, &CALLS, &ANSWERS)?;
     same(&rt, &place.read(&rt)?, b"0abcdefgh00z");
     let mut whole = [0; 12];
@@ -179,7 +179,7 @@ fn what_a_file_transfers_in_parts_is_whole(rt: HostRuntime) -> Result<(), Fail> 
 
 #[test]
 fn a_call_that_is_refused_is_a_fault(rt: HostRuntime) -> Result<(), Fail> {
-    let mut disk = FileBacked::new(HostFile::synced(Refusing, 12));
+    let mut disk = FileBacked::new(HostFile::opened_synced(Refusing, 12));
     let wanted = [FAULT, FAULT, FAULT, OUTSIDE, FAULT, FAULT, FAULT];
     Ok(expect(&rt, rt.alloc(), &mut disk, &CALLS, &wanted)?)
 }

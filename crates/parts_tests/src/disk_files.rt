@@ -9,13 +9,13 @@ use std::test::Fail;
 
 /// A new, empty folder, and the path of a file in it.
 #[derive(Drop)]
-pub(crate) struct Place {
+pub(crate) struct TestFile {
     folder: String,
     path: String,
 }
 
-impl Place {
-    pub(crate) fn new(rt: &HostRuntime, name: &str) -> Result<Place, Fail> {
+impl TestFile {
+    pub(crate) fn new(rt: &HostRuntime, name: &str) -> Result<TestFile, Fail> {
         let id = process::id(rt.process());
         let folder = format!(in rt.alloc(); "/tmp/parts_tests_{name}_{id}")?;
         if fs::exists(rt, folder.as_str())? {
@@ -23,7 +23,7 @@ impl Place {
         }
         fs::create_dir(rt, folder.as_str())?;
         let path = format!(in rt.alloc(); "{folder}/device")?;
-        Ok(Place { folder, path })
+        Ok(TestFile { folder, path })
     }
 
     /// Puts these bytes into the file.
@@ -88,7 +88,7 @@ const ANSWERS: [Result<(), DiskFault>; 8] = [
 
 #[test]
 fn a_file_holds_what_was_written(rt: HostRuntime) -> Result<(), Fail> {
-    let place = Place::new(&rt, "written")?;
+    let place = TestFile::new(&rt, "written")?;
     place.write(&rt, b"something else that was there")?;
     let mut disk = place.create(&rt, 12)?;
     expect(&rt, rt.alloc(), &mut disk, &CALLS, &ANSWERS)?;
@@ -114,7 +114,7 @@ const SHORT_READS: [Call; 4] = [
 
 #[test]
 fn a_file_that_ends_early_is_a_fault(rt: HostRuntime) -> Result<(), Fail> {
-    let place = Place::new(&rt, "short")?;
+    let place = TestFile::new(&rt, "short")?;
     let mut disk = place.create(&rt, 8)?;
     place.write(&rt, b"\0\0\0\0\0\0")?;
     let wanted = [FAULT, FINE, FAULT, OUTSIDE];
@@ -126,9 +126,9 @@ fn a_file_that_ends_early_is_a_fault(rt: HostRuntime) -> Result<(), Fail> {
 
 #[test]
 fn what_the_system_refuses_is_a_fault(rt: HostRuntime) -> Result<(), Fail> {
-    let place = Place::new(&rt, "refused")?;
+    let place = TestFile::new(&rt, "refused")?;
     let below = format!(in rt.alloc(); "{}/missing/device", place.folder)?;
-    // There is no such file, nor such a folder, and a folder is no file.
+    // There is no such file, nor such a folder, and neither a folder nor `/dev/null` is a regular file.
     is_fault(&rt, place.open(&rt));
     is_fault(&rt, FileDisk::open(&rt, below.as_str()));
     is_fault(&rt, FileDisk::open(&rt, place.folder.as_str()));
@@ -143,7 +143,7 @@ fn what_the_system_refuses_is_a_fault(rt: HostRuntime) -> Result<(), Fail> {
     place.remove(&rt)
 }
 
-/// Writes that leave a device of four bytes.
+/// Writes that reach past the end of a device of four bytes.
 const OUTSIDE_WRITES: [Call; 4] = [
     Call::Write(3, b"xy"),
     Call::Write(4, b"x"),
@@ -151,10 +151,10 @@ const OUTSIDE_WRITES: [Call; 4] = [
     Call::Write(9, b"x"),
 ];
 
-/// Each write leaves the device: it is refused, and the file keeps its bytes and its length.
+/// Each write reaches past the end: it is refused, and the file keeps its bytes and its length.
 #[test]
-fn a_write_out_of_range_leaves_the_file(rt: HostRuntime) -> Result<(), Fail> {
-    let place = Place::new(&rt, "outside")?;
+fn a_write_out_of_range_changes_nothing(rt: HostRuntime) -> Result<(), Fail> {
+    let place = TestFile::new(&rt, "outside")?;
     place.write(&rt, b"kept")?;
     let mut disk = place.open(&rt)?;
     expect(&rt, rt.alloc(), &mut disk, &OUTSIDE_WRITES, &[OUTSIDE; 4])?;
@@ -182,7 +182,7 @@ const READ_ONLY_CALLS: [Call; 4] = [
 /// Also the administrator, whom no permission keeps from writing, writes nothing.
 #[test]
 fn a_file_opened_for_reading_takes_no_write(rt: HostRuntime) -> Result<(), Fail> {
-    let place = Place::new(&rt, "for_reading")?;
+    let place = TestFile::new(&rt, "for_reading")?;
     place.write(&rt, b"kept")?;
     fs::set_permissions(&rt, place.path.as_str(), Permissions::from_mode(0o444))?;
     let mut disk = place.open_read_only(&rt)?;
@@ -207,7 +207,7 @@ fn a_file_opened_for_reading_is_not_synced(rt: HostRuntime) {
 
 #[test]
 fn a_read_only_file_is_a_fault(rt: HostRuntime) -> Result<(), Fail> {
-    let place = Place::new(&rt, "read_only")?;
+    let place = TestFile::new(&rt, "read_only")?;
     place.write(&rt, b"kept")?;
     fs::set_permissions(&rt, place.path.as_str(), Permissions::from_mode(0o444))?;
     // The administrator may write such a file.

@@ -1,5 +1,5 @@
 //! What each kind of crash leaves.
-ghost use Rattle.disk.specs.Torn.{HasBytes};
+ghost use Rattle.disk.specs.Torn.{HasPattern};
 
 use crate::common::same;
 use crate::disk_calls::{Call, answers};
@@ -9,7 +9,7 @@ use std::process::Abort;
 use std::test::Fail;
 
 /// A device after some calls: which of them fails, if one does, what a read gives, and what each kind of crash
-/// leaves. `Mixed` puts 1, 77, 1.
+/// leaves. `Mixed` puts 1, 77, 1, and again, at the unsynced bytes in order.
 #[derive(Drop)]
 struct Row {
     calls: &'static [Call],
@@ -86,7 +86,7 @@ fn leaves(
     torn: Torn,
     want: &[u8],
 ) -> Result<(), AllocError>
-    requires { HasBytes torn }
+    requires { HasPattern torn }
 {
     let disk = device_of(alloc, row)?.crash(torn);
     same(rt, disk.bytes(), want);

@@ -14,7 +14,7 @@ mod disk_calls;
 #[cfg(test)]
 mod disk_files;
 #[cfg(test)]
-mod disk_fuses;
+mod disk_injected_faults;
 #[cfg(test)]
 mod disk_tearing;
 #[cfg(test)]

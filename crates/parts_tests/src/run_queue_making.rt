@@ -8,29 +8,30 @@ use run_queue::{QueuedMessage, RunQueue};
 use std::alloc::{AllocError, Global};
 use std::test::Fail;
 
-// A run queue of three slots. Where memory is refused once, the same call gives it.
+// A run queue of three slots. If memory is refused, the call is made once more, and has to succeed then: `tests/run calls`
+// refuses requests.
 fn made(alloc: Global, g: &Geometry) -> Result<RunQueue, AllocError>
-    ensures { IfOk result (λ messages. messages ≡ queue_at_start g.now 3) }
+    ensures { IfOk result (λ run_queue. run_queue ≡ queue_at_start g.now 3) }
 {
     match RunQueue::new(alloc, g, 3) {
-        Ok(messages) => Ok(messages),
+        Ok(run_queue) => Ok(run_queue),
         Err(_) => RunQueue::new(alloc, g, 3),
     }
 }
 
 /// It passes too where any one request for memory is refused.
 #[test]
-fn turns_are_made_at_the_next_try(rt: HostRuntime) -> Result<(), Fail> {
+fn a_run_queue_is_made_at_the_next_try(rt: HostRuntime) -> Result<(), Fail> {
     let g = Geometry::default();
-    let mut messages = made(rt.alloc(), &g)?;
+    let mut run_queue = made(rt.alloc(), &g)?;
     let queued = &QueuedMessage {
         slot: 2,
         affinity: Affinity::at(&g, Place::Serial),
         changing: true,
         ticket: 0,
     };
-    holds(&rt, messages.next(true).is_none());
-    messages.arrive(*queued);
-    holds(&rt, messages.next(true) == Some(*queued));
+    holds(&rt, run_queue.next(true).is_none());
+    run_queue.arrive(*queued);
+    holds(&rt, run_queue.next(true) == Some(*queued));
     Ok(())
 }

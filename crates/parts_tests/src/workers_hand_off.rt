@@ -31,10 +31,10 @@ const STRIDE: u64 = 65;
 /// How often two jobs are offered while one worker may spin and the other sleeps.
 const MEETINGS: u64 = 500;
 
-/// How many rounds of a spin loop a worker takes to go to sleep.
+/// How many looks the test pauses so that an idle worker is asleep: more than the 2,048 that one spins.
 const LONG_PAUSE: u64 = 5_000;
 
-/// The rounds that pass before the two jobs are offered are fewer, since a worker begins to spin just then.
+/// The pause before the two jobs are offered has fewer looks than this, so that the worker that just ended a job still spins.
 const SHORT_PAUSES: u64 = 50;
 
 // A message of each kind.
@@ -110,7 +110,7 @@ fn collect(bench: &Bench, dispatch_seat: &mut DispatchSeat, k: usize) -> Option<
     None
 }
 
-// Whether the job of a ticket is handed back by a place where something is lent.
+// Whether the job of a ticket is handed back by a place that isn't free.
 fn is_handed_back(
     bench: &Bench,
     dispatch_seat: &mut DispatchSeat,
@@ -229,7 +229,7 @@ impl<'c> DispatcherTask<Result<Option<(u64, Reply)>, Fail>> for RoundTrip<'c> {
     }
 }
 
-// Where it isn't released this doesn't end.
+// If `with_workers` doesn't stop the worker once the task is done, this doesn't end.
 #[test]
 fn a_task_is_done_beside_a_worker(rt: HostRuntime) -> Result<(), Fail> {
     let alloc = rt.alloc();
@@ -414,7 +414,7 @@ fn all_meetings(
     Ok(true)
 }
 
-// The most rounds or meetings at a bench, where `BENCH_ROUNDS` in the environment sets how many.
+// The most rounds or meetings that a test makes: `BENCH_ROUNDS` of the environment, else no limit.
 fn most_rounds<R: Env + Alloc>(rt: &R) -> u64 {
     match env::var(rt, "BENCH_ROUNDS") {
         Ok(text) => text.as_str().parse::<u64>().unwrap_or(u64::MAX),

@@ -10,7 +10,7 @@ use Rattle.std.proofs.lemmas.Bool.{or_left, or_right}
 use Rattle.std.proofs.lemmas.Map.Keys.{IsDistinct-from_sorted, IsDistinct-head, IsDistinct-tail}
 use Rattle.affinity.specs.declared.geometry.Geometry.{Geometry}
 use Rattle.meaning.specs.State.{VolumeKey, FileKey, BlockKey, sum_below, one_if, is_volume, is_file, is_block}
-use Rattle.meaning.specs.KeyOrders.{volume_order, by_block}
+use Rattle.meaning.specs.KeyOrders.{volume_order, block_order}
 use Rattle.meaning.proofs.Keys.{at_volume, at_block, the_volume, the_block, picks_volume, picks_block}
 use Rattle.plain.proofs.Walks.{total}
 use Rattle.meaning.proofs.Sums.{sum_same, sum_below-add, sum_zero, sum_pick}
@@ -113,8 +113,8 @@ as_many (e ∷ es) = let rest = as_many es in omega (arith, rest)
 
 -- ---- the keys of a server
 
-abbrev pub over_volumes : Geometry → (VolumeKey → ℕ) → ℕ
-over_volumes g f = sum_below g.aggregates (λ a. sum_below g.volumes (λ v. f (a, v)))
+abbrev pub sum_over_volumes : Geometry → (VolumeKey → ℕ) → ℕ
+sum_over_volumes g f = sum_below g.aggregates (λ a. sum_below g.volumes (λ v. f (a, v)))
 
 abbrev pub over_blocks : Geometry → (BlockKey → ℕ) → ℕ
 over_blocks g f = sum_below g.aggregates (λ a. sum_below g.volumes (λ v. sum_below g.files (λ n. sum_below g.blocks (λ b. f (a, v, n, b)))))
@@ -129,7 +129,7 @@ abbrev pub IsBlockIn : Geometry → BlockKey → Type 0
 IsBlockIn g k = (k.0 < g.aggregates) × (k.1 < g.volumes) × (k.2 < g.files) × (k.3 < g.blocks)
 
 module _ (g : Geometry) where
-  one_volume : (e : VolumeKey) → IsVolumeIn g e → over_volumes g (λ k. one_if (is_volume k.0 k.1 e)) ≡ 1
+  one_volume : (e : VolumeKey) → IsVolumeIn g e → sum_over_volumes g (λ k. one_if (is_volume k.0 k.1 e)) ≡ 1
   one_volume e h = sum_same g.aggregates _ _ (λ a. sum_pick g.volumes e.1 h.1 (a == e.0)) ∙ sum_pick g.aggregates e.0 h.0 true
 
   one_file : (e : FileKey) → IsFileIn g e → sum_below g.aggregates (λ a. sum_below g.volumes (λ v. sum_below g.files (λ f. one_if (is_file a v f e)))) ≡ 1
@@ -140,16 +140,16 @@ module _ (g : Geometry) where
       (λ v. sum_same g.files _ _ (λ f. sum_pick g.blocks e.3 h.3 ((a == e.0) && (v == e.1) && (f == e.2)))))
       ∙ one_file (e.0, e.1, e.2) (h.0, h.1, h.2)
 
-  volumes : IsWhole (eq_by_cmp volume_order) (IsVolumeIn g) (over_volumes g)
+  volumes : IsWhole (eq_by_cmp volume_order) (IsVolumeIn g) (sum_over_volumes g)
   volumes = record {
     nothing = sum_same g.aggregates _ _ (λ a. sum_zero g.volumes) ∙ sum_zero g.aggregates;
     adds = λ f h. sum_same g.aggregates _ _ (λ a. sum_below-add g.volumes (λ v. f (a, v)) (λ v. h (a, v))) ∙ sum_below-add g.aggregates _ _;
-    once = λ e h. (λ i. over_volumes g (λ k. one_if (at_volume k.0 k.1 e i))) ∙ one_volume e h;
+    once = λ e h. (λ i. sum_over_volumes g (λ k. one_if (at_volume k.0 k.1 e i))) ∙ one_volume e h;
     itself = λ k. at_volume k.0 k.1 k ∙ picks_volume k.0 k.1;
     exact = λ j k e. the_volume j.0 j.1 k (sym (at_volume j.0 j.1 k) ∙ e);
   }
 
-  blocks : IsWhole (eq_by_cmp by_block) (IsBlockIn g) (over_blocks g)
+  blocks : IsWhole (eq_by_cmp block_order) (IsBlockIn g) (over_blocks g)
   blocks = record {
     nothing = sum_same g.aggregates _ _ (λ a. sum_same g.volumes _ _ (λ v. sum_same g.files _ _ (λ f. sum_zero g.blocks) ∙ sum_zero g.files) ∙ sum_zero g.volumes) ∙ sum_zero g.aggregates;
     adds = λ f h. sum_same g.aggregates _ _ (λ a. sum_same g.volumes _ _
@@ -162,23 +162,23 @@ module _ (g : Geometry) where
 
   -- a map of volumes and one of blocks have as many keys as look-ups that find something
   pub volumes_length : {X : Type 0} (m : BTreeMap VolumeKey X) → map.IsOrdered volume_order m → ((k : VolumeKey) → is_some (map.get volume_order m k) ≡ true → IsVolumeIn g k)
-      → over_volumes g (λ k. one_if (is_some (map.get volume_order m k))) ≡ map.btree_map_len m
+      → sum_over_volumes g (λ k. one_if (is_some (map.get volume_order m k))) ≡ map.btree_map_len m
   volumes_length m o h =
-      (λ i. over_volumes g (λ k. one_if (found (is_at (volume_order k)) m.entries i)))
-      ∙ counted (eq_by_cmp volume_order) (IsVolumeIn g) (over_volumes g) volumes (map.keys m)
+      (λ i. sum_over_volumes g (λ k. one_if (found (is_at (volume_order k)) m.entries i)))
+      ∙ counted (eq_by_cmp volume_order) (IsVolumeIn g) (sum_over_volumes g) volumes (map.keys m)
       (IsDistinct-from_sorted volume_order (map.keys m) o) (λ k e. h k (found (is_at (volume_order k)) m.entries ∙ e))
       ∙ as_many m.entries
 
-  pub blocks_length : {X : Type 0} (m : BTreeMap BlockKey X) → map.IsOrdered by_block m → ((k : BlockKey) → is_some (map.get by_block m k) ≡ true → IsBlockIn g k)
-      → over_blocks g (λ k. one_if (is_some (map.get by_block m k))) ≡ map.btree_map_len m
+  pub blocks_length : {X : Type 0} (m : BTreeMap BlockKey X) → map.IsOrdered block_order m → ((k : BlockKey) → is_some (map.get block_order m k) ≡ true → IsBlockIn g k)
+      → over_blocks g (λ k. one_if (is_some (map.get block_order m k))) ≡ map.btree_map_len m
   blocks_length m o h =
-      (λ i. over_blocks g (λ k. one_if (found (is_at (by_block k)) m.entries i)))
-      ∙ counted (eq_by_cmp by_block) (IsBlockIn g) (over_blocks g) blocks (map.keys m) (IsDistinct-from_sorted by_block (map.keys m) o) (λ k e. h k (found (is_at (by_block k)) m.entries ∙ e))
+      (λ i. over_blocks g (λ k. one_if (found (is_at (block_order k)) m.entries i)))
+      ∙ counted (eq_by_cmp block_order) (IsBlockIn g) (over_blocks g) blocks (map.keys m) (IsDistinct-from_sorted block_order (map.keys m) o) (λ k e. h k (found (is_at (block_order k)) m.entries ∙ e))
       ∙ as_many m.entries
 
   -- what the values of a map of volumes are worth adds up to what is found at each key
   pub volumes_worth : {X : Type 0} (worth : X → ℕ) (m : BTreeMap VolumeKey X) → map.IsOrdered volume_order m → ((k : VolumeKey) → is_some (map.get volume_order m k) ≡ true → IsVolumeIn g k)
-      → over_volumes g (λ k. found_worth worth (map.get volume_order m k)) ≡ total worth (map.values m)
+      → sum_over_volumes g (λ k. found_worth worth (map.get volume_order m k)) ≡ total worth (map.values m)
   volumes_worth worth m o h =
-      weighed (eq_by_cmp volume_order) (IsVolumeIn g) (over_volumes g) volumes worth m.entries (IsDistinct-from_sorted volume_order (map.keys m) o)
+      weighed (eq_by_cmp volume_order) (IsVolumeIn g) (sum_over_volumes g) volumes worth m.entries (IsDistinct-from_sorted volume_order (map.keys m) o)
       (λ k e. h k (found (is_at (volume_order k)) m.entries ∙ e))

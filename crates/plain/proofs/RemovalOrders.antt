@@ -11,7 +11,7 @@ use Rattle.std.specs.BTreeMap.{BTreeMap}
 use Rattle.std.specs.BTreeMap.Range.{IsLeBy, IsRangeOf}
 use Rattle.std.proofs.lemmas.Bool.{true≢false, false_from_ne_true}
 use Rattle.meaning.specs.State.{VolumeKey, FileKey, BlockKey, is_block_of, is_block_of_file}
-use Rattle.meaning.specs.KeyOrders.{volume_order, by_file, by_block}
+use Rattle.meaning.specs.KeyOrders.{volume_order, file_order, block_order}
 use Rattle.meaning.proofs.Keys.{at_volume, at_file, the_volume, the_file}
 
 -- ---- an order by a first part, and then by a second one
@@ -42,29 +42,29 @@ from_tied Greater n e = absurd (true≢false (sym e))
 volume_total : IsTotalOrder volume_order
 volume_total = then_total (on_total (λ (k : VolumeKey). k.0) nat_cmp_total) (on_total (λ (k : VolumeKey). k.1) nat_cmp_total)
 
-file_total : IsTotalOrder by_file
+file_total : IsTotalOrder file_order
 file_total = then_total (on_total (λ (k : FileKey). (k.0, k.1)) volume_total) (on_total (λ (k : FileKey). k.2) nat_cmp_total)
 
 -- ---- the blocks of a file
 
--- the first key that a file can have is up to each block of the file
-first_of_file : (a v f : ℕ) (q : BlockKey) → is_block_of_file a v f q ≡ true → IsLeBy by_block (a, v, f, 0) q
-first_of_file a v f q e = from_tied (by_file (a, v, f) (q.0, q.1, q.2)) q.3 (at_file a v f (q.0, q.1, q.2) ∙ e)
+-- the first key that a file can have is at most the key of each block of the file
+first_of_file : (a v f : ℕ) (q : BlockKey) → is_block_of_file a v f q ≡ true → IsLeBy block_order (a, v, f, 0) q
+first_of_file a v f q e = from_tied (file_order (a, v, f) (q.0, q.1, q.2)) q.3 (at_file a v f (q.0, q.1, q.2) ∙ e)
 
 -- a key between the two is a block of the file
-within_file : (a v f : ℕ) (k q : BlockKey) → IsLeBy by_block (a, v, f, 0) k → IsLeBy by_block k q → is_block_of_file a v f q ≡ true → is_block_of_file a v f k ≡ true
+within_file : (a v f : ℕ) (k q : BlockKey) → IsLeBy block_order (a, v, f, 0) k → IsLeBy block_order k q → is_block_of_file a v f q ≡ true → is_block_of_file a v f k ≡ true
 within_file a v f k q from to e =
     let here : FileKey = (k.0, k.1, k.2) in
-    let after = first_part (by_file (a, v, f) here) (nat_cmp 0 k.3) from in
-    let before = subst (λ (p : FileKey). is_gt (by_file here p) ≡ false) (sym (the_file a v f (q.0, q.1, q.2) e)) (first_part (by_file here (q.0, q.1, q.2)) (nat_cmp k.3 q.3) to) in
-    sym (at_file a v f here) ∙ both_ways (by_file (a, v, f) here) (by_file here (a, v, f)) (file_total.antisymm (a, v, f) here) after before
+    let after = first_part (file_order (a, v, f) here) (nat_cmp 0 k.3) from in
+    let before = subst (λ (p : FileKey). is_gt (file_order here p) ≡ false) (sym (the_file a v f (q.0, q.1, q.2) e)) (first_part (file_order here (q.0, q.1, q.2)) (nat_cmp k.3 q.3) to) in
+    sym (at_file a v f here) ∙ both_ways (file_order (a, v, f) here) (file_order here (a, v, f)) (file_total.antisymm (a, v, f) here) after before
 
 -- where the first key from there on is no block of the file, the file has none
 pub no_block_of_file : {X : Type 0} (m : BTreeMap BlockKey X) {r rest : List (BlockKey × X)} {a v f : ℕ} {k : BlockKey} {x : X}
-    → IsRangeOf by_block (Included (a, v, f, 0)) Unbounded m r → r ≡ (k, x) ∷ rest
-    → (◌≡◌ {A = FileKey} (a, v, f) (k.0, k.1, k.2) → ⊥) → (q : BlockKey) → is_block_of_file a v f q ≡ true → is_some (map.get by_block m q) ≡ false
+    → IsRangeOf block_order (Included (a, v, f, 0)) Unbounded m r → r ≡ (k, x) ∷ rest
+    → (◌≡◌ {A = FileKey} (a, v, f) (k.0, k.1, k.2) → ⊥) → (q : BlockKey) → is_block_of_file a v f q ≡ true → is_some (map.get block_order m q) ≡ false
 no_block_of_file m {a = a} {v} {f} {k} h e other q of = false_from_ne_true _ (λ there.
-    let at = subst (IsRangeOf by_block (Included (a, v, f, 0)) Unbounded m) e h in
+    let at = subst (IsRangeOf block_order (Included (a, v, f, 0)) Unbounded m) e h in
     other (the_file a v f (k.0, k.1, k.2) (within_file a v f k q at.1.0.0 (at.2 q (first_of_file a v f q of, tt) there) of)))
 
 -- ---- the blocks of a volume
@@ -74,23 +74,23 @@ from_both Less s h k = refl
 from_both Equal s h k = k
 from_both Greater s h k = h
 
-first_of_volume : (a v : ℕ) (q : BlockKey) → is_block_of a v q ≡ true → IsLeBy by_block (a, v, 0, 0) q
+first_of_volume : (a v : ℕ) (q : BlockKey) → is_block_of a v q ≡ true → IsLeBy block_order (a, v, 0, 0) q
 first_of_volume a v q e =
-    from_both (by_file (a, v, 0) (q.0, q.1, q.2)) (nat_cmp 0 q.3) (from_tied (volume_order (a, v) (q.0, q.1)) q.2 (at_volume a v (q.0, q.1) ∙ e)) (none_below_zero q.3)
+    from_both (file_order (a, v, 0) (q.0, q.1, q.2)) (nat_cmp 0 q.3) (from_tied (volume_order (a, v) (q.0, q.1)) q.2 (at_volume a v (q.0, q.1) ∙ e)) (none_below_zero q.3)
 
-within_volume : (a v : ℕ) (k q : BlockKey) → IsLeBy by_block (a, v, 0, 0) k → IsLeBy by_block k q → is_block_of a v q ≡ true → is_block_of a v k ≡ true
+within_volume : (a v : ℕ) (k q : BlockKey) → IsLeBy block_order (a, v, 0, 0) k → IsLeBy block_order k q → is_block_of a v q ≡ true → is_block_of a v k ≡ true
 within_volume a v k q from to e =
     let here : VolumeKey = (k.0, k.1) in
     let file : FileKey = (k.0, k.1, k.2) in
-    let after = first_part (volume_order (a, v) here) (nat_cmp 0 k.2) (first_part (by_file (a, v, 0) file) (nat_cmp 0 k.3) from) in
-    let upto = first_part (volume_order here (q.0, q.1)) (nat_cmp k.2 q.2) (first_part (by_file file (q.0, q.1, q.2)) (nat_cmp k.3 q.3) to) in
+    let after = first_part (volume_order (a, v) here) (nat_cmp 0 k.2) (first_part (file_order (a, v, 0) file) (nat_cmp 0 k.3) from) in
+    let upto = first_part (volume_order here (q.0, q.1)) (nat_cmp k.2 q.2) (first_part (file_order file (q.0, q.1, q.2)) (nat_cmp k.3 q.3) to) in
     let before = subst (λ (p : VolumeKey). is_gt (volume_order here p) ≡ false) (sym (the_volume a v (q.0, q.1) e)) upto in
     sym (at_volume a v here) ∙ both_ways (volume_order (a, v) here) (volume_order here (a, v)) (volume_total.antisymm (a, v) here) after before
 
 -- where the first key from there on is no block of the volume, the volume has none
 pub no_block_of_volume : {X : Type 0} (m : BTreeMap BlockKey X) {r rest : List (BlockKey × X)} {a v : ℕ} {k : BlockKey} {x : X}
-    → IsRangeOf by_block (Included (a, v, 0, 0)) Unbounded m r → r ≡ (k, x) ∷ rest
-    → (◌≡◌ {A = VolumeKey} (a, v) (k.0, k.1) → ⊥) → (q : BlockKey) → is_block_of a v q ≡ true → is_some (map.get by_block m q) ≡ false
+    → IsRangeOf block_order (Included (a, v, 0, 0)) Unbounded m r → r ≡ (k, x) ∷ rest
+    → (◌≡◌ {A = VolumeKey} (a, v) (k.0, k.1) → ⊥) → (q : BlockKey) → is_block_of a v q ≡ true → is_some (map.get block_order m q) ≡ false
 no_block_of_volume m {a = a} {v} {k} h e other q of = false_from_ne_true _ (λ there.
-    let at = subst (IsRangeOf by_block (Included (a, v, 0, 0)) Unbounded m) e h in
+    let at = subst (IsRangeOf block_order (Included (a, v, 0, 0)) Unbounded m) e h in
     other (the_volume a v (k.0, k.1) (within_volume a v k q at.1.0.0 (at.2 q (first_of_volume a v q of, tt) there) of)))

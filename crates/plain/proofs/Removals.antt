@@ -3,9 +3,9 @@ use Rattle.std.proofs.Common.{◌≡◌, ℕ, ◌+◌, ◌<◌, Bool, true, fals
 use Rattle.std.specs.Prelude.{◌&&◌, ◌==◌, if◌then◌else◌, Option, None, Some, is_some}
 use Rattle.std.proofs.lemmas.Bool.{true≢false}
 use Rattle.affinity.specs.declared.geometry.Geometry.{Geometry}
-use Rattle.affinity.specs.Geometry.{group}
+use Rattle.affinity.specs.Geometry.{stripe_of}
 use Rattle.messages.specs.declared.Msg.TheVariants.{Punch}
-use Rattle.meaning.specs.State.{State, BlockKey, is_block, is_block_of, is_block_of_file, one_if, group_count}
+use Rattle.meaning.specs.State.{State, BlockKey, is_block, is_block_of, is_block_of_file, one_if, blocks_in_stripe}
 use Rattle.meaning.specs.Serial.{effect}
 use Rattle.plain.specs.Server.{StripeKey, is_stripe}
 use Rattle.meaning.specs.Removals.{without_blocks}
@@ -23,17 +23,17 @@ module _ (g : Geometry) (x : State) (a v f b : ℕ) (in_files : f < g.files) (in
   absent = ap (λ t. is_some (if t then None else x.blocks (a, v, f, b))) (picks_block a v f b)
 
   -- its stripe had one more, and each other stripe as many
-  one_less : (k : StripeKey) → group_count g x k.0 k.1 k.2 ≡ group_count g (effect x (Punch a v f b)) k.0 k.1 k.2 + one_if (is_stripe a v (group g f b) k)
+  one_less : (k : StripeKey) → blocks_in_stripe g x k.0 k.1 k.2 ≡ blocks_in_stripe g (effect x (Punch a v f b)) k.0 k.1 k.2 + one_if (is_stripe a v (stripe_of g f b) k)
   one_less = one_more g (effect x (Punch a v f b)) x a v f b others in_files in_blocks absent there
 
   -- so something was noted for its stripe
-  pub some_noted : (n : ℕ) → n ≡ group_count g x a v (group g f b) → 0 < n
+  pub some_noted : (n : ℕ) → n ≡ blocks_in_stripe g x a v (stripe_of g f b) → 0 < n
   some_noted n e =
-      let less = one_less (a, v, group g f b) in
-      let one : one_if (is_stripe a v (group g f b) (a, v, group g f b)) ≡ 1 = ap one_if (picks_file a v (group g f b)) in
+      let less = one_less (a, v, stripe_of g f b) in
+      let one : one_if (is_stripe a v (stripe_of g f b) (a, v, stripe_of g f b)) ≡ 1 = ap one_if (picks_file a v (stripe_of g f b)) in
       omega (arith, e, less, one)
 
-  pub less_counts : (old new : StripeKey → ℕ) → AreCounts g old x → ((k : StripeKey) → new k + one_if (is_stripe a v (group g f b) k) ≡ old k) → AreCounts g new (effect x (Punch a v f b))
+  pub less_counts : (old new : StripeKey → ℕ) → AreCounts g old x → ((k : StripeKey) → new k + one_if (is_stripe a v (stripe_of g f b) k) ≡ old k) → AreCounts g new (effect x (Punch a v f b))
   less_counts old new counts less k = omega (arith, counts k, less k, one_less k)
 
 -- ---- blocks that are taken out one by one
@@ -43,11 +43,11 @@ is_none None e = refl
 is_none (Some y) e = absurd (true≢false e)
 
 -- where none is picked, nothing changes
-pub nothing_cleared : (picks : BlockKey → Bool) (x : State) → ((k : BlockKey) → picks k ≡ true → is_some (x.blocks k) ≡ false) → without_blocks picks x ≡ x
-nothing_cleared picks x none = λ i. record x { blocks = λ k. at k i }
+pub nothing_cleared : (selected : BlockKey → Bool) (x : State) → ((k : BlockKey) → selected k ≡ true → is_some (x.blocks k) ≡ false) → without_blocks selected x ≡ x
+nothing_cleared selected x none = λ i. record x { blocks = λ k. at k i }
   where
-    at : (k : BlockKey) → (without_blocks picks x).blocks k ≡ x.blocks k
-    at k = elim (picks k) as (λ t. picks k ≡ t → (if t then None else x.blocks k) ≡ x.blocks k) [
+    at : (k : BlockKey) → (without_blocks selected x).blocks k ≡ x.blocks k
+    at k = elim (selected k) as (λ t. selected k ≡ t → (if t then None else x.blocks k) ≡ x.blocks k) [
       | true ↦ λ is. is_none (x.blocks k) (none k is)
       | false ↦ λ e. refl
     ] refl

@@ -4,43 +4,43 @@ use Rattle.std.specs.Prelude.{◌&&◌, ◌==◌, Option, None, is_some, unwrap_
 use Rattle.std.specs.BTreeMap.{is_at}
 use Rattle.std.proofs.lemmas.Bool.{eqb-true, true≢false, false_from_ne_true}
 use Rattle.affinity.specs.declared.geometry.Geometry.{Geometry}
-use Rattle.affinity.specs.Geometry.{group}
-use Rattle.meaning.specs.State.{State, BlockKey, sum_below, one_if, count_below, group_count, is_block}
-use Rattle.meaning.specs.KeyOrders.{by_file}
+use Rattle.affinity.specs.Geometry.{stripe_of}
+use Rattle.meaning.specs.State.{State, BlockKey, sum_below, one_if, count_below, blocks_in_stripe, is_block}
+use Rattle.meaning.specs.KeyOrders.{file_order}
 use Rattle.plain.specs.Server.{StripeKey, is_stripe}
 use Rattle.meaning.proofs.Keys.{at_file, the_file, the_block, itself, picks_file, other_file, other_place}
 use Rattle.meaning.proofs.Sums.{sum_same, sum_one_more, sum_zero}
 
 -- states that have blocks at the same keys count alike
-pub same_counts : (g : Geometry) (x y : State) → ((k : BlockKey) → is_some (y.blocks k) ≡ is_some (x.blocks k)) → (a v s : ℕ) → group_count g y a v s ≡ group_count g x a v s
-same_counts g x y same a v s = λ i. sum_below g.files (λ f. count_below g.blocks (λ b. (group g f b == s) && same (a, v, f, b) i))
+pub same_counts : (g : Geometry) (x y : State) → ((k : BlockKey) → is_some (y.blocks k) ≡ is_some (x.blocks k)) → (a v s : ℕ) → blocks_in_stripe g y a v s ≡ blocks_in_stripe g x a v s
+same_counts g x y same a v s = λ i. sum_below g.files (λ f. count_below g.blocks (λ b. (stripe_of g f b == s) && same (a, v, f, b) i))
 
 -- y has one block more than x, at (a, v, f, b)
 module _ (g : Geometry) (x y : State) (a v f b : ℕ) (others : (k : BlockKey) → is_block a v f b k ≡ false → is_some (y.blocks k) ≡ is_some (x.blocks k)) where
   abbrev counted : State → ℕ → ℕ → ℕ → ℕ → ℕ → ℕ
-  counted z a' v' s f' b' = one_if ((group g f' b' == s) && is_some (z.blocks (a', v', f', b')))
+  counted z a' v' s f' b' = one_if ((stripe_of g f' b' == s) && is_some (z.blocks (a', v', f', b')))
 
   -- another place counts as before
   elsewhere : (a' v' s f' b' : ℕ) → is_block a v f b (a', v', f', b') ≡ false → counted y a' v' s f' b' ≡ counted x a' v' s f' b'
-  elsewhere a' v' s f' b' other = λ i. one_if ((group g f' b' == s) && others (a', v', f', b') other i)
+  elsewhere a' v' s f' b' other = λ i. one_if ((stripe_of g f' b' == s) && others (a', v', f', b') other i)
 
   -- so does each place of another stripe
-  in_other_stripe : (a' v' s f' b' : ℕ) → is_stripe a v (group g f b) (a', v', s) ≡ false → counted y a' v' s f' b' ≡ counted x a' v' s f' b'
+  in_other_stripe : (a' v' s f' b' : ℕ) → is_stripe a v (stripe_of g f b) (a', v', s) ≡ false → counted y a' v' s f' b' ≡ counted x a' v' s f' b'
   in_other_stripe a' v' s f' b' other =
-      elim (group g f' b' == s) as (λ t. (group g f' b' == s) ≡ t → one_if (t && is_some (y.blocks (a', v', f', b'))) ≡ one_if (t && is_some (x.blocks (a', v', f', b')))) [
+      elim (stripe_of g f' b' == s) as (λ t. (stripe_of g f' b' == s) ≡ t → one_if (t && is_some (y.blocks (a', v', f', b'))) ≡ one_if (t && is_some (x.blocks (a', v', f', b')))) [
         | false ↦ λ e. refl
         | true ↦ λ e.
             let not_it : is_block a v f b (a', v', f', b') ≡ false = false_from_ne_true _ (λ is.
             let k = the_block a v f b (a', v', f', b') is in
-            let here : (a, v, group g f b) ≡ (a', v', s) = (λ i. ((k i).0, (k i).1, group g (k i).2 (k i).3)) ∙ (λ i. (a', v', eqb-true (group g f' b') s e i)) in
-            true≢false (sym (picks_file a v (group g f b)) ∙ ap (is_stripe a v (group g f b)) here ∙ other)) in
+            let here : (a, v, stripe_of g f b) ≡ (a', v', s) = (λ i. ((k i).0, (k i).1, stripe_of g (k i).2 (k i).3)) ∙ (λ i. (a', v', eqb-true (stripe_of g f' b') s e i)) in
+            true≢false (sym (picks_file a v (stripe_of g f b)) ∙ ap (is_stripe a v (stripe_of g f b)) here ∙ other)) in
             λ i. one_if (others (a', v', f', b') not_it i)
       ] refl
 
   at_its_stripe : f < g.files → b < g.blocks → is_some (x.blocks (a, v, f, b)) ≡ false → is_some (y.blocks (a, v, f, b)) ≡ true
-      → group_count g y a v (group g f b) ≡ group_count g x a v (group g f b) + 1
+      → blocks_in_stripe g y a v (stripe_of g f b) ≡ blocks_in_stripe g x a v (stripe_of g f b) + 1
   at_its_stripe in_files in_blocks absent there =
-      let s = group g f b in
+      let s = stripe_of g f b in
       sum_one_more g.files f _ _ in_files
       (λ f' ne. sum_same g.blocks _ _ (λ b'. elsewhere a v s f' b' (other_file a v f b (a, v, f', b') ne)))
       (sum_one_more g.blocks b _ _ in_blocks (λ b' ne. elsewhere a v s f b' (other_place a v f b (a, v, f, b') ne))
@@ -48,18 +48,19 @@ module _ (g : Geometry) (x y : State) (a v f b : ℕ) (others : (k : BlockKey) �
 
   -- its stripe has one block more, and each other stripe as many
   pub one_more : f < g.files → b < g.blocks → is_some (x.blocks (a, v, f, b)) ≡ false → is_some (y.blocks (a, v, f, b)) ≡ true
-      → (k : StripeKey) → group_count g y k.0 k.1 k.2 ≡ group_count g x k.0 k.1 k.2 + one_if (is_stripe a v (group g f b) k)
+      → (k : StripeKey) → blocks_in_stripe g y k.0 k.1 k.2 ≡ blocks_in_stripe g x k.0 k.1 k.2 + one_if (is_stripe a v (stripe_of g f b) k)
   one_more in_files in_blocks absent there k =
-      elim (is_stripe a v (group g f b) k) as (λ t. is_stripe a v (group g f b) k ≡ t → group_count g y k.0 k.1 k.2 ≡ group_count g x k.0 k.1 k.2 + one_if t) [
+      elim (is_stripe a v (stripe_of g f b) k) as (λ t. is_stripe a v (stripe_of g f b) k ≡ t → blocks_in_stripe g y k.0 k.1 k.2 ≡ blocks_in_stripe g x k.0 k.1 k.2 + one_if t) [
         | false ↦ λ other.
-            let same : group_count g y k.0 k.1 k.2 ≡ group_count g x k.0 k.1 k.2 = sum_same g.files _ _ (λ f'. sum_same g.blocks _ _ (λ b'. in_other_stripe k.0 k.1 k.2 f' b' other)) in
+            let same : blocks_in_stripe g y k.0 k.1 k.2 ≡ blocks_in_stripe g x k.0 k.1 k.2 = sum_same g.files _ _ (λ f'. sum_same g.blocks _ _ (λ b'. in_other_stripe k.0 k.1 k.2 f' b' other)) in
             omega (arith, same)
-        | true ↦ λ is. subst (λ (k : StripeKey). group_count g y k.0 k.1 k.2 ≡ group_count g x k.0 k.1 k.2 + 1) (the_file a v (group g f b) k is) (at_its_stripe in_files in_blocks absent there)
+        | true ↦ λ is. subst (λ (k : StripeKey). blocks_in_stripe g y k.0 k.1 k.2 ≡ blocks_in_stripe g x k.0 k.1 k.2 + 1) (the_file a v (stripe_of g f b) k is)
+            (at_its_stripe in_files in_blocks absent there)
       ] refl
 
 -- ---- the numbers that are noted
 
-module _ (old new : StripeKey → Option ℕ) (a v s count : ℕ) (updates : (k : StripeKey) → new k ≡ cond (is_at (by_file (a, v, s)) k) (Some count) (old k)) where
+module _ (old new : StripeKey → Option ℕ) (a v s count : ℕ) (updates : (k : StripeKey) → new k ≡ cond (is_at (file_order (a, v, s)) k) (Some count) (old k)) where
   at_key : (k : StripeKey) → unwrap_or (new k) 0 ≡ cond (is_stripe a v s k) count (unwrap_or (old k) 0)
   at_key k = ap (λ o. unwrap_or o 0) (updates k ∙ ap (λ t. cond t (Some count) (old k)) (at_file a v s k)) ∙ split (is_stripe a v s k)
     where
@@ -82,10 +83,10 @@ module _ (old new : StripeKey → Option ℕ) (a v s count : ℕ) (updates : (k 
   ] refl
 
 -- where there is no block, none is counted
-pub none_counted : (g : Geometry) (x : State) → ((k : BlockKey) → x.blocks k ≡ None) → (a v s : ℕ) → group_count g x a v s ≡ 0
+pub none_counted : (g : Geometry) (x : State) → ((k : BlockKey) → x.blocks k ≡ None) → (a v s : ℕ) → blocks_in_stripe g x a v s ≡ 0
 none_counted g x none a v s =
-    sum_same g.files _ (λ f. 0) (λ f. sum_same g.blocks _ (λ b. 0) (λ b. (λ i. one_if ((group g f b == s) && is_some (none (a, v, f, b) i)))
-    ∙ never (group g f b == s)) ∙ sum_zero g.blocks) ∙ sum_zero g.files
+    sum_same g.files _ (λ f. 0) (λ f. sum_same g.blocks _ (λ b. 0) (λ b. (λ i. one_if ((stripe_of g f b == s) && is_some (none (a, v, f, b) i)))
+    ∙ never (stripe_of g f b == s)) ∙ sum_zero g.blocks) ∙ sum_zero g.files
   where
     never : (t : Bool) → one_if (t && false) ≡ 0
     never true = refl

@@ -9,9 +9,9 @@ use Rattle.std.proofs.lemmas.Bool.{true≢false}
 use Rattle.affinity.specs.declared.geometry.Geometry.{Geometry}
 use Rattle.messages.specs.Lines.{lines}
 use Rattle.messages.specs.Grammar.{message_of}
-use Rattle.messages.specs.FirstLine.{GivesLine, PassesLine, IsClosed, LosesFront}
+use Rattle.messages.specs.FirstLine.{GivesLine, PassesLine, HasWholeFirstLine, LosesFront}
 use Rattle.meaning.specs.State.{State}
-use Rattle.meaning.specs.Output.{answer_line, state_after_line, state_after_lines, output_lines, joined, serial_out, with_newlines, AnswersWholeLines, IsBeginning, WritesOutput}
+use Rattle.meaning.specs.Output.{answer_line, state_after_line, state_after_lines, output_lines, joined, serial_output, with_newlines, AnswersWholeLines, IsBeginning, WritesOutput}
 use Rattle.meaning.specs.Progress.{HasAnswered}
 use Rattle.meaning.proofs.OutputLemmas.{state_after_lines-append, joined-one_more, take-output_lines}
 use Rattle.meaning.proofs.Taking.{takes_nothing, takes_line, takes_long_line}
@@ -39,7 +39,7 @@ module _ (old mid sent : Option (List ℕ)) {first rest : List ℕ} (none_first 
 -- nothing was left
 pub ends : {g : Geometry} {start : State} {input left : Option (List ℕ)} {ended : Bool} {x : State} {old new : Option (List ℕ)}
     → HasAnswered g start input left ended x old new → IfSome left (λ bs. bs ≡ [])
-    → WritesOutput input old new (λ bytes written. written ≡ serial_out g start bytes)
+    → WritesOutput input old new (λ bytes written. written ≡ serial_output g start bytes)
 ends {input = None} h all = tt
 ends {input = Some input} {left = None} h all = absurd (none-some h.taken.0 h.taken.1)
 ends {g} {start} {input = Some input} {left = Some bs} h all =
@@ -94,7 +94,7 @@ module _ {g : Geometry} {start : State} {input left : Option (List ℕ)} {ended 
 
   -- a line was answered
   pub answers_line : {newer now_left : Option (List ℕ)} {y : State} {now_ended : Bool} (line : List ℕ) {added : List ℕ} → HasAnswered g start input left ended x old new → ended ≡ false
-      → IfSome left (λ bs. GivesLine line bs now_left) → IsClosed left now_ended
+      → IfSome left (λ bs. GivesLine line bs now_left) → HasWholeFirstLine left now_ended
       → y ≡ state_after_line g x (message_of line) → added ≡ answer_line g x (message_of line) → Appends new newer added
       → HasAnswered g start input now_left now_ended y old newer
   answers_line {newer} line {added} h going found closes state output appended = record {
@@ -108,7 +108,7 @@ module _ {g : Geometry} {start : State} {input left : Option (List ℕ)} {ended 
 
   -- a line that is too long was answered
   pub answers_long_line : {newer now_left : Option (List ℕ)} {now_ended : Bool} {added : List ℕ} → HasAnswered g start input left ended x old new → ended ≡ false
-      → IfSome left (λ bs. PassesLine bs now_left) → IsClosed left now_ended
+      → IfSome left (λ bs. PassesLine bs now_left) → HasWholeFirstLine left now_ended
       → added ≡ answer_line g x None → Appends new newer added
       → HasAnswered g start input now_left now_ended x old newer
   answers_long_line {newer} {added = added} h going found closes output appended =

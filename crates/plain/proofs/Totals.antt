@@ -1,4 +1,4 @@
--- The totals of a volume and of the whole server.
+-- The totals that `plain` keeps of a volume and of the whole server are those of the state, and fit in their integers.
 use Rattle.std.proofs.Common.{◌≡◌, ℕ, ◌*◌, ◌^◌, ◌<◌, ◌≤◌, true, refl, ap, sym, ◌∙◌, arith}
 use Rattle.std.specs.Prelude.{if◌then◌else◌, None, Some, count_ones}
 use Rattle.std.specs.BTreeMap as map
@@ -8,14 +8,14 @@ use Rattle.messages.specs.declared.Block.{Block}
 use Rattle.messages.specs.Replies.{has_file}
 use Rattle.plain.specs.declared.server.Server.{Server}
 use Rattle.plain.specs.declared.server.Volume.{Volume}
-use Rattle.meaning.specs.State.{State, Map, VolumeKey, BlockKey, IsState, one_if, sum_below, count_below, file_count, block_count, over_volumes}
+use Rattle.meaning.specs.State.{State, Map, VolumeKey, BlockKey, IsState, one_if, sum_below, count_below, file_count, block_count, sum_over_volumes}
 use Rattle.meaning.specs.Serial.{file_bits}
-use Rattle.meaning.specs.KeyOrders.{volume_order, by_block}
+use Rattle.meaning.specs.KeyOrders.{volume_order, block_order}
 use Rattle.plain.specs.Server.{server_state, state_of, volume_has_file}
 use Rattle.meaning.proofs.FileBits.{few_bits}
 use Rattle.meaning.proofs.FileNumber.{number_within, below_within, count_within}
 use Rattle.meaning.proofs.Sums.{one_if-le, sum_same, sum_zero}
-use Rattle.meaning.proofs.Counts.{file_count-le, block_count-le, over_volumes-le}
+use Rattle.meaning.proofs.Counts.{file_count-le, block_count-le, sum_over_volumes-le}
 use Rattle.plain.proofs.Walks.{total}
 use Rattle.plain.proofs.Lengths.{found_worth, volumes_length, volumes_worth, blocks_length}
 
@@ -36,7 +36,7 @@ module _ (g : Geometry) (volumes : Map VolumeKey Volume) (blocks : Map BlockKey 
   within : {w : Volume} → volumes (a, v) ≡ Some w → (f : ℕ) → has_file w.files f ≡ true → f < g.files
   within there f has = (is.files (a, v, f) (ap (λ o. volume_has_file o f) there ∙ has)).0
 
-  -- they are a number of 64 bits
+  -- its files, as a set of bits, fit in 64
   pub files_fit : {w : Volume} → volumes (a, v) ≡ Some w → w.files < 2 ^ 64
   files_fit {w} there = few_bits g.files w.files (below_within g.files w.files (within there)) g.files_range.1
 
@@ -52,6 +52,7 @@ module _ (g : Geometry) (volumes : Map VolumeKey Volume) (blocks : Map BlockKey 
   pub none_counted : volumes (a, v) ≡ None → file_count g (state_of volumes blocks) a v ≡ 0
   none_counted none = ap (λ o. count_below g.files (volume_has_file o)) none ∙ sum_zero g.files
 
+  -- the number of files of the volume, or 0 if there is no volume, is the state's file count
   pub files_found : found_worth file_number (volumes (a, v)) ≡ file_count g (state_of volumes blocks) a v
   files_found = elim (volumes (a, v)) as (λ o. volumes (a, v) ≡ o → found_worth file_number o ≡ file_count g (state_of volumes blocks) a v) [
     | None ↦ λ none. sym (none_counted none)
@@ -64,31 +65,31 @@ small : (g : Geometry) (c : ℕ) → g.aggregates * (g.volumes * c) ≤ 4 * (8 *
 small g c = mul-le g.aggregates (g.volumes * c) 4 (8 * c) g.aggregates_range.1 (mul-le g.volumes c 8 c g.volumes_range.1 (omega arith))
 
 module _ (g : Geometry) (server : Server) (is : IsState g (server_state server)) where
-  pub volumes_total : map.IsOrdered volume_order server.volumes → map.btree_map_len server.volumes ≡ over_volumes g (λ a v. one_if ((server_state server).made (a, v)))
+  pub volumes_total : map.IsOrdered volume_order server.volumes → map.btree_map_len server.volumes ≡ sum_over_volumes g (λ a v. one_if ((server_state server).made (a, v)))
   volumes_total ordered = sym (volumes_length g server.volumes ordered is.made)
 
-  pub files_total : map.IsOrdered volume_order server.volumes → total file_number (map.values server.volumes) ≡ over_volumes g (file_count g (server_state server))
+  pub files_total : map.IsOrdered volume_order server.volumes → total file_number (map.values server.volumes) ≡ sum_over_volumes g (file_count g (server_state server))
   files_total ordered = sym (volumes_worth g file_number server.volumes ordered is.made)
-      ∙ sum_same g.aggregates _ _ (λ a. sum_same g.volumes _ _ (λ v. files_found g (map.get volume_order server.volumes) (map.get by_block server.blocks) is a v))
+      ∙ sum_same g.aggregates _ _ (λ a. sum_same g.volumes _ _ (λ v. files_found g (map.get volume_order server.volumes) (map.get block_order server.blocks) is a v))
 
-  pub blocks_total : map.IsOrdered by_block server.blocks → map.btree_map_len server.blocks ≡ over_volumes g (block_count g (server_state server))
+  pub blocks_total : map.IsOrdered block_order server.blocks → map.btree_map_len server.blocks ≡ sum_over_volumes g (block_count g (server_state server))
   blocks_total ordered = sym (blocks_length g server.blocks ordered (λ k has.
       let there = is.blocks k has in
       let file = is.files (k.0, k.1, k.2) there.1 in
       let volume = is.made (k.0, k.1) file.1 in
       (volume.0, volume.1, file.0, there.0)))
 
-pub volumes-few : (g : Geometry) (x : State) → over_volumes g (λ a v. one_if (x.made (a, v))) < 2 ^ 32
-volumes-few g x = let most = over_volumes-le g 1 (λ a v. one_if (x.made (a, v))) (λ a v. one_if-le (x.made (a, v))) in let range = small g 1 in omega arith
+pub volumes-few : (g : Geometry) (x : State) → sum_over_volumes g (λ a v. one_if (x.made (a, v))) < 2 ^ 32
+volumes-few g x = let most = sum_over_volumes-le g 1 (λ a v. one_if (x.made (a, v))) (λ a v. one_if-le (x.made (a, v))) in let range = small g 1 in omega arith
 
-pub files-few : (g : Geometry) (x : State) → over_volumes g (file_count g x) < 2 ^ 32
+pub files-few : (g : Geometry) (x : State) → sum_over_volumes g (file_count g x) < 2 ^ 32
 files-few g x =
-    let most = over_volumes-le g 64 (file_count g x) (λ a v. let few = file_count-le g x a v in let range = g.files_range in omega arith) in
+    let most = sum_over_volumes-le g 64 (file_count g x) (λ a v. let few = file_count-le g x a v in let range = g.files_range in omega arith) in
     let range = small g 64 in
     omega arith
 
-pub blocks-few : (g : Geometry) (x : State) → over_volumes g (block_count g x) < 2 ^ 32
+pub blocks-few : (g : Geometry) (x : State) → sum_over_volumes g (block_count g x) < 2 ^ 32
 blocks-few g x =
-    let most = over_volumes-le g 16384 (block_count g x) (blocks-few_in_volume g x) in
+    let most = sum_over_volumes-le g 16384 (block_count g x) (blocks-few_in_volume g x) in
     let range = small g 16384 in
     omega arith

@@ -16,8 +16,8 @@ use Rattle.std.proofs.lemmas.Map.Keys.{IsDistinct-from_sorted, IsDistinct-head, 
 use Rattle.affinity.specs.declared.geometry.Geometry.{Geometry}
 use Rattle.plain.specs.declared.server.Server.{Server}
 use Rattle.meaning.specs.State.{FileKey, is_file, sum_below, block_count}
-use Rattle.meaning.specs.KeyOrders.{volume_order, by_file}
-use Rattle.plain.specs.Server.{server_state, IsCounted}
+use Rattle.meaning.specs.KeyOrders.{volume_order, file_order}
+use Rattle.plain.specs.Server.{server_state, HasRightCounts}
 use Rattle.meaning.proofs.Keys.{at_volume, at_file, the_volume, the_file, picks_volume, picks_file}
 use Rattle.meaning.proofs.Counts.{block_count-by_stripe}
 use Rattle.meaning.proofs.Sums.{sum_same, sum_zero, sum_below-same, sum_below_changed}
@@ -69,7 +69,7 @@ from_below n i lt = by (nat_cmp n i) (ranks n i)
 
 module _ (a v n : ℕ) where
   abbrev pub is_between : FileKey → Bool
-  is_between = range_contains by_file (Included (a, v, 0)) (Excluded (a, v, n))
+  is_between = range_contains file_order (Included (a, v, 0)) (Excluded (a, v, n))
 
   inside : (k : FileKey) → is_between k ≡ true → (◌≡◌ {A = FileKey} (a, v, k.2) k) × (k.2 < n)
   inside k e =
@@ -86,28 +86,28 @@ module _ {E : Type 0} (key : E → FileKey) (weight : E → ℕ) (a v n : ℕ) w
   -- what lies at the key (a, v, i)
   abbrev at : ℕ → List E → ℕ
   at i [] = 0
-  at i (e ∷ es) = cond (is_at (by_file (a, v, i)) (key e)) (weight e) (at i es)
+  at i (e ∷ es) = cond (is_at (file_order (a, v, i)) (key e)) (weight e) (at i es)
 
-  nothing_at : (i : ℕ) (es : List E) → AllByRecursion (λ k. is_at (by_file (a, v, i)) k ≡ false) (map_list key es) → at i es ≡ 0
+  nothing_at : (i : ℕ) (es : List E) → AllByRecursion (λ k. is_at (file_order (a, v, i)) k ≡ false) (map_list key es) → at i es ≡ 0
   nothing_at i [] h = refl
   nothing_at i (e ∷ es) h = ap (λ t. cond t (weight e) (at i es)) h.0 ∙ nothing_at i es h.1
 
-  this_key : (i : ℕ) (k : FileKey) → is_at (by_file (a, v, i)) k ≡ true → ◌≡◌ {A = FileKey} (a, v, i) k
+  this_key : (i : ℕ) (k : FileKey) → is_at (file_order (a, v, i)) k ≡ true → ◌≡◌ {A = FileKey} (a, v, i) k
   this_key i k is = the_file a v i k (sym (at_file a v i k) ∙ is)
 
-  walked : (es : List E) → IsDistinct (eq_by_cmp by_file) (map_list key es) → total weight (filter (λ e. is_between a v n (key e)) es) ≡ sum_below n (λ i. at i es)
+  walked : (es : List E) → IsDistinct (eq_by_cmp file_order) (map_list key es) → total weight (filter (λ e. is_between a v n (key e)) es) ≡ sum_below n (λ i. at i es)
   walked [] d = sym (sum_zero n)
   walked (e ∷ es) d =
       let others = filter (λ e. is_between a v n (key e)) es in
-      let rest = walked es (IsDistinct-tail (eq_by_cmp by_file) (key e) (map_list key es) d) in
+      let rest = walked es (IsDistinct-tail (eq_by_cmp file_order) (key e) (map_list key es) d) in
       elim (is_between a v n (key e)) as (λ t. is_between a v n (key e) ≡ t → total weight (cond t (e ∷ others) others) ≡ sum_below n (λ i. at i (e ∷ es))) [
         | true ↦ λ is.
             let j = (key e).2 in
             let here = inside a v n (key e) is in
             let changed = sum_below_changed n j (λ i. at i es) (λ i. at i (e ∷ es)) here.1
             (λ i ne. ap (λ t. cond t (weight e) (at i es)) (false_from_ne_true _ (λ is. ne (ap (λ k. k.2) (this_key i (key e) is))))) in
-            let none = nothing_at j es (subst (λ (k : FileKey). AllByRecursion (λ d. is_at (by_file k) d ≡ false) (map_list key es)) (sym here.0)
-            (IsDistinct-head (eq_by_cmp by_file) (key e) (map_list key es) d)) in
+            let none = nothing_at j es (subst (λ (k : FileKey). AllByRecursion (λ d. is_at (file_order k) d ≡ false) (map_list key es)) (sym here.0)
+            (IsDistinct-head (eq_by_cmp file_order) (key e) (map_list key es) d)) in
             let own : at j (e ∷ es) ≡ weight e = ap (λ t. cond t (weight e) (at j es)) (at_file a v j (key e) ∙ ap (λ k. is_file a v j k) (sym here.0) ∙ picks_file a v j) in
             omega (arith, changed, none, own, rest)
         | false ↦ λ other. rest ∙ sum_below-same n _ _ (λ i lt. sym (ap (λ t. cond t (weight e) (at i es))
@@ -116,17 +116,17 @@ module _ {E : Type 0} (key : E → FileKey) (weight : E → ℕ) (a v n : ℕ) w
 
 -- ---- the blocks that are noted for the stripes
 
-in_map : (a v n i : ℕ) (es : List (FileKey × ℕ)) → at (λ (e : FileKey × ℕ). e.0) (λ (e : FileKey × ℕ). e.1) a v n i es ≡ unwrap_or (lookup (is_at (by_file (a, v, i))) es) 0
+in_map : (a v n i : ℕ) (es : List (FileKey × ℕ)) → at (λ (e : FileKey × ℕ). e.0) (λ (e : FileKey × ℕ). e.1) a v n i es ≡ unwrap_or (lookup (is_at (file_order (a, v, i))) es) 0
 in_map a v n i [] = refl
-in_map a v n i (e ∷ es) = elim (is_at (by_file (a, v, i)) e.0) as (λ t. cond t e.1
-    (at (λ (e : FileKey × ℕ). e.0) (λ (e : FileKey × ℕ). e.1) a v n i es) ≡ unwrap_or (cond t (Some e.1) (lookup (is_at (by_file (a, v, i))) es)) 0) [
+in_map a v n i (e ∷ es) = elim (is_at (file_order (a, v, i)) e.0) as (λ t. cond t e.1
+    (at (λ (e : FileKey × ℕ). e.0) (λ (e : FileKey × ℕ). e.1) a v n i es) ≡ unwrap_or (cond t (Some e.1) (lookup (is_at (file_order (a, v, i))) es)) 0) [
       | true ↦ refl
       | false ↦ in_map a v n i es
     ]
 
-pub blocks_walked : (g : Geometry) (server : Server) (a v : ℕ) → IsCounted g server → map.IsOrdered by_file server.used
-    → total (λ (e : FileKey × ℕ). e.1) (entries_between by_file (Included (a, v, 0)) (Excluded (a, v, g.stripes)) server.used.entries) ≡ block_count g (server_state server) a v
+pub blocks_walked : (g : Geometry) (server : Server) (a v : ℕ) → HasRightCounts g server → map.IsOrdered file_order server.used
+    → total (λ (e : FileKey × ℕ). e.1) (entries_between file_order (Included (a, v, 0)) (Excluded (a, v, g.stripes)) server.used.entries) ≡ block_count g (server_state server) a v
 blocks_walked g server a v counted ordered =
-    walked (λ (e : FileKey × ℕ). e.0) (λ (e : FileKey × ℕ). e.1) a v g.stripes server.used.entries (IsDistinct-from_sorted by_file (map.keys server.used) ordered)
+    walked (λ (e : FileKey × ℕ). e.0) (λ (e : FileKey × ℕ). e.1) a v g.stripes server.used.entries (IsDistinct-from_sorted file_order (map.keys server.used) ordered)
     ∙ sum_same g.stripes _ _ (λ s. in_map a v g.stripes s server.used.entries ∙ counted (a, v, s))
     ∙ sym (block_count-by_stripe g (server_state server) a v)

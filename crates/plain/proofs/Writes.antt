@@ -2,10 +2,10 @@
 use Rattle.std.proofs.Common.{◌≡◌, ℕ, ◌+◌, ◌<◌, true, false, Some, refl, ap, sym, ◌∙◌}
 use Rattle.std.specs.Prelude.{is_some, if◌then◌else◌}
 use Rattle.affinity.specs.declared.geometry.Geometry.{Geometry}
-use Rattle.affinity.specs.Geometry.{group}
+use Rattle.affinity.specs.Geometry.{stripe_of}
 use Rattle.messages.specs.declared.Block.{Block}
 use Rattle.messages.specs.declared.Msg.TheVariants.{Write}
-use Rattle.meaning.specs.State.{State, BlockKey, one_if, group_count, is_block}
+use Rattle.meaning.specs.State.{State, BlockKey, one_if, blocks_in_stripe, is_block}
 use Rattle.meaning.specs.Serial.{effect}
 use Rattle.plain.specs.Server.{StripeKey, is_stripe}
 use Rattle.meaning.proofs.Keys.{the_block, picks_block}
@@ -13,7 +13,7 @@ use Rattle.plain.proofs.ServerCounts.{same_counts, one_more}
 
 -- what is noted by stripe is what a state has
 abbrev pub AreCounts : Geometry → (StripeKey → ℕ) → State → Type 0
-AreCounts g noted x = (k : StripeKey) → noted k ≡ group_count g x k.0 k.1 k.2
+AreCounts g noted x = (k : StripeKey) → noted k ≡ blocks_in_stripe g x k.0 k.1 k.2
 
 module _ (x : State) (a v f b : ℕ) (content : Block) where
   abbrev written : State
@@ -36,7 +36,7 @@ module _ (x : State) (a v f b : ℕ) (content : Block) where
     pub replaced_counts : is_some (x.blocks (a, v, f, b)) ≡ true → AreCounts g noted written
     replaced_counts was k = counts k ∙ sym (same_counts g x written (replaced was) k.0 k.1 k.2)
 
-    pub added_counts : (s : ℕ) → s ≡ group g f b → f < g.files → b < g.blocks → is_some (x.blocks (a, v, f, b)) ≡ false
+    pub added_counts : (s : ℕ) → s ≡ stripe_of g f b → f < g.files → b < g.blocks → is_some (x.blocks (a, v, f, b)) ≡ false
         → AreCounts g (λ k. noted k + one_if (is_stripe a v s k)) written
     added_counts s is in_files in_blocks absent k = ap (λ n. n + one_if (is_stripe a v s k)) (counts k)
-        ∙ ap (λ s. group_count g x k.0 k.1 k.2 + one_if (is_stripe a v s k)) is ∙ sym (one_more g x written a v f b others in_files in_blocks absent there k)
+        ∙ ap (λ s. blocks_in_stripe g x k.0 k.1 k.2 + one_if (is_stripe a v s k)) is ∙ sym (one_more g x written a v f b others in_files in_blocks absent there k)

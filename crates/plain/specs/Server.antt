@@ -4,8 +4,8 @@ use Rattle.std.specs.BTreeMap as map
 use Rattle.affinity.specs.declared.geometry.Geometry.{Geometry}
 use Rattle.messages.specs.declared.Block.{Block}
 use Rattle.messages.specs.Replies.{has_file}
-use Rattle.meaning.specs.State.{State, Map, VolumeKey, BlockKey, IsState, group_count}
-use Rattle.meaning.specs.KeyOrders.{volume_order, by_file, by_block}
+use Rattle.meaning.specs.State.{State, Map, VolumeKey, BlockKey, IsState, blocks_in_stripe}
+use Rattle.meaning.specs.KeyOrders.{volume_order, file_order, block_order}
 use Rattle.plain.specs.declared.server.Server.{Server}
 use Rattle.plain.specs.declared.server.Volume.{Volume}
 
@@ -23,7 +23,7 @@ abbrev pub volume_label : Option Volume → Option (List ℕ)
 volume_label None = None
 volume_label (Some volume) = Some volume.label
 
--- the state by the volumes and the blocks at each key
+-- the state in which these look-ups give the volumes and the blocks
 abbrev pub state_of : Map VolumeKey Volume → Map BlockKey Block → State
 state_of volumes blocks = record {
   made = λ k. is_some (volumes k);
@@ -35,7 +35,7 @@ state_of volumes blocks = record {
 
 -- the state that the maps hold
 abbrev pub server_state : Server → State
-server_state server = state_of (map.get volume_order server.volumes) (map.get by_block server.blocks)
+server_state server = state_of (map.get volume_order server.volumes) (map.get block_order server.blocks)
 
 -- ---- the blocks of each stripe (a, v, s)
 
@@ -45,15 +45,15 @@ StripeKey = ℕ × ℕ × ℕ
 abbrev pub is_stripe : ℕ → ℕ → ℕ → StripeKey → Bool
 is_stripe a v s k = (a == k.0) && (v == k.1) && (s == k.2)
 
--- the number noted for a stripe, 0 where none is
+-- how many blocks the server has counted in a stripe, 0 where it has no entry
 abbrev pub noted : Server → StripeKey → ℕ
-noted server k = unwrap_or (map.get by_file server.used k) 0
+noted server k = unwrap_or (map.get file_order server.used k) 0
 
--- The number noted for each stripe is that of its blocks.
-abbrev pub IsCounted : Geometry → Server → Type 0
-IsCounted g server = (k : StripeKey) → noted server k ≡ group_count g (server_state server) k.0 k.1 k.2
+-- The server has counted the blocks of each stripe right.
+abbrev pub HasRightCounts : Geometry → Server → Type 0
+HasRightCounts g server = (k : StripeKey) → noted server k ≡ blocks_in_stripe g (server_state server) k.0 k.1 k.2
 
--- The server's state is one of those that there are, and its numbers are right.
+-- The server's state is a possible one (`IsState`), and its counts are right.
 pub record IsConsistent (g : Geometry) (server : Server) : Type 0 where
   pub state : IsState g (server_state server)
-  pub counted : IsCounted g server
+  pub counted : HasRightCounts g server

@@ -4,17 +4,17 @@ ghost use Rattle.std.specs.Prelude.{◌≡◌, ◌≤◌, ◌++◌, ℕ, List, [
 ghost use Rattle.std.specs.Io.KnownBytes.{Appends, IsAtEnd};
 ghost use Rattle.messages.specs.Grammar.{message_of};
 ghost use Rattle.message.specs.Reader.{unread, is_drained, source, KnowsEnd};
-ghost use Rattle.message.specs.Waiting.{FitsReply, so_far};
+ghost use Rattle.message.specs.Waiting.{FitsReply, all_output};
 ghost use Rattle.messages.specs.Lines.{block_in_word};
 ghost use Rattle.message.specs.Heads.{IsWithoutData, message_without_data, writing};
 ghost use Rattle.affinity.specs.Kind.{is_changing};
-ghost use Rattle.meaning.specs.ByKind.{reply_when};
+ghost use Rattle.meaning.specs.ByKind.{done_or_refused};
 ghost use Rattle.meaning.specs.State.{State, empty};
 ghost use Rattle.plain.specs.Server.{server_state, IsConsistent};
 ghost use Rattle.messages.specs.Replies.{reply_line};
 ghost use Rattle.meaning.specs.Serial.{accepted_reply, reply_to, next_state};
 ghost use Rattle.meaning.specs.Progress.{HasAnswered};
-ghost use Rattle.meaning.specs.Output.{serial_out, answer_line, state_after_line, AnswersWholeLines, IsBeginning, WritesOutput};
+ghost use Rattle.meaning.specs.Output.{serial_output, answer_line, state_after_line, AnswersWholeLines, IsBeginning, WritesOutput};
 
 use crate::PlainFault;
 use crate::server::Server;
@@ -65,6 +65,7 @@ fn answer_change(
     server: &mut Server,
     out: &mut ReplyBuffer,
 ) -> Result<(), AllocError>
+    // Kind and numbers fit each other: a number that the kind doesn't have is 0.
     requires asked { IsWithoutData kind numbers (Some (message_without_data kind numbers)) }
     requires changes { is_changing kind ≡ true }
     requires sound { IsConsistent g.now server.old }
@@ -84,7 +85,7 @@ fn answer_change(
 /// Adds the reply to a message that changes something.
 fn add_outcome(why: Option<Refusal>, out: &mut ReplyBuffer)
     requires { FitsReply out.old }
-    ensures { out.new ≡ out.old ++ reply_line (reply_when why) }
+    ensures { out.new ≡ out.old ++ reply_line (done_or_refused why) }
 {
     match why {
         Some(why) => out.add_refusal(why),
@@ -127,8 +128,8 @@ fn answer_question(
     }
 }
 
-/// Adds the reply to a message that changes nothing and passes its tests. It is a function of its
-/// own, so that no reply without a block takes the room of one that may have one.
+/// Adds the reply to a message that changes nothing and passes its checks. It is a function of its
+/// own, so that the stack has room for a reply with a block on this path alone.
 #[inline(never)]
 fn add_whole_reply(
     g: &Geometry,
@@ -146,7 +147,7 @@ fn add_whole_reply(
     out.add_reply(&server.reply_by(g, kind, numbers));
 }
 
-/// Answers a `write` with these numbers, of which these may be the digits.
+/// Answers a `write` with these numbers and this word, which may be no block's digits.
 #[inline(never)]
 fn answer_write(
     g: &Geometry,
@@ -253,21 +254,21 @@ fn answer_line(
     }
 }
 
-/// Writes what waits where a read may wait, and where the answer to the next line has no room.
+/// Writes the replies that wait before a read that may block, and where the answer to the next line would not fit.
 fn send_before_line<R: Read, W: Write>(
     lines: &LineReader<R>,
     out: &mut ReplyBuffer,
     w: &mut W,
 ) -> Result<(), WriteFault>
     ensures room { OnOk result (FitsReply out.new) }
-    ensures kept { OnOk result (Appends (so_far (W.contents w.old) out.old)
-        (so_far (W.contents w.new) out.new) []) }
+    ensures kept { OnOk result (Appends (all_output (W.contents w.old) out.old)
+        (all_output (W.contents w.new) out.new) []) }
 {
     out.send_before_read(lines, w)?;
     out.make_room(w)
 }
 
-/// Answers the next line, unless the input has ended: whether it has not.
+/// Answers the next line, if there is one. Returns whether there was one.
 fn answer_next<R: Read + Drop, W: Write>(
     g: &Geometry,
     lines: &mut LineReader<R>,
@@ -279,25 +280,25 @@ fn answer_next<R: Read + Drop, W: Write>(
     ensures sound { IsConsistent g.now server.new }
     ensures answered { (start : State) (input before : Option (List ℕ)) →
         HasAnswered g.now start input (unread R.remaining lines.old) (is_drained lines.old)
-        (server_state server.old) before (so_far (W.contents w.old) out.old) →
+        (server_state server.old) before (all_output (W.contents w.old) out.old) →
         IfOk result (λ more. MatchBool more
         (HasAnswered g.now start input (unread R.remaining lines.new) (is_drained lines.new)
-        (server_state server.new) before (so_far (W.contents w.new) out.new))
-        (WritesOutput input before (so_far (W.contents w.new) out.new)
-        (λ bytes written. written ≡ serial_out g.now start bytes))) }
+        (server_state server.new) before (all_output (W.contents w.new) out.new))
+        (WritesOutput input before (all_output (W.contents w.new) out.new)
+        (λ bytes written. written ≡ serial_output g.now start bytes))) }
     ensures read { (start : State) (input before : Option (List ℕ)) →
         HasAnswered g.now start input (unread R.remaining lines.old) (is_drained lines.old)
-        (server_state server.old) before (so_far (W.contents w.old) out.old) →
-        IsErrOf result PlainFault.Read → WritesOutput input before (so_far (W.contents w.new) out.new)
+        (server_state server.old) before (all_output (W.contents w.old) out.old) →
+        IsErrOf result PlainFault.Read → WritesOutput input before (all_output (W.contents w.new) out.new)
         (AnswersWholeLines g.now start (R.remaining (source lines.new))) }
     ensures out_of_memory { (start : State) (input before : Option (List ℕ)) →
         HasAnswered g.now start input (unread R.remaining lines.old) (is_drained lines.old)
-        (server_state server.old) before (so_far (W.contents w.old) out.old) →
+        (server_state server.old) before (all_output (W.contents w.old) out.old) →
         IsErrOf result PlainFault.OutOfMemory → WritesOutput input before
-        (so_far (W.contents w.new) out.new) (IsBeginning g.now start) }
+        (all_output (W.contents w.new) out.new) (IsBeginning g.now start) }
+    // `KnowsEnd`: once a read has reported the end, the reader has nothing left.
     ensures knows { KnowsEnd R.remaining lines.old → KnowsEnd R.remaining lines.new }
-    ensures end { KnowsEnd R.remaining lines.old →
-        IfOk result (λ more. IsFalse more → IsAtEnd (R.remaining (source lines.new))) }
+    ensures end { KnowsEnd R.remaining lines.old → IfOk result (λ more. IsFalse more → IsAtEnd (R.remaining (source lines.new))) }
 {
     if lines.is_drained() {
         return Ok(false);
@@ -329,15 +330,15 @@ fn answer_all<R: Read + Drop, W: Write>(
     requires begun { is_drained lines.old ≡ false }
     requires knows { KnowsEnd R.remaining lines.old }
     ensures ok { OnOk result (WritesOutput (unread R.remaining lines.old)
-        (so_far (W.contents w.old) out.old) (so_far (W.contents w.new) out.new)
-        (λ input written. written ≡ serial_out g.now (server_state server.old) input)) }
+        (all_output (W.contents w.old) out.old) (all_output (W.contents w.new) out.new)
+        (λ input written. written ≡ serial_output g.now (server_state server.old) input)) }
     ensures end { OnOk result (IsAtEnd (R.remaining (source lines.new))) }
     ensures read { IsErrOf result PlainFault.Read → WritesOutput (unread R.remaining lines.old)
-        (so_far (W.contents w.old) out.old) (so_far (W.contents w.new) out.new)
+        (all_output (W.contents w.old) out.old) (all_output (W.contents w.new) out.new)
         (AnswersWholeLines g.now (server_state server.old) (R.remaining (source lines.new))) }
     ensures out_of_memory { IsErrOf result PlainFault.OutOfMemory →
         WritesOutput (unread R.remaining lines.old)
-        (so_far (W.contents w.old) out.old) (so_far (W.contents w.new) out.new)
+        (all_output (W.contents w.old) out.old) (all_output (W.contents w.new) out.new)
         (IsBeginning g.now (server_state server.old)) }
 {
     for _ in 0..u64::MAX {
@@ -348,6 +349,7 @@ fn answer_all<R: Read + Drop, W: Write>(
     if lines.is_drained() {
         return Ok(());
     }
+    // Not reached in practice, after 2^64 - 1 lines: the fault whose promise holds at any moment.
     Err(PlainFault::OutOfMemory)
 }
 
@@ -366,15 +368,15 @@ pub(crate) fn answer_lent<'a, R: Read, W: Write, L: Loan>(
     requires room { 1101 ≤ vec_len buffer }
     ensures same { result.1.ghost_name ≡ reader.entry.ghost_name }
     ensures ok { OnOk result.0 (WritesOutput (R.remaining reader.old)
-        (so_far (W.contents w.old) out.old) (so_far (W.contents w.new) out.new)
-        (λ input written. written ≡ serial_out g.now empty input)) }
+        (all_output (W.contents w.old) out.old) (all_output (W.contents w.new) out.new)
+        (λ input written. written ≡ serial_output g.now empty input)) }
     ensures end { OnOk result.0 (IsAtEnd (R.remaining result.1.now)) }
     ensures read { IsErrOf result.0 PlainFault.Read → WritesOutput (R.remaining reader.old)
-        (so_far (W.contents w.old) out.old) (so_far (W.contents w.new) out.new)
+        (all_output (W.contents w.old) out.old) (all_output (W.contents w.new) out.new)
         (AnswersWholeLines g.now empty (R.remaining result.1.now)) }
     ensures out_of_memory { IsErrOf result.0 PlainFault.OutOfMemory →
         WritesOutput (R.remaining reader.old)
-        (so_far (W.contents w.old) out.old) (so_far (W.contents w.new) out.new)
+        (all_output (W.contents w.old) out.old) (all_output (W.contents w.new) out.new)
         (IsBeginning g.now empty) }
 {
     let mut lines = LineReader::new(LentReader { reader, of }, buffer);

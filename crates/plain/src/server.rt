@@ -3,7 +3,7 @@
 ghost use Rattle.std.specs.Prelude.{◌≡◌, true, Some, IfOk, OnOk, OnErr};
 ghost use Rattle.affinity.specs.Kind.{is_changing};
 ghost use Rattle.message.specs.Heads.{IsWithoutData, message_without_data, writing};
-ghost use Rattle.meaning.specs.ByKind.{reply_when};
+ghost use Rattle.meaning.specs.ByKind.{done_or_refused};
 ghost use Rattle.affinity.specs.declared.geometry.Geometry.{Geometry};
 ghost use Rattle.meaning.specs.State.{empty};
 ghost use Rattle.meaning.specs.Serial.{reply_to, next_state};
@@ -88,7 +88,8 @@ impl Server {
         requires asked { IsWithoutData kind numbers (Some (message_without_data kind numbers)) }
         requires changes { is_changing kind ≡ true }
         requires sound { IsConsistent g.now self.old }
-        ensures reply { IfOk result (λ why. reply_to g.now (server_state self.old) (message_without_data kind numbers) ≡ reply_when why) }
+        ensures reply { IfOk result
+            (λ why. reply_to g.now (server_state self.old) (message_without_data kind numbers) ≡ done_or_refused why) }
         ensures state { OnOk result (server_state self.new ≡ next_state g.now (server_state self.old) (message_without_data kind numbers)) }
         ensures unchanged { OnErr result (server_state self.new ≡ server_state self.old) }
         ensures sound { IsConsistent g.now self.new }
@@ -111,7 +112,7 @@ impl Server {
         content: &Block,
     ) -> Result<Option<Refusal>, AllocError>
         requires sound { IsConsistent g.now self.old }
-        ensures reply { IfOk result (λ why. reply_to g.now (server_state self.old) (writing numbers content.now) ≡ reply_when why) }
+        ensures reply { IfOk result (λ why. reply_to g.now (server_state self.old) (writing numbers content.now) ≡ done_or_refused why) }
         ensures state { OnOk result (server_state self.new ≡ next_state g.now (server_state self.old) (writing numbers content.now)) }
         ensures unchanged { OnErr result (server_state self.new ≡ server_state self.old) }
         ensures sound { IsConsistent g.now self.new }

@@ -3,7 +3,7 @@
 ghost use Rattle.std.specs.Prelude.{◌≡◌, ℕ, List, Option, IfOk, OnOk, IsErrOf, vec_len};
 ghost use Rattle.std.specs.Io.KnownBytes.{IsAtEnd};
 ghost use Rattle.meaning.specs.State.{empty};
-ghost use Rattle.meaning.specs.Output.{serial_out, AnswersWholeLines, IsBeginning, WritesOutput};
+ghost use Rattle.meaning.specs.Output.{serial_output, AnswersWholeLines, IsBeginning, WritesOutput};
 
 use crate::PlainFault;
 use crate::answering::answer_lent;
@@ -39,7 +39,7 @@ pub fn serve_from<R: Read, W: Write>(
     w: &mut W,
 ) -> Result<(), PlainFault>
     ensures ok { OnOk result (WritesOutput (R.remaining r.old) (W.contents w.old) (W.contents w.new)
-        (λ input written. written ≡ serial_out g.now empty input)) }
+        (λ input written. written ≡ serial_output g.now empty input)) }
     ensures end { OnOk result (IsAtEnd (R.remaining r.new)) }
     ensures read { IsErrOf result PlainFault.Read → WritesOutput (R.remaining r.old) (W.contents w.old)
         (W.contents w.new) (AnswersWholeLines g.now empty (R.remaining r.new)) }
@@ -52,6 +52,7 @@ pub fn serve_from<R: Read, W: Write>(
     let Ok(mut out) = ReplyBuffer::new(alloc) else {
         return Err(PlainFault::OutOfMemory);
     };
+    // `r` is lent to a reader of lines and comes back as `_back`, so that the clauses know what it has left.
     let (answered, _back) = answer_lent::<R, W, Brand>(
         alloc,
         g,
@@ -80,7 +81,7 @@ pub fn serve_plain<R: Read + Drop, W: Write>(
     w: &mut W,
 ) -> Result<(), PlainFault>
     ensures ok { OnOk result (WritesOutput (R.remaining r) (W.contents w.old) (W.contents w.new)
-        (λ input written. written ≡ serial_out g.now empty input)) }
+        (λ input written. written ≡ serial_output g.now empty input)) }
     ensures read { IsErrOf result PlainFault.Read → WritesOutput (R.remaining r) (W.contents w.old)
         (W.contents w.new)
         (λ input written. (left : Option (List ℕ)) × AnswersWholeLines g.now empty left input written) }

@@ -3,13 +3,13 @@
 use Rattle.std.proofs.Common.{◌≡◌, ℕ, ◌+◌, ◌<◌, ◌≤◌, Bool, true, false, zero, suc, List, [], ◌∷◌, ◌⊎◌, inl, inr, if◌then◌else◌, ◌==◌, drop, take, length, map, set, get_or, refl, ap, sym, ◌∙◌, subst, arith}
 use Rattle.std.proofs.lemmas.Bool.{ne_eqb}
 use Rattle.messages.specs.declared.Reply.{Reply}
-use Rattle.reorder_buffer.specs.ReorderBuffer.{Completed, Line, NoMessage, OutOfRange, Pending, complete_one, AreFrom, AreConsecutive, IsOf}
+use Rattle.reorder_buffer.specs.ReorderBuffer.{Completed, Line, NoMessage, OutOfRange, Pending, complete_one, HaveTicketsFrom, AreConsecutive, HasTicket}
 
 -- a line that has a ticket is that ticket's
 pub ticket_in : (line : Line) → ((ticket : ℕ) × (line ≡ Pending ticket)) ⊎ ((ticket : ℕ) × (reply : Reply) × (line ≡ Completed ticket reply))
-    → (ticket : ℕ) × IsOf ticket line
-ticket_in line (inl (ticket, is)) = (ticket, subst (λ (l : Line). IsOf ticket l) (sym is) refl)
-ticket_in line (inr (ticket, reply, is)) = (ticket, subst (λ (l : Line). IsOf ticket l) (sym is) refl)
+    → (ticket : ℕ) × HasTicket ticket line
+ticket_in line (inl (ticket, is)) = (ticket, subst (λ (l : Line). HasTicket ticket l) (sym is) refl)
+ticket_in line (inr (ticket, reply, is)) = (ticket, subst (λ (l : Line). HasTicket ticket l) (sym is) refl)
 
 one_more : (k : ℕ) → suc k ≡ k + 1
 one_more k = omega arith
@@ -22,7 +22,7 @@ module _ (ticket : ℕ) (reply : Reply) where
   Left lines = map (complete_one ticket reply) lines ≡ lines
 
   -- the line of another message
-  left : (n : ℕ) (line : Line) → IsOf n line → (n ≡ ticket → ⊥) → complete_one ticket reply line ≡ line
+  left : (n : ℕ) (line : Line) → HasTicket n line → (n ≡ ticket → ⊥) → complete_one ticket reply line ≡ line
   left n NoMessage of differs = refl
   left n OutOfRange of differs = refl
   left n (Completed t r) of differs = refl
@@ -34,19 +34,19 @@ module _ (ticket : ℕ) (reply : Reply) where
       ap (λ (l : Line). l ∷ map (complete_one ticket reply) ticketed) first ∙ ap (λ (l : List Line). line ∷ l) rest
 
   -- those that all have greater tickets
-  pub greater_left : (n : ℕ) (ticketed : List Line) → ticket < n → AreFrom n ticketed → Left ticketed
+  pub greater_left : (n : ℕ) (ticketed : List Line) → ticket < n → HaveTicketsFrom n ticketed → Left ticketed
   greater_left n [] lt from = refl
   greater_left n (line ∷ ticketed) lt from =
       both_left line ticketed (left n line from.0 (λ e. omega (arith, e, lt))) (greater_left (n + 1) ticketed (omega (arith, lt)) from.1)
 
   -- those that all have smaller ones
-  pub smaller_left : (n : ℕ) (ticketed : List Line) → n + length ticketed ≤ ticket → AreFrom n ticketed → Left ticketed
+  pub smaller_left : (n : ℕ) (ticketed : List Line) → n + length ticketed ≤ ticket → HaveTicketsFrom n ticketed → Left ticketed
   smaller_left n [] le from = refl
   smaller_left n (line ∷ ticketed) le from =
       both_left line ticketed (left n line from.0 (λ e. omega (arith, e, le))) (smaller_left (n + 1) ticketed (omega (arith, le)) from.1)
 
   -- those before the place of the ticket
-  pub before_left : (n i : ℕ) (ticketed : List Line) → n + i ≡ ticket → AreFrom n ticketed → Left (take i ticketed)
+  pub before_left : (n i : ℕ) (ticketed : List Line) → n + i ≡ ticket → HaveTicketsFrom n ticketed → Left (take i ticketed)
   before_left n zero ticketed is from = refl
   before_left n (suc i) [] is from = refl
   before_left n (suc i) (line ∷ ticketed) is from =
@@ -54,12 +54,12 @@ module _ (ticket : ℕ) (reply : Reply) where
       (before_left (n + 1) i ticketed (omega (arith, is)) from.1)
 
   -- those behind it
-  behind : (n i : ℕ) (ticketed : List Line) → n + i ≡ ticket → AreFrom n ticketed → Left (drop (suc i) ticketed)
+  behind : (n i : ℕ) (ticketed : List Line) → n + i ≡ ticket → HaveTicketsFrom n ticketed → Left (drop (suc i) ticketed)
   behind n i [] is from = refl
   behind n zero (line ∷ ticketed) is from = greater_left (n + 1) ticketed (omega (arith, is)) from.1
   behind n (suc i) (line ∷ ticketed) is from = behind (n + 1) i ticketed (omega (arith, is)) from.1
 
-  pub behind_left : (n i : ℕ) (ticketed : List Line) → n + i ≡ ticket → AreFrom n ticketed → Left (drop (i + 1) ticketed)
+  pub behind_left : (n i : ℕ) (ticketed : List Line) → n + i ≡ ticket → HaveTicketsFrom n ticketed → Left (drop (i + 1) ticketed)
   behind_left n i ticketed is from =
       subst (λ (k : ℕ). Left (drop k ticketed)) (one_more i) (behind n i ticketed is from)
 
@@ -100,16 +100,16 @@ module _ (ticket : ℕ) (reply : Reply) where
 
   -- ---- lines that stay in order
 
-  of_answered : (n : ℕ) (line : Line) → IsOf n line → IsOf n (complete_one ticket reply line)
+  of_answered : (n : ℕ) (line : Line) → HasTicket n line → HasTicket n (complete_one ticket reply line)
   of_answered n NoMessage of = of
   of_answered n OutOfRange of = of
   of_answered n (Completed t r) of = of
-  of_answered n (Pending t) of = elim (t == ticket) as (λ b. IsOf n (if b then Completed t reply else Pending t)) [
+  of_answered n (Pending t) of = elim (t == ticket) as (λ b. HasTicket n (if b then Completed t reply else Pending t)) [
     | true ↦ of
     | false ↦ of
   ]
 
-  from_looked : (k n : ℕ) (lines : List Line) → AreFrom n lines → AreFrom n (looked k lines)
+  from_looked : (k n : ℕ) (lines : List Line) → HaveTicketsFrom n lines → HaveTicketsFrom n (looked k lines)
   from_looked zero n lines from = from
   from_looked (suc k) n [] from = from
   from_looked (suc k) n (line ∷ lines) from = (of_answered n line from.0, from_looked k (n + 1) lines from.1)

@@ -9,26 +9,27 @@ use Rattle.messages.specs.declared.Refusal.TheVariants.{Range}
 pub use Rattle.reorder_buffer.specs.declared.reorder_buffer.Line.{Line}
 pub use Rattle.reorder_buffer.specs.declared.reorder_buffer.Line.TheVariants.{NoMessage, OutOfRange, Pending, Completed}
 pub use Rattle.reorder_buffer.specs.declared.reorder_buffer.LineKind.{LineKind}
-pub use Rattle.reorder_buffer.specs.declared.reorder_buffer.LineKind.TheVariants.{NoMessage as Stray, OutOfRange as Outside, Ticketed}
+pub use Rattle.reorder_buffer.specs.declared.reorder_buffer.LineKind.TheVariants.{NoMessage as NoMessageKind, OutOfRange as OutOfRangeKind, Ticketed}
 
 -- ---- the answer to a line
 
-abbrev pub is_completed : Line → Bool
-is_completed (Pending ticket) = false
-is_completed _ = true
+-- whether the answer to the line is known: it isn't pending
+abbrev pub has_answer : Line → Bool
+has_answer (Pending ticket) = false
+has_answer _ = true
 
--- each of them is
-abbrev pub AreCompleted : List Line → Type 0
-AreCompleted lines = AllByRecursion (λ line. is_completed line ≡ true) lines
+-- The answer to each of the lines is known.
+abbrev pub HaveAnswers : List Line → Type 0
+HaveAnswers lines = AllByRecursion (λ line. has_answer line ≡ true) lines
 
--- the line of the output. None is written for a line that is not completed yet.
-abbrev pub text : Line → List ℕ
-text NoMessage = no_message
-text OutOfRange = reply_line (Refused Range)
-text (Pending ticket) = []
-text (Completed ticket reply) = reply_line reply
+-- the line of the output that answers a line of the input; no bytes while that is pending
+abbrev pub answer_text : Line → List ℕ
+answer_text NoMessage = no_message
+answer_text OutOfRange = reply_line (Refused Range)
+answer_text (Pending ticket) = []
+answer_text (Completed ticket reply) = reply_line reply
 
--- the line, where the message with this ticket was given this reply
+-- the line after the message with this ticket was given this reply: completed, if it is the line of that message
 abbrev pub complete_one : ℕ → Reply → Line → Line
 complete_one ticket reply (Pending t) = if t == ticket then Completed t reply else Pending t
 complete_one ticket reply line = line
@@ -42,55 +43,55 @@ pub record ReorderBufferView : Type 0 where
   -- how many there is room for
   pub slots : ℕ
 
--- the first line is completed, so that it is written next
+-- whether the answer to the oldest line is known, so that it can be retired
 abbrev pub can_retire : List Line → Bool
 can_retire [] = false
-can_retire (line ∷ rest) = is_completed line
+can_retire (line ∷ rest) = has_answer line
 
--- what is written for it then
+-- what is written when the oldest line is retired
 abbrev pub retired_text : List Line → List ℕ
 retired_text [] = []
-retired_text (line ∷ rest) = text line
+retired_text (line ∷ rest) = answer_text line
 
 -- ---- how a reorder buffer is kept
 
--- the lines of these kinds, where those of messages with tickets are these
+-- all lines in order, put together from the kind of each and the lines with tickets
 abbrev pub lines_of : List LineKind → List Line → List Line
 lines_of [] ticketed = []
-lines_of (Stray ∷ kinds) ticketed = NoMessage ∷ lines_of kinds ticketed
-lines_of (Outside ∷ kinds) ticketed = OutOfRange ∷ lines_of kinds ticketed
+lines_of (NoMessageKind ∷ kinds) ticketed = NoMessage ∷ lines_of kinds ticketed
+lines_of (OutOfRangeKind ∷ kinds) ticketed = OutOfRange ∷ lines_of kinds ticketed
 lines_of (Ticketed ∷ kinds) [] = []
 lines_of (Ticketed ∷ kinds) (line ∷ ticketed) = line ∷ lines_of kinds ticketed
 
--- how many of them are those of messages with tickets
+-- how many of the kinds are those of lines with tickets
 abbrev pub ticketed_among : List LineKind → ℕ
 ticketed_among [] = 0
-ticketed_among (Stray ∷ kinds) = ticketed_among kinds
-ticketed_among (Outside ∷ kinds) = ticketed_among kinds
+ticketed_among (NoMessageKind ∷ kinds) = ticketed_among kinds
+ticketed_among (OutOfRangeKind ∷ kinds) = ticketed_among kinds
 ticketed_among (Ticketed ∷ kinds) = ticketed_among kinds + 1
 
--- this is the line of the message with this ticket
-abbrev pub IsOf : ℕ → Line → Type 0
-IsOf ticket (Pending t) = t ≡ ticket
-IsOf ticket (Completed t reply) = t ≡ ticket
-IsOf ticket _ = ⊥
+-- The line is that of the message with this ticket.
+abbrev pub HasTicket : ℕ → Line → Type 0
+HasTicket ticket (Pending t) = t ≡ ticket
+HasTicket ticket (Completed t reply) = t ≡ ticket
+HasTicket ticket _ = ⊥
 
--- these are the lines of the messages with the tickets from this one on
-abbrev pub AreFrom : ℕ → List Line → Type 0
-AreFrom ticket [] = Unit {0}
-AreFrom ticket (line ∷ ticketed) = IsOf ticket line × AreFrom (ticket + 1) ticketed
+-- The lines are those of messages with consecutive tickets, from this ticket on.
+abbrev pub HaveTicketsFrom : ℕ → List Line → Type 0
+HaveTicketsFrom ticket [] = Unit {0}
+HaveTicketsFrom ticket (line ∷ ticketed) = HasTicket ticket line × HaveTicketsFrom (ticket + 1) ticketed
 
--- their tickets go up by one
+-- The tickets of the lines go up by one, from some first ticket on.
 abbrev pub AreConsecutive : List Line → Type 0
-AreConsecutive ticketed = (first : ℕ) × AreFrom first ticketed
+AreConsecutive ticketed = (first : ℕ) × HaveTicketsFrom first ticketed
 
--- those that are messages with tickets
+-- the lines that have tickets
 abbrev pub with_tickets : List Line → List Line
 with_tickets [] = []
 with_tickets (Pending ticket ∷ rest) = Pending ticket ∷ with_tickets rest
 with_tickets (Completed ticket reply ∷ rest) = Completed ticket reply ∷ with_tickets rest
 with_tickets (_ ∷ rest) = with_tickets rest
 
--- a reply to this ticket leaves these lines as they are
+-- A reply to the message with this ticket leaves these lines as they are.
 abbrev pub AreUnaffected : ℕ → List Line → Type 0
 AreUnaffected ticket lines = (reply : Reply) → map (complete_one ticket reply) lines ≡ lines

@@ -3,7 +3,7 @@
 ghost use Rattle.std.specs.Prelude.{◌≡◌, ◌<◌, ◌≤◌, ◌+◌, ◌↔◌, ◌++◌, ◌∷◌, [], IfOk, IsTrue, MatchBool, MatchOption, ℕ, drop, length, map, take};
 ghost use Rattle.std.specs.VecDeque.{deque_len};
 ghost use Rattle.message.specs.Waiting.{FitsReply};
-ghost use Rattle.reorder_buffer.specs.ReorderBuffer.{Line, complete_one, AreFrom, AreConsecutive, AreUnaffected, IsOf, can_retire, retired_text, text, with_tickets};
+ghost use Rattle.reorder_buffer.specs.ReorderBuffer.{Line, complete_one, HaveTicketsFrom, AreConsecutive, AreUnaffected, HasTicket, can_retire, retired_text, answer_text, with_tickets};
 
 use message::ReplyBuffer;
 use messages::{Refusal, Reply};
@@ -72,7 +72,7 @@ impl Model for ReorderBuffer {
         × (ticketed_among r.kinds.items ≡ length r.ticketed.items) × AreConsecutive r.ticketed.items };
 }
 
-/// Puts the reply to the message with this ticket to a line, where it is that message's and pending.
+/// Stores the reply to the message with this ticket in a line, if that is the message's line and pending.
 fn complete_line(line: &mut Line, ticket: u64, reply: &Reply)
     ensures { line.new ≡ complete_one ticket reply.now line.old }
 {
@@ -84,7 +84,8 @@ fn complete_line(line: &mut Line, ticket: u64, reply: &Reply)
 
 /// The ticket of the oldest of these lines, if it has one.
 fn first_ticket(ticketed: &VecDeque<Line>) -> Option<u64>
-    ensures { (first : ℕ) → AreFrom first ticketed.now.items → MatchOption result (ticketed.now.items ≡ []) (λ ticket. ticket ≡ first) }
+    ensures { (first : ℕ) → HaveTicketsFrom first ticketed.now.items
+        → MatchOption result (ticketed.now.items ≡ []) (λ ticket. ticket ≡ first) }
 {
     match ticketed.front()? {
         Line::Pending(ticket) | Line::Completed(ticket, _) => Some(*ticket),
@@ -92,8 +93,8 @@ fn first_ticket(ticketed: &VecDeque<Line>) -> Option<u64>
     }
 }
 
-/// The place of the line that a reply to this ticket can change, if there is one.
-fn places_of(ticketed: &VecDeque<Line>, ticket: u64) -> Range<usize>
+/// The index of the line that a reply to this ticket can change, as a range: an empty one where there is none.
+fn index_range_of(ticketed: &VecDeque<Line>, ticket: u64) -> Range<usize>
     requires { AreConsecutive ticketed.now.items }
     ensures within { (result.start ≤ result.end) × (result.end ≤ deque_len ticketed.now) }
     ensures before { AreUnaffected ticket (take result.start ticketed.now.items) }
@@ -105,14 +106,14 @@ fn places_of(ticketed: &VecDeque<Line>, ticket: u64) -> Range<usize>
     if ticket < first || ticket - first >= ticketed.len() as u64 {
         return 0..0;
     }
-    let place = (ticket - first) as usize;
-    place..place + 1
+    let index = (ticket - first) as usize;
+    index..index + 1
 }
 
-/// Adds the answer to a line to the lines that wait to be sent, if it is completed.
+/// Appends the answer to this line to the reply buffer, unless the line is pending.
 fn add_text(line: &Line, reply_buffer: &mut ReplyBuffer)
     requires { FitsReply reply_buffer.old }
-    ensures { reply_buffer.new ≡ reply_buffer.old ++ text line.now }
+    ensures { reply_buffer.new ≡ reply_buffer.old ++ answer_text line.now }
 {
     match line {
         Line::NoMessage => reply_buffer.add_no_message(),
@@ -183,7 +184,7 @@ impl ReorderBuffer {
     #[inline(always)]
     pub fn push(&mut self, line: Line)
         requires room { length self.old.lines < self.old.slots }
-        requires order { (ticket : ℕ) → IsOf ticket line → AreConsecutive (with_tickets self.old.lines ++ line ∷ []) }
+        requires order { (ticket : ℕ) → HasTicket ticket line → AreConsecutive (with_tickets self.old.lines ++ line ∷ []) }
         ensures lines { self.new.lines ≡ self.old.lines ++ line ∷ [] }
         ensures slots { self.new.slots ≡ self.old.slots }
     {
@@ -207,18 +208,18 @@ impl ReorderBuffer {
         }
     }
 
-    /// Puts the reply to the message with this ticket to its line, where it is in the reorder buffer and pending.
+    /// Stores the reply to the message with this ticket in its line, if that is in the reorder buffer and pending.
     pub fn answer(&mut self, ticket: u64, reply: Reply)
         ensures lines { self.new.lines ≡ map (complete_one ticket reply) self.old.lines }
         ensures slots { self.new.slots ≡ self.old.slots }
     {
-        let places = places_of(&self.ticketed, ticket);
-        for k in places.start..places.end {
+        let range = index_range_of(&self.ticketed, ticket);
+        for k in range.start..range.end {
             complete_line(&mut self.ticketed[k], ticket, &reply);
         }
     }
 
-    /// Adds the answer to the oldest line to the lines that wait to be sent, and removes it, if it is completed: whether it is.
+    /// Removes the oldest line and appends its answer to the reply buffer, if the answer is known. Returns whether it did.
     pub fn retire_front(&mut self, reply_buffer: &mut ReplyBuffer) -> bool
         requires { FitsReply reply_buffer.old }
         ensures next { result ≡ can_retire self.old.lines }

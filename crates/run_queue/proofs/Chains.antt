@@ -7,16 +7,16 @@ use Rattle.std.proofs.lemmas.Bool.Decides.{eqb_tells}
 use Rattle.std.proofs.lemmas.List.{length-set, length-replicate, get_or-set_same, get_or-set_other, length-map, map-append, append-nil}
 use Rattle.std.proofs.lemmas.List.Elements.{filter-append}
 use Rattle.arena.specs.Lists.{first_of, without, numbers_from}
-use Rattle.arena.specs.Lists.{times as times_on}
-use Rattle.arena.specs.ArenaView.{ArenaView, IsParted, capacity_of, value_at, chain_at, front_of, moved, listed, can_move, empty_arena, put_answer, slot_from, after_put, after_move, after_take}
-use Rattle.arena.proofs.Times.{times-append as on-append, times-cons_is as on-cons_is, times-cons_other as on-cons_other, times-at as on-at, without-absent as on-absent}
+use Rattle.arena.specs.Lists.{count_of}
+use Rattle.arena.specs.ArenaView.{ArenaView, IsPartitioned, capacity_of, value_at, chain_at, front_of, moved, listed, can_move, empty_arena, put_answer, slot_from, after_put, after_move, after_take}
+use Rattle.arena.proofs.Counts.{count_of-append as on-append, count_of-cons_is as on-cons_is, count_of-cons_other as on-cons_other, count_of-at as on-at, without-absent as on-absent}
 use Rattle.arena.proofs.ArenaLemmas.{chain-without, chain-moved_same, chain-moved_other, length-moved, chained-holds, chained-apart, front-chained, chain-front}
 use Rattle.run_queue.specs.RunQueue.{has_slot, has_number, without_slot, CameBefore}
-use Rattle.run_queue.specs.Slots.{times_in_slot}
+use Rattle.run_queue.specs.Slots.{count_in_slot}
 use Rattle.run_queue.specs.Order.{Ascend}
 use Rattle.run_queue.specs.Queues.{Waiting, present, by_ticket, waiting_in, queued_in, IsQueued}
 use Rattle.run_queue.specs.declared.queued_message.QueuedMessage.{QueuedMessage}
-use Rattle.run_queue.proofs.SlotCounts.{times-cons_is, times-filter}
+use Rattle.run_queue.proofs.SlotCounts.{count_in_slot-cons_is, count_in_slot-filter}
 use Rattle.run_queue.proofs.Sorting.{ascend-filter, ascend-last, order-come, order-leave, length-all, without-absent}
 
 -- ---- at the start
@@ -30,7 +30,7 @@ no_chain zero n = refl
 no_chain (suc count) zero = refl
 no_chain (suc count) (suc n) = no_chain count n
 
-all_numbers : (from count i : ℕ) → from ≤ i → i < from + count → 0 < times_on i (numbers_from from count)
+all_numbers : (from count i : ℕ) → from ≤ i → i < from + count → 0 < count_of i (numbers_from from count)
 all_numbers from zero i low high = absurd (omega arith)
 all_numbers from (suc count) i low high = elim (eqb_tells from i) [
   | inl e ↦ omega (arith, on-cons_is i from (numbers_from (suc from) count) e.1)
@@ -41,10 +41,10 @@ all_numbers from (suc count) i low high = elim (eqb_tells from i) [
 pub start-waiting : (capacity numbers : ℕ) → waiting_in (empty_arena capacity numbers) ≡ []
 start-waiting capacity numbers = ap by_ticket (none_present capacity)
 
-pub start-queued : (capacity numbers : ℕ) → IsParted {T = QueuedMessage} (empty_arena capacity numbers) → IsQueued (empty_arena capacity numbers)
-start-queued capacity numbers parted = record {
-  parted = parted;
-  full = λ i below none. all_numbers 0 capacity i (omega arith) (omega (arith, below, length-replicate {A = Option QueuedMessage} capacity None));
+pub start-queued : (capacity numbers : ℕ) → IsPartitioned {T = QueuedMessage} (empty_arena capacity numbers) → IsQueued (empty_arena capacity numbers)
+start-queued capacity numbers partitioned = record {
+  partitioned = partitioned;
+  empty_is_free = λ i below none. all_numbers 0 capacity i (omega arith) (omega (arith, below, length-replicate {A = Option QueuedMessage} capacity None));
   ascends = subst (λ (ts : List QueuedMessage). Ascend ts) (sym (start-waiting capacity numbers)) tt;
   queued = λ n.
       ap (λ (is : List ℕ). queued_in (empty_arena capacity numbers) is) (no_chain numbers n)
@@ -73,34 +73,34 @@ none_first : (is : List ℕ) → first_of is ≡ None → is ≡ []
 none_first [] h = refl
 none_first (i ∷ is) h = absurd (cc)
 
-pub front-none : (row : ArenaView QueuedMessage) (n : ℕ) → IsQueued row → front_of row n ≡ None → find (has_number n) (waiting_in row) ≡ None
+pub front-none : (arena : ArenaView QueuedMessage) (n : ℕ) → IsQueued arena → front_of arena n ≡ None → find (has_number n) (waiting_in arena) ≡ None
 unfolding head
-front-none row n q none =
-    find-head (has_number n) (waiting_in row)
+front-none arena n q none =
+    find-head (has_number n) (waiting_in arena)
     ∙ ap head (sym (q.queued n))
-    ∙ ap (λ (is : List ℕ). head (queued_in row is)) (none_first (chain_at row n) none)
+    ∙ ap (λ (is : List ℕ). head (queued_in arena is)) (none_first (chain_at arena n) none)
 
 -- a slot of a queue has one
-pub chained-some : (row : ArenaView QueuedMessage) (n i : ℕ) → IsQueued row → front_of row n ≡ Some i → (t : QueuedMessage) × (value_at row i ≡ Some t)
-chained-some row n i q first = some_of (value_at row i) (chained-holds row i n q.parted (front-chained row i n first))
+pub chained-some : (arena : ArenaView QueuedMessage) (n i : ℕ) → IsQueued arena → front_of arena n ≡ Some i → (t : QueuedMessage) × (value_at arena i ≡ Some t)
+chained-some arena n i q first = some_of (value_at arena i) (chained-holds arena i n q.partitioned (front-chained arena i n first))
 
 -- the queue is its first one, and the others
-queue-parts : (row : ArenaView QueuedMessage) (n i : ℕ) (t : QueuedMessage) → IsQueued row → front_of row n ≡ Some i → value_at row i ≡ Some t
-    → filter (has_number n) (waiting_in row) ≡ t ∷ queued_in row (without i (chain_at row n))
-queue-parts row n i t q first is =
+queue-parts : (arena : ArenaView QueuedMessage) (n i : ℕ) (t : QueuedMessage) → IsQueued arena → front_of arena n ≡ Some i → value_at arena i ≡ Some t
+    → filter (has_number n) (waiting_in arena) ≡ t ∷ queued_in arena (without i (chain_at arena n))
+queue-parts arena n i t q first is =
     sym (q.queued n)
-    ∙ ap (λ (is : List ℕ). queued_in row is) (chain-front row i n q.parted first)
-    ∙ ap (λ (o : Option QueuedMessage). present (o ∷ map (value_at row) (without i (chain_at row n)))) is
+    ∙ ap (λ (is : List ℕ). queued_in arena is) (chain-front arena i n q.partitioned first)
+    ∙ ap (λ (o : Option QueuedMessage). present (o ∷ map (value_at arena) (without i (chain_at arena n)))) is
 
-pub front-some : (row : ArenaView QueuedMessage) (n i : ℕ) → IsQueued row → front_of row n ≡ Some i → find (has_number n) (waiting_in row) ≡ value_at row i
+pub front-some : (arena : ArenaView QueuedMessage) (n i : ℕ) → IsQueued arena → front_of arena n ≡ Some i → find (has_number n) (waiting_in arena) ≡ value_at arena i
 unfolding head
-front-some row n i q first =
-    let t = chained-some row n i q first in
-    find-head (has_number n) (waiting_in row) ∙ ap head (queue-parts row n i t.0 q first t.1) ∙ sym t.1
+front-some arena n i q first =
+    let t = chained-some arena n i q first in
+    find-head (has_number n) (waiting_in arena) ∙ ap head (queue-parts arena n i t.0 q first t.1) ∙ sym t.1
 
 -- ---- the slots of a chain, where another slot changes
 
-map-other : (values : List (Option QueuedMessage)) (i : ℕ) (o : Option QueuedMessage) (is : List ℕ) → times_on i is ≡ 0
+map-other : (values : List (Option QueuedMessage)) (i : ℕ) (o : Option QueuedMessage) (is : List ℕ) → count_of i is ≡ 0
     → map (λ j. slice_index_or (slice_set values i o) j None) is ≡ map (λ j. slice_index_or values j None) is
 map-other values i o [] none = refl
 map-other values i o (j ∷ is) none = elim (eqb_tells j i) [
@@ -121,10 +121,10 @@ waiting-same e f g = rw (e, f, g) refl
 
 -- ---- one more
 
-pub free-from_put : (row : ArenaView QueuedMessage) (t : QueuedMessage) (i : ℕ) → put_answer row t ≡ Ok i → (rest : List ℕ) × (row.free ≡ i ∷ rest)
-free-from_put row t i answer = by row.free refl
+pub free-from_put : (arena : ArenaView QueuedMessage) (t : QueuedMessage) (i : ℕ) → put_answer arena t ≡ Ok i → (rest : List ℕ) × (arena.free ≡ i ∷ rest)
+free-from_put arena t i answer = by arena.free refl
   where
-    by : (free : List ℕ) → row.free ≡ free → (rest : List ℕ) × (row.free ≡ i ∷ rest)
+    by : (free : List ℕ) → arena.free ≡ free → (rest : List ℕ) × (arena.free ≡ i ∷ rest)
     by [] is = absurd (let other = ap (λ (free : List ℕ). slot_from free t) is in let h = sym answer ∙ other in cc)
     by (j ∷ rest) is =
         let other = ap (λ (free : List ℕ). slot_from free t) is in
@@ -133,104 +133,104 @@ free-from_put row t i answer = by row.free refl
         (rest, is ∙ ap (λ k. k ∷ rest) same)
 
 abbrev pub pushed : ArenaView QueuedMessage → QueuedMessage → ℕ → List ℕ → ℕ → ArenaView QueuedMessage
-pushed row t i rest n = record { values = slice_set row.values i (Some t); free = rest; chains = moved row.chains i n }
+pushed arena t i rest n = record { values = slice_set arena.values i (Some t); free = rest; chains = moved arena.chains i n }
 
-module _ (row : ArenaView QueuedMessage) (t : QueuedMessage) (i : ℕ) (rest : List ℕ) (n : ℕ) (q : IsQueued row) (first : row.free ≡ i ∷ rest)
-    (there : n < length row.chains) (number : t.affinity.number ≡ n) (later : CameBefore t.ticket (waiting_in row)) where
+module _ (arena : ArenaView QueuedMessage) (t : QueuedMessage) (i : ℕ) (rest : List ℕ) (n : ℕ) (q : IsQueued arena) (first : arena.free ≡ i ∷ rest)
+    (there : n < length arena.chains) (number : t.affinity.number ≡ n) (later : CameBefore t.ticket (waiting_in arena)) where
   abbrev after : ArenaView QueuedMessage
-  after = pushed row t i rest n
+  after = pushed arena t i rest n
 
-  is_free : 1 ≤ times_on i row.free
-  is_free = subst (λ (is : List ℕ). 1 ≤ times_on i is) (sym first) (omega (arith, on-cons_is i i rest refl))
+  is_free : 1 ≤ count_of i arena.free
+  is_free = subst (λ (is : List ℕ). 1 ≤ count_of i is) (sym first) (omega (arith, on-cons_is i i rest refl))
 
-  is_listed : 1 ≤ times_on i (listed row)
-  is_listed = omega (arith, is_free, on-append i row.free (concat row.chains))
+  is_listed : 1 ≤ count_of i (listed arena)
+  is_listed = omega (arith, is_free, on-append i arena.free (concat arena.chains))
 
-  is_slot : i < length row.values
-  is_slot = q.parted.within i is_listed
+  is_slot : i < length arena.values
+  is_slot = q.partitioned.within i is_listed
 
-  is_empty : value_at row i ≡ None
-  is_empty = q.parted.free_empty i is_free
+  is_empty : value_at arena i ≡ None
+  is_empty = q.partitioned.free_empty i is_free
 
-  off_chains : (m : ℕ) → times_on i (chain_at row m) ≡ 0
-  off_chains m = omega (arith, is_free, on-append i row.free (concat row.chains), q.parted.once i, on-at i row.chains m)
+  off_chains : (m : ℕ) → count_of i (chain_at arena m) ≡ 0
+  off_chains m = omega (arith, is_free, on-append i arena.free (concat arena.chains), q.partitioned.once i, on-at i arena.chains m)
 
-  has_it : slice_index_or (slice_set row.values i (Some t)) i None ≡ Some t
-  has_it = get_or-set_same row.values i (Some t) None is_slot
+  has_it : slice_index_or (slice_set arena.values i (Some t)) i None ≡ Some t
+  has_it = get_or-set_same arena.values i (Some t) None is_slot
 
-  pub push-row : after_move (after_put row t) i n ≡ after
-  push-row =
-      let put : after_put row t ≡ record row { values = slice_set row.values i (Some t); free = rest } = rw first refl in
-      let can : can_move (record row { values = slice_set row.values i (Some t); free = rest }) i n ≡ true =
-      and_from _ _ (ap is_some has_it) (lt-ltb n (length row.chains) there) in
+  pub push-arena : after_move (after_put arena t) i n ≡ after
+  push-arena =
+      let put : after_put arena t ≡ record arena { values = slice_set arena.values i (Some t); free = rest } = rw first refl in
+      let can : can_move (record arena { values = slice_set arena.values i (Some t); free = rest }) i n ≡ true =
+      and_from _ _ (ap is_some has_it) (lt-ltb n (length arena.chains) there) in
       ap (λ (m : ArenaView QueuedMessage). after_move m i n) put ∙ rw can refl
 
-  pub push-waiting : waiting_in after ≡ waiting_in row ++ t ∷ []
-  push-waiting = order-come row.values i t is_slot is_empty later
+  pub push-waiting : waiting_in after ≡ waiting_in arena ++ t ∷ []
+  push-waiting = order-come arena.values i t is_slot is_empty later
 
   pub push-view : ◌≡◌ {A = Waiting} (record { numbers = length after.chains; capacity = length after.values; messages = waiting_in after })
-      (record { numbers = length row.chains; capacity = length row.values; messages = waiting_in row ++ t ∷ [] })
-  push-view = waiting-same (length-moved row.chains i n) (length-set row.values i (Some t)) push-waiting
+      (record { numbers = length arena.chains; capacity = length arena.values; messages = waiting_in arena ++ t ∷ [] })
+  push-view = waiting-same (length-moved arena.chains i n) (length-set arena.values i (Some t)) push-waiting
 
-  push-full : (j : ℕ) → j < capacity_of after → value_at after j ≡ None → 0 < times_on j rest
+  push-full : (j : ℕ) → j < capacity_of after → value_at after j ≡ None → 0 < count_of j rest
   push-full j below none = elim (cases_eq j i) [
     | inl e ↦ absurd (let is = subst (λ k. value_at after k ≡ Some t) (sym e) has_it in cc)
-    | inr other ↦ (let empty : value_at row j ≡ None = sym (get_or-set_other row.values i j (Some t) None other) ∙ none in
-        let below' : j < length row.values = omega (arith, below, length-set row.values i (Some t)) in
-        let free = subst (λ (is : List ℕ). 0 < times_on j is) first (q.full j below' empty) in
+    | inr other ↦ (let empty : value_at arena j ≡ None = sym (get_or-set_other arena.values i j (Some t) None other) ∙ none in
+        let below' : j < length arena.values = omega (arith, below, length-set arena.values i (Some t)) in
+        let free = subst (λ (is : List ℕ). 0 < count_of j is) first (q.empty_is_free j below' empty) in
         omega (arith, free, on-cons_other j i rest (λ same. other (sym same))))
   ]
 
-  others_on : (m : ℕ) → queued_in after (chain_at row m) ≡ queued_in row (chain_at row m)
-  others_on m = ap present (map-other row.values i (Some t) (chain_at row m) (off_chains m))
+  others_on : (m : ℕ) → queued_in after (chain_at arena m) ≡ queued_in arena (chain_at arena m)
+  others_on m = ap present (map-other arena.values i (Some t) (chain_at arena m) (off_chains m))
 
-  push-queued_at : (m : ℕ) → queued_in after (chain_at after m) ≡ filter (has_number m) (waiting_in row ++ t ∷ [])
+  push-queued_at : (m : ℕ) → queued_in after (chain_at after m) ≡ filter (has_number m) (waiting_in arena ++ t ∷ [])
   push-queued_at m = elim (cases_eq m n) [
-    | inl e ↦ subst (λ k. queued_in after (chain_at after k) ≡ filter (has_number k) (waiting_in row ++ t ∷ [])) (sym e) here
-    | inr other ↦ (let chain = chain-moved_other row.chains i n m other ∙ on-absent i (chain_at row m) (off_chains m) in
+    | inl e ↦ subst (λ k. queued_in after (chain_at after k) ≡ filter (has_number k) (waiting_in arena ++ t ∷ [])) (sym e) here
+    | inr other ↦ (let chain = chain-moved_other arena.chains i n m other ∙ on-absent i (chain_at arena m) (off_chains m) in
         let none : filter (has_number m) (t ∷ []) ≡ [] = rw (ne_eqb t.affinity.number m (λ same. other (sym same ∙ number))) refl in
         ap (λ (is : List ℕ). queued_in after is) chain
         ∙ others_on m
         ∙ q.queued m
-        ∙ sym (append-nil (filter (has_number m) (waiting_in row)))
-        ∙ ap (λ (ts : List QueuedMessage). filter (has_number m) (waiting_in row) ++ ts) (sym none)
-        ∙ sym (filter-append (has_number m) (waiting_in row) (t ∷ [])))
+        ∙ sym (append-nil (filter (has_number m) (waiting_in arena)))
+        ∙ ap (λ (ts : List QueuedMessage). filter (has_number m) (waiting_in arena) ++ ts) (sym none)
+        ∙ sym (filter-append (has_number m) (waiting_in arena) (t ∷ [])))
   ]
     where
-      here : queued_in after (chain_at after n) ≡ filter (has_number n) (waiting_in row ++ t ∷ [])
+      here : queued_in after (chain_at after n) ≡ filter (has_number n) (waiting_in arena ++ t ∷ [])
       here =
-          let chain = chain-moved_same row.chains i n there ∙ ap (λ (is : List ℕ). is ++ i ∷ []) (on-absent i (chain_at row n) (off_chains n)) in
+          let chain = chain-moved_same arena.chains i n there ∙ ap (λ (is : List ℕ). is ++ i ∷ []) (on-absent i (chain_at arena n) (off_chains n)) in
           let one : filter (has_number n) (t ∷ []) ≡ t ∷ [] = rw (eq-eqb t.affinity.number n number) refl in
           let last : present (map (value_at after) (i ∷ [])) ≡ t ∷ [] = ap (λ (o : Option QueuedMessage). present (o ∷ [])) has_it in
           ap (λ (is : List ℕ). queued_in after is) chain
-          ∙ ap present (map-append (value_at after) (chain_at row n) (i ∷ []))
-          ∙ present-append (map (value_at after) (chain_at row n)) (map (value_at after) (i ∷ []))
-          ∙ ap (λ (ts : List QueuedMessage). queued_in after (chain_at row n) ++ ts) last
+          ∙ ap present (map-append (value_at after) (chain_at arena n) (i ∷ []))
+          ∙ present-append (map (value_at after) (chain_at arena n)) (map (value_at after) (i ∷ []))
+          ∙ ap (λ (ts : List QueuedMessage). queued_in after (chain_at arena n) ++ ts) last
           ∙ ap (λ (ts : List QueuedMessage). ts ++ t ∷ []) (others_on n ∙ q.queued n)
-          ∙ ap (λ (ts : List QueuedMessage). filter (has_number n) (waiting_in row) ++ ts) (sym one)
-          ∙ sym (filter-append (has_number n) (waiting_in row) (t ∷ []))
+          ∙ ap (λ (ts : List QueuedMessage). filter (has_number n) (waiting_in arena) ++ ts) (sym one)
+          ∙ sym (filter-append (has_number n) (waiting_in arena) (t ∷ []))
 
-  pub push-queued : IsParted after → IsQueued after
-  push-queued parted = record {
-    parted = parted;
-    full = push-full;
-    ascends = subst (λ (ts : List QueuedMessage). Ascend ts) (sym push-waiting) (ascend-last (waiting_in row) t q.ascends later);
+  pub push-queued : IsPartitioned after → IsQueued after
+  push-queued partitioned = record {
+    partitioned = partitioned;
+    empty_is_free = push-full;
+    ascends = subst (λ (ts : List QueuedMessage). Ascend ts) (sym push-waiting) (ascend-last (waiting_in arena) t q.ascends later);
     queued = λ m. push-queued_at m ∙ ap (λ (ts : List QueuedMessage). filter (has_number m) ts) (sym push-waiting);
   }
 
 -- where no slot is free, each has one
-pub push-room : (row : ArenaView QueuedMessage) (t : QueuedMessage) → IsQueued row → length (waiting_in row) < length row.values → (i : ℕ) × (rest : List ℕ) × (row.free ≡ i ∷ rest)
-push-room row t q less = by row.free refl
+pub push-room : (arena : ArenaView QueuedMessage) (t : QueuedMessage) → IsQueued arena → length (waiting_in arena) < length arena.values → (i : ℕ) × (rest : List ℕ) × (arena.free ≡ i ∷ rest)
+push-room arena t q less = by arena.free refl
   where
-    by : (free : List ℕ) → row.free ≡ free → (i : ℕ) × (rest : List ℕ) × (row.free ≡ i ∷ rest)
-    by [] is = absurd (let all = length-all row.values (λ i below none.
-        (let some = subst (λ (is : List ℕ). 0 < times_on i is) is (q.full i below none) in omega (arith, some))) in omega (arith, all, less))
+    by : (free : List ℕ) → arena.free ≡ free → (i : ℕ) × (rest : List ℕ) × (arena.free ≡ i ∷ rest)
+    by [] is = absurd (let all = length-all arena.values (λ i below none.
+        (let some = subst (λ (is : List ℕ). 0 < count_of i is) is (q.empty_is_free i below none) in omega (arith, some))) in omega (arith, all, less))
     by (i ∷ rest) is = (i, rest, is)
 
 -- ---- one less
 
 abbrev pub popped : ArenaView QueuedMessage → ℕ → ArenaView QueuedMessage
-popped row i = record { values = slice_set row.values i None; free = i ∷ row.free; chains = map (without i) row.chains }
+popped arena i = record { values = slice_set arena.values i None; free = i ∷ arena.free; chains = map (without i) arena.chains }
 
 filters-turned : (p r : QueuedMessage → Bool) (ts : List QueuedMessage) → filter p (filter r ts) ≡ filter r (filter p ts)
 filters-turned p r [] = refl
@@ -246,10 +246,10 @@ filters-turned p r (t ∷ ts) = elim (cases_Bool (p t)) [
 ]
 
 -- two queues together have a slot no more often than all
-times-two : (s n m : ℕ) (ts : List QueuedMessage) → n ≢ m → times_in_slot s (filter (has_number n) ts) + times_in_slot s (filter (has_number m) ts) ≤ times_in_slot s ts
-times-two s n m [] other = omega arith
-times-two s n m (t ∷ ts) other =
-    let rest = times-two s n m ts other in
+count_in_slot-two : (s n m : ℕ) (ts : List QueuedMessage) → n ≢ m → count_in_slot s (filter (has_number n) ts) + count_in_slot s (filter (has_number m) ts) ≤ count_in_slot s ts
+count_in_slot-two s n m [] other = omega arith
+count_in_slot-two s n m (t ∷ ts) other =
+    let rest = count_in_slot-two s n m ts other in
     elim (eqb_tells t.affinity.number n) [
       | inl e ↦ (let no_m = ne_eqb t.affinity.number m (λ same. other (sym e.1 ∙ same)) in
           rw (e.0, no_m) (elim (eqb_tells t.slot s) [
@@ -268,91 +268,91 @@ times-two s n m (t ∷ ts) other =
       ])
     ]
 
-module _ (row : ArenaView QueuedMessage) (n i : ℕ) (t : QueuedMessage) (q : IsQueued row) (first : front_of row n ≡ Some i) (is : value_at row i ≡ Some t)
-    (once : (s : ℕ) → times_in_slot s (waiting_in row) ≤ 1) where
+module _ (arena : ArenaView QueuedMessage) (n i : ℕ) (t : QueuedMessage) (q : IsQueued arena) (first : front_of arena n ≡ Some i) (is : value_at arena i ≡ Some t)
+    (once : (s : ℕ) → count_in_slot s (waiting_in arena) ≤ 1) where
   abbrev later : ArenaView QueuedMessage
-  later = popped row i
+  later = popped arena i
 
-  pub pop-row : after_take row i ≡ later
-  pop-row = rw is refl
+  pub pop-arena : after_take arena i ≡ later
+  pop-arena = rw is refl
 
-  pub pop-waiting : waiting_in later ≡ without_slot t.slot (waiting_in row)
-  pop-waiting = order-leave row.values i t is (once t.slot) q.ascends
+  pub pop-waiting : waiting_in later ≡ without_slot t.slot (waiting_in arena)
+  pop-waiting = order-leave arena.values i t is (once t.slot) q.ascends
 
   pub pop-view : ◌≡◌ {A = Waiting} (record { numbers = length later.chains; capacity = length later.values; messages = waiting_in later })
-      (record { numbers = length row.chains; capacity = length row.values; messages = without_slot t.slot (waiting_in row) })
-  pop-view = waiting-same (length-map row.chains (without i)) (length-set {A = Option QueuedMessage} row.values i None) pop-waiting
+      (record { numbers = length arena.chains; capacity = length arena.values; messages = without_slot t.slot (waiting_in arena) })
+  pop-view = waiting-same (length-map arena.chains (without i)) (length-set {A = Option QueuedMessage} arena.values i None) pop-waiting
 
-  pop-full : (j : ℕ) → j < capacity_of later → value_at later j ≡ None → 0 < times_on j (i ∷ row.free)
+  pop-full : (j : ℕ) → j < capacity_of later → value_at later j ≡ None → 0 < count_of j (i ∷ arena.free)
   pop-full j below none = elim (cases_eq j i) [
-    | inl e ↦ omega (arith, on-cons_is j i row.free (sym e))
-    | inr other ↦ (let empty : value_at row j ≡ None = sym (get_or-set_other row.values i j None None other) ∙ none in
-        let below' : j < length row.values = omega (arith, below, length-set {A = Option QueuedMessage} row.values i None) in
-        omega (arith, q.full j below' empty, on-cons_other j i row.free (λ same. other (sym same))))
+    | inl e ↦ omega (arith, on-cons_is j i arena.free (sym e))
+    | inr other ↦ (let empty : value_at arena j ≡ None = sym (get_or-set_other arena.values i j None None other) ∙ none in
+        let below' : j < length arena.values = omega (arith, below, length-set {A = Option QueuedMessage} arena.values i None) in
+        omega (arith, q.empty_is_free j below' empty, on-cons_other j i arena.free (λ same. other (sym same))))
   ]
 
   behind : List QueuedMessage
-  behind = queued_in row (without i (chain_at row n))
+  behind = queued_in arena (without i (chain_at arena n))
 
-  parts : filter (has_number n) (waiting_in row) ≡ t ∷ queued_in row (without i (chain_at row n))
-  parts = queue-parts row n i t q first is
+  parts : filter (has_number n) (waiting_in arena) ≡ t ∷ queued_in arena (without i (chain_at arena n))
+  parts = queue-parts arena n i t q first is
 
-  on_chain : 1 ≤ times_on i (chain_at row n)
-  on_chain = front-chained row i n first
+  on_chain : 1 ≤ count_of i (chain_at arena n)
+  on_chain = front-chained arena i n first
 
-  left_on : (m : ℕ) → queued_in later (chain_at later m) ≡ queued_in row (without i (chain_at row m))
+  left_on : (m : ℕ) → queued_in later (chain_at later m) ≡ queued_in arena (without i (chain_at arena m))
   left_on m =
-      let none : times_on i (without i (chain_at row m)) ≡ 0 = gone (chain_at row m) in
-      ap (λ (is : List ℕ). queued_in later is) (chain-without row.chains i m)
-      ∙ ap present (map-other row.values i None (without i (chain_at row m)) none)
+      let none : count_of i (without i (chain_at arena m)) ≡ 0 = gone (chain_at arena m) in
+      ap (λ (is : List ℕ). queued_in later is) (chain-without arena.chains i m)
+      ∙ ap present (map-other arena.values i None (without i (chain_at arena m)) none)
     where
-      gone : (is : List ℕ) → times_on i (without i is) ≡ 0
+      gone : (is : List ℕ) → count_of i (without i is) ≡ 0
       gone [] = refl
       gone (j ∷ is) = elim (eqb_tells j i) [
         | inl e ↦ rw e.0 (gone is)
         | inr k ↦ rw k.0 (omega (arith, gone is, on-cons_other i j (without i is) k.1))
       ]
 
-  in_queue : 1 ≤ times_in_slot t.slot (filter (has_number n) (waiting_in row))
-  in_queue = subst (λ (ts : List QueuedMessage). 1 ≤ times_in_slot t.slot ts) (sym parts)
-      (omega (arith, times-cons_is t.slot t (queued_in row (without i (chain_at row n))) refl))
+  in_queue : 1 ≤ count_in_slot t.slot (filter (has_number n) (waiting_in arena))
+  in_queue = subst (λ (ts : List QueuedMessage). 1 ≤ count_in_slot t.slot ts) (sym parts)
+      (omega (arith, count_in_slot-cons_is t.slot t (queued_in arena (without i (chain_at arena n))) refl))
 
-  pop-queued_at : (m : ℕ) → queued_in later (chain_at later m) ≡ filter (has_number m) (without_slot t.slot (waiting_in row))
+  pop-queued_at : (m : ℕ) → queued_in later (chain_at later m) ≡ filter (has_number m) (without_slot t.slot (waiting_in arena))
   pop-queued_at m = elim (cases_eq m n) [
-    | inl e ↦ subst (λ k. queued_in later (chain_at later k) ≡ filter (has_number k) (without_slot t.slot (waiting_in row))) (sym e) here
-    | inr other ↦ (let none : times_in_slot t.slot (filter (has_number m) (waiting_in row)) ≡ 0 =
-        omega (arith, times-two t.slot m n (waiting_in row) other, once t.slot, in_queue) in
-        let off = chained-apart row i n m q.parted (λ same. other (sym same)) on_chain in
+    | inl e ↦ subst (λ k. queued_in later (chain_at later k) ≡ filter (has_number k) (without_slot t.slot (waiting_in arena))) (sym e) here
+    | inr other ↦ (let none : count_in_slot t.slot (filter (has_number m) (waiting_in arena)) ≡ 0 =
+        omega (arith, count_in_slot-two t.slot m n (waiting_in arena) other, once t.slot, in_queue) in
+        let off = chained-apart arena i n m q.partitioned (λ same. other (sym same)) on_chain in
         left_on m
-        ∙ ap (λ (is : List ℕ). queued_in row is) (on-absent i (chain_at row m) off)
+        ∙ ap (λ (is : List ℕ). queued_in arena is) (on-absent i (chain_at arena m) off)
         ∙ q.queued m
-        ∙ sym (without-absent t.slot (filter (has_number m) (waiting_in row)) none)
-        ∙ sym (filters-turned (has_number m) (λ u. not (has_slot t.slot u)) (waiting_in row)))
+        ∙ sym (without-absent t.slot (filter (has_number m) (waiting_in arena)) none)
+        ∙ sym (filters-turned (has_number m) (λ u. not (has_slot t.slot u)) (waiting_in arena)))
   ]
     where
-      few : times_in_slot t.slot (filter (has_number n) (waiting_in row)) ≤ 1
-      few = omega (arith, times-filter (has_number n) t.slot (waiting_in row), once t.slot)
+      few : count_in_slot t.slot (filter (has_number n) (waiting_in arena)) ≤ 1
+      few = omega (arith, count_in_slot-filter (has_number n) t.slot (waiting_in arena), once t.slot)
 
-      rest_without : times_in_slot t.slot (queued_in row (without i (chain_at row n))) ≡ 0
+      rest_without : count_in_slot t.slot (queued_in arena (without i (chain_at arena n))) ≡ 0
       rest_without =
-          let all = subst (λ (ts : List QueuedMessage). times_in_slot t.slot ts ≤ 1) parts few in
-          omega (arith, all, times-cons_is t.slot t (queued_in row (without i (chain_at row n))) refl)
+          let all = subst (λ (ts : List QueuedMessage). count_in_slot t.slot ts ≤ 1) parts few in
+          omega (arith, all, count_in_slot-cons_is t.slot t (queued_in arena (without i (chain_at arena n))) refl)
 
-      drops : without_slot t.slot (t ∷ queued_in row (without i (chain_at row n))) ≡ queued_in row (without i (chain_at row n))
-      drops = rw (eq-eqb t.slot t.slot refl) (without-absent t.slot (queued_in row (without i (chain_at row n))) rest_without)
+      drops : without_slot t.slot (t ∷ queued_in arena (without i (chain_at arena n))) ≡ queued_in arena (without i (chain_at arena n))
+      drops = rw (eq-eqb t.slot t.slot refl) (without-absent t.slot (queued_in arena (without i (chain_at arena n))) rest_without)
 
-      here : queued_in later (chain_at later n) ≡ filter (has_number n) (without_slot t.slot (waiting_in row))
+      here : queued_in later (chain_at later n) ≡ filter (has_number n) (without_slot t.slot (waiting_in arena))
       here =
           left_on n
           ∙ sym drops
           ∙ ap (λ (ts : List QueuedMessage). without_slot t.slot ts) (sym parts)
-          ∙ sym (filters-turned (has_number n) (λ u. not (has_slot t.slot u)) (waiting_in row))
+          ∙ sym (filters-turned (has_number n) (λ u. not (has_slot t.slot u)) (waiting_in arena))
 
-  pub pop-queued : IsParted later → IsQueued later
-  pop-queued parted = record {
-    parted = parted;
-    full = pop-full;
+  pub pop-queued : IsPartitioned later → IsQueued later
+  pop-queued partitioned = record {
+    partitioned = partitioned;
+    empty_is_free = pop-full;
     ascends = subst (λ (ts : List QueuedMessage). Ascend ts) (sym pop-waiting)
-        (ascend-filter (λ u. not (has_slot t.slot u)) (waiting_in row) q.ascends);
+        (ascend-filter (λ u. not (has_slot t.slot u)) (waiting_in arena) q.ascends);
     queued = λ m. pop-queued_at m ∙ ap (λ (ts : List QueuedMessage). filter (has_number m) ts) (sym pop-waiting);
   }

@@ -8,13 +8,13 @@ use Rattle.std.specs.List.{AllByRecursion}
 use Rattle.affinity.specs.Interval.{IsAffinity}
 use Rattle.affinity.specs.declared.geometry.Geometry.{Geometry}
 use Rattle.run_queue.specs.RunQueue.{has_room}
-use Rattle.run_queue.specs.ReadyTable.{AreLeast, IsFlagRight, earliest_from, if_passes, ready_in, rank_of}
+use Rattle.run_queue.specs.ReadyTable.{AreLeast, IsEntryRight, earliest_from, if_passes, ready_in, rank_of}
 use Rattle.run_queue.specs.Order.{Ascend, earlier}
 use Rattle.run_queue.specs.declared.queued_message.QueuedMessage.{QueuedMessage}
 use Rattle.run_queue.proofs.Earliest.{first_below, below-step}
 use Rattle.run_queue.proofs.Ready.{none-ready, room-at}
 
--- ---- one ready flag is set
+-- ---- one ready entry is set
 
 pub ready_in-same : (ready_table : List (Option QueuedMessage)) (n : ℕ) (o : Option QueuedMessage) → n < length ready_table → ready_in (slice_set ready_table n o) n ≡ o
 ready_in-same ready_table n o here = get_or-set_same ready_table n o None here
@@ -70,7 +70,7 @@ none-least numbers chunks chunk i below =
 
 -- the first one that may be dispatched at a number below this one, and at n behind it
 module _ (g : Geometry) (room : Bool) (held waiting : List QueuedMessage) (placed : AllByRecursion (λ d. IsAffinity g d.affinity) waiting) (ascends : Ascend waiting)
-    (ready_table : List (Option QueuedMessage)) (right : (n : ℕ) → IsFlagRight held waiting ready_table n) where
+    (ready_table : List (Option QueuedMessage)) (right : (n : ℕ) → IsEntryRight held waiting ready_table n) where
   pub below-from : (from n : ℕ) → earliest_from (has_room room) ready_table from n (first_below room held waiting from) ≡ first_below room held waiting (from + n)
   below-from from zero = ap (λ k. first_below room held waiting k) (let none : from ≡ from + 0 = omega arith in none)
   below-from from (suc n) =

@@ -1,4 +1,4 @@
--- Who is kept back, by the numbers of those that are held and that wait.
+-- Which messages are kept back, by the affinity numbers of those that are held and that wait.
 use Rattle.std.proofs.Common.{◌≡◌, ◌∙◌, ℕ, ◌<◌, Bool, true, false, not, ◌&&◌, ◌||◌, List, [], ◌∷◌, find, Option, Some, None, is_some, refl, ap, sym, subst, inl, inr, arith}
 use Rattle.std.specs.Prelude.{nat_lt, ◌==◌}
 use Rattle.std.specs.List.{list_any, AllByRecursion}
@@ -7,7 +7,7 @@ use Rattle.affinity.specs.Interval.{IsAffinity, contains}
 use Rattle.affinity.specs.declared.geometry.Geometry.{Geometry}
 use Rattle.run_queue.specs.RunQueue.{are_related_intervals, is_free_of, has_number}
 use Rattle.run_queue.specs.Order.{Ascend, waits_for, is_conflict_free}
-use Rattle.run_queue.specs.Near.{AreAbove, is_before, conflicts_at}
+use Rattle.run_queue.specs.RelatedNumbers.{AreAbove, is_before, conflicts_at}
 use Rattle.run_queue.specs.declared.queued_message.QueuedMessage.{QueuedMessage}
 
 -- ---- what is found

@@ -4,7 +4,7 @@ use Rattle.affinity.specs.Geometry.{small}
 use Rattle.affinity.specs.Interval.{interval}
 use Rattle.affinity.specs.Path.{Path, serial, volume, logical, stripe, label}
 use Rattle.run_queue.specs.RunQueue.{are_related_intervals, next_queued, without_slot, without_number, holds_at}
-use Rattle.run_queue.specs.Slots.{times_in_slot}
+use Rattle.run_queue.specs.Slots.{count_in_slot}
 use Rattle.run_queue.specs.declared.queued_message.QueuedMessage.{QueuedMessage}
 
 abbrev queued : ℕ → Path → Bool → ℕ → QueuedMessage
@@ -116,7 +116,7 @@ is_below = refl
 other_slot : holds_at 3 5 create ≡ false
 other_slot = refl
 
-twice : times_in_slot 4 (create ∷ write ∷ create ∷ []) ≡ 2
+twice : count_in_slot 4 (create ∷ write ∷ create ∷ []) ≡ 2
 twice = refl
 
 -- a wrong order of what waits would give another message

@@ -12,4 +12,4 @@ mod Clearing
 mod Earliest
 mod Ready
 mod Chunks
-mod Turning
+mod QueueCalls

@@ -4,26 +4,26 @@ use Rattle.std.specs.Prelude.{◌==◌}
 use Rattle.std.specs.List.{list_any}
 use Rattle.std.proofs.lemmas.Bool.{eq-eqb, eqb-true, cases_Bool, and_parts, and_from, or_cases, or_right, true≢false}
 use Rattle.std.proofs.lemmas.Bool.Decides.{nat_tests}
-use Rattle.affinity.specs.Path.{Path, begins}
+use Rattle.affinity.specs.Path.{Path, is_prefix}
 use Rattle.affinity.specs.Interval.{Interval, IsPath, IsAffinity, IsAffinityOf, contains, interval, number, server_size}
 use Rattle.affinity.specs.declared.geometry.Geometry.{Geometry}
-use Rattle.affinity.proofs.Paths.{begins-refl}
-use Rattle.affinity.proofs.Preorder.{begins-contains, path_at, path_at-number}
-use Rattle.run_queue.specs.Near.{numbers_above, AreAbove}
+use Rattle.affinity.proofs.Paths.{is_prefix-refl}
+use Rattle.affinity.proofs.Preorder.{is_prefix-contains, path_at, path_at-number}
+use Rattle.run_queue.specs.RelatedNumbers.{numbers_above, AreAbove}
 
 -- ---- beginnings of a path
 
-begins-is : (q p : Path) → begins q p ≡ true → q ≡ take (length q) p
-begins-is [] p h = refl
-begins-is (x ∷ q) [] h = absurd (true≢false (sym h))
-begins-is (x ∷ q) (y ∷ p) h =
-    let parts = and_parts (x == y) (begins q p) h in
-    ap (λ (k : ℕ). k ∷ q) (eqb-true x y parts.0) ∙ ap (λ (r : Path). y ∷ r) (begins-is q p parts.1)
+is_prefix-is : (q p : Path) → is_prefix q p ≡ true → q ≡ take (length q) p
+is_prefix-is [] p h = refl
+is_prefix-is (x ∷ q) [] h = absurd (true≢false (sym h))
+is_prefix-is (x ∷ q) (y ∷ p) h =
+    let parts = and_parts (x == y) (is_prefix q p) h in
+    ap (λ (k : ℕ). k ∷ q) (eqb-true x y parts.0) ∙ ap (λ (r : Path). y ∷ r) (is_prefix-is q p parts.1)
 
-begins-take : (k : ℕ) (p : Path) → begins (take k p) p ≡ true
-begins-take zero p = refl
-begins-take (suc k) [] = refl
-begins-take (suc k) (x ∷ p) = and_from (x == x) (begins (take k p) p) (eq-eqb x x refl) (begins-take k p)
+is_prefix-take : (k : ℕ) (p : Path) → is_prefix (take k p) p ≡ true
+is_prefix-take zero p = refl
+is_prefix-take (suc k) [] = refl
+is_prefix-take (suc k) (x ∷ p) = and_from (x == x) (is_prefix (take k p) p) (eq-eqb x x refl) (is_prefix-take k p)
 
 take-all : (k : ℕ) (p : Path) → length p ≤ k → take k p ≡ p
 take-all zero [] h = refl
@@ -96,16 +96,16 @@ found_at g p q (suc (suc (suc zero))) h is =
 found_at g p q (suc (suc (suc (suc k)))) h is =
     let most = short g p h in inl (is ∙ take-all (suc (suc (suc (suc k)))) p (omega arith))
 
-above-found : (g : Geometry) (p q : Path) → IsPath g p → begins q p ≡ true
+above-found : (g : Geometry) (p q : Path) → IsPath g p → is_prefix q p ≡ true
     → (q ≡ p) ⊎ (list_any (λ n. n == number g q) (numbers_above g p) ≡ true)
-above-found g p q h first = found_at g p q (length q) h (begins-is q p first)
+above-found g p q h first = found_at g p q (length q) h (is_prefix-is q p first)
 
-at_begins : (g : Geometry) (p q : Path) (k : ℕ) → IsPath g (take k p) → IsPath g q → (number g (take k p) == number g q) ≡ true → begins q p ≡ true
+at_begins : (g : Geometry) (p q : Path) (k : ℕ) → IsPath g (take k p) → IsPath g q → (number g (take k p) == number g q) ≡ true → is_prefix q p ≡ true
 at_begins g p q k there h same =
-    subst (λ (r : Path). begins r p ≡ true) (same_path g (take k p) q there h (eqb-true _ _ same)) (begins-take k p)
+    subst (λ (r : Path). is_prefix r p ≡ true) (same_path g (take k p) q there h (eqb-true _ _ same)) (is_prefix-take k p)
 
-above-begins : (g : Geometry) (p q : Path) → IsPath g p → IsPath g q → list_any (λ n. n == number g q) (numbers_above g p) ≡ true → begins q p ≡ true
-above-begins g p q h k found = elim (or_cases _ _ found) [
+above-is_prefix : (g : Geometry) (p q : Path) → IsPath g p → IsPath g q → list_any (λ n. n == number g q) (numbers_above g p) ≡ true → is_prefix q p ≡ true
+above-is_prefix g p q h k found = elim (or_cases _ _ found) [
   | inl e ↦ at_begins g p q 0 tt k e
   | inr rest ↦ elim (or_cases _ _ rest) [
     | inl e ↦ at_begins g p q 1 (one_is g p h) k e
@@ -129,22 +129,22 @@ same_truth false false f g = refl
 pub are_above : (g : Geometry) (p : Path) (a : Interval) → IsAffinityOf g p a → AreAbove g a (numbers_above g p)
 are_above g p a h b k =
     let q = k.0 in
-    let below : contains a b.number ≡ begins p q = rw (h.interval, k.1.interval) (sym (begins-contains g p q h.path k.1.path)) in
-    let above : contains b a.number ≡ begins q p = rw (h.interval, k.1.interval) (sym (begins-contains g q p k.1.path h.path)) in
+    let below : contains a b.number ≡ is_prefix p q = rw (h.interval, k.1.interval) (sym (is_prefix-contains g p q h.path k.1.path)) in
+    let above : contains b a.number ≡ is_prefix q p = rw (h.interval, k.1.interval) (sym (is_prefix-contains g q p k.1.path h.path)) in
     let is : b.number ≡ number g q = ap (λ (i : Interval). i.number) k.1.interval in
     elim (cases_Bool (contains a b.number)) [
       | inl in_ ↦ rw in_ refl
       | inr out ↦ rw (out, above, is) (same_truth _ _ (λ first. elim (above-found g p q h.path first) [
-        | inl same ↦ absurd (true≢false (sym (below ∙ ap (λ (r : Path). begins p r) same ∙ begins-refl p) ∙ out))
+        | inl same ↦ absurd (true≢false (sym (below ∙ ap (λ (r : Path). is_prefix p r) same ∙ is_prefix-refl p) ∙ out))
         | inr found ↦ found
-      ]) (λ found. above-begins g p q h.path k.1.path found))
+      ]) (λ found. above-is_prefix g p q h.path k.1.path found))
     ]
 
 pub contains-own : (g : Geometry) (a : Interval) → IsAffinity g a → contains a a.number ≡ true
-contains-own g a h = rw h.1.interval (sym (begins-contains g h.0 h.0 h.1.path h.1.path) ∙ begins-refl h.0)
+contains-own g a h = rw h.1.interval (sym (is_prefix-contains g h.0 h.0 h.1.path h.1.path) ∙ is_prefix-refl h.0)
 
 pub number-below : (g : Geometry) (a : Interval) → IsAffinity g a → a.number < server_size g
 number-below g a h =
-    let whole : contains (interval g []) (number g h.0) ≡ true = sym (begins-contains g [] h.0 tt h.1.path) in
+    let whole : contains (interval g []) (number g h.0) ≡ true = sym (is_prefix-contains g [] h.0 tt h.1.path) in
     let is : a.number ≡ number g h.0 = ap (λ (i : Interval). i.number) h.1.interval in
     grind (arith, nat_tests)

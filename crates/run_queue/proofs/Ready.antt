@@ -1,4 +1,4 @@
--- Which ready flags stay right, and what they show of those that may go.
+-- Which ready entries stay right, and what they show of those that may go.
 use Rattle.std.proofs.Common.{◌≡◌, ◌≢◌, ◌∙◌, ℕ, zero, suc, ◌+◌, ◌<◌, ◌≤◌, Bool, true, false, not, ◌&&◌, ◌||◌, List, [], ◌∷◌, ◌++◌, find, take, Option, Some, None, refl, ap, sym, subst, inl, inr, arith, length, slice_index_or}
 use Rattle.std.specs.Prelude.{nat_lt, if◌then◌else◌, replicate}
 use Rattle.std.specs.List.{list_any, AllByRecursion}
@@ -10,17 +10,17 @@ use Rattle.affinity.specs.Path.{Path}
 use Rattle.affinity.specs.Interval.{Interval, IsAffinity, contains, interval, server_size}
 use Rattle.affinity.specs.declared.geometry.Geometry.{Geometry}
 use Rattle.run_queue.specs.RunQueue.{are_related_intervals, is_free_of, has_room, has_slot, has_number, without_slot, without_number, CameBefore}
-use Rattle.run_queue.specs.Slots.{times_in_slot}
+use Rattle.run_queue.specs.Slots.{count_in_slot}
 use Rattle.run_queue.specs.Order.{Ascend, waits_for, is_conflict_free, dispatchable_at}
 use Rattle.run_queue.specs.Queues.{IsBetween}
-use Rattle.run_queue.specs.ReadyTable.{if_passes, ready_at, ready_in, IsFlagRight, StayRight, AreRelatedRight}
+use Rattle.run_queue.specs.ReadyTable.{if_passes, ready_at, ready_in, IsEntryRight, StayRight, AreRelatedRight}
 use Rattle.run_queue.specs.declared.queued_message.QueuedMessage.{QueuedMessage}
 use Rattle.run_queue.proofs.Nearby.{number-below, same_path}
-use Rattle.run_queue.proofs.SlotCounts.{times-cons_is, times-cons_other}
+use Rattle.run_queue.proofs.SlotCounts.{count_in_slot-cons_is, count_in_slot-cons_other}
 use Rattle.run_queue.proofs.Clearing.{find-cons, find-skip, find-all, find-passes, any-found}
 use Rattle.run_queue.proofs.Earliest.{none_at, some_at, empty_at, false_and_right}
 
--- ---- what the ready flags show
+-- ---- what the ready entries show
 
 -- the one that may go at a number is the one that is conflict-free there, if there is room for it
 pub room-at : (g : Geometry) (room : Bool) (held waiting : List QueuedMessage) → AllByRecursion (λ d. IsAffinity g d.affinity) waiting → Ascend waiting
@@ -50,7 +50,7 @@ ready-same held waiting held' waiting' n same clear =
     by None is = refl
     by (Some f) is = ap (λ b. if b then Some f else None) (clear f is)
 
--- ---- one ready flag
+-- ---- one ready entry
 
 pub past-ready_table : (ready_table : List (Option QueuedMessage)) (n : ℕ) → length ready_table ≤ n → ready_in ready_table n ≡ None
 past-ready_table [] n past = refl
@@ -70,7 +70,7 @@ none-at g (d ∷ waiting) n placed past =
     find-skip (has_number n) d waiting (ne_eqb d.affinity.number n (λ same. omega (arith, below, same, past))) ∙ none-at g waiting n placed.1 past
 
 pub update_ready-past : (g : Geometry) (held waiting : List QueuedMessage) (ready_table : List (Option QueuedMessage)) (n : ℕ) → AllByRecursion (λ d. IsAffinity g d.affinity) waiting
-    → server_size g ≤ length ready_table → length ready_table ≤ n → IsFlagRight held waiting ready_table n
+    → server_size g ≤ length ready_table → length ready_table ≤ n → IsEntryRight held waiting ready_table n
 update_ready-past g held waiting ready_table n placed all past =
     past-ready_table ready_table n past
     ∙ ap (λ (o : Option QueuedMessage). if_passes (is_conflict_free held waiting) o) (sym (none-at g waiting n placed (omega (arith, all, past))))
@@ -118,15 +118,15 @@ module _ (held waiting : List QueuedMessage) (t : QueuedMessage) (later : CameBe
       by None is = find-last_other (has_number n) waiting t (ne_eqb t.affinity.number n (other is))
       by (Some f) is = find-last_found (has_number n) waiting t f is
 
-  pub right-arrived : (before after : List (Option QueuedMessage)) → ((n : ℕ) → IsFlagRight held waiting before n) → StayRight held (waiting ++ t ∷ []) before after
-      → (find (has_number t.affinity.number) waiting ≡ None → IsFlagRight held (waiting ++ t ∷ []) after t.affinity.number)
-      → (n : ℕ) → IsFlagRight held (waiting ++ t ∷ []) after n
+  pub right-arrived : (before after : List (Option QueuedMessage)) → ((n : ℕ) → IsEntryRight held waiting before n) → StayRight held (waiting ++ t ∷ []) before after
+      → (find (has_number t.affinity.number) waiting ≡ None → IsEntryRight held (waiting ++ t ∷ []) after t.affinity.number)
+      → (n : ℕ) → IsEntryRight held (waiting ++ t ∷ []) after n
   right-arrived before after right stay here n = elim (cases_eq n t.affinity.number) [
-    | inl e ↦ subst (λ m. IsFlagRight held (waiting ++ t ∷ []) after m) (sym e) (by (find (has_number t.affinity.number) waiting) refl)
+    | inl e ↦ subst (λ m. IsEntryRight held (waiting ++ t ∷ []) after m) (sym e) (by (find (has_number t.affinity.number) waiting) refl)
     | inr other ↦ stay.1 n (right n ∙ sym (ready-arrived n (λ none same. other (sym same))))
   ]
     where
-      by : (o : Option QueuedMessage) → find (has_number t.affinity.number) waiting ≡ o → IsFlagRight held (waiting ++ t ∷ []) after t.affinity.number
+      by : (o : Option QueuedMessage) → find (has_number t.affinity.number) waiting ≡ o → IsEntryRight held (waiting ++ t ∷ []) after t.affinity.number
       by None is = here is
       by (Some f) is = stay.1 t.affinity.number
           (right t.affinity.number ∙ sym (ready-arrived t.affinity.number (λ none. absurd (none-some f (sym none ∙ is)))))
@@ -155,34 +155,34 @@ take-past (suc k) (x ∷ xs) h = ap (λ (r : List ℕ). x ∷ r) (take-past k xs
 -- ---- one that goes
 
 -- no other one has its slot
-none-alone : (t : QueuedMessage) (ts : List QueuedMessage) → times_in_slot t.slot ts ≡ 0 → AllByRecursion (λ u. has_slot t.slot u ≡ true → u ≡ t) ts
+none-alone : (t : QueuedMessage) (ts : List QueuedMessage) → count_in_slot t.slot ts ≡ 0 → AllByRecursion (λ u. has_slot t.slot u ≡ true → u ≡ t) ts
 none-alone t [] none = tt
 none-alone t (d ∷ ts) none = elim (eqb_tells d.slot t.slot) [
-  | inl e ↦ absurd (omega (arith, none, times-cons_is t.slot d ts e.1))
-  | inr n ↦ (λ k. absurd (true≢false (sym k ∙ n.0)), none-alone t ts (omega (arith, none, times-cons_other t.slot d ts n.1)))
+  | inl e ↦ absurd (omega (arith, none, count_in_slot-cons_is t.slot d ts e.1))
+  | inr n ↦ (λ k. absurd (true≢false (sym k ∙ n.0)), none-alone t ts (omega (arith, none, count_in_slot-cons_other t.slot d ts n.1)))
 ]
 
-there-found : (p : QueuedMessage → Bool) (ts : List QueuedMessage) (t : QueuedMessage) → find p ts ≡ Some t → 1 ≤ times_in_slot t.slot ts
+there-found : (p : QueuedMessage → Bool) (ts : List QueuedMessage) (t : QueuedMessage) → find p ts ≡ Some t → 1 ≤ count_in_slot t.slot ts
 there-found p [] t found = absurd (none-some t found)
 there-found p (d ∷ ts) t found = elim (cases_Bool (p d)) [
   | inl k ↦ (let is = sym (find-cons p d ts k) ∙ found in let same : d ≡ t = cc in
-      omega (arith, times-cons_is t.slot d ts (ap (λ (u : QueuedMessage). u.slot) same)))
+      omega (arith, count_in_slot-cons_is t.slot d ts (ap (λ (u : QueuedMessage). u.slot) same)))
   | inr k ↦ (let rest = there-found p ts t (sym (find-skip p d ts k) ∙ found) in elim (eqb_tells d.slot t.slot) [
-    | inl e ↦ omega (arith, rest, times-cons_is t.slot d ts e.1)
-    | inr n ↦ omega (arith, rest, times-cons_other t.slot d ts n.1)
+    | inl e ↦ omega (arith, rest, count_in_slot-cons_is t.slot d ts e.1)
+    | inr n ↦ omega (arith, rest, count_in_slot-cons_other t.slot d ts n.1)
   ])
 ]
 
-alone : (p : QueuedMessage → Bool) (ts : List QueuedMessage) (t : QueuedMessage) → find p ts ≡ Some t → times_in_slot t.slot ts ≤ 1
+alone : (p : QueuedMessage → Bool) (ts : List QueuedMessage) (t : QueuedMessage) → find p ts ≡ Some t → count_in_slot t.slot ts ≤ 1
     → AllByRecursion (λ u. has_slot t.slot u ≡ true → u ≡ t) ts
 alone p [] t found once = tt
 alone p (d ∷ ts) t found once = elim (cases_Bool (p d)) [
   | inl k ↦ (let is = sym (find-cons p d ts k) ∙ found in let same : d ≡ t = cc in
-      let none : times_in_slot t.slot ts ≡ 0 = omega (arith, once, times-cons_is t.slot d ts (ap (λ (u : QueuedMessage). u.slot) same)) in
+      let none : count_in_slot t.slot ts ≡ 0 = omega (arith, once, count_in_slot-cons_is t.slot d ts (ap (λ (u : QueuedMessage). u.slot) same)) in
       (λ _. same, none-alone t ts none))
   | inr k ↦ (let later = sym (find-skip p d ts k) ∙ found in let rest = there-found p ts t later in elim (eqb_tells d.slot t.slot) [
-    | inl e ↦ absurd (omega (arith, once, rest, times-cons_is t.slot d ts e.1))
-    | inr n ↦ (λ h. absurd (true≢false (sym h ∙ n.0)), alone p ts t later (omega (arith, once, times-cons_other t.slot d ts n.1)))
+    | inl e ↦ absurd (omega (arith, once, rest, count_in_slot-cons_is t.slot d ts e.1))
+    | inr n ↦ (λ h. absurd (true≢false (sym h ∙ n.0)), alone p ts t later (omega (arith, once, count_in_slot-cons_other t.slot d ts n.1)))
   ])
 ]
 
@@ -251,7 +251,7 @@ not_first : (held waiting : List QueuedMessage) (u : QueuedMessage) → list_any
 not_first held waiting u late = ap (λ b. is_free_of held u && not b) late ∙ false_and_right (is_free_of held u)
 
 module _ (held held' waiting : List QueuedMessage) (t : QueuedMessage) (joined : IsBetween t held held') (ascends : Ascend waiting)
-    (once : times_in_slot t.slot waiting ≤ 1) (first : find (has_number t.affinity.number) waiting ≡ Some t) (clear : is_conflict_free held waiting t ≡ true) where
+    (once : count_in_slot t.slot waiting ≤ 1) (first : find (has_number t.affinity.number) waiting ≡ Some t) (clear : is_conflict_free held waiting t ≡ true) where
   it_alone : AllByRecursion (λ u. has_slot t.slot u ≡ true → u ≡ t) waiting
   it_alone = alone (has_number t.affinity.number) waiting t first once
 
@@ -289,11 +289,11 @@ module _ (held held' waiting : List QueuedMessage) (t : QueuedMessage) (joined :
       (find-without (has_number n) waiting t it_alone (ne_eqb t.affinity.number n other))
       (λ f found. gone-clear n f found other)
 
-  pub right-gone : (before after : List (Option QueuedMessage)) → ((n : ℕ) → IsFlagRight held waiting before n)
-      → StayRight held' (without_slot t.slot waiting) before after → IsFlagRight held' (without_slot t.slot waiting) after t.affinity.number
-      → (n : ℕ) → IsFlagRight held' (without_slot t.slot waiting) after n
+  pub right-gone : (before after : List (Option QueuedMessage)) → ((n : ℕ) → IsEntryRight held waiting before n)
+      → StayRight held' (without_slot t.slot waiting) before after → IsEntryRight held' (without_slot t.slot waiting) after t.affinity.number
+      → (n : ℕ) → IsEntryRight held' (without_slot t.slot waiting) after n
   right-gone before after right stay here n = elim (cases_eq t.affinity.number n) [
-    | inl e ↦ subst (λ m. IsFlagRight held' (without_slot t.slot waiting) after m) e here
+    | inl e ↦ subst (λ m. IsEntryRight held' (without_slot t.slot waiting) after m) e here
     | inr other ↦ stay.1 n (right n ∙ sym (ready-gone n other))
   ]
 
@@ -322,22 +322,22 @@ module _ (g : Geometry) (t : QueuedMessage) (placed : IsAffinity g t.affinity) w
 
   module _ (held waiting : List QueuedMessage) (held_placed : AllByRecursion (λ d. IsAffinity g d.affinity) held)
       (waiting_placed : AllByRecursion (λ d. IsAffinity g d.affinity) waiting) where
-    pub right-freed : (before after : List (Option QueuedMessage)) → ((n : ℕ) → IsFlagRight held waiting before n)
+    pub right-freed : (before after : List (Option QueuedMessage)) → ((n : ℕ) → IsEntryRight held waiting before n)
         → AreRelatedRight g t.affinity (without_number t.affinity.number held) waiting after
         → StayRight (without_number t.affinity.number held) waiting before after
-        → (n : ℕ) → IsFlagRight (without_number t.affinity.number held) waiting after n
+        → (n : ℕ) → IsEntryRight (without_number t.affinity.number held) waiting after n
     right-freed before after right near stay n = by (find (has_number n) waiting) refl
       where
         stays : ((f : QueuedMessage) → find (has_number n) waiting ≡ Some f → are_related_intervals t.affinity f.affinity ≡ false)
-            → IsFlagRight (without_number t.affinity.number held) waiting after n
+            → IsEntryRight (without_number t.affinity.number held) waiting after n
         stays far = stay.1 n (right n ∙ sym (ready-same held waiting (without_number t.affinity.number held) waiting n refl (λ f found.
             ap (λ b. not b && not (list_any (waits_for f) waiting)) (any-freed f held held_placed (far f found)))))
 
-        by : (o : Option QueuedMessage) → find (has_number n) waiting ≡ o → IsFlagRight (without_number t.affinity.number held) waiting after n
+        by : (o : Option QueuedMessage) → find (has_number n) waiting ≡ o → IsEntryRight (without_number t.affinity.number held) waiting after n
         by None is = stays (λ f found. absurd (none-some f (sym is ∙ found)))
         by (Some f) is = elim (cases_Bool (are_related_intervals t.affinity f.affinity)) [
           | inl close ↦ (let f_placed = find-all (λ d. IsAffinity g d.affinity) (has_number n) waiting f waiting_placed is in
-              subst (λ m. IsFlagRight (without_number t.affinity.number held) waiting after m)
+              subst (λ m. IsEntryRight (without_number t.affinity.number held) waiting after m)
               (eqb-true f.affinity.number n (find-passes (has_number n) waiting f is)) (near f.affinity f_placed close))
           | inr far ↦ stays (λ u found. (let both = sym is ∙ found in let same : f ≡ u = cc in
               subst (λ (v : QueuedMessage). are_related_intervals t.affinity v.affinity ≡ false) same far))

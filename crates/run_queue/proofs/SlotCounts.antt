@@ -6,65 +6,65 @@ use Rattle.std.proofs.lemmas.Bool.{eq-eqb, ne_eqb, lt-ltb, cases_eq, cases_Bool,
 use Rattle.std.proofs.lemmas.Bool.Decides.{eqb_tells, leb_tells}
 use Rattle.std.proofs.lemmas.List.{length-append}
 use Rattle.run_queue.specs.RunQueue.{has_slot, without_slot}
-use Rattle.run_queue.specs.Slots.{times_in_slot, AreInSlots}
+use Rattle.run_queue.specs.Slots.{count_in_slot, AreInSlots}
 use Rattle.run_queue.specs.declared.queued_message.QueuedMessage.{QueuedMessage}
 
 -- ---- how often a slot occurs in a list
 
-pub times-cons_is : (s : ℕ) (t : QueuedMessage) (ts : List QueuedMessage) → t.slot ≡ s → times_in_slot s (t ∷ ts) ≡ suc (times_in_slot s ts)
-times-cons_is s t ts same = rw (eq-eqb t.slot s same) refl
+pub count_in_slot-cons_is : (s : ℕ) (t : QueuedMessage) (ts : List QueuedMessage) → t.slot ≡ s → count_in_slot s (t ∷ ts) ≡ suc (count_in_slot s ts)
+count_in_slot-cons_is s t ts same = rw (eq-eqb t.slot s same) refl
 
-pub times-cons_other : (s : ℕ) (t : QueuedMessage) (ts : List QueuedMessage) → t.slot ≢ s → times_in_slot s (t ∷ ts) ≡ times_in_slot s ts
-times-cons_other s t ts other = rw (ne_eqb t.slot s other) refl
+pub count_in_slot-cons_other : (s : ℕ) (t : QueuedMessage) (ts : List QueuedMessage) → t.slot ≢ s → count_in_slot s (t ∷ ts) ≡ count_in_slot s ts
+count_in_slot-cons_other s t ts other = rw (ne_eqb t.slot s other) refl
 
-pub times-append : (s : ℕ) (ts us : List QueuedMessage) → times_in_slot s (ts ++ us) ≡ times_in_slot s ts + times_in_slot s us
-times-append s [] us = omega arith
-times-append s (t ∷ ts) us = elim (eqb_tells t.slot s) [
-  | inl e ↦ rw e.0 (omega (arith, times-append s ts us))
-  | inr n ↦ rw n.0 (omega (arith, times-append s ts us))
+pub count_in_slot-append : (s : ℕ) (ts us : List QueuedMessage) → count_in_slot s (ts ++ us) ≡ count_in_slot s ts + count_in_slot s us
+count_in_slot-append s [] us = omega arith
+count_in_slot-append s (t ∷ ts) us = elim (eqb_tells t.slot s) [
+  | inl e ↦ rw e.0 (omega (arith, count_in_slot-append s ts us))
+  | inr n ↦ rw n.0 (omega (arith, count_in_slot-append s ts us))
 ]
 
-pub times-without_same : (s : ℕ) (ts : List QueuedMessage) → times_in_slot s (without_slot s ts) ≡ 0
-times-without_same s [] = refl
-times-without_same s (t ∷ ts) = elim (eqb_tells t.slot s) [
-  | inl e ↦ rw e.0 (times-without_same s ts)
-  | inr n ↦ rw n.0 (times-cons_other s t (without_slot s ts) n.1 ∙ times-without_same s ts)
+pub count_in_slot-without_same : (s : ℕ) (ts : List QueuedMessage) → count_in_slot s (without_slot s ts) ≡ 0
+count_in_slot-without_same s [] = refl
+count_in_slot-without_same s (t ∷ ts) = elim (eqb_tells t.slot s) [
+  | inl e ↦ rw e.0 (count_in_slot-without_same s ts)
+  | inr n ↦ rw n.0 (count_in_slot-cons_other s t (without_slot s ts) n.1 ∙ count_in_slot-without_same s ts)
 ]
 
-pub times-without_other : (s r : ℕ) (ts : List QueuedMessage) → s ≢ r → times_in_slot s (without_slot r ts) ≡ times_in_slot s ts
-times-without_other s r [] other = refl
-times-without_other s r (t ∷ ts) other = elim (eqb_tells t.slot r) [
-  | inl e ↦ rw e.0 (times-without_other s r ts other ∙ sym (times-cons_other s t ts (λ same. other (sym same ∙ e.1))))
-  | inr n ↦ rw (n.0, times-without_other s r ts other) refl
+pub count_in_slot-without_other : (s r : ℕ) (ts : List QueuedMessage) → s ≢ r → count_in_slot s (without_slot r ts) ≡ count_in_slot s ts
+count_in_slot-without_other s r [] other = refl
+count_in_slot-without_other s r (t ∷ ts) other = elim (eqb_tells t.slot r) [
+  | inl e ↦ rw e.0 (count_in_slot-without_other s r ts other ∙ sym (count_in_slot-cons_other s t ts (λ same. other (sym same ∙ e.1))))
+  | inr n ↦ rw (n.0, count_in_slot-without_other s r ts other) refl
 ]
 
-pub times-filter : (p : QueuedMessage → Bool) (s : ℕ) (ts : List QueuedMessage) → times_in_slot s (filter p ts) ≤ times_in_slot s ts
-times-filter p s [] = omega arith
-times-filter p s (t ∷ ts) = elim (cases_eq t.slot s) [
+pub count_in_slot-filter : (p : QueuedMessage → Bool) (s : ℕ) (ts : List QueuedMessage) → count_in_slot s (filter p ts) ≤ count_in_slot s ts
+count_in_slot-filter p s [] = omega arith
+count_in_slot-filter p s (t ∷ ts) = elim (cases_eq t.slot s) [
   | inl e ↦ elim (cases_Bool (p t)) [
-    | inl k ↦ rw k (omega (arith, times-filter p s ts, times-cons_is s t ts e, times-cons_is s t (filter p ts) e))
-    | inr k ↦ rw k (omega (arith, times-filter p s ts, times-cons_is s t ts e))
+    | inl k ↦ rw k (omega (arith, count_in_slot-filter p s ts, count_in_slot-cons_is s t ts e, count_in_slot-cons_is s t (filter p ts) e))
+    | inr k ↦ rw k (omega (arith, count_in_slot-filter p s ts, count_in_slot-cons_is s t ts e))
   ]
   | inr n ↦ elim (cases_Bool (p t)) [
-    | inl k ↦ rw k (omega (arith, times-filter p s ts, times-cons_other s t ts n, times-cons_other s t (filter p ts) n))
-    | inr k ↦ rw k (omega (arith, times-filter p s ts, times-cons_other s t ts n))
+    | inl k ↦ rw k (omega (arith, count_in_slot-filter p s ts, count_in_slot-cons_other s t ts n, count_in_slot-cons_other s t (filter p ts) n))
+    | inr k ↦ rw k (omega (arith, count_in_slot-filter p s ts, count_in_slot-cons_other s t ts n))
   ]
 ]
 
-pub times-absent : (s : ℕ) (ts : List QueuedMessage) → list_any (has_slot s) ts ≡ false → times_in_slot s ts ≡ 0
-times-absent s [] none = refl
-times-absent s (t ∷ ts) none = let k = or_parts (has_slot s t) (list_any (has_slot s) ts) none in rw k.0 (times-absent s ts k.1)
+pub count_in_slot-absent : (s : ℕ) (ts : List QueuedMessage) → list_any (has_slot s) ts ≡ false → count_in_slot s ts ≡ 0
+count_in_slot-absent s [] none = refl
+count_in_slot-absent s (t ∷ ts) none = let k = or_parts (has_slot s t) (list_any (has_slot s) ts) none in rw k.0 (count_in_slot-absent s ts k.1)
 
-pub times-there : (s : ℕ) (ts : List QueuedMessage) → list_any (has_slot s) ts ≡ true → 1 ≤ times_in_slot s ts
-times-there s [] some = absurd (true≢false (sym some))
-times-there s (t ∷ ts) some = elim (eqb_tells t.slot s) [
+pub count_in_slot-there : (s : ℕ) (ts : List QueuedMessage) → list_any (has_slot s) ts ≡ true → 1 ≤ count_in_slot s ts
+count_in_slot-there s [] some = absurd (true≢false (sym some))
+count_in_slot-there s (t ∷ ts) some = elim (eqb_tells t.slot s) [
   | inl e ↦ rw e.0 (omega arith)
-  | inr n ↦ rw n.0 (times-there s ts (ap (λ b. b || list_any (has_slot s) ts) (sym n.0) ∙ some))
+  | inr n ↦ rw n.0 (count_in_slot-there s ts (ap (λ b. b || list_any (has_slot s) ts) (sym n.0) ∙ some))
 ]
 
 -- ---- how long lists are
 
-length-without : (s : ℕ) (ts : List QueuedMessage) → length ts ≡ length (without_slot s ts) + times_in_slot s ts
+length-without : (s : ℕ) (ts : List QueuedMessage) → length ts ≡ length (without_slot s ts) + count_in_slot s ts
 length-without s [] = refl
 length-without s (t ∷ ts) = elim (eqb_tells t.slot s) [
   | inl e ↦ rw e.0 (omega (arith, length-without s ts))
@@ -88,30 +88,30 @@ limit-most s n = elim (leb_tells (suc s) n) [
 ]
 
 -- slots below n that occur once at most are at most n
-few : (n : ℕ) (ts : List QueuedMessage) → ((s : ℕ) → times_in_slot s ts ≤ (if nat_lt s n then 1 else 0)) → length ts ≤ n
+few : (n : ℕ) (ts : List QueuedMessage) → ((s : ℕ) → count_in_slot s ts ≤ (if nat_lt s n then 1 else 0)) → length ts ≤ n
 few zero [] once = omega arith
 few zero (t ∷ ts) once =
-    absurd (omega (arith, limit-out t.slot 0 (omega arith), once t.slot, times-cons_is t.slot t ts refl))
+    absurd (omega (arith, limit-out t.slot 0 (omega arith), once t.slot, count_in_slot-cons_is t.slot t ts refl))
 few (suc n) ts once =
     let rest = few n (without_slot n ts) (λ s. elim (leb_tells (suc s) n) [
       | inl below ↦ (let other : s ≢ n = omega (arith, below.1) in
-          omega (arith, times-without_other s n ts other, once s, limit-most s (suc n), limit-in s n below.1))
+          omega (arith, count_in_slot-without_other s n ts other, once s, limit-most s (suc n), limit-in s n below.1))
       | inr above ↦ gone s (omega (arith, above.1))
     ]) in
     omega (arith, rest, length-without n ts, once n, limit-most n (suc n))
   where
-    gone : (s : ℕ) → n ≤ s → times_in_slot s (without_slot n ts) ≤ (if nat_lt s n then 1 else 0)
+    gone : (s : ℕ) → n ≤ s → count_in_slot s (without_slot n ts) ≤ (if nat_lt s n then 1 else 0)
     gone s above = elim (cases_eq s n) [
-      | inl e ↦ subst (λ k. times_in_slot k (without_slot n ts) ≤ (if nat_lt k n then 1 else 0)) (sym e)
-          (rw (times-without_same n ts) (omega arith))
+      | inl e ↦ subst (λ k. count_in_slot k (without_slot n ts) ≤ (if nat_lt k n then 1 else 0)) (sym e)
+          (rw (count_in_slot-without_same n ts) (omega arith))
       | inr other ↦ (let behind : suc n ≤ s = omega (arith, above, other) in
-          omega (arith, times-without_other s n ts other, once s, limit-out s (suc n) behind))
+          omega (arith, count_in_slot-without_other s n ts other, once s, limit-out s (suc n) behind))
     ]
 
 -- those that wait and those that are held are no more than there are slots
 pub fits : (n : ℕ) (ws hs : List QueuedMessage) → AreInSlots n ws hs → length ws + length hs ≤ n
 fits n ws hs in_slots =
-    let k = few n (ws ++ hs) (λ s. rw (times-append s ws hs) (in_slots s)) in
+    let k = few n (ws ++ hs) (λ s. rw (count_in_slot-append s ws hs) (in_slots s)) in
     omega (arith, k, length-append ws hs)
 
 -- ---- what each call does to them
@@ -119,15 +119,15 @@ fits n ws hs in_slots =
 pub in_slots-arrived : (n : ℕ) (ws hs : List QueuedMessage) (t : QueuedMessage) → AreInSlots n ws hs → t.slot < n
     → list_any (has_slot t.slot) (ws ++ hs) ≡ false → AreInSlots n (ws ++ t ∷ []) hs
 in_slots-arrived n ws hs t in_slots there new s = elim (cases_eq t.slot s) [
-  | inl e ↦ subst (λ k. times_in_slot k (ws ++ t ∷ []) + times_in_slot k hs ≤ (if nat_lt k n then 1 else 0)) e here
-  | inr k ↦ omega (arith, in_slots s, times-append s ws (t ∷ []), times-cons_other s t [] k)
+  | inl e ↦ subst (λ k. count_in_slot k (ws ++ t ∷ []) + count_in_slot k hs ≤ (if nat_lt k n then 1 else 0)) e here
+  | inr k ↦ omega (arith, in_slots s, count_in_slot-append s ws (t ∷ []), count_in_slot-cons_other s t [] k)
 ]
   where
-    none : times_in_slot t.slot ws + times_in_slot t.slot hs ≡ 0
-    none = sym (times-append t.slot ws hs) ∙ times-absent t.slot (ws ++ hs) new
+    none : count_in_slot t.slot ws + count_in_slot t.slot hs ≡ 0
+    none = sym (count_in_slot-append t.slot ws hs) ∙ count_in_slot-absent t.slot (ws ++ hs) new
 
-    here : times_in_slot t.slot (ws ++ t ∷ []) + times_in_slot t.slot hs ≤ (if nat_lt t.slot n then 1 else 0)
-    here = omega (arith, none, times-append t.slot ws (t ∷ []), times-cons_is t.slot t [] refl, limit-in t.slot n there)
+    here : count_in_slot t.slot (ws ++ t ∷ []) + count_in_slot t.slot hs ≤ (if nat_lt t.slot n then 1 else 0)
+    here = omega (arith, none, count_in_slot-append t.slot ws (t ∷ []), count_in_slot-cons_is t.slot t [] refl, limit-in t.slot n there)
 
 -- so there is a seat for it
 pub room-arrived : (n : ℕ) (ws hs : List QueuedMessage) (t : QueuedMessage) → AreInSlots n ws hs → t.slot < n
@@ -138,16 +138,16 @@ room-arrived n ws hs t in_slots there new =
 pub in_slots-gone : (n : ℕ) (ws hs : List QueuedMessage) (t : QueuedMessage) → AreInSlots n ws hs → list_any (has_slot t.slot) ws ≡ true
     → AreInSlots n (without_slot t.slot ws) (hs ++ t ∷ [])
 in_slots-gone n ws hs t in_slots waits s = elim (cases_eq t.slot s) [
-  | inl e ↦ subst (λ k. times_in_slot k (without_slot t.slot ws) + times_in_slot k (hs ++ t ∷ []) ≤ (if nat_lt k n then 1 else 0)) e here
-  | inr k ↦ (let other = times-without_other s t.slot ws (λ same. k (sym same)) in
-      omega (arith, in_slots s, other, times-append s hs (t ∷ []), times-cons_other s t [] k))
+  | inl e ↦ subst (λ k. count_in_slot k (without_slot t.slot ws) + count_in_slot k (hs ++ t ∷ []) ≤ (if nat_lt k n then 1 else 0)) e here
+  | inr k ↦ (let other = count_in_slot-without_other s t.slot ws (λ same. k (sym same)) in
+      omega (arith, in_slots s, other, count_in_slot-append s hs (t ∷ []), count_in_slot-cons_other s t [] k))
 ]
   where
-    here : times_in_slot t.slot (without_slot t.slot ws) + times_in_slot t.slot (hs ++ t ∷ []) ≤ (if nat_lt t.slot n then 1 else 0)
+    here : count_in_slot t.slot (without_slot t.slot ws) + count_in_slot t.slot (hs ++ t ∷ []) ≤ (if nat_lt t.slot n then 1 else 0)
     here =
-        let one = times-append t.slot hs (t ∷ []) in
-        let last = times-cons_is t.slot t [] refl in
-        omega (arith, in_slots t.slot, times-there t.slot ws waits, times-without_same t.slot ws, one, last)
+        let one = count_in_slot-append t.slot hs (t ∷ []) in
+        let last = count_in_slot-cons_is t.slot t [] refl in
+        omega (arith, in_slots t.slot, count_in_slot-there t.slot ws waits, count_in_slot-without_same t.slot ws, one, last)
 
 pub in_slots-freed : (n : ℕ) (ws hs : List QueuedMessage) (p : QueuedMessage → Bool) → AreInSlots n ws hs → AreInSlots n ws (filter p hs)
-in_slots-freed n ws hs p in_slots s = omega (arith, in_slots s, times-filter p s hs)
+in_slots-freed n ws hs p in_slots s = omega (arith, in_slots s, count_in_slot-filter p s hs)

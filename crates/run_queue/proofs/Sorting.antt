@@ -5,11 +5,11 @@ use Rattle.std.specs.List.{AllByRecursion}
 use Rattle.std.proofs.lemmas.Bool.{eq-eqb, lt-ltb, cases_Bool}
 use Rattle.std.proofs.lemmas.Bool.Decides.{eqb_tells, leb_tells}
 use Rattle.run_queue.specs.RunQueue.{has_slot, without_slot, CameBefore}
-use Rattle.run_queue.specs.Slots.{times_in_slot}
+use Rattle.run_queue.specs.Slots.{count_in_slot}
 use Rattle.run_queue.specs.Order.{Ascend}
 use Rattle.run_queue.specs.Queues.{present, insert, by_ticket}
 use Rattle.run_queue.specs.declared.queued_message.QueuedMessage.{QueuedMessage}
-use Rattle.run_queue.proofs.SlotCounts.{times-cons_is, times-cons_other}
+use Rattle.run_queue.proofs.SlotCounts.{count_in_slot-cons_is, count_in_slot-cons_other}
 
 -- ---- all of a list
 
@@ -63,26 +63,26 @@ length-by_ticket [] = refl
 length-by_ticket (t ∷ ts) = length-insert t (by_ticket ts) ∙ ap (λ k. suc k) (length-by_ticket ts)
 
 -- where each place is taken, there are as many as places
-length-full : (places : List (Option QueuedMessage)) → ((i : ℕ) → i < length places → slice_index_or places i None ≡ None → ⊥)
-    → length (present places) ≡ length places
+length-full : (entries : List (Option QueuedMessage)) → ((i : ℕ) → i < length entries → slice_index_or entries i None ≡ None → ⊥)
+    → length (present entries) ≡ length entries
 length-full [] full = refl
-length-full (None ∷ places) full = absurd (full 0 (omega arith) refl)
-length-full (Some t ∷ places) full = ap (λ k. suc k) (length-full places (λ i below none. full (suc i) (omega arith) none))
+length-full (None ∷ entries) full = absurd (full 0 (omega arith) refl)
+length-full (Some t ∷ entries) full = ap (λ k. suc k) (length-full entries (λ i below none. full (suc i) (omega arith) none))
 
-pub length-all : (places : List (Option QueuedMessage)) → ((i : ℕ) → i < length places → slice_index_or places i None ≡ None → ⊥)
-    → length (by_ticket (present places)) ≡ length places
-length-all places full = length-by_ticket (present places) ∙ length-full places full
+pub length-all : (entries : List (Option QueuedMessage)) → ((i : ℕ) → i < length entries → slice_index_or entries i None ≡ None → ⊥)
+    → length (by_ticket (present entries)) ≡ length entries
+length-all entries full = length-by_ticket (present entries) ∙ length-full entries full
 
-times-insert : (s : ℕ) (t : QueuedMessage) (ts : List QueuedMessage) → times_in_slot s (insert t ts) ≡ times_in_slot s (t ∷ ts)
-times-insert s t [] = refl
-times-insert s t (d ∷ ts) = elim (leb_tells (suc t.ticket) d.ticket) [
+count_in_slot-insert : (s : ℕ) (t : QueuedMessage) (ts : List QueuedMessage) → count_in_slot s (insert t ts) ≡ count_in_slot s (t ∷ ts)
+count_in_slot-insert s t [] = refl
+count_in_slot-insert s t (d ∷ ts) = elim (leb_tells (suc t.ticket) d.ticket) [
   | inl e ↦ rw e.0 refl
   | inr n ↦ rw n.0 (elim (eqb_tells d.slot s) [
-    | inl e ↦ rw e.0 (rw (times-insert s t ts) (elim (eqb_tells t.slot s) [
+    | inl e ↦ rw e.0 (rw (count_in_slot-insert s t ts) (elim (eqb_tells t.slot s) [
       | inl f ↦ rw f.0 refl
       | inr f ↦ rw f.0 refl
     ]))
-    | inr e ↦ rw e.0 (times-insert s t ts)
+    | inr e ↦ rw e.0 (count_in_slot-insert s t ts)
   ])
 ]
 
@@ -103,35 +103,35 @@ insert-before x t (d ∷ ts) less = elim (leb_tells (suc x.ticket) d.ticket) [
 ]
 
 -- one that comes to an empty place with the greatest ticket is last
-pub order-come : (places : List (Option QueuedMessage)) (i : ℕ) (t : QueuedMessage) → i < length places → slice_index_or places i None ≡ None
-    → CameBefore t.ticket (by_ticket (present places))
-    → by_ticket (present (slice_set places i (Some t))) ≡ by_ticket (present places) ++ t ∷ []
+pub order-come : (entries : List (Option QueuedMessage)) (i : ℕ) (t : QueuedMessage) → i < length entries → slice_index_or entries i None ≡ None
+    → CameBefore t.ticket (by_ticket (present entries))
+    → by_ticket (present (slice_set entries i (Some t))) ≡ by_ticket (present entries) ++ t ∷ []
 order-come [] i t below empty before = absurd (omega arith)
-order-come (None ∷ places) zero t below empty before = insert-last t (by_ticket (present places)) before
-order-come (Some x ∷ places) zero t below empty before = absurd (cc)
-order-come (None ∷ places) (suc i) t below empty before = order-come places i t (omega arith) empty before
-order-come (Some x ∷ places) (suc i) t below empty before =
-    let parts = all-insert (λ d. d.ticket < t.ticket) x (by_ticket (present places)) before in
-    ap (λ (us : List QueuedMessage). insert x us) (order-come places i t (omega arith) empty parts.1)
-    ∙ insert-before x t (by_ticket (present places)) parts.0
+order-come (None ∷ entries) zero t below empty before = insert-last t (by_ticket (present entries)) before
+order-come (Some x ∷ entries) zero t below empty before = absurd (cc)
+order-come (None ∷ entries) (suc i) t below empty before = order-come entries i t (omega arith) empty before
+order-come (Some x ∷ entries) (suc i) t below empty before =
+    let parts = all-insert (λ d. d.ticket < t.ticket) x (by_ticket (present entries)) before in
+    ap (λ (us : List QueuedMessage). insert x us) (order-come entries i t (omega arith) empty parts.1)
+    ∙ insert-before x t (by_ticket (present entries)) parts.0
 
 -- ---- one less
 
-pub without-absent : (s : ℕ) (ts : List QueuedMessage) → times_in_slot s ts ≡ 0 → without_slot s ts ≡ ts
+pub without-absent : (s : ℕ) (ts : List QueuedMessage) → count_in_slot s ts ≡ 0 → without_slot s ts ≡ ts
 without-absent s [] none = refl
 without-absent s (t ∷ ts) none = elim (eqb_tells t.slot s) [
-  | inl e ↦ absurd (omega (arith, none, times-cons_is s t ts e.1))
-  | inr n ↦ rw n.0 (ap (λ (us : List QueuedMessage). t ∷ us) (without-absent s ts (omega (arith, none, times-cons_other s t ts n.1))))
+  | inl e ↦ absurd (omega (arith, none, count_in_slot-cons_is s t ts e.1))
+  | inr n ↦ rw n.0 (ap (λ (us : List QueuedMessage). t ∷ us) (without-absent s ts (omega (arith, none, count_in_slot-cons_other s t ts n.1))))
 ]
 
-without-insert_same : (s : ℕ) (x : QueuedMessage) (ts : List QueuedMessage) → x.slot ≡ s → times_in_slot s ts ≡ 0 → without_slot s (insert x ts) ≡ ts
+without-insert_same : (s : ℕ) (x : QueuedMessage) (ts : List QueuedMessage) → x.slot ≡ s → count_in_slot s ts ≡ 0 → without_slot s (insert x ts) ≡ ts
 without-insert_same s x [] same none = rw (eq-eqb x.slot s same) refl
 without-insert_same s x (d ∷ ts) same none = elim (eqb_tells d.slot s) [
-  | inl e ↦ absurd (omega (arith, none, times-cons_is s d ts e.1))
+  | inl e ↦ absurd (omega (arith, none, count_in_slot-cons_is s d ts e.1))
   | inr n ↦ elim (leb_tells (suc x.ticket) d.ticket) [
     | inl e ↦ rw (e.0, eq-eqb x.slot s same) (without-absent s (d ∷ ts) none)
     | inr m ↦ rw (m.0, n.0) (ap (λ (us : List QueuedMessage). d ∷ us)
-        (without-insert_same s x ts same (omega (arith, none, times-cons_other s d ts n.1))))
+        (without-insert_same s x ts same (omega (arith, none, count_in_slot-cons_other s d ts n.1))))
   ]
 ]
 
@@ -156,44 +156,44 @@ filter-insert p x (d ∷ ts) ascends k = elim (leb_tells (suc x.ticket) d.ticket
   ]
 ]
 
-there-at : (places : List (Option QueuedMessage)) (i : ℕ) (t : QueuedMessage) → slice_index_or places i None ≡ Some t
-    → 1 ≤ times_in_slot t.slot (by_ticket (present places))
+there-at : (entries : List (Option QueuedMessage)) (i : ℕ) (t : QueuedMessage) → slice_index_or entries i None ≡ Some t
+    → 1 ≤ count_in_slot t.slot (by_ticket (present entries))
 there-at [] i t h = absurd (cc)
-there-at (None ∷ places) zero t h = absurd (cc)
-there-at (Some x ∷ places) zero t h =
+there-at (None ∷ entries) zero t h = absurd (cc)
+there-at (Some x ∷ entries) zero t h =
     let same : x ≡ t = cc in
-    let count = times-insert t.slot x (by_ticket (present places)) in
-    omega (arith, count, times-cons_is t.slot x (by_ticket (present places)) (ap (λ (u : QueuedMessage). u.slot) same))
-there-at (None ∷ places) (suc i) t h = there-at places i t h
-there-at (Some x ∷ places) (suc i) t h =
-    let count = times-insert t.slot x (by_ticket (present places)) in
-    let rest = there-at places i t h in
+    let count = count_in_slot-insert t.slot x (by_ticket (present entries)) in
+    omega (arith, count, count_in_slot-cons_is t.slot x (by_ticket (present entries)) (ap (λ (u : QueuedMessage). u.slot) same))
+there-at (None ∷ entries) (suc i) t h = there-at entries i t h
+there-at (Some x ∷ entries) (suc i) t h =
+    let count = count_in_slot-insert t.slot x (by_ticket (present entries)) in
+    let rest = there-at entries i t h in
     elim (eqb_tells x.slot t.slot) [
-      | inl e ↦ omega (arith, count, rest, times-cons_is t.slot x (by_ticket (present places)) e.1)
-      | inr n ↦ omega (arith, count, rest, times-cons_other t.slot x (by_ticket (present places)) n.1)
+      | inl e ↦ omega (arith, count, rest, count_in_slot-cons_is t.slot x (by_ticket (present entries)) e.1)
+      | inr n ↦ omega (arith, count, rest, count_in_slot-cons_other t.slot x (by_ticket (present entries)) n.1)
     ]
 
 -- one whose place is emptied is gone, and the others stay
-pub order-leave : (places : List (Option QueuedMessage)) (i : ℕ) (t : QueuedMessage) → slice_index_or places i None ≡ Some t
-    → times_in_slot t.slot (by_ticket (present places)) ≤ 1 → Ascend (by_ticket (present places))
-    → by_ticket (present (slice_set places i None)) ≡ without_slot t.slot (by_ticket (present places))
+pub order-leave : (entries : List (Option QueuedMessage)) (i : ℕ) (t : QueuedMessage) → slice_index_or entries i None ≡ Some t
+    → count_in_slot t.slot (by_ticket (present entries)) ≤ 1 → Ascend (by_ticket (present entries))
+    → by_ticket (present (slice_set entries i None)) ≡ without_slot t.slot (by_ticket (present entries))
 order-leave [] i t there once ascends = absurd (cc)
-order-leave (None ∷ places) zero t there once ascends = absurd (cc)
-order-leave (Some x ∷ places) zero t there once ascends =
+order-leave (None ∷ entries) zero t there once ascends = absurd (cc)
+order-leave (Some x ∷ entries) zero t there once ascends =
     let same : x ≡ t = cc in
     let slot = ap (λ (u : QueuedMessage). u.slot) same in
-    let count = times-insert t.slot x (by_ticket (present places)) in
-    sym (without-insert_same t.slot x (by_ticket (present places)) slot
-    (omega (arith, once, count, times-cons_is t.slot x (by_ticket (present places)) slot)))
-order-leave (None ∷ places) (suc i) t there once ascends = order-leave places i t there once ascends
-order-leave (Some x ∷ places) (suc i) t there once ascends =
-    let ws = by_ticket (present places) in
-    let count = times-insert t.slot x ws in
-    let rest = there-at places i t there in
+    let count = count_in_slot-insert t.slot x (by_ticket (present entries)) in
+    sym (without-insert_same t.slot x (by_ticket (present entries)) slot
+    (omega (arith, once, count, count_in_slot-cons_is t.slot x (by_ticket (present entries)) slot)))
+order-leave (None ∷ entries) (suc i) t there once ascends = order-leave entries i t there once ascends
+order-leave (Some x ∷ entries) (suc i) t there once ascends =
+    let ws = by_ticket (present entries) in
+    let count = count_in_slot-insert t.slot x ws in
+    let rest = there-at entries i t there in
     elim (eqb_tells x.slot t.slot) [
-      | inl e ↦ absurd (omega (arith, once, count, rest, times-cons_is t.slot x ws e.1))
-      | inr n ↦ (let few : times_in_slot t.slot ws ≤ 1 = omega (arith, once, count, times-cons_other t.slot x ws n.1) in
+      | inl e ↦ absurd (omega (arith, once, count, rest, count_in_slot-cons_is t.slot x ws e.1))
+      | inr n ↦ (let few : count_in_slot t.slot ws ≤ 1 = omega (arith, once, count, count_in_slot-cons_other t.slot x ws n.1) in
           let order = ascend-insert x ws ascends in
-          ap (λ (us : List QueuedMessage). insert x us) (order-leave places i t there few order)
+          ap (λ (us : List QueuedMessage). insert x us) (order-leave entries i t there few order)
           ∙ sym (filter-insert (λ u. not (has_slot t.slot u)) x ws order (rw n.0 refl)))
     ]

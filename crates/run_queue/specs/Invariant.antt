@@ -6,25 +6,26 @@ use Rattle.affinity.specs.declared.geometry.Geometry.{Geometry}
 use Rattle.run_queue.specs.Order.{Ascend}
 use Rattle.run_queue.specs.Queues.{Waiting, HeldMessages}
 use Rattle.run_queue.specs.Slots.{AreInSlots}
-use Rattle.run_queue.specs.ReadyTable.{IsFlagRight}
+use Rattle.run_queue.specs.ReadyTable.{IsEntryRight}
 use Rattle.run_queue.specs.declared.queued_message.QueuedMessage.{QueuedMessage}
 
 -- There is a queue and a place for each affinity of any geometry, and each has its own slot.
 pub record AreQueued (g : Geometry) (slots : ℕ) (waiting : Waiting) (held : HeldMessages) : Type 0 where
   pub queues : (any : Geometry) → server_size any ≤ waiting.numbers
-  pub places : (any : Geometry) → server_size any ≤ held.numbers
+  pub entries : (any : Geometry) → server_size any ≤ held.numbers
   pub capacity : waiting.capacity ≡ slots
   pub in_slots : AreInSlots slots waiting.messages held.messages
   pub ascends : Ascend waiting.messages
   pub waiting_placed : AllByRecursion (λ t. IsAffinity g t.affinity) waiting.messages
   pub held_placed : AllByRecursion (λ t. IsAffinity g t.affinity) held.messages
 
--- There is a ready flag for each affinity of any geometry, and each is right.
-pub record AreFlagsRight (held waiting : List QueuedMessage) (ready_table : List (Option QueuedMessage)) : Type 0 where
+-- The ready table has an entry for each affinity of any geometry, and each entry is right.
+pub record AreEntriesRight (held waiting : List QueuedMessage) (ready_table : List (Option QueuedMessage)) : Type 0 where
   pub numbers : (any : Geometry) → server_size any ≤ length ready_table
-  pub right : (n : ℕ) → IsFlagRight held waiting ready_table n
+  pub right : (n : ℕ) → IsEntryRight held waiting ready_table n
 
+-- What a `RunQueue` keeps.
 pub record QueueInvariant (g : Geometry) (slots : ℕ) (waiting : Waiting) (held : HeldMessages)
     (ready_table : List (Option QueuedMessage)) : Type 0 where
   pub rows : AreQueued g slots waiting held
-  pub right : AreFlagsRight held.messages waiting.messages ready_table
+  pub right : AreEntriesRight held.messages waiting.messages ready_table

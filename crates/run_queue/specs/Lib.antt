@@ -1,8 +1,8 @@
--- Definitions of the run queue: which message is dispatched next, the order of those that wait, and how queues and ready flags keep it.
+-- Definitions of the run queue: which message is dispatched next, the order of those that wait, and how queues and ready entries keep it.
 pub mod RunQueue
 pub mod Slots
 pub mod Order
 pub mod Queues
-pub mod Near
+pub mod RelatedNumbers
 pub mod ReadyTable
 pub mod Invariant

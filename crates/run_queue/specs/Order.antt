@@ -4,11 +4,12 @@ use Rattle.std.specs.List.{list_any, find, AllByRecursion}
 use Rattle.run_queue.specs.RunQueue.{are_related_intervals, is_free_of, has_room, has_number}
 use Rattle.run_queue.specs.declared.queued_message.QueuedMessage.{QueuedMessage}
 
+-- The tickets ascend.
 abbrev pub Ascend : List QueuedMessage → Type 0
 Ascend [] = Unit {0}
 Ascend (t ∷ messages) = AllByRecursion (λ d. t.ticket < d.ticket) messages × Ascend messages
 
--- whether the first has to wait for the second: that one has the smaller ticket, and a related affinity
+-- whether t has to wait for d: d has the smaller ticket, and a related affinity
 abbrev pub waits_for : QueuedMessage → QueuedMessage → Bool
 waits_for t d = nat_lt d.ticket t.ticket && are_related_intervals t.affinity d.affinity
 
@@ -20,7 +21,7 @@ is_conflict_free held waiting t = is_free_of held t && not (list_any (waits_for 
 abbrev pub dispatchable_at : Bool → List QueuedMessage → List QueuedMessage → ℕ → Option QueuedMessage
 dispatchable_at room held waiting n = find (λ t. has_number n t && (has_room room t && is_conflict_free held waiting t)) waiting
 
--- whether the second came before the first, or there is no first
+-- whether message t came before the best so far, or there is no best yet
 abbrev pub is_earlier : Option QueuedMessage → QueuedMessage → Bool
 is_earlier None t = true
 is_earlier (Some d) t = nat_lt t.ticket d.ticket

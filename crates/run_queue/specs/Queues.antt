@@ -1,64 +1,66 @@
 -- Inner: Waiting messages in queues, one for the number of each affinity.
 use Rattle.std.specs.Prelude.{◌≡◌, ℕ, suc, ◌<◌, List, [], ◌∷◌, ◌++◌, filter, map, if◌then◌else◌, nat_lt, Option, Some, None}
 use Rattle.std.specs.List.{find}
-use Rattle.arena.specs.Lists.{times as times_on}
-use Rattle.arena.specs.ArenaView.{ArenaView, IsParted, capacity_of, value_at, chain_at}
+use Rattle.arena.specs.Lists.{count_of}
+use Rattle.arena.specs.ArenaView.{ArenaView, IsPartitioned, capacity_of, value_at, chain_at}
 use Rattle.run_queue.specs.RunQueue.{has_number, without_slot}
 use Rattle.run_queue.specs.Order.{Ascend}
 use Rattle.run_queue.specs.declared.queued_message.QueuedMessage.{QueuedMessage}
 
--- what contracts see of the queues: how many there are, how many may wait, and who waits, by tickets
+-- what contracts see of `Queues`: how many queues there are, how many messages may wait, and which do, by ticket
 pub record Waiting : Type 0 where
   pub numbers : ℕ
   pub capacity : ℕ
   pub messages : List QueuedMessage
 
--- those that are there
+-- the messages of a list of slots, or of a table by affinity number, without the empty entries
 abbrev pub present : List (Option QueuedMessage) → List QueuedMessage
 present [] = []
-present (None ∷ places) = present places
-present (Some t ∷ places) = t ∷ present places
+present (None ∷ entries) = present entries
+present (Some t ∷ entries) = t ∷ present entries
 
--- one more, in front of the first with a greater ticket
+-- the list with message t in front of the first with a greater ticket
 abbrev pub insert : QueuedMessage → List QueuedMessage → List QueuedMessage
 insert t [] = t ∷ []
 insert t (d ∷ messages) = if nat_lt t.ticket d.ticket then t ∷ d ∷ messages else d ∷ insert t messages
 
+-- the messages sorted by ticket
 abbrev pub by_ticket : List QueuedMessage → List QueuedMessage
 by_ticket [] = []
 by_ticket (t ∷ messages) = insert t (by_ticket messages)
 
+-- the messages that an arena holds, by ticket
 abbrev pub waiting_in : ArenaView QueuedMessage → List QueuedMessage
-waiting_in row = by_ticket (present row.values)
+waiting_in arena = by_ticket (present arena.values)
 
--- those in these slots
+-- the messages in these slots, in the order of the slots
 abbrev pub queued_in : ArenaView QueuedMessage → List ℕ → List QueuedMessage
-queued_in row slots = present (map (value_at row) slots)
+queued_in arena slots = present (map (value_at arena) slots)
 
--- The chain of each number has those that wait at it, in order.
-pub record IsQueued (row : ArenaView QueuedMessage) : Type 0 where
-  pub parted : IsParted row
-  pub full : (i : ℕ) → i < capacity_of row → value_at row i ≡ None → 0 < times_on i row.free
-  pub ascends : Ascend (waiting_in row)
-  pub queued : (n : ℕ) → queued_in row (chain_at row n) ≡ filter (has_number n) (waiting_in row)
+-- The chain of each affinity number has the messages that wait at it, by ticket, and every slot without a message is free.
+pub record IsQueued (arena : ArenaView QueuedMessage) : Type 0 where
+  pub partitioned : IsPartitioned arena
+  pub empty_is_free : (i : ℕ) → i < capacity_of arena → value_at arena i ≡ None → 0 < count_of i arena.free
+  pub ascends : Ascend (waiting_in arena)
+  pub queued : (n : ℕ) → queued_in arena (chain_at arena n) ≡ filter (has_number n) (waiting_in arena)
 
--- The first one at this number, if there is one, waits no longer.
+-- The first message at number n, if there is one, waits no longer, and all others still do.
 abbrev pub IsFirstGone : ℕ → Waiting → Waiting → Type 0
 IsFirstGone n before after =
     (t : QueuedMessage) → find (has_number n) before.messages ≡ Some t
     → after ≡ record before { messages = without_slot t.slot before.messages }
 
--- what contracts see of those that are held: how many numbers there are, and who is held, by numbers
+-- what contracts see of `Holders`: how many numbers there are, and which messages are held, by number
 pub record HeldMessages : Type 0 where
   pub numbers : ℕ
   pub messages : List QueuedMessage
 
--- Each is at the number of its affinity, where the first place is that of number k.
-abbrev pub StandFrom : ℕ → List (Option QueuedMessage) → Type 0
-StandFrom k [] = Unit {0}
-StandFrom k (None ∷ places) = StandFrom (suc k) places
-StandFrom k (Some t ∷ places) = (t.affinity.number ≡ k) × StandFrom (suc k) places
+-- Each message is at the number of its affinity, where the list begins with number k.
+abbrev pub AreByNumberFrom : ℕ → List (Option QueuedMessage) → Type 0
+AreByNumberFrom k [] = Unit {0}
+AreByNumberFrom k (None ∷ entries) = AreByNumberFrom (suc k) entries
+AreByNumberFrom k (Some t ∷ entries) = (t.affinity.number ≡ k) × AreByNumberFrom (suc k) entries
 
--- This one came in between those that were there.
+-- Message t was inserted somewhere into the list, and the others stay in order.
 abbrev pub IsBetween : QueuedMessage → List QueuedMessage → List QueuedMessage → Type 0
 IsBetween t before after = (low : List QueuedMessage) × (high : List QueuedMessage) × (before ≡ low ++ high) × (after ≡ low ++ t ∷ high)

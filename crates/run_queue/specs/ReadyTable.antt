@@ -7,31 +7,32 @@ use Rattle.run_queue.specs.RunQueue.{are_related_intervals, has_number}
 use Rattle.run_queue.specs.Order.{earlier, is_conflict_free}
 use Rattle.run_queue.specs.declared.queued_message.QueuedMessage.{QueuedMessage}
 
--- it, if it is there and passes this test
+-- the message, if there is one and it passes the test
 abbrev pub if_passes : (QueuedMessage → Bool) → Option QueuedMessage → Option QueuedMessage
 if_passes p None = None
 if_passes p (Some t) = if p t then Some t else None
 
--- the first one at this number, if it is conflict-free
+-- the first message that waits at number n, if it is conflict-free: what the table's entry there has to be
 abbrev pub ready_at : List QueuedMessage → List QueuedMessage → ℕ → Option QueuedMessage
 ready_at held waiting n = if_passes (is_conflict_free held waiting) (find (has_number n) waiting)
 
+-- the table's entry at number n
 abbrev pub ready_in : List (Option QueuedMessage) → ℕ → Option QueuedMessage
 ready_in ready_table n = slice_index_or ready_table n None
 
--- The ready flag at this number is right.
-abbrev pub IsFlagRight : List QueuedMessage → List QueuedMessage → List (Option QueuedMessage) → ℕ → Type 0
-IsFlagRight held waiting ready_table n = ready_in ready_table n ≡ ready_at held waiting n
+-- The table's entry at number n is right.
+abbrev pub IsEntryRight : List QueuedMessage → List QueuedMessage → List (Option QueuedMessage) → ℕ → Type 0
+IsEntryRight held waiting ready_table n = ready_in ready_table n ≡ ready_at held waiting n
 
--- No ready flag that was right is wrong, and there are as many.
+-- No entry that was right is wrong, and there are as many.
 abbrev pub StayRight : List QueuedMessage → List QueuedMessage → List (Option QueuedMessage) → List (Option QueuedMessage) → Type 0
 StayRight held waiting before after =
-    (length after ≡ length before) × ((n : ℕ) → IsFlagRight held waiting before n → IsFlagRight held waiting after n)
+    (length after ≡ length before) × ((n : ℕ) → IsEntryRight held waiting before n → IsEntryRight held waiting after n)
 
--- The ready flags at all affinities related to this one are right.
+-- The entries at all affinities related to affinity a are right.
 abbrev pub AreRelatedRight : Geometry → Interval → List QueuedMessage → List QueuedMessage → List (Option QueuedMessage) → Type 0
 AreRelatedRight g a held waiting ready_table = (b : Interval) → IsAffinity g b → are_related_intervals a b ≡ true
-    → IsFlagRight held waiting ready_table b.number
+    → IsEntryRight held waiting ready_table b.number
 
 -- the greatest rank of a message
 abbrev pub last_rank : ℕ
@@ -48,6 +49,6 @@ earliest_from p ready_table from zero best = best
 earliest_from p ready_table from (suc n) best =
     earlier (earliest_from p ready_table from n best) (if_passes p (ready_in ready_table (from + n)))
 
--- None of the sixteen numbers of a chunk has a rank that is less than the one of the chunk.
+-- The rank kept for a chunk is no greater than that of any of its sixteen entries.
 abbrev pub AreLeast : List (Option QueuedMessage) → List ℕ → Type 0
 AreLeast ready_table least = (chunk i : ℕ) → i < 16 → get_or least chunk 0 ≤ rank_of (ready_in ready_table (16 * chunk + i))

@@ -5,7 +5,7 @@ use Rattle.affinity.specs.Interval.{Interval, contains}
 use Rattle.affinity.specs.declared.geometry.Geometry.{Geometry}
 use Rattle.run_queue.specs.declared.queued_message.QueuedMessage.{QueuedMessage}
 
--- Those that wait are in the order in which they came, those that are held in any order.
+-- what contracts see of a `RunQueue`: waiting messages in order of arrival, held ones in any order, and the number of slots
 pub record RunQueueView : Type 0 where
   pub geometry : Geometry
   pub waiting : List QueuedMessage
@@ -16,23 +16,23 @@ pub record RunQueueView : Type 0 where
 abbrev pub queue_at_start : Geometry → ℕ → RunQueueView
 queue_at_start geometry slots = record { geometry = geometry; waiting = []; held = []; slots = slots }
 
--- whether the number of one is among those of the other: of two affinities one is the other, or lies above it
+-- whether two affinities are related: the number of one is among those of the other, as one is the other or lies above it
 abbrev pub are_related_intervals : Interval → Interval → Bool
 are_related_intervals a b = contains a b.number || contains b a.number
 
--- whether none of the others is at a related affinity
+-- whether no message of the list is at an affinity related to that of t
 abbrev pub is_free_of : List QueuedMessage → QueuedMessage → Bool
 is_free_of others t = not (list_any (λ other. are_related_intervals t.affinity other.affinity) others)
 
--- Only what may change something needs room.
+-- whether there is room in the log for the message: only one that may change something needs it
 abbrev pub has_room : Bool → QueuedMessage → Bool
 has_room room t = room || not t.changing
 
--- whether it may be dispatched while these are held, if these came earlier and still wait
+-- whether t may be dispatched while the messages `held` are held, and `earlier` came before it and still wait
 abbrev pub can_dispatch : Bool → List QueuedMessage → List QueuedMessage → QueuedMessage → Bool
 can_dispatch room held earlier t = has_room room t && (is_free_of held t && is_free_of earlier t)
 
--- the first that may be dispatched of those that came later than these
+-- the first of the last list that may be dispatched, where `earlier` came before that list and still wait
 abbrev pub first_dispatchable : Bool → List QueuedMessage → List QueuedMessage → List QueuedMessage → Option QueuedMessage
 first_dispatchable room held earlier [] = None
 first_dispatchable room held earlier (t ∷ later) =
@@ -54,18 +54,18 @@ has_number number t = t.affinity.number == number
 abbrev pub without_number : ℕ → List QueuedMessage → List QueuedMessage
 without_number number messages = filter (λ t. not (has_number number t)) messages
 
--- whether it is the one of this slot, at the affinity with this number
+-- whether the message has this slot, and the affinity with this number
 abbrev pub holds_at : ℕ → ℕ → QueuedMessage → Bool
 holds_at number slot t = has_slot slot t && has_number number t
 
--- all have tickets below this one
+-- All messages have tickets below this one.
 abbrev pub CameBefore : ℕ → List QueuedMessage → Type 0
 CameBefore ticket messages = AllByRecursion (λ t. t.ticket < ticket) messages
 
--- it is the next one, with room or without
+-- `RunQueue::next` gives t, for a log with room or for one without.
 abbrev pub IsNext : RunQueueView → QueuedMessage → Type 0
 IsNext q t = (room : Bool) × (next_queued room q.held q.waiting ≡ Some t)
 
--- The messages of the second list are those of the first and this one, by membership alone: nothing is said of order or repeats.
+-- The messages of the second list are those of the first and this one, by membership alone: in any order, and with any repeats.
 abbrev pub HasJoined : QueuedMessage → List QueuedMessage → List QueuedMessage → Type 0
 HasJoined t before after = (test : QueuedMessage → Bool) → list_any test after ≡ (test t || list_any test before)

@@ -3,11 +3,11 @@ use Rattle.std.specs.Prelude.{ℕ, suc, ◌+◌, ◌≤◌, nat_lt, List, [], �
 use Rattle.run_queue.specs.RunQueue.{has_slot}
 use Rattle.run_queue.specs.declared.queued_message.QueuedMessage.{QueuedMessage}
 
--- how many have this slot
-abbrev pub times_in_slot : ℕ → List QueuedMessage → ℕ
-times_in_slot slot [] = 0
-times_in_slot slot (t ∷ messages) = if has_slot slot t then suc (times_in_slot slot messages) else times_in_slot slot messages
+-- how many messages have this slot
+abbrev pub count_in_slot : ℕ → List QueuedMessage → ℕ
+count_in_slot slot [] = 0
+count_in_slot slot (t ∷ messages) = if has_slot slot t then suc (count_in_slot slot messages) else count_in_slot slot messages
 
--- Each slot that there is occurs at most once among those that wait and those that are held, and no other occurs there.
+-- Each slot that there is occurs at most once among the messages that wait and those that are held, and no other occurs there.
 abbrev pub AreInSlots : ℕ → List QueuedMessage → List QueuedMessage → Type 0
-AreInSlots slots waiting held = (slot : ℕ) → times_in_slot slot waiting + times_in_slot slot held ≤ (if nat_lt slot slots then 1 else 0)
+AreInSlots slots waiting held = (slot : ℕ) → count_in_slot slot waiting + count_in_slot slot held ≤ (if nat_lt slot slots then 1 else 0)

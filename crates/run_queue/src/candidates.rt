@@ -24,8 +24,7 @@ fn is_earlier(best: Option<&QueuedMessage>, queued: &QueuedMessage) -> bool
     }
 }
 
-// The number of the earlier of two ready messages: the best so far, and the one at a number, if there
-// is room for that.
+// Of two affinity numbers, the one whose ready message is older: `best`, or `number` if the log has room for its message.
 fn better(log_has_room: bool, ready_table: &ReadyTable, best: usize, number: usize) -> usize
     ensures { ready_in ready_table.now result
         ≡ earlier (ready_in ready_table.now best) (if_passes (has_room log_has_room) (ready_in ready_table.now number)) }
@@ -40,7 +39,8 @@ fn better(log_has_room: bool, ready_table: &ReadyTable, best: usize, number: usi
     }
 }
 
-/// The number of the earliest of these ready messages: the best so far, and those in a chunk for which there is room.
+/// The affinity number at which the earliest of these ready messages waits: the best so far, and those in a chunk (16 numbers in a row) for
+/// which there is room.
 pub(crate) fn best_in(
     log_has_room: bool,
     ready_table: &ReadyTable,
@@ -53,6 +53,7 @@ pub(crate) fn best_in(
 {
     let mut found = best;
     for number in chunk * CHUNK..(chunk + 1) * CHUNK {
+        // Most are skipped for their rank (the ticket) alone: one above the bound can't be earlier.
         if ready_table.rank(number) <= ready_table.bound(found) {
             found = better(log_has_room, ready_table, found, number);
         }

@@ -5,7 +5,7 @@ ghost use Rattle.affinity.specs.Interval.{IsPath, IsAffinity, IsAffinityOf, cont
 ghost use Rattle.affinity.specs.Path.{Path};
 ghost use Rattle.affinity.specs.Place.{path};
 ghost use Rattle.run_queue.specs.Order.{Ascend, is_conflict_free};
-ghost use Rattle.run_queue.specs.Near.{numbers_above, conflicts_at};
+ghost use Rattle.run_queue.specs.RelatedNumbers.{numbers_above, conflicts_at};
 
 use crate::QueuedMessage;
 use crate::holders::Holders;

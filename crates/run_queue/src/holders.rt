@@ -12,18 +12,18 @@ use std::marker::Model;
 /// All memory is taken by `new`.
 #[derive(Drop)]
 pub(crate) struct Holders {
-    places: Vec<Option<QueuedMessage>>, // by number
+    entries: Vec<Option<QueuedMessage>>, // by number
 }
 
 impl Model for Holders {
     ghost use Rattle.std.specs.Prelude.{length};
-    ghost use Rattle.run_queue.specs.Queues.{HeldMessages, present, StandFrom};
+    ghost use Rattle.run_queue.specs.Queues.{HeldMessages, present, AreByNumberFrom};
 
     ghost Value = { HeldMessages };
 
-    ghost view = { λ h. record { numbers = length h.places.items; messages = present h.places.items } };
+    ghost view = { λ h. record { numbers = length h.entries.items; messages = present h.entries.items } };
 
-    ghost invariant = { λ h. StandFrom 0 h.places.items };
+    ghost invariant = { λ h. AreByNumberFrom 0 h.entries.items };
 }
 
 impl Holders {
@@ -33,19 +33,19 @@ impl Holders {
     pub(crate) fn new(alloc: Global, numbers: usize) -> Result<Holders, AllocError>
         ensures { IfOk result (λ h. h ≡ record { numbers = numbers; messages = [] }) }
     {
-        let mut places = Vec::with_capacity(alloc, numbers)?;
+        let mut entries = Vec::with_capacity(alloc, numbers)?;
         for _ in 0..numbers {
-            places.push_reserved(None);
+            entries.push_reserved(None);
         }
-        Ok(Holders { places })
+        Ok(Holders { entries })
     }
 
     /// The message held at a number.
     pub(crate) fn at(&self, number: usize) -> Option<QueuedMessage>
         ensures { result ≡ find (has_number number) self.now.messages }
     {
-        if number < self.places.len() {
-            self.places[number]
+        if number < self.entries.len() {
+            self.entries[number]
         } else {
             None
         }
@@ -59,15 +59,15 @@ impl Holders {
         ensures messages { IsBetween queued self.old.messages self.new.messages }
     {
         let number = usize::from(queued.affinity.number());
-        self.places[number] = Some(queued);
+        self.entries[number] = Some(queued);
     }
 
     /// What is held at a number is held no longer.
     pub(crate) fn free(&mut self, number: usize)
         ensures { self.new ≡ record self.old { messages = without_number number self.old.messages } }
     {
-        if number < self.places.len() {
-            self.places[number] = None;
+        if number < self.entries.len() {
+            self.entries[number] = None;
         }
     }
 }

@@ -1,10 +1,11 @@
 //! The run queue: which of the waiting messages may go, while others are held.
 //!
-//! Waiting messages are in a queue for each affinity, held ones at the number of theirs. Only the first one of a queue may go, and a ready
-//! flag at each number shows whether that one is conflict-free: no message at a related affinity is held, or is older and waits. `next`
-//! looks at the least rank of each chunk of sixteen flags, at most 23 chunks, and into few of them: what it costs grows neither with the
-//! slots nor with how many wait. `arrive` and `dispatch` correct one flag, and `free` those of the affinities related to the freed one:
-//! five for a stripe. `holder` costs the same however many messages are held.
+//! Waiting messages are in a queue for each affinity, held ones in a table by the number of their affinity. Only the first one of a
+//! queue may go, and a ready entry for each affinity shows whether that one is conflict-free: no message at a related affinity is held,
+//! or is older and waits. `next` looks at the least rank (ticket of a ready message) of each chunk of sixteen entries, at most 23
+//! chunks, and into few of them: what it costs grows neither with the slots nor with how many wait. `arrive` and `dispatch` correct one
+//! entry, and `free` those of the affinities related to the freed one: five for a stripe. `holder` costs the same however many messages
+//! are held.
 
 #![tactic(auto)]
 

@@ -1,4 +1,4 @@
-//! Ready flags at numbers: which of the first in their queues are conflict-free.
+//! The ready table: at each number the first message of that queue, if it is conflict-free.
 ghost use Rattle.std.specs.Prelude.{◌≡◌, ◌+◌, ◌*◌, ◌<◌, ◌≤◌, ℕ, get_or, length, min, replicate, slice_set, option_copied, IfOk, None};
 ghost use Rattle.run_queue.specs.ReadyTable.{last_rank, ready_in, rank_of};
 
@@ -12,10 +12,10 @@ pub(crate) const CHUNK: usize = 16;
 /// The last rank that a ready message may have. The greatest `u64` means that none is ready.
 const LAST_RANK: u64 = u64::MAX - 1;
 
-/// For each number of an affinity the first message that waits there, if it is conflict-free: its ready flag is set then.
+/// For each number of an affinity the first message that waits there, if it is conflict-free.
 ///
 /// `next` is called often and looks for the earliest ready message. So each has a rank, which is its ticket, and the
-/// least rank of each chunk of numbers is kept: most chunks are passed by it alone.
+/// least rank of each chunk of numbers is kept: most chunks are skipped for it alone.
 ///
 /// All memory is taken by `new`.
 #[derive(Drop)]
@@ -39,7 +39,7 @@ impl Model for ReadyTable {
 }
 
 impl ReadyTable {
-    /// `numbers` flags, none of them set. `AllocError` where there is no memory.
+    /// `numbers` entries, none of them set. `AllocError` where there is no memory.
     pub(crate) fn new(alloc: Global, numbers: usize) -> Result<ReadyTable, AllocError>
         requires { numbers ≤ 65536 }
         ensures { IfOk result (λ ready_table. ready_table ≡ replicate numbers None) }
@@ -81,7 +81,7 @@ impl ReadyTable {
         }
     }
 
-    /// An upper bound for the rank of any message earlier than the ready one at `number`. Where none is ready there, the
+    /// A ready message with a greater rank than this can't be earlier than the one at `number`. Where none is ready there, the
     /// last rank.
     pub(crate) fn bound(&self, number: usize) -> u64
         ensures { result ≡ min (rank_of (ready_in self.now number)) last_rank }
@@ -99,7 +99,7 @@ impl ReadyTable {
         }
     }
 
-    /// Sets or clears the ready flag at `number`.
+    /// Sets or clears the entry at `number`.
     pub(crate) fn set(&mut self, number: usize, ready: Option<QueuedMessage>)
         requires { number < length self.old }
         ensures { self.new ≡ slice_set self.old number ready }

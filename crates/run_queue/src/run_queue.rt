@@ -46,7 +46,7 @@ impl Model for RunQueue {
     ghost invariant = { λ t. QueueInvariant t.geometry t.slots t.waiting t.held t.ready_table };
 }
 
-/// How many chunks of ready flags hold those of a geometry's affinities.
+/// How many chunks the ready table has for the affinities of a geometry.
 fn chunks_of(g: &Geometry) -> usize
     ensures few { result ≤ 4097 }
     ensures all { server_size g.now ≤ 16 * result }
@@ -91,7 +91,7 @@ impl RunQueue {
     {
         let mut best = self.ready_table.len(); // none is ready there
         for chunk in 0..chunks_of(&self.geometry) {
-            // Most are passed by their least ranks alone.
+            // A rank is a ready message's ticket. A chunk whose least rank is above the best one so far is skipped.
             if self.ready_table.least(chunk) <= self.ready_table.bound(best) {
                 best = best_in(log_has_room, &self.ready_table, best, chunk);
             }

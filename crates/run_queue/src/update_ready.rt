@@ -3,7 +3,7 @@ ghost use Rattle.std.specs.Prelude.{◌≡◌, ◌≤◌, ◌==◌, ℕ, true, l
 ghost use Rattle.std.specs.List.{list_any, AllByRecursion};
 ghost use Rattle.affinity.specs.Interval.{IsAffinity, contains, server_size};
 ghost use Rattle.run_queue.specs.Order.{Ascend};
-ghost use Rattle.run_queue.specs.ReadyTable.{ready_at, IsFlagRight, StayRight, AreRelatedRight};
+ghost use Rattle.run_queue.specs.ReadyTable.{ready_at, IsEntryRight, StayRight, AreRelatedRight};
 
 use crate::QueuedMessage;
 use crate::conflicts::{is_conflict_free, numbers_above};
@@ -39,7 +39,7 @@ pub(crate) fn update_ready(
     requires held_placed { AllByRecursion (λ t. IsAffinity g.now t.affinity) held.now.messages }
     requires waiting_placed { AllByRecursion (λ t. IsAffinity g.now t.affinity) waiting.now.messages }
     requires ascends { Ascend waiting.now.messages }
-    ensures right { IsFlagRight held.now.messages waiting.now.messages ready_table.new number }
+    ensures right { IsEntryRight held.now.messages waiting.now.messages ready_table.new number }
     ensures others { StayRight held.now.messages waiting.now.messages ready_table.old ready_table.new }
 {
     if number < ready_table.len() {
@@ -59,7 +59,7 @@ fn update_ready_below(
     requires held_placed { AllByRecursion (λ t. IsAffinity g.now t.affinity) held.now.messages }
     requires waiting_placed { AllByRecursion (λ t. IsAffinity g.now t.affinity) waiting.now.messages }
     requires ascends { Ascend waiting.now.messages }
-    ensures right { (n : ℕ) → contains a n ≡ true → IsFlagRight held.now.messages waiting.now.messages ready_table.new n }
+    ensures right { (n : ℕ) → contains a n ≡ true → IsEntryRight held.now.messages waiting.now.messages ready_table.new n }
     ensures others { StayRight held.now.messages waiting.now.messages ready_table.old ready_table.new }
 {
     for n in a.number()..a.end() {
@@ -80,7 +80,7 @@ fn update_ready_each(
     requires waiting_placed { AllByRecursion (λ t. IsAffinity g.now t.affinity) waiting.now.messages }
     requires ascends { Ascend waiting.now.messages }
     ensures right { (n : ℕ) → list_any (λ m. m == n) numbers.now ≡ true
-        → IsFlagRight held.now.messages waiting.now.messages ready_table.new n }
+        → IsEntryRight held.now.messages waiting.now.messages ready_table.new n }
     ensures others { StayRight held.now.messages waiting.now.messages ready_table.old ready_table.new }
 {
     for n in numbers {

@@ -2,7 +2,7 @@
 ghost use Rattle.std.specs.Prelude.{◌≡◌, ℕ, ◌<◌, ◌≤◌, ◌++◌, ◌∷◌, [], length, IfOk};
 ghost use Rattle.std.specs.List.{find};
 ghost use Rattle.run_queue.specs.RunQueue.{has_number, CameBefore};
-ghost use Rattle.run_queue.specs.Slots.{times_in_slot};
+ghost use Rattle.run_queue.specs.Slots.{count_in_slot};
 ghost use Rattle.run_queue.specs.Order.{Ascend};
 
 use crate::QueuedMessage;
@@ -72,7 +72,7 @@ impl Queues {
 
     /// The first one at a number waits no longer. Waiting messages have slots of their own.
     pub(crate) fn pop(&mut self, number: usize)
-        requires once { (slot : ℕ) → times_in_slot slot self.old.messages ≤ 1 }
+        requires once { (slot : ℕ) → count_in_slot slot self.old.messages ≤ 1 }
         ensures { IsFirstGone number self.old self.new }
     {
         if let Some(i) = self.messages.front(number) {

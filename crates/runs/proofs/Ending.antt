@@ -7,20 +7,20 @@ use Rattle.journal.specs.Journal.{RecoversWithPrefix}
 use Rattle.legal_runs.proofs.Answering.{answered_left}
 use Rattle.legal_runs.proofs.Idle.{none_logged}
 use Rattle.legal_runs.specs.Crash.{in_doubt}
-use Rattle.legal_runs.specs.Events.{Event, MachineState, loggable}
+use Rattle.legal_runs.specs.Events.{Event, MachineState, recorded}
 use Rattle.legal_runs.specs.Laws.{IsIdle, IsSoundCoreState}
 use Rattle.legal_runs.specs.Incarnations.{HoldsAnswered, Ran}
-use Rattle.legal_runs.specs.Runs.{IsLegal, last}
+use Rattle.legal_runs.specs.Runs.{IsLegal, end_state}
 use Rattle.runs.proofs.Events.{some_of}
 use Rattle.runs.proofs.Running.{RecoversSince, recovers_for_run}
 use Rattle.runs.specs.Machine.{MachineView, machine_of}
-use Rattle.runs.specs.Stages.{RecoversForRun}
+use Rattle.runs.specs.DeviceEvents.{RecoversForRun}
 use Rattle.runs.specs.declared.hands.Holding.{Holding}
 use Rattle.scheduler.specs.CoreView.{CoreView, RecoversNow, core_state_of}
 
 module _ (start : MachineView) (new : CoreView) (hands : List Holding) (events : List Event)
     (legal : IsLegal start.core.geometry (machine_of start) events) (sound : IsSoundCoreState start.core.geometry (core_state_of start.core))
-    (ends : last (machine_of start) events ≡ machine_of (record { core = new; hands = hands })) (same : new.geometry ≡ start.core.geometry)
+    (ends : end_state (machine_of start) events ≡ machine_of (record { core = new; hands = hands })) (same : new.geometry ≡ start.core.geometry)
     (none : new.failed ≡ false → new.doubt ≡ []) (recovers : RecoversNow new) (c : List ℕ) (left : IsCrashImage new.medium c) where
   abbrev g : Geometry
   g = start.core.geometry
@@ -28,7 +28,7 @@ module _ (start : MachineView) (new : CoreView) (hands : List Holding) (events :
   abbrev w : MachineState
   w = machine_of start
 
-  base : RecoversWithPrefix g (last w events).core.committed (in_doubt (last w events).core []) c
+  base : RecoversWithPrefix g (end_state w events).core.committed (in_doubt (end_state w events).core []) c
   base = subst (λ (x : MachineState). RecoversWithPrefix g x.core.committed (in_doubt x.core []) c) (sym ends)
       (subst (λ (y : Geometry). RecoversWithPrefix y (core_state_of new).committed (in_doubt (core_state_of new) []) c) same
       (some_of new.geometry (core_state_of new).committed new.failed new.doubt [] c none (recovers c left)))
@@ -38,9 +38,9 @@ module _ (start : MachineView) (new : CoreView) (hands : List Holding) (events :
     at = length events;
     since = omega arith;
     within = omega arith;
-    recovers = subst (λ (es : List Event). RecoversWithPrefix g (last w es).core.committed (in_doubt (last w es).core (drop (length events) events)) c)
+    recovers = subst (λ (es : List Event). RecoversWithPrefix g (end_state w es).core.committed (in_doubt (end_state w es).core (drop (length events) events)) c)
         (sym (take_all (length events) events (omega arith)))
-        (subst (λ (ds : List Event). RecoversWithPrefix g (last w events).core.committed (in_doubt (last w events).core ds) c)
+        (subst (λ (ds : List Event). RecoversWithPrefix g (end_state w events).core.committed (in_doubt (end_state w events).core ds) c)
         (sym (drop_all (length events) events (omega arith))) base);
   }
 
@@ -52,4 +52,4 @@ module _ (start : MachineView) (new : CoreView) (hands : List Holding) (events :
   holds_answered idle =
       let l = ended_so.left in
       let k = answered_left g legal l.since l.is_log in
-      (ended_so, (k.0, ap (λ ms. loggable ms ++ l.log) (sym (none_logged (core_state_of start.core) idle)) ∙ k.1))
+      (ended_so, (k.0, ap (λ ms. recorded ms ++ l.log) (sym (none_logged (core_state_of start.core) idle)) ∙ k.1))

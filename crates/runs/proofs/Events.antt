@@ -16,9 +16,9 @@ use Rattle.legal_runs.proofs.Outs.{event_keeps_out, event_sees}
 use Rattle.legal_runs.proofs.Sound.{event_sound}
 use Rattle.legal_runs.specs.Crash.{to_append}
 use Rattle.legal_runs.specs.Eligible.{next_eligible}
-use Rattle.legal_runs.specs.Events.{Event, Hand, MachineState, IsAllowed, answer, arrive, back_from, give_back, grant, grant_hand, grant_to, happens, is_empty, no_grant, out_with, result_in, run_hand}
+use Rattle.legal_runs.specs.Events.{Event, Hand, MachineState, IsAllowed, answer, arrive, back_from, give_back, grant, grant_hand, grant_to, apply_step, is_empty, grant_refusal, find_in_flight, result_in, run_hand}
 use Rattle.legal_runs.specs.Events.{Job as JobIn, Result as ResultIn}
-use Rattle.legal_runs.specs.Laws.{moves_what_is_out}
+use Rattle.legal_runs.specs.Laws.{dispatches_or_returns}
 use Rattle.legal_runs.specs.CoreState.{Entry, CoreState}
 use Rattle.legal_runs.specs.declared.outcomes.ArriveRefusal.{ArriveRefusal}
 use Rattle.legal_runs.specs.declared.outcomes.Outcome.{Outcome}
@@ -36,7 +36,7 @@ use Rattle.messages.specs.declared.Msg.{Msg}
 use Rattle.messages.specs.declared.Reply.{Reply}
 use Rattle.parcel.specs.Run.{JobView, IsJobRun}
 use Rattle.parcel.specs.declared.job.Done.{Done}
-use Rattle.meaning.specs.Serial.{fold}
+use Rattle.meaning.specs.Serial.{state_after_all}
 use Rattle.meaning.specs.State.{State}
 use Rattle.scheduler.proofs.Called.{answer_called, arrive_called}
 use Rattle.scheduler.specs.Calls.{IsGrantOf, IsNoGrant, answer_outcome, arrive_outcome}
@@ -55,7 +55,7 @@ pub some_of : (g : Geometry) (x : State) (failed : Bool) (doubt ms : List Msg) (
 some_of g x true doubt ms c none h = h
 some_of g x false doubt ms c none h =
     let k = subst (λ (l : List Msg). RecoversWithPrefix g x l c) (none refl) h in
-    record { added = 0; at_most = omega arith; is = k.is ∙ ap (λ (l : List Msg). Some (fold g x l)) (take_none k.added) }
+    record { added = 0; at_most = omega arith; is = k.is ∙ ap (λ (l : List Msg). Some (state_after_all g x l)) (take_none k.added) }
 
 pub quiet_moments : (old new : CoreView) (ms : List Msg) → (old.failed ≡ false → old.doubt ≡ []) → RecoversNow old
     → new.medium ≡ old.medium → RecoversThroughout ms old new
@@ -106,7 +106,7 @@ module _ (keeps : Type 0) (old new : CoreView) (hands : List Holding) (step : St
   abbrev event : Event
   event = record { step = step; outcome = outcome; device_failed = k.device_failed; state_after = record { core = core_state_of new; hands = map hand_of hands } }
 
-  pub core_holds : moves_what_is_out step ≡ false → HoldsJobs new.geometry (core_state_of new) hands
+  pub core_holds : dispatches_or_returns step ≡ false → HoldsJobs new.geometry (core_state_of new) hands
   core_holds still =
       let allowed : IsAllowed old.geometry was event = k.called (map hand_of hands) in
       subst (λ (y : Geometry). HoldsJobs y (core_state_of new) hands) (sym k.geometry)
@@ -121,7 +121,7 @@ module _ (keeps : Type 0) (old new : CoreView) (hands : List Holding) (step : St
 module _ (keeps : Type 0) (old new : CoreView) (hands after : List Holding) (step : Step) (outcome : Outcome)
     (none : old.failed ≡ false → old.doubt ≡ []) (recovers : keeps → RecoversNow old) (geometry : new.geometry ≡ old.geometry)
     (same : new.medium ≡ old.medium) where
-  pub quiet_step : happens old.geometry 0 (machine_of (record { core = old; hands = hands })) step
+  pub quiet_step : apply_step old.geometry 0 (machine_of (record { core = old; hands = hands })) step
       ≡ (outcome, machine_of (record { core = new; hands = after }))
       → IsMachineStep keeps (record { core = old; hands = hands }) (record { core = new; hands = after }) step outcome
   quiet_step does = record {
@@ -155,7 +155,7 @@ position_within hands hand at = (position-Some (λ h. is_empty (hand_of h)) hand
 -- ---- a grant
 
 module _ (g : Geometry) (n : ℕ) (w : MachineState) where
-  grant_idle : position is_empty w.hands ≡ None → happens g n w steps.Grant ≡ (outcomes.Idle, w)
+  grant_idle : position is_empty w.hands ≡ None → apply_step g n w steps.Grant ≡ (outcomes.Idle, w)
   grant_idle none = ap (λ (hand : Option ℕ). grant_hand g w hand) none ∙ by w.core.failed
     where
       by : (b : Bool) → ◌≡◌ {A = Outcome × MachineState} (if b && false then (outcomes.Failed, w) else (outcomes.Idle, w)) (outcomes.Idle, w)
@@ -164,22 +164,22 @@ module _ (g : Geometry) (n : ℕ) (w : MachineState) where
 
   -- A hand is empty, and the core has failed or not.
   grant_at : (hand : ℕ) (b : Bool) → position is_empty w.hands ≡ Some hand → w.core.failed ≡ b
-      → happens g n w steps.Grant ≡ (if b && true then (outcomes.Failed, w) else grant_to g w (Some hand) (next_eligible g w.core))
+      → apply_step g n w steps.Grant ≡ (if b && true then (outcomes.Failed, w) else grant_to g w (Some hand) (next_eligible g w.core))
   grant_at hand b at failed = ap (λ (hand : Option ℕ). grant_hand g w hand) at
       ∙ ap (λ (b : Bool). if b && true then (outcomes.Failed, w) else grant_to g w (Some hand) (next_eligible g w.core)) failed
 
   grant_failed : (hand : ℕ) → position is_empty w.hands ≡ Some hand → w.core.failed ≡ true
-      → happens g n w steps.Grant ≡ (outcomes.Failed, w)
+      → apply_step g n w steps.Grant ≡ (outcomes.Failed, w)
   grant_failed hand at failed = grant_at hand true at failed
 
   grant_none : (hand : ℕ) (why : Outcome) → position is_empty w.hands ≡ Some hand → w.core.failed ≡ false
-      → next_eligible g w.core ≡ None → no_grant g w.core ≡ why → happens g n w steps.Grant ≡ (why, w)
+      → next_eligible g w.core ≡ None → grant_refusal g w.core ≡ why → apply_step g n w steps.Grant ≡ (why, w)
   grant_none hand why at works none reason = grant_at hand false at works ∙ ap (grant_to g w (Some hand)) none
       ∙ ap (λ (o : Outcome). (o, w)) reason
 
   grant_one : (hand : ℕ) (found : Entry × List Entry) → position is_empty w.hands ≡ Some hand → w.core.failed ≡ false
       → next_eligible g w.core ≡ Some found
-      → happens g n w steps.Grant
+      → apply_step g n w steps.Grant
       ≡ (outcomes.Granted hand found.0.0, record { core = grant w.core found; hands = set w.hands hand (JobIn found.0.0) })
   grant_one hand found at works first = grant_at hand false at works ∙ ap (grant_to g w (Some hand)) first
 
@@ -199,7 +199,7 @@ module _ (keeps : Type 0) (old new : CoreView) (hands : List Holding)
   at_hand hand at = position_map hands ∙ at
 
   -- the same core state, with the same hands
-  unmoved : (step : Step) (outcome : Outcome) → happens old.geometry 0 w step ≡ (outcome, w) → core_state_of new ≡ core_state_of old
+  unmoved : (step : Step) (outcome : Outcome) → apply_step old.geometry 0 w step ≡ (outcome, w) → core_state_of new ≡ core_state_of old
       → StepsTo hands step outcome
   unmoved step outcome does still = quiet_step keeps old new hands hands step outcome none recovers geometry same
       (does ∙ (λ i. (outcome, record { core = sym still i; hands = map hand_of hands })))
@@ -222,10 +222,10 @@ module _ (keeps : Type 0) (old new : CoreView) (hands : List Holding)
 
   module _ (hand : ℕ) (at : position (λ h. is_empty (hand_of h)) hands ≡ Some hand) (job : JobView)
       (k : IsGrantOf old.geometry (core_state_of old) (core_state_of new) job) where
-    granted : happens old.geometry 0 w steps.Grant
+    granted : apply_step old.geometry 0 w steps.Grant
         ≡ (outcomes.Granted hand job.ticket, machine_of (record { core = new; hands = set hands hand (has.Job job) }))
     granted = grant_one old.geometry 0 w hand k.found (at_hand hand at) k.works k.first
-        ∙ (λ i. (outcomes.Granted hand (k.told i).0, record { core = sym k.state_after i; hands = set (map hand_of hands) hand (JobIn (k.told i).0) }))
+        ∙ (λ i. (outcomes.Granted hand (k.entry_is i).0, record { core = sym k.state_after i; hands = set (map hand_of hands) hand (JobIn (k.entry_is i).0) }))
         ∙ (λ i. (outcomes.Granted hand job.ticket, record { core = core_state_of new; hands = sym (map-set hands hand (has.Job job)) i }))
 
     pub grant_step : StepsTo (set hands hand (has.Job job)) steps.Grant (outcomes.Granted hand job.ticket)
@@ -263,7 +263,7 @@ module _ (keeps : Type 0) (old new : CoreView) (hands : List Holding)
         fresh h i ticket is e mine =
             let o = of (hand_at hands i) ticket is e in
             granted_is_fresh old.geometry (core_state_of old) k.found h.sound k.first (ticket, o.0) o.1
-            (sym mine ∙ ap (λ (x : Entry). x.0) (sym k.told))
+            (sym mine ∙ ap (λ (x : Entry). x.0) (sym k.entry_is))
 
 -- ---- a hand that isn't there
 
@@ -274,10 +274,10 @@ module _ (g : Geometry) (n : ℕ) (core : CoreState) (hands : List Holding) (i :
   past : length hands ≤ i → slice_get (map hand_of hands) i ≡ None
   past over = slice_get_past (map hand_of hands) i (subst (λ (k : ℕ). k ≤ i) (sym (length-map hands hand_of)) over)
 
-  run_past : length hands ≤ i → happens g n at_i (steps.Run i) ≡ (outcomes.Idle, at_i)
+  run_past : length hands ≤ i → apply_step g n at_i (steps.Run i) ≡ (outcomes.Idle, at_i)
   run_past over = ap (run_hand at_i i) (past over)
 
-  back_past : length hands ≤ i → happens g n at_i (steps.Back i) ≡ (outcomes.Idle, at_i)
+  back_past : length hands ≤ i → apply_step g n at_i (steps.Back i) ≡ (outcomes.Idle, at_i)
   back_past over = ap (λ (h : Option Hand). back_from g at_i i (result_in core h)) (past over)
 
 module _ (keeps : Type 0) (core : CoreView) (hands : List Holding) (none : core.failed ≡ false → core.doubt ≡ []) (recovers : keeps → RecoversNow core)
@@ -321,7 +321,7 @@ module _ (keeps : Type 0) (core : CoreView) (hands : List Holding) (none : core.
       × HoldsJobs g (core_state_of core) after
 
   -- the hands are as they were
-  in_place : (x new : Holding) → slice_get hands i ≡ Some x → new ≡ x → (step : Step) → happens g 0 held_now step ≡ (outcomes.Idle, held_now)
+  in_place : (x new : Holding) → slice_get hands i ≡ Some x → new ≡ x → (step : Step) → apply_step g 0 held_now step ≡ (outcomes.Idle, held_now)
       → Moves (set hands i new) step outcomes.Idle
   in_place x new read same step does = subst (λ (after : List Holding). Moves after step outcomes.Idle) (sym (put_back hands i x read new same))
       (quiet_step keeps core core hands hands step outcomes.Idle none recovers refl refl does, h)
@@ -349,7 +349,7 @@ module _ (keeps : Type 0) (core : CoreView) (hands : List Holding) (none : core.
     abbrev ran_hands : List Holding
     ran_hands = set hands i (has.Result done)
 
-    ran_does : happens g 0 held_now (steps.Run i) ≡ (outcomes.Ran, machine_of (record { core = core; hands = ran_hands }))
+    ran_does : apply_step g 0 held_now (steps.Run i) ≡ (outcomes.Ran, machine_of (record { core = core; hands = ran_hands }))
     ran_does = ap (run_hand held_now i) (shown hands i (has.Job job) read)
         ∙ (λ j. (outcomes.Ran, record { core = core_state_of core; hands = set (map hand_of hands) i (ResultIn (sym run.ticket j)) }))
         ∙ (λ j. (outcomes.Ran, record { core = core_state_of core; hands = sym (map-set hands i (has.Result done)) j }))
@@ -385,12 +385,12 @@ module _ (keeps : Type 0) (core : CoreView) (hands : List Holding) (none : core.
     emptied = set hands i has.Empty
 
     module _ (new : CoreView) (geometry : new.geometry ≡ core.geometry) (same : new.medium ≡ core.medium) (found : Entry × List Entry)
-        (one_out : out_with (core_state_of core) done.ticket ≡ Some found) (told : found.0 ≡ (done.ticket, done.message))
+        (one_out : find_in_flight (core_state_of core) done.ticket ≡ Some found) (entry_is : found.0 ≡ (done.ticket, done.message))
         (is : core_state_of new ≡ give_back g (core_state_of core) found) where
-      back_does : happens g 0 held_now (steps.Back i) ≡ (outcomes.Back done.ticket, machine_of (record { core = new; hands = emptied }))
+      back_does : apply_step g 0 held_now (steps.Back i) ≡ (outcomes.Back done.ticket, machine_of (record { core = new; hands = emptied }))
       back_does = ap (λ (o : Option Hand). back_from g held_now i (result_in held_now.core o)) (shown hands i (has.Result done) read)
           ∙ ap (back_from g held_now i) one_out
-          ∙ (λ j. (outcomes.Back (told j).0, record { core = sym is j; hands = sym (map-set hands i has.Empty) j }))
+          ∙ (λ j. (outcomes.Back (entry_is j).0, record { core = sym is j; hands = sym (map-set hands i has.Empty) j }))
 
       pub back_step : IsMachineStep keeps (record { core = core; hands = hands }) (record { core = new; hands = emptied }) (steps.Back i)
           (outcomes.Back done.ticket)

@@ -11,7 +11,7 @@ use Rattle.legal_runs.proofs.Lists.{picked}
 use Rattle.legal_runs.proofs.Outs.{before_in}
 use Rattle.legal_runs.proofs.SerialReplies.{IsIn, in_either, in_left, in_right}
 use Rattle.legal_runs.specs.Eligible.{is_eligible, next_eligible}
-use Rattle.legal_runs.specs.Events.{give_back, grant, out_with}
+use Rattle.legal_runs.specs.Events.{give_back, grant, find_in_flight}
 use Rattle.legal_runs.specs.Laws.{IsSoundCoreState}
 use Rattle.legal_runs.specs.CoreState.{Entry, CoreState}
 use Rattle.runs.proofs.Jobs.{SeesSame, job_stays, result_stays}
@@ -96,7 +96,7 @@ module _ (g : Geometry) where
       let waits : IsIn found.0 w.waiting = subst (IsIn found.0) (sym k.whole) (in_right found.0 k.before (found.0 ∷ k.behind) (inl refl)) in
       all_at (λ c. R c found.0) w.in_flight e (before_in R w.in_flight w.waiting found.0 sound.once waits) (in_contained _ e out)
 
-  pub returned_stays : (w : CoreState) (ticket : ℕ) (found : Entry × List Entry) → out_with w ticket ≡ Some found → (e : Entry)
+  pub returned_stays : (w : CoreState) (ticket : ℕ) (found : Entry × List Entry) → find_in_flight w ticket ≡ Some found → (e : Entry)
       → e.0 ≢ ticket → Contains w.in_flight e → Contains (give_back g w found).in_flight e
   returned_stays w ticket found one_out e other out =
       let k = picked (λ d. d.0 == ticket) w.in_flight found one_out in

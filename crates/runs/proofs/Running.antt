@@ -6,7 +6,7 @@ use Rattle.std.proofs.lemmas.List.{map-append, take_more, take_more_set}
 use Rattle.affinity.specs.declared.geometry.Geometry.{Geometry}
 use Rattle.disk.proofs.Moments.{only_now}
 use Rattle.disk.specs.Device.{IsCrashImage, Medium}
-use Rattle.disk.specs.Moments.{CrashImagesAre, left_since, moment}
+use Rattle.disk.specs.Moments.{CrashImagesAre, left_since, moment_number}
 use Rattle.journal.specs.Journal.{RecoversWithPrefix}
 use Rattle.legal_runs.proofs.Arrivals.{answered_by_ticket}
 use Rattle.legal_runs.proofs.Crashes.{left_is_committed}
@@ -16,17 +16,17 @@ use Rattle.legal_runs.proofs.Runs.{run_follows}
 use Rattle.legal_runs.proofs.Sound.{run_sound}
 use Rattle.legal_runs.specs.Crash.{IsLogAfter, in_doubt}
 use Rattle.legal_runs.specs.Events.{Event, MachineState, IsAllowed, touches_device}
-use Rattle.legal_runs.specs.Laws.{AreApart, IsSoundCoreState}
-use Rattle.legal_runs.specs.Runs.{IsLegal, IsRun, journal, last}
+use Rattle.legal_runs.specs.Laws.{AreUnrelated, IsSoundCoreState}
+use Rattle.legal_runs.specs.Runs.{IsLegal, IsRun, appended_messages, end_state}
 use Rattle.legal_runs.specs.CoreState.{held}
 use Rattle.legal_runs.specs.declared.outcomes.Outcome.{Outcome}
 use Rattle.legal_runs.specs.declared.outcomes.Step.{Step}
 use Rattle.runs.proofs.Events.{some_of}
-use Rattle.runs.specs.Machine.{MachineView, HasRun, HasStages, machine_of}
-use Rattle.runs.specs.Stages.{AreSafe, Stage, RecoversForRun, TouchesAgree, device_after, events_of}
+use Rattle.runs.specs.Machine.{MachineView, HasRun, HasDeviceEvents, machine_of}
+use Rattle.runs.specs.DeviceEvents.{AreSafe, DeviceEvent, RecoversForRun, AgreeWithDevice, device_after, events_of}
 use Rattle.runs.specs.Steps.{IsMachineStep}
 use Rattle.messages.specs.declared.Msg.{Msg}
-use Rattle.meaning.specs.Serial.{fold}
+use Rattle.meaning.specs.Serial.{state_after_all}
 use Rattle.scheduler.specs.Calls.{CountsFailure}
 use Rattle.runs.specs.declared.hands.Holding.{Holding}
 use Rattle.scheduler.specs.CoreView.{CoreView, RecoversNow, core_state_of}
@@ -35,7 +35,7 @@ use Rattle.scheduler.specs.CoreView.{CoreView, RecoversNow, core_state_of}
 
 -- These bytes recover to what was committed after j events, with a prefix of what was to be appended then (`in_doubt`).
 abbrev pub RecoversAt : Geometry → MachineState → List Event → List ℕ → ℕ → Type 0
-RecoversAt g w events c j = RecoversWithPrefix g (last w (take j events)).core.committed (in_doubt (last w (take j events)).core (drop j events)) c
+RecoversAt g w events c j = RecoversWithPrefix g (end_state w (take j events)).core.committed (in_doubt (end_state w (take j events)).core (drop j events)) c
 
 -- At some such place from event k on.
 pub record RecoversSince (g : Geometry) (w : MachineState) (events : List Event) (k : ℕ) (c : List ℕ) : Type 0 where
@@ -46,9 +46,9 @@ pub record RecoversSince (g : Geometry) (w : MachineState) (events : List Event)
 
 module _ (g : Geometry) where
   -- what a crash leaves when all events have ended
-  abbrev EndsWith : MachineState → Medium → List Stage → Type 0
-  EndsWith w m stages = (c : List ℕ) → IsCrashImage (device_after m stages) c
-      → RecoversWithPrefix g (last w (events_of stages)).core.committed (in_doubt (last w (events_of stages)).core []) c
+  abbrev EndsWith : MachineState → Medium → List DeviceEvent → Type 0
+  EndsWith w m device_events = (c : List ℕ) → IsCrashImage (device_after m device_events) c
+      → RecoversWithPrefix g (end_state w (events_of device_events)).core.committed (in_doubt (end_state w (events_of device_events)).core []) c
 
   later : (w : MachineState) (event : Event) (events : List Event) (k : ℕ) (c : List ℕ) → RecoversSince g event.state_after events k c
       → RecoversSince g w (event ∷ events) (suc k) c
@@ -58,45 +58,45 @@ module _ (g : Geometry) where
   earlier w events k j c le h = record { at = h.at; since = omega (arith, h.since, le); within = h.within; recovers = h.recovers }
 
   -- It was left before the run, or at some moment of it.
-  parted : (w : MachineState) (m : Medium) (stages : List Stage) → AreSafe g w m stages → (t : ℕ) (c : List ℕ) → t ≤ moment m
-      → left_since (device_after m stages) t c → left_since m t c ⊎ RecoversSince g w (events_of stages) 0 c
+  parted : (w : MachineState) (m : Medium) (device_events : List DeviceEvent) → AreSafe g w m device_events → (t : ℕ) (c : List ℕ) → t ≤ moment_number m
+      → left_since (device_after m device_events) t c → left_since m t c ⊎ RecoversSince g w (events_of device_events) 0 c
   parted w m [] safe t c early since = inl since
-  parted w m (stage ∷ stages) safe t c early since =
+  parted w m (device_event ∷ device_events) safe t c early since =
       ⊎_elim
       (λ mid. ⊎_elim (λ (was : left_since m t c). inl was)
       (λ now. inr (record { at = 0; since = omega arith; within = omega arith; recovers = now })) (safe.0.before t c early mid))
-      (λ (rest : RecoversSince g stage.event.state_after (events_of stages) 0 c).
-      inr (earlier w (stage.event ∷ events_of stages) 1 0 c (omega arith) (later w stage.event (events_of stages) 0 c rest)))
-      (parted stage.event.state_after stage.medium stages safe.1 t c (omega (arith, early, safe.0.later)) since)
+      (λ (rest : RecoversSince g device_event.event.state_after (events_of device_events) 0 c).
+      inr (earlier w (device_event.event ∷ events_of device_events) 1 0 c (omega arith) (later w device_event.event (events_of device_events) 0 c rest)))
+      (parted device_event.event.state_after device_event.medium device_events safe.1 t c (omega (arith, early, safe.0.later)) since)
 
-  from_start : (w : MachineState) (m : Medium) (stages : List Stage) → AreSafe g w m stages → EndsWith w m stages → (c : List ℕ)
-      → left_since (device_after m stages) (moment m) c → RecoversSince g w (events_of stages) 0 c
+  from_start : (w : MachineState) (m : Medium) (device_events : List DeviceEvent) → AreSafe g w m device_events → EndsWith w m device_events → (c : List ℕ)
+      → left_since (device_after m device_events) (moment_number m) c → RecoversSince g w (events_of device_events) 0 c
   from_start w m [] safe ends c since = record { at = 0; since = omega arith; within = omega arith; recovers = ends c (only_now m c since) }
-  from_start w m (stage ∷ stages) safe ends c since =
+  from_start w m (device_event ∷ device_events) safe ends c since =
       ⊎_elim
       (λ mid. record { at = 0; since = omega arith; within = omega arith; recovers = safe.0.each c mid })
-      (λ (rest : RecoversSince g stage.event.state_after (events_of stages) 0 c).
-      earlier w (stage.event ∷ events_of stages) 1 0 c (omega arith) (later w stage.event (events_of stages) 0 c rest))
-      (parted stage.event.state_after stage.medium stages safe.1 (moment m) c safe.0.later since)
+      (λ (rest : RecoversSince g device_event.event.state_after (events_of device_events) 0 c).
+      earlier w (device_event.event ∷ events_of device_events) 1 0 c (omega arith) (later w device_event.event (events_of device_events) 0 c rest))
+      (parted device_event.event.state_after device_event.medium device_events safe.1 (moment_number m) c safe.0.later since)
 
-  from_event : {w : MachineState} (m : Medium) (stages : List Stage) → AreSafe g w m stages → EndsWith w m stages → (k : ℕ) {c : List ℕ}
-      → k ≤ length stages → left_since (device_after m stages) (moment (device_after m (take k stages))) c
-      → RecoversSince g w (events_of stages) k c
-  from_event {w} m stages safe ends zero {c} le since = from_start w m stages safe ends c since
+  from_event : {w : MachineState} (m : Medium) (device_events : List DeviceEvent) → AreSafe g w m device_events → EndsWith w m device_events → (k : ℕ) {c : List ℕ}
+      → k ≤ length device_events → left_since (device_after m device_events) (moment_number (device_after m (take k device_events))) c
+      → RecoversSince g w (events_of device_events) k c
+  from_event {w} m device_events safe ends zero {c} le since = from_start w m device_events safe ends c since
   from_event m [] safe ends (suc k) le since = absurd (omega (arith, le))
-  from_event {w} m (stage ∷ stages) safe ends (suc k) {c} le since =
-      later w stage.event (events_of stages) k c (from_event stage.medium stages safe.1 ends k (omega (arith, le)) since)
+  from_event {w} m (device_event ∷ device_events) safe ends (suc k) {c} le since =
+      later w device_event.event (events_of device_events) k c (from_event device_event.medium device_events safe.1 ends k (omega (arith, le)) since)
 
   -- So it recovers to a state that the run may leave.
   pub recovers_for_run : (w : MachineState) (events : List Event) (k : ℕ) (c : List ℕ) → IsLegal g w events → IsSoundCoreState g w.core
       → RecoversSince g w events k c → RecoversForRun g w events k c
   recovers_for_run w events k c legal sound h =
       let first = take h.at events in
-      let doubt = in_doubt (last w first).core (drop h.at events) in
-      let log : List Msg = journal w first ++ take h.recovers.added doubt in
+      let doubt = in_doubt (end_state w first).core (drop h.at events) in
+      let log : List Msg = appended_messages w first ++ take h.recovers.added doubt in
       let is_log : IsLogAfter w events h.at log = record { some = h.recovers.added; at_most = h.recovers.at_most; is = refl } in
       record {
-        state = fold g (last w first).core.committed (take h.recovers.added doubt);
+        state = state_after_all g (end_state w first).core.committed (take h.recovers.added doubt);
         is = h.recovers.is;
         left = record {
           after = h.at;
@@ -109,85 +109,85 @@ module _ (g : Geometry) where
       }
 
   -- These stages led to this machine, and a crash at any moment of an event leaves what it may.
-  pub record HasPassed (w : MachineState) (m : Medium) (stages : List Stage) (new : MachineView) : Type 0 where
-    pub legal : IsLegal g w (events_of stages)
-    pub safe : AreSafe g w m stages
-    pub ends : last w (events_of stages) ≡ machine_of new
+  pub record HasPassed (w : MachineState) (m : Medium) (device_events : List DeviceEvent) (new : MachineView) : Type 0 where
+    pub legal : IsLegal g w (events_of device_events)
+    pub safe : AreSafe g w m device_events
+    pub ends : end_state w (events_of device_events) ≡ machine_of new
     pub geometry : new.core.geometry ≡ g
-    pub device : device_after m stages ≡ new.core.medium
+    pub device : device_after m device_events ≡ new.core.medium
 
   -- So it is where the core at the end is as it always is.
-  pub left_since_event : {w : MachineState} {m : Medium} {stages : List Stage} {new : MachineView} → HasPassed w m stages new → IsSoundCoreState g w.core
-      → (new.core.failed ≡ false → new.core.doubt ≡ []) → RecoversNow new.core → (k : ℕ) (c : List ℕ) → k ≤ length stages
-      → left_since new.core.medium (moment (device_after m (take k stages))) c → RecoversForRun g w (events_of stages) k c
-  left_since_event {w} {m} {stages} {new} h sound none recovers k c le since =
-      let ends : EndsWith w m stages = λ b left.
+  pub left_since_event : {w : MachineState} {m : Medium} {device_events : List DeviceEvent} {new : MachineView} → HasPassed w m device_events new → IsSoundCoreState g w.core
+      → (new.core.failed ≡ false → new.core.doubt ≡ []) → RecoversNow new.core → (k : ℕ) (c : List ℕ) → k ≤ length device_events
+      → left_since new.core.medium (moment_number (device_after m (take k device_events))) c → RecoversForRun g w (events_of device_events) k c
+  left_since_event {w} {m} {device_events} {new} h sound none recovers k c le since =
+      let ends : EndsWith w m device_events = λ b left.
       subst (λ (x : MachineState). RecoversWithPrefix g x.core.committed (in_doubt x.core []) b) (sym h.ends)
       (subst (λ (y : Geometry). RecoversWithPrefix y (core_state_of new.core).committed (in_doubt (core_state_of new.core) []) b) h.geometry
       (some_of new.core.geometry (core_state_of new.core).committed new.core.failed new.core.doubt [] b none
       (recovers b (subst (λ (x : Medium). IsCrashImage x b) h.device left)))) in
-      recovers_for_run w (events_of stages) k c h.legal sound (from_event m stages h.safe ends k le
-      (subst (λ (x : Medium). left_since x (moment (device_after m (take k stages))) c) (sym h.device) since))
+      recovers_for_run w (events_of device_events) k c h.legal sound (from_event m device_events h.safe ends k le
+      (subst (λ (x : Medium). left_since x (moment_number (device_after m (take k device_events))) c) (sym h.device) since))
 
   -- ---- stages behind others
 
-  pub safe-append : (w : MachineState) (m : Medium) (xs ys : List Stage) → AreSafe g w m xs
-      → AreSafe g (last w (events_of xs)) (device_after m xs) ys → AreSafe g w m (xs ++ ys)
+  pub safe-append : (w : MachineState) (m : Medium) (xs ys : List DeviceEvent) → AreSafe g w m xs
+      → AreSafe g (end_state w (events_of xs)) (device_after m xs) ys → AreSafe g w m (xs ++ ys)
   safe-append w m [] ys h k = k
   safe-append w m (s ∷ xs) ys h k = (h.0, safe-append s.event.state_after s.medium xs ys h.1 k)
 
-pub after-append : (m : Medium) (xs ys : List Stage) → device_after m (xs ++ ys) ≡ device_after (device_after m xs) ys
+pub after-append : (m : Medium) (xs ys : List DeviceEvent) → device_after m (xs ++ ys) ≡ device_after (device_after m xs) ys
 after-append m [] ys = refl
 after-append m (s ∷ xs) ys = after-append s.medium xs ys
 
-told-push : (w : MachineState) (m : Medium) (stages : List Stage) (stage : Stage) → TouchesAgree w m stages
-    → CountsFailure stage.event.device_failed (device_after m stages).faults stage.medium.faults
-    → (touches_device (last w (events_of stages)).core stage.event.step ≡ false → stage.medium ≡ device_after m stages)
-    → TouchesAgree w m (stages ++ stage ∷ [])
-told-push w m [] stage told counts quiet = (counts, quiet, tt)
-told-push w m (s ∷ stages) stage told counts quiet = (told.0, told.1, told-push s.event.state_after s.medium stages stage told.2 counts quiet)
+agrees-push : (w : MachineState) (m : Medium) (device_events : List DeviceEvent) (device_event : DeviceEvent) → AgreeWithDevice w m device_events
+    → CountsFailure device_event.event.device_failed (device_after m device_events).faults device_event.medium.faults
+    → (touches_device (end_state w (events_of device_events)).core device_event.event.step ≡ false → device_event.medium ≡ device_after m device_events)
+    → AgreeWithDevice w m (device_events ++ device_event ∷ [])
+agrees-push w m [] device_event agrees counts quiet = (counts, quiet, tt)
+agrees-push w m (s ∷ device_events) device_event agrees counts quiet = (agrees.0, agrees.1, agrees-push s.event.state_after s.medium device_events device_event agrees.2 counts quiet)
 
-pub no_stages : (keeps : Type 0) (m : MachineView) → HasStages keeps m m [] []
-no_stages keeps m = record {
-  stages = [];
+pub no_device_events : (keeps : Type 0) (m : MachineView) → HasDeviceEvents keeps m m [] []
+no_device_events keeps m = record {
+  device_events = [];
   run = record { legal = tt; of_steps = refl; with_outcomes = refl; ends = refl };
   device = refl;
-  told = tt;
+  agrees = tt;
   geometry = refl;
   any_moment = λ kept. tt;
 }
 
-pub more_stages : {keeps : Type 0} {old now new : MachineView} {asked : List Step} {came : List Outcome} {step : Step} {outcome : Outcome}
-    → HasStages keeps old now asked came → IsMachineStep keeps now new step outcome
+pub more_device_events : {keeps : Type 0} {old now new : MachineView} {asked : List Step} {came : List Outcome} {step : Step} {outcome : Outcome}
+    → HasDeviceEvents keeps old now asked came → IsMachineStep keeps now new step outcome
     → (touches_device (core_state_of now.core) step ≡ false → new.core.medium ≡ now.core.medium)
-    → HasStages keeps old new (asked ++ step ∷ []) (came ++ outcome ∷ [])
-more_stages {old} {now} {new} {asked} {came} {step} {outcome} h k quiet =
+    → HasDeviceEvents keeps old new (asked ++ step ∷ []) (came ++ outcome ∷ [])
+more_device_events {old} {now} {new} {asked} {came} {step} {outcome} h k quiet =
     let g = old.core.geometry in
     let event : Event = record { step = step; outcome = outcome; device_failed = k.device_failed; state_after = machine_of new } in
-    let stage : Stage = record { event = event; medium = new.core.medium } in
-    let events = events_of h.stages in
-    let device = device_after old.core.medium h.stages in
-    let here : last (machine_of old) events ≡ machine_of now = h.run.ends in
-    let allowed : IsAllowed g (last (machine_of old) events) event =
+    let device_event : DeviceEvent = record { event = event; medium = new.core.medium } in
+    let events = events_of h.device_events in
+    let device = device_after old.core.medium h.device_events in
+    let here : end_state (machine_of old) events ≡ machine_of now = h.run.ends in
+    let allowed : IsAllowed g (end_state (machine_of old) events) event =
     subst (λ (x : MachineState). IsAllowed g x event) (sym here)
     (subst (λ (y : Geometry). IsAllowed y (machine_of now) event) h.geometry k.allowed) in
     let joined = runs_join g (machine_of old) events (event ∷ []) h.run.legal (allowed, tt) in
-    let pushed : events_of (h.stages ++ stage ∷ []) ≡ events ++ event ∷ [] = map-append (λ (s : Stage). s.event) h.stages (stage ∷ []) in
+    let pushed : events_of (h.device_events ++ device_event ∷ []) ≡ events ++ event ∷ [] = map-append (λ (s : DeviceEvent). s.event) h.device_events (device_event ∷ []) in
     let run : IsRun g (machine_of old) (machine_of new) (asked ++ step ∷ []) (came ++ outcome ∷ []) (events ++ event ∷ []) = record {
       legal = joined.legal;
       of_steps = map-append (λ (e : Event). e.step) events (event ∷ []) ∙ ap (λ (l : List Step). l ++ step ∷ []) h.run.of_steps;
       with_outcomes = map-append (λ (e : Event). e.outcome) events (event ∷ []) ∙ ap (λ (l : List Outcome). l ++ outcome ∷ []) h.run.with_outcomes;
-      ends = joined.last_is;
+      ends = joined.end_state_is;
     } in
     record {
-      stages = h.stages ++ stage ∷ [];
+      device_events = h.device_events ++ device_event ∷ [];
       run = subst (IsRun g (machine_of old) (machine_of new) (asked ++ step ∷ []) (came ++ outcome ∷ [])) (sym pushed) run;
-      device = after-append old.core.medium h.stages (stage ∷ []);
-      told = told-push (machine_of old) old.core.medium h.stages stage h.told
+      device = after-append old.core.medium h.device_events (device_event ∷ []);
+      agrees = agrees-push (machine_of old) old.core.medium h.device_events device_event h.agrees
           (subst (λ (m : Medium). CountsFailure k.device_failed m.faults new.core.medium.faults) (sym h.device) k.failures)
           (λ none. quiet (ap (λ (x : MachineState). touches_device x.core step) (sym here) ∙ none) ∙ sym h.device);
       geometry = k.geometry ∙ h.geometry;
-      any_moment = λ kept. safe-append g (machine_of old) old.core.medium h.stages (stage ∷ []) (h.any_moment kept) (
+      any_moment = λ kept. safe-append g (machine_of old) old.core.medium h.device_events (device_event ∷ []) (h.any_moment kept) (
         subst (λ (x : MachineState). CrashImagesAre device new.core.medium (RecoversWithPrefix g x.core.committed (in_doubt x.core (event ∷ [])))) (sym here)
             (subst (λ (y : Geometry). CrashImagesAre device new.core.medium (RecoversWithPrefix y (core_state_of now.core).committed (in_doubt (core_state_of now.core) (event ∷ []))))
             h.geometry
@@ -199,37 +199,37 @@ more_stages {old} {now} {new} {asked} {came} {step} {outcome} h k quiet =
 
 -- ---- the whole run
 
-worlds_apart : (g : Geometry) (events : List Event) → AllByRecursion (λ (event : Event). IsSoundCoreState g event.state_after.core) events
-    → AllByRecursion (λ (w : MachineState). AreApart g (held w.core)) (map (λ e. e.state_after) events)
-worlds_apart g [] sound = tt
-worlds_apart g (event ∷ events) sound = (sound.0.apart, worlds_apart g events sound.1)
+each_state_apart : (g : Geometry) (events : List Event) → AllByRecursion (λ (event : Event). IsSoundCoreState g event.state_after.core) events
+    → AllByRecursion (λ (w : MachineState). AreUnrelated g (held w.core)) (map (λ e. e.state_after) events)
+each_state_apart g [] sound = tt
+each_state_apart g (event ∷ events) sound = (sound.0.apart, each_state_apart g events sound.1)
 
 pub has_run : {keeps : Type 0} {old new : MachineView} {asked : List Step} {came : List Outcome}
-    → IsSoundCoreState old.core.geometry (core_state_of old.core) → HasStages keeps old new asked came
+    → IsSoundCoreState old.core.geometry (core_state_of old.core) → HasDeviceEvents keeps old new asked came
     → (new.core.failed ≡ false → new.core.doubt ≡ []) → (keeps → RecoversNow new.core) → HasRun keeps old new asked came
 has_run {old} {new} sound h none recovers =
     let g = old.core.geometry in
     let w = machine_of old in
-    let events = events_of h.stages in
+    let events = events_of h.device_events in
     record {
       ran = h;
       crash = λ kept. left_since_event g {new = new}
           (record { legal = h.run.legal; safe = h.any_moment kept; ends = h.run.ends; geometry = h.geometry; device = h.device }) sound none (recovers kept);
-      apart = (sound.apart, worlds_apart g events (run_sound g w events h.run.legal sound));
-      in_log_order = sym (run_follows g w events h.run.legal sound).told;
+      apart = (sound.apart, each_state_apart g events (run_sound g w events h.run.legal sound));
+      in_log_order = sym (run_follows g w events h.run.legal sound).reply_pairs;
       in_ticket_order = λ idle reply is. contains_in _ reply
           (answered_by_ticket g w events h.run.legal sound idle reply (in_contained _ reply is));
     }
 
 -- The next step of a list, whose hands are these by another name.
-pub next_stages : {keeps : Type 0} {old : MachineView} {core : CoreView} {hands lent : List Holding} {new : MachineView} (asked : List Step) {i : ℕ} (d : Step)
+pub next_device_events : {keeps : Type 0} {old : MachineView} {core : CoreView} {hands lent : List Holding} {new : MachineView} (asked : List Step) {i : ℕ} (d : Step)
     (came : List Outcome) {outcome : Outcome} → lent ≡ hands → (i < length asked) × (i < length came)
-    → HasStages keeps old (record { core = core; hands = hands }) (take i asked) (take i came)
+    → HasDeviceEvents keeps old (record { core = core; hands = hands }) (take i asked) (take i came)
     → IsMachineStep keeps (record { core = core; hands = lent }) new (get_or asked i d) outcome
     → (touches_device (core_state_of core) (get_or asked i d) ≡ false → new.core.medium ≡ core.medium)
-    → HasStages keeps old new (take (i + 1) asked) (take (i + 1) (set came i outcome))
-next_stages {keeps} {old} {core} {new} asked {i} d came {outcome} same within h k quiet =
+    → HasDeviceEvents keeps old new (take (i + 1) asked) (take (i + 1) (set came i outcome))
+next_device_events {keeps} {old} {core} {new} asked {i} d came {outcome} same within h k quiet =
     let step = subst (λ (l : List Holding). IsMachineStep keeps (record { core = core; hands = l }) new (get_or asked i d) outcome) same k in
-    subst (λ (ss : List Step). HasStages keeps old new ss (take (i + 1) (set came i outcome))) (sym (take_more asked i d within.0))
-    (subst (λ (os : List Outcome). HasStages keeps old new (take i asked ++ get_or asked i d ∷ []) os) (sym (take_more_set came i outcome within.1))
-    (more_stages h step quiet))
+    subst (λ (ss : List Step). HasDeviceEvents keeps old new ss (take (i + 1) (set came i outcome))) (sym (take_more asked i d within.0))
+    (subst (λ (os : List Outcome). HasDeviceEvents keeps old new (take i asked ++ get_or asked i d ∷ []) os) (sym (take_more_set came i outcome within.1))
+    (more_device_events h step quiet))

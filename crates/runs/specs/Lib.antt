@@ -1,5 +1,5 @@
--- Definitions of runs on a device: machines, their steps and hands, stages, and incarnations.
-pub mod Stages
+-- Definitions of runs on a device: machines, their steps and hands, events with the device, and incarnations.
+pub mod DeviceEvents
 pub mod Hands
 pub mod Machine
 pub mod Steps

@@ -7,11 +7,11 @@ use Rattle.legal_runs.specs.Events.{IsAllowed}
 use Rattle.legal_runs.specs.declared.outcomes.Outcome.{Outcome}
 use Rattle.legal_runs.specs.declared.outcomes.Step.{Step}
 use Rattle.runs.specs.Machine.{MachineView, machine_of}
-use Rattle.scheduler.specs.Calls.{CountsFailure, IsCalled}
+use Rattle.scheduler.specs.Calls.{CountsFailure, IsCallEvent}
 use Rattle.scheduler.specs.CoreView.{CoreView, RecoversThroughout, core_state_of}
 
--- The step had this outcome: it was an event, at each moment of which a crash leaves what was committed, with a
--- prefix of the messages that were to be appended when the device failed, or that it is to append.
+-- The step had this outcome, and was an allowed event. A crash at any moment of it leaves the state committed before, with a prefix of
+-- the messages that it is to append, or, where the device had failed before, of those in `doubt`.
 pub record IsMachineStep (keeps : Type 0) (old new : MachineView) (step : Step) (outcome : Outcome) : Type 0 where
   pub device_failed : Bool
   pub allowed : IsAllowed old.core.geometry (machine_of old)
@@ -23,10 +23,11 @@ pub record IsMachineStep (keeps : Type 0) (old new : MachineView) (step : Step) 
       (in_doubt (core_state_of old.core)
       (record { step = step; outcome = outcome; device_failed = device_failed; state_after = machine_of new } ∷ [])))
 
--- The same of a core, whatever the hands have.
+-- A step of the core alone had this outcome, and was an allowed event whatever the hands have. A crash at any moment of it leaves what
+-- `RecoversThroughout` says.
 pub record IsCoreStep (keeps : Type 0) (old new : CoreView) (step : Step) (outcome : Outcome) : Type 0 where
   pub device_failed : Bool
-  pub called : IsCalled old.geometry (core_state_of old) (core_state_of new) step outcome device_failed
+  pub called : IsCallEvent old.geometry (core_state_of old) (core_state_of new) step outcome device_failed
   pub geometry : new.geometry ≡ old.geometry
   pub failures : CountsFailure device_failed old.medium.faults new.medium.faults
   pub any_moment : keeps → RecoversThroughout (to_append (core_state_of old) step) old new

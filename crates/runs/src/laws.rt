@@ -6,14 +6,14 @@ ghost use Rattle.legal_runs.specs.Events.{Event};
 ghost use Rattle.legal_runs.specs.Laws.{IsIdle, IsSoundCoreState};
 ghost use Rattle.legal_runs.specs.Incarnations.{HoldsAnswered, Ran};
 ghost use Rattle.runs.specs.Machine.{MachineView, IsEndOfRun, machine_of};
-ghost use Rattle.runs.specs.Stages.{RecoversForRun};
+ghost use Rattle.runs.specs.DeviceEvents.{RecoversForRun};
 ghost use Rattle.scheduler.specs.CoreView.{CoreView, core_state_of};
 ghost use Rattle.affinity.specs.declared.geometry.Geometry.{Geometry};
 ghost use Rattle.checkpoint.specs.Header.{HasHeader};
 ghost use Rattle.checkpoint.specs.Recovery.{recovered_state};
 ghost use Rattle.checkpoint.specs.Refusals.{refused};
 ghost use Rattle.disk.specs.Device.{IsSynced, Medium};
-ghost use Rattle.disk.specs.Moments.{moment};
+ghost use Rattle.disk.specs.Moments.{moment_number};
 ghost use Rattle.runs.specs.Incarnations.{DeviceIncarnation, HasIncarnations, HaveGeometry, LeftByLast, RecoversForIncarnations, incarnations_of};
 ghost use Rattle.meaning.specs.State.{empty};
 
@@ -22,27 +22,26 @@ ghost use Rattle.meaning.specs.State.{empty};
 /// was unsynced. Each server that is opened has the numbers with which the device was formatted. Whatever the last crash leaves
 /// recovers to the state that the serial server reaches, from the empty one on, by the logs of all incarnations in order. The log
 /// of each incarnation begins with every change that was answered before its crash. What the last crash leaves has the header of
-/// the format and isn't refused: the next opening gives that state, unless the device fails or want of memory is answered
-/// (`Core::open`).
+/// the format and isn't refused: the next opening gives that state, unless the device fails or there is no memory (`Core::open`).
 pub fn incarnations_leave_what_was_answered()
     ensures geometry { (g : Geometry) (formatted : Medium) (incarnations : List DeviceIncarnation)
         → recovered_state g formatted.now ≡ Some empty
-        → IsSynced formatted → HasIncarnations formatted (moment formatted) incarnations → HaveGeometry g incarnations }
+        → IsSynced formatted → HasIncarnations formatted (moment_number formatted) incarnations → HaveGeometry g incarnations }
     ensures recovers { (g : Geometry) (formatted : Medium) (incarnations : List DeviceIncarnation) (c : List ℕ)
         → recovered_state g formatted.now ≡ Some empty
-        → IsSynced formatted → HasIncarnations formatted (moment formatted) incarnations
-        → LeftByLast formatted (moment formatted) incarnations c
+        → IsSynced formatted → HasIncarnations formatted (moment_number formatted) incarnations
+        → LeftByLast formatted (moment_number formatted) incarnations c
         → RecoversForIncarnations g (incarnations_of incarnations) c }
     ensures opens { (g : Geometry) (formatted : Medium) (incarnations : List DeviceIncarnation) (c : List ℕ)
         → recovered_state g formatted.now ≡ Some empty
-        → IsSynced formatted → HasIncarnations formatted (moment formatted) incarnations
-        → LeftByLast formatted (moment formatted) incarnations c
+        → IsSynced formatted → HasIncarnations formatted (moment_number formatted) incarnations
+        → LeftByLast formatted (moment_number formatted) incarnations c
         → HasHeader g c × (refused g c ≡ None) }
 {}
 
-/// A run has ended. Whatever a crash leaves of its device now recovers to where the log of the run leads, with the first m of
-/// the messages that were to be appended when the device failed. Where no message was in the core at its start, that log begins
-/// with every change that was answered.
+/// A run has ended, and the crash comes after all of its events. Whatever it leaves of the device recovers to where the log of
+/// the run leads, with the first m of the messages that were to be appended when the device failed. Where no message was in the
+/// core at its start, that log begins with every change that was answered.
 pub fn a_crash_behind_a_run_leaves_what_was_answered()
     ensures run { (start : MachineView) (events : List Event) (new : CoreView) (c : List ℕ)
         → IsSoundCoreState start.core.geometry (core_state_of start.core)

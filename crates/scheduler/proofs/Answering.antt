@@ -11,9 +11,9 @@ use Rattle.affinity.specs.declared.geometry.Geometry.{Geometry}
 use Rattle.legal_runs.proofs.Lists.{all_back, all_front}
 use Rattle.legal_runs.proofs.Moves.{Answers}
 use Rattle.legal_runs.proofs.Sound.{move_sound}
-use Rattle.legal_runs.specs.Laws.{AreApart}
+use Rattle.legal_runs.specs.Laws.{AreUnrelated}
 use Rattle.legal_runs.specs.CoreState.{Entry, entries, are_related_entries}
-use Rattle.messages.specs.Messages.{place}
+use Rattle.messages.specs.Messages.{path_of}
 use Rattle.scheduler.proofs.Tests.{any_answered, any_filter}
 use Rattle.scheduler.specs.Parts.{IsCore, IsPlaced, Parts, entry_of, replied_of, queued_of, core_state_in}
 use Rattle.scheduler.specs.Slots.{SlotView}
@@ -22,7 +22,7 @@ use Rattle.run_queue.specs.RunQueue.{has_number, without_number}
 -- Two places at one affinity are related.
 pub same_number : (g : Geometry) (x y : SlotView) → IsPlaced g x → IsPlaced g y → y.1.affinity.number ≡ x.1.affinity.number → are_related_entries g (entry_of x) (entry_of y) ≡ true
 same_number g x y a b same =
-    sym (are_related-contains g (place g x.1.message) (place g y.1.message) x.1.affinity y.1.affinity a.affinity b.affinity)
+    sym (are_related-contains g (path_of g x.1.message) (path_of g y.1.message) x.1.affinity y.1.affinity a.affinity b.affinity)
     ∙ (λ i. contains x.1.affinity (same i) || contains y.1.affinity (sym same i))
     ∙ or_left (contains x.1.affinity x.1.affinity.number) (contains y.1.affinity y.1.affinity.number) itself
   where
@@ -31,7 +31,7 @@ same_number g x y a b same =
     turned false e = e
 
     itself : contains x.1.affinity x.1.affinity.number ≡ true
-    itself = turned _ (are_related-contains g (place g x.1.message) (place g x.1.message) x.1.affinity x.1.affinity a.affinity a.affinity ∙ are_related-refl (place g x.1.message))
+    itself = turned _ (are_related-contains g (path_of g x.1.message) (path_of g x.1.message) x.1.affinity x.1.affinity a.affinity a.affinity ∙ are_related-refl (path_of g x.1.message))
 
 other_number : (g : Geometry) (x y : SlotView) → IsPlaced g x → IsPlaced g y → are_related_entries g (entry_of x) (entry_of y) ≡ false → not (has_number x.1.affinity.number (queued_of y)) ≡ true
 other_number g x y a b apart = elim (eqb_tells y.1.affinity.number x.1.affinity.number) [
@@ -72,7 +72,7 @@ module _ (keeps : Type 0) (p : Parts) (k : IsCore keeps p) (x : SlotView) (behin
   answer_front = ap (map replied_of) whole
 
   apart_rest : AllByRecursion (λ d. are_related_entries g (entry_of x) d ≡ false) (entries (map replied_of behind) ++ (entries (map replied_of p.phases.ran) ++ map entry_of p.phases.in_flight))
-  apart_rest = (subst (λ l. AreApart g (entries l ++ (entries (map replied_of p.phases.ran) ++ map entry_of p.phases.in_flight))) answer_front k.sound.apart).0
+  apart_rest = (subst (λ l. AreUnrelated g (entries l ++ (entries (map replied_of p.phases.ran) ++ map entry_of p.phases.in_flight))) answer_front k.sound.apart).0
 
   T : Entry → Type 0
   T d = are_related_entries g (entry_of x) d ≡ false
@@ -91,10 +91,10 @@ module _ (keeps : Type 0) (p : Parts) (k : IsCore keeps p) (x : SlotView) (behin
         claimed = omega (arith, count, claimed, is_free);
         placed = record { waiting = k.placed.waiting; in_flight = k.placed.in_flight; ran = k.placed.ran; logged = all_logged.1 };
         queue_geometry = k.queue_geometry;
-        seats = k.seats;
-        waits = k.waits;
-        holds = λ test. any_filter test (λ t. not (has_number x.1.affinity.number t)) p.queue.held
-            ∙ k.holds (λ t. not (has_number x.1.affinity.number t) && test t)
+        queue_slots = k.queue_slots;
+        queue_waiting = k.queue_waiting;
+        queue_held = λ test. any_filter test (λ t. not (has_number x.1.affinity.number t)) p.queue.held
+            ∙ k.queue_held (λ t. not (has_number x.1.affinity.number t) && test t)
             ∙ any_answered test (λ t. not (has_number x.1.affinity.number t)) p.phases whole (ap not (eq-eqb x.1.affinity.number x.1.affinity.number refl))
             (other_numbers g x all_logged.0 behind all_logged.1 behinds)
             (other_numbers g x all_logged.0 p.phases.ran k.placed.ran rans)

@@ -4,9 +4,9 @@ use Rattle.std.specs.Prelude.{◌==◌, ◌||◌, if◌then◌else◌, nat_le, n
 use Rattle.std.specs.List.{AllByRecursion, list_any}
 use Rattle.std.proofs.lemmas.Bool.Decides.{eqb_tells, leb_tells}
 use Rattle.std.proofs.lemmas.List.Folds.{list_any-append}
-use Rattle.arena.proofs.Times.{times-cons_is, times-cons_other}
-use Rattle.arena.specs.Lists.{times}
-use Rattle.arena.specs.ArenaView.{IsParted, ArenaView, after_move, after_put, capacity_of, chain_at, put_answer, put_into, slot_from}
+use Rattle.arena.proofs.Counts.{count_of-cons_is, count_of-cons_other}
+use Rattle.arena.specs.Lists.{count_of}
+use Rattle.arena.specs.ArenaView.{IsPartitioned, ArenaView, after_move, after_put, capacity_of, chain_at, put_answer, put_into, slot_from}
 use Rattle.journal.specs.Journal.{JournalView}
 use Rattle.legal_runs.proofs.Lists.{all_back}
 use Rattle.legal_runs.specs.Events.{arrive}
@@ -20,10 +20,10 @@ use Rattle.messages.specs.declared.Reply.TheVariants.{Done}
 use Rattle.parcel.specs.Tree.{TreeView}
 use Rattle.scheduler.proofs.Arriving.{arrival_core, arrival_state, has_slot, with_arrival}
 use Rattle.scheduler.proofs.Choosing.{any_map}
-use Rattle.scheduler.proofs.Counting.{count_of}
+use Rattle.scheduler.proofs.Counting.{messages_counted}
 use Rattle.scheduler.proofs.Chains.{JoinedSlot, slot_joined}
 use Rattle.scheduler.specs.Parts.{IsCore, IsPlaced, Parts, entry_of, parts, queued_of, core_state_in}
-use Rattle.scheduler.specs.Slots.{HasChains, SlotView, slots_on, place_at}
+use Rattle.scheduler.specs.Slots.{HasChains, SlotView, slots_on, slot_view_at}
 use Rattle.scheduler.specs.declared.slot.Slot.{Slot}
 use Rattle.run_queue.specs.RunQueue.{CameBefore, RunQueueView, has_slot as has_slot_of}
 
@@ -35,11 +35,11 @@ first_free : (free : List ℕ) (value : Slot) (i : ℕ) → slot_from free value
 first_free [] value i e = absurd (cc)
 first_free (j ∷ rest) value i e = (rest, ap (λ (n : ℕ). n ∷ rest) (let same : j ≡ i = cc in same))
 
-not_among : (row : ArenaView Slot) (replies : List Reply) (i : ℕ) (xs : List ℕ) → times i xs ≡ 0 → list_any (λ y. y.0 == i) (map (place_at row replies) xs) ≡ false
-not_among row replies i [] none = refl
-not_among row replies i (x ∷ xs) none = elim (eqb_tells x i) [
-  | inl e ↦ absurd (let some = times-cons_is i x xs e.1 in omega (arith, some, none))
-  | inr n ↦ (λ z. n.0 z || not_among row replies i xs (sym (times-cons_other i x xs n.1) ∙ none) z)
+not_among : (arena : ArenaView Slot) (replies : List Reply) (i : ℕ) (xs : List ℕ) → count_of i xs ≡ 0 → list_any (λ y. y.0 == i) (map (slot_view_at arena replies) xs) ≡ false
+not_among arena replies i [] none = refl
+not_among arena replies i (x ∷ xs) none = elim (eqb_tells x i) [
+  | inl e ↦ absurd (let some = count_of-cons_is i x xs e.1 in omega (arith, some, none))
+  | inr n ↦ (λ z. n.0 z || not_among arena replies i xs (sym (count_of-cons_other i x xs n.1) ∙ none) z)
 ]
 
 -- a number that isn't this one
@@ -50,64 +50,64 @@ came_before : (ticket : ℕ) (ys : List SlotView) → AllByRecursion (λ e. e.0 
 came_before ticket [] all = tt
 came_before ticket (y ∷ ys) all = (all.0, came_before ticket ys all.1)
 
-module _ (keeps : Type 0) (row : ArenaView Slot) (replies : List Reply) (tree : TreeView) (journal : JournalView) (queue : RunQueueView) (batch : List Msg) (next unlogged : ℕ)
-    (opened : TreeView) (since : List Msg) (is : HasChains row)
-    (k : IsCore keeps (parts row replies tree journal queue batch next unlogged opened since)) (value : Slot) where
+module _ (keeps : Type 0) (arena : ArenaView Slot) (replies : List Reply) (tree : TreeView) (journal : JournalView) (queue : RunQueueView) (batch : List Msg) (next unlogged : ℕ)
+    (opened : TreeView) (since_open : List Msg) (is : HasChains arena)
+    (k : IsCore keeps (parts arena replies tree journal queue batch next unlogged opened since_open)) (value : Slot) where
   abbrev p : Parts
-  p = parts row replies tree journal queue batch next unlogged opened since
+  p = parts arena replies tree journal queue batch next unlogged opened since_open
 
   abbrev m : Msg
   m = value.message
 
   -- where it is neither refused for the device, nor for its numbers, nor for want of tickets
   tested : journal.failed ≡ false → is_in_range journal.geometry m ≡ true → (next == 2 ^ 64 - 1) ≡ false
-      → arrive journal.geometry (core_state_in p) m ≡ (if nat_le (capacity_of row) (length (core_state_in p).waiting + length (held (core_state_in p)))
+      → arrive journal.geometry (core_state_in p) m ≡ (if nat_le (capacity_of arena) (length (core_state_in p).waiting + length (held (core_state_in p)))
       then (outcomes.ArriveRefused arrivals.Full, core_state_in p)
       else (outcomes.Ticket next, record (core_state_in p) { waiting = (core_state_in p).waiting ++ (next, m) ∷ []; next = next + 1 }))
   tested works range more = λ i.
       if works i then (outcomes.ArriveRefused arrivals.Failed, core_state_in p)
       else if not (range i) then (outcomes.ArriveRefused arrivals.Range, core_state_in p)
       else if more i then (outcomes.ArriveRefused arrivals.Exhausted, core_state_in p)
-      else if nat_le (capacity_of row) (length (core_state_in p).waiting + length (held (core_state_in p))) then (outcomes.ArriveRefused arrivals.Full, core_state_in p)
+      else if nat_le (capacity_of arena) (length (core_state_in p).waiting + length (held (core_state_in p))) then (outcomes.ArriveRefused arrivals.Full, core_state_in p)
       else (outcomes.Ticket next, record (core_state_in p) { waiting = (core_state_in p).waiting ++ (next, m) ∷ []; next = next + 1 })
 
-  module _ (back : Slot) (full : put_answer row value ≡ Err back) where
-    pub full_row : after_put row value ≡ row
-    full_row = ap (λ fs. put_into row fs value) (none_free row.free value back full)
+  module _ (back : Slot) (full : put_answer arena value ≡ Err back) where
+    pub full_arena : after_put arena value ≡ arena
+    full_arena = ap (λ fs. put_into arena fs value) (none_free arena.free value back full)
 
     pub full_state : journal.failed ≡ false → is_in_range journal.geometry m ≡ true → (next == 2 ^ 64 - 1) ≡ false
         → (outcomes.ArriveRefused arrivals.Full, core_state_in p) ≡ arrive journal.geometry (core_state_in p) m
     full_state works range more = sym (tested works range more ∙ (λ i. if filled i then (outcomes.ArriveRefused arrivals.Full, core_state_in p)
         else (outcomes.Ticket next, record (core_state_in p) { waiting = (core_state_in p).waiting ++ (next, m) ∷ []; next = next + 1 })))
       where
-        filled : nat_le (capacity_of row) (length (core_state_in p).waiting + length (held (core_state_in p))) ≡ true
-        filled = elim (leb_tells (capacity_of row) (length (core_state_in p).waiting + length (held (core_state_in p)))) [
+        filled : nat_le (capacity_of arena) (length (core_state_in p).waiting + length (held (core_state_in p))) ≡ true
+        filled = elim (leb_tells (capacity_of arena) (length (core_state_in p).waiting + length (held (core_state_in p)))) [
           | inl e ↦ e.0
-          | inr n ↦ absurd (let short = n.1 in let count = count_of p in let claimed = k.claimed
-              in let none = ap length (none_free row.free value back full) in omega (arith, short, count, claimed, none))
+          | inr n ↦ absurd (let short = n.1 in let count = messages_counted p in let claimed = k.claimed
+              in let none = ap length (none_free arena.free value back full) in omega (arith, short, count, claimed, none))
         ]
 
-  module _ (slot : ℕ) (put : put_answer row value ≡ Ok slot) where
-    split : (rest : List ℕ) × (row.free ≡ slot ∷ rest)
-    split = first_free row.free value slot put
+  module _ (slot : ℕ) (put : put_answer arena value ≡ Ok slot) where
+    split : (rest : List ℕ) × (arena.free ≡ slot ∷ rest)
+    split = first_free arena.free value slot put
 
-    joined_slot : JoinedSlot row (after_move (after_put row value) slot 0) replies slot 0 value
-    joined_slot = slot_joined row replies is slot 0 (omega arith) split.0 value split.1
+    joined_slot : JoinedSlot arena (after_move (after_put arena value) slot 0) replies slot 0 value
+    joined_slot = slot_joined arena replies is slot 0 (omega arith) split.0 value split.1
 
     pub arrive_later : CameBefore next queue.waiting
-    arrive_later = subst (CameBefore next) (sym k.waits)
+    arrive_later = subst (CameBefore next) (sym k.queue_waiting)
         (came_before next p.phases.waiting (all_back (λ (e : Entry). e.0 < next) (core_state_in p).in_flight (core_state_in p).waiting k.sound.given))
 
     pub arrive_slot : slot < queue.slots
-    arrive_slot = let low = joined_slot.low in let seats = k.seats in omega (arith, low, seats)
+    arrive_slot = let low = joined_slot.low in let queue_slots = k.queue_slots in omega (arith, low, queue_slots)
 
-    none_there : (c : ℕ) → list_any (λ (y : SlotView). y.0 == slot) (slots_on row replies c) ≡ false
-    none_there c = not_among row replies slot (chain_at row c) (joined_slot.none_had c)
+    none_there : (c : ℕ) → list_any (λ (y : SlotView). y.0 == slot) (slots_on arena replies c) ≡ false
+    none_there c = not_among arena replies slot (chain_at arena c) (joined_slot.none_had c)
 
     pub arrive_new : list_any (has_slot_of slot) (queue.waiting ++ queue.held) ≡ false
     arrive_new =
         list_any-append (has_slot_of slot) queue.waiting queue.held
-        ∙ (λ i. (ap (list_any (has_slot_of slot)) k.waits ∙ any_map queued_of (has_slot_of slot) p.phases.waiting ∙ none_there 0) i || k.holds (has_slot_of slot) i)
+        ∙ (λ i. (ap (list_any (has_slot_of slot)) k.queue_waiting ∙ any_map queued_of (has_slot_of slot) p.phases.waiting ∙ none_there 0) i || k.queue_held (has_slot_of slot) i)
         ∙ (λ i. none_there 3 i || (none_there 2 i || none_there 1 i))
 
     abbrev x : SlotView
@@ -117,10 +117,10 @@ module _ (keeps : Type 0) (row : ArenaView Slot) (replies : List Reply) (tree : 
     turned = record queue { waiting = queue.waiting ++ queued_of x ∷ [] }
 
     abbrev after : Parts
-    after = parts (after_move (after_put row value) slot 0) replies tree journal turned batch (next + 1) unlogged opened since
+    after = parts (after_move (after_put arena value) slot 0) replies tree journal turned batch (next + 1) unlogged opened since_open
 
     abbrev new_free : ℕ
-    new_free = length (after_move (after_put row value) slot 0).free
+    new_free = length (after_move (after_put arena value) slot 0).free
 
     after_is : after ≡ with_arrival p x new_free
     after_is = λ i. record (with_arrival p x new_free) {
@@ -144,17 +144,17 @@ module _ (keeps : Type 0) (row : ArenaView Slot) (replies : List Reply) (tree : 
           ∙ sym (tested works range more ∙ (λ i. if fits i then (outcomes.ArriveRefused arrivals.Full, core_state_in p)
           else (outcomes.Ticket next, record (core_state_in p) { waiting = (core_state_in p).waiting ++ (next, m) ∷ []; next = next + 1 })))
         where
-          fits : nat_le (capacity_of row) (length (core_state_in p).waiting + length (held (core_state_in p))) ≡ false
-          fits = elim (leb_tells (capacity_of row) (length (core_state_in p).waiting + length (held (core_state_in p)))) [
+          fits : nat_le (capacity_of arena) (length (core_state_in p).waiting + length (held (core_state_in p))) ≡ false
+          fits = elim (leb_tells (capacity_of arena) (length (core_state_in p).waiting + length (held (core_state_in p)))) [
             | inl e ↦ absurd (let some = has_slot keeps p k x new_free ticket placed joined_slot.free in let few = e.1 in omega (arith, some, few))
             | inr n ↦ n.0
           ]
 
-    pub arrive_chains : IsParted (after_move (after_put row value) slot 0) → HasChains (after_move (after_put row value) slot 0)
-    arrive_chains parted = record { parted = parted; four = joined_slot.four ∙ is.four }
+    pub arrive_chains : IsPartitioned (after_move (after_put arena value) slot 0) → HasChains (after_move (after_put arena value) slot 0)
+    arrive_chains partitioned = record { partitioned = partitioned; four = joined_slot.four ∙ is.four }
 
-    pub arrive_size : capacity_of (after_move (after_put row value) slot 0) ≡ capacity_of row
+    pub arrive_size : capacity_of (after_move (after_put arena value) slot 0) ≡ capacity_of arena
     arrive_size = joined_slot.size
 
-    pub arrive_ran : length (slots_on (after_move (after_put row value) slot 0) replies 2) ≡ length (slots_on row replies 2)
+    pub arrive_ran : length (slots_on (after_move (after_put arena value) slot 0) replies 2) ≡ length (slots_on arena replies 2)
     arrive_ran = ap length (joined_slot.stays 2 (λ same. omega (arith, same)))

@@ -6,7 +6,7 @@ use Rattle.legal_runs.proofs.Moves.{Arrives}
 use Rattle.legal_runs.proofs.Sound.{move_sound}
 use Rattle.legal_runs.specs.Laws.{IsSoundCoreState}
 use Rattle.legal_runs.specs.CoreState.{held}
-use Rattle.scheduler.proofs.Counting.{count_of}
+use Rattle.scheduler.proofs.Counting.{messages_counted}
 use Rattle.scheduler.specs.Parts.{IsCore, IsPlaced, Parts, entry_of, queued_of, core_state_in}
 use Rattle.scheduler.specs.Slots.{SlotView}
 
@@ -27,7 +27,7 @@ module _ (keeps : Type 0) (p : Parts) (k : IsCore keeps p) (x : SlotView) (free 
   }
 
   pub has_slot : length (core_state_in p).waiting + length (held (core_state_in p)) < p.capacity
-  has_slot = let count = count_of p in let claimed = k.claimed in omega (arith, count, claimed, was_free)
+  has_slot = let count = messages_counted p in let claimed = k.claimed in omega (arith, count, claimed, was_free)
 
   pub arrival_core : IsCore keeps (with_arrival p x free)
   arrival_core =
@@ -42,9 +42,9 @@ module _ (keeps : Type 0) (p : Parts) (k : IsCore keeps p) (x : SlotView) (free 
           logged = k.placed.logged;
         };
         queue_geometry = k.queue_geometry;
-        seats = k.seats;
-        waits = ap (λ ts. ts ++ queued_of x ∷ []) k.waits ∙ sym (map-append queued_of p.phases.waiting (x ∷ []));
-        holds = k.holds;
+        queue_slots = k.queue_slots;
+        queue_waiting = ap (λ ts. ts ++ queued_of x ∷ []) k.queue_waiting ∙ sym (map-append queued_of p.phases.waiting (x ∷ []));
+        queue_held = k.queue_held;
         unlogged_is = k.unlogged_is;
         sound = subst (IsSoundCoreState p.journal.geometry) (sym arrival_state)
             (move_sound p.journal.geometry (core_state_in p) _ _ (Arrives x.1.message has_slot refl refl) k.sound);

@@ -4,7 +4,7 @@ use Rattle.std.specs.Prelude.{if◌then◌else◌, is_none, not}
 use Rattle.std.proofs.lemmas.Bool.{and_from, lt-ltb, not_from_false}
 use Rattle.affinity.specs.declared.geometry.Geometry.{Geometry}
 use Rattle.image.specs.Pieces.{piece_count}
-use Rattle.legal_runs.specs.Events.{Hand, MachineState, answer, arrive, batch, fewer, flip_refusal, is_ended, log, piece_refusal, point_refusal, unless_refused}
+use Rattle.legal_runs.specs.Events.{Hand, MachineState, answer, arrive, batch, pieces_after, flip_refusal, all_pieces_written, log, piece_refusal, point_refusal, unless_refused}
 use Rattle.legal_runs.specs.CoreState.{CoreState}
 use Rattle.legal_runs.specs.declared.outcomes.ArriveRefusal.{ArriveRefusal}
 use Rattle.legal_runs.specs.declared.outcomes.CoreFault.{CoreFault}
@@ -16,18 +16,18 @@ use Rattle.legal_runs.specs.declared.outcomes.PointRefusal.TheVariants as points
 use Rattle.legal_runs.specs.declared.outcomes.Step.TheVariants as steps
 use Rattle.messages.specs.declared.Msg.{Msg}
 use Rattle.messages.specs.declared.Reply.{Reply}
-use Rattle.scheduler.specs.Calls.{IsCalled, IsLogStep, IsPieceStep, IsPointStep, answer_outcome, arrive_outcome, log_device_failed, log_outcome, point_device_failed, step_outcome}
+use Rattle.scheduler.specs.Calls.{IsCallEvent, IsLogStep, IsPieceStep, IsCheckpointStep, answer_outcome, arrive_outcome, log_device_failed, log_outcome, checkpoint_device_failed, step_outcome}
 
 abbrev In : CoreState → List Hand → MachineState
 In w hands = record { core = w; hands = hands }
 
 module _ (g : Geometry) (old new : CoreState) where
   pub arrive_called : (m : Msg) (r : Result ℕ ArriveRefusal) → (arrive_outcome r, new) ≡ arrive g old m
-      → IsCalled g old new (steps.Arrive m) (arrive_outcome r) false
+      → IsCallEvent g old new (steps.Arrive m) (arrive_outcome r) false
   arrive_called m r e hands =
       record { to_write = 0; at_most = omega arith; does = ap (λ (x : Outcome × CoreState). (x.0, In x.1 hands)) (sym e) }
 
-  pub answer_called : (r : Option (ℕ × Reply)) → (answer_outcome r, new) ≡ answer old old.logged → IsCalled g old new steps.Answer (answer_outcome r) false
+  pub answer_called : (r : Option (ℕ × Reply)) → (answer_outcome r, new) ≡ answer old old.logged → IsCallEvent g old new steps.Answer (answer_outcome r) false
   answer_called r e hands =
       record { to_write = 0; at_most = omega arith; does = ap (λ (x : Outcome × CoreState). (x.0, In x.1 hands)) (sym e) }
 
@@ -35,7 +35,7 @@ module _ (g : Geometry) (old new : CoreState) where
   abbrev log_if : ℕ → Bool → Outcome × CoreState
   log_if n b = if b then (outcomes.LogFault faults.Failed, old) else (outcomes.Logged (length (take n old.ran)), log g old n)
 
-  pub log_called : (n : ℕ) (r : Result ℕ CoreFault) → IsLogStep g old new n r → IsCalled g old new (steps.Log n) (log_outcome r) (log_device_failed r)
+  pub log_called : (n : ℕ) (r : Result ℕ CoreFault) → IsLogStep g old new n r → IsCallEvent g old new (steps.Log n) (log_outcome r) (log_device_failed r)
   log_called n (Ok count) h hands = record {
     to_write = 0;
     at_most = omega arith;
@@ -68,8 +68,8 @@ module _ (g : Geometry) (old new : CoreState) where
       → By hands why (outcome, made) ≡ (outcome, In new hands)
   carried hands why outcome made e is = ap (λ o. By hands o (outcome, made)) e ∙ (λ i. (outcome, In (sym is i) hands))
 
-  pub point_called : (r : Result (Unit {0}) PointRefusal) → IsPointStep old new (point_refusal old) (new ≡ record old { room = g.half }) r
-      → IsCalled g old new steps.Point (step_outcome (λ _. outcomes.Pointed) r) (point_device_failed r)
+  pub point_called : (r : Result (Unit {0}) PointRefusal) → IsCheckpointStep old new (point_refusal old) (new ≡ record old { room = g.half }) r
+      → IsCallEvent g old new steps.Point (step_outcome (λ _. outcomes.Pointed) r) (checkpoint_device_failed r)
   point_called (Ok u) h hands = record { to_write = 0; at_most = omega arith; does = carried hands (point_refusal old) outcomes.Pointed _ h.0 h.1 }
   point_called (Err points.Device) h hands =
       record { touched = ap is_none h.0; core = λ i. (outcomes.PointRefused points.Device, sym h.1 i); hands = refl }
@@ -80,10 +80,10 @@ module _ (g : Geometry) (old new : CoreState) where
   point_called (Err points.Unfinished) h hands = record { to_write = 0; at_most = omega arith; does = refused hands (point_refusal old) _ points.Unfinished h.0 h.1 }
 
   abbrev HasCut : Type 0
-  HasCut = (n : ℕ) × (n ≤ piece_count g) × (new ≡ record old { room = g.half; left = Some n })
+  HasCut = (n : ℕ) × (n ≤ piece_count g) × (new ≡ record old { room = g.half; pieces_left = Some n })
 
-  pub cut_called : (r : Result (Unit {0}) PointRefusal) → IsPointStep old new (point_refusal old) HasCut r
-      → IsCalled g old new steps.Cut (step_outcome (λ _. outcomes.Cut) r) (point_device_failed r)
+  pub cut_called : (r : Result (Unit {0}) PointRefusal) → IsCheckpointStep old new (point_refusal old) HasCut r
+      → IsCallEvent g old new steps.Cut (step_outcome (λ _. outcomes.Cut) r) (checkpoint_device_failed r)
   cut_called (Ok u) h hands = record { to_write = h.1.0; at_most = h.1.1; does = carried hands (point_refusal old) outcomes.Cut _ h.0 h.1.2 }
   cut_called (Err points.Device) h hands =
       record { touched = ap is_none h.0; core = λ i. (outcomes.PointRefused points.Device, sym h.1 i); hands = refl }
@@ -93,16 +93,16 @@ module _ (g : Geometry) (old new : CoreState) where
   cut_called (Err points.NotRunning) h hands = record { to_write = 0; at_most = omega arith; does = refused hands (point_refusal old) _ points.NotRunning h.0 h.1 }
   cut_called (Err points.Unfinished) h hands = record { to_write = 0; at_most = omega arith; does = refused hands (point_refusal old) _ points.Unfinished h.0 h.1 }
 
-  pub piece_called : (r : Result ℕ PointRefusal) → IsPieceStep old new r → IsCalled g old new steps.Piece (step_outcome outcomes.Left r) (point_device_failed r)
+  pub piece_called : (r : Result ℕ PointRefusal) → IsPieceStep old new r → IsCallEvent g old new steps.Piece (step_outcome outcomes.Left r) (checkpoint_device_failed r)
   piece_called (Ok n) h hands = record {
     to_write = 0;
     at_most = omega arith;
-    does = ap (λ o. By hands o (outcomes.Left (fewer old.left), record old { left = Some (fewer old.left) })) h.0
-        ∙ (λ i. (outcomes.Left (sym h.1 i), In (record old { left = Some (sym h.1 i) }) hands))
+    does = ap (λ o. By hands o (outcomes.Left (pieces_after old.pieces_left), record old { pieces_left = Some (pieces_after old.pieces_left) })) h.0
+        ∙ (λ i. (outcomes.Left (sym h.1 i), In (record old { pieces_left = Some (sym h.1 i) }) hands))
         ∙ (λ i. (outcomes.Left n, In (sym h.2 i) hands));
   }
   piece_called (Err points.Device) h hands = record {
-    touched = and_from (is_none (piece_refusal old)) _ (ap is_none h.0) (not_from_false (is_ended old.left) h.1);
+    touched = and_from (is_none (piece_refusal old)) _ (ap is_none h.0) (not_from_false (all_pieces_written old.pieces_left) h.1);
     core = λ i. (outcomes.PointRefused points.Device, sym h.2 i);
     hands = refl;
   }
@@ -112,8 +112,8 @@ module _ (g : Geometry) (old new : CoreState) where
   piece_called (Err points.NotRunning) h hands = record { to_write = 0; at_most = omega arith; does = refused hands (piece_refusal old) _ points.NotRunning h.0 h.1 }
   piece_called (Err points.Unfinished) h hands = record { to_write = 0; at_most = omega arith; does = refused hands (piece_refusal old) _ points.Unfinished h.0 h.1 }
 
-  pub flip_called : (r : Result (Unit {0}) PointRefusal) → IsPointStep old new (flip_refusal old) (new ≡ record old { left = None }) r
-      → IsCalled g old new steps.Flip (step_outcome (λ _. outcomes.Flipped) r) (point_device_failed r)
+  pub flip_called : (r : Result (Unit {0}) PointRefusal) → IsCheckpointStep old new (flip_refusal old) (new ≡ record old { pieces_left = None }) r
+      → IsCallEvent g old new steps.Flip (step_outcome (λ _. outcomes.Flipped) r) (checkpoint_device_failed r)
   flip_called (Ok u) h hands = record { to_write = 0; at_most = omega arith; does = carried hands (flip_refusal old) outcomes.Flipped _ h.0 h.1 }
   flip_called (Err points.Device) h hands =
       record { touched = ap is_none h.0; core = λ i. (outcomes.PointRefused points.Device, sym h.1 i); hands = refl }

@@ -8,12 +8,12 @@ use Rattle.std.proofs.lemmas.List.Folds.{list_any-append}
 use Rattle.std.proofs.lemmas.Option.{none-some, same_Some}
 use Rattle.affinity.proofs.Preorder.{are_related-contains}
 use Rattle.affinity.specs.declared.geometry.Geometry.{Geometry}
-use Rattle.legal_runs.specs.Eligible.{has_room as has_room_for, is_conflict_free as is_clear_in, is_eligible, lacks_room_alone, next_eligible, pick}
-use Rattle.legal_runs.specs.Events.{no_grant}
+use Rattle.legal_runs.specs.Eligible.{has_room as has_room_for, is_conflict_free as is_clear_in, is_eligible, lacks_only_room, next_eligible, pick}
+use Rattle.legal_runs.specs.Events.{grant_refusal}
 use Rattle.legal_runs.specs.Laws.{AreAscending}
 use Rattle.legal_runs.specs.CoreState.{Entry, CoreState, entries, entry, are_related_entries}
 use Rattle.legal_runs.specs.declared.outcomes.Outcome.TheVariants as outcomes
-use Rattle.messages.specs.Messages.{place}
+use Rattle.messages.specs.Messages.{path_of}
 use Rattle.scheduler.specs.Calls.{IsGranted}
 use Rattle.scheduler.specs.Parts.{ArePlaced, IsCore, IsPlaced, Parts, entry_of, held_any, replied_of, queued_of, core_state_in}
 use Rattle.scheduler.specs.Slots.{Phases, SlotView}
@@ -42,7 +42,7 @@ all_of P Q f (x ∷ xs) all = (f x all.0, all_of P Q f xs all.1)
 module _ (g : Geometry) where
   -- affinities overlap exactly where places are related
   pub overlaps : (x y : SlotView) → IsPlaced g x → IsPlaced g y → are_related_intervals (queued_of x).affinity (queued_of y).affinity ≡ are_related_entries g (entry_of x) (entry_of y)
-  overlaps x y a b = are_related-contains g (place g x.1.message) (place g y.1.message) x.1.affinity y.1.affinity a.affinity b.affinity
+  overlaps x y a b = are_related-contains g (path_of g x.1.message) (path_of g y.1.message) x.1.affinity y.1.affinity a.affinity b.affinity
 
   slots_touch : (x : SlotView) → IsPlaced g x → (ys : List SlotView) → AllByRecursion (IsPlaced g) ys
       → list_any (λ y. are_related_intervals (queued_of x).affinity (queued_of y).affinity) ys ≡ list_any (λ y. are_related_entries g (entry_of x) (entry_of y)) ys
@@ -162,8 +162,8 @@ module _ (keeps : Type 0) (p : Parts) (k : IsCore keeps p) where
 
   clear_same : (x : SlotView) → IsPlaced geometry x → is_conflict_free p.queue.held p.queue.waiting (queued_of x) ≡ is_clear_in geometry w (entry_of x)
   clear_same x a = λ i.
-      not ((k.holds (λ o. are_related_intervals (queued_of x).affinity o.affinity) ∙ held_touch geometry p.phases k.placed x a) i)
-      && not ((ap (list_any (waits_for (queued_of x))) k.waits ∙ waits_touch geometry p.phases.waiting k.placed.waiting x a) i)
+      not ((k.queue_held (λ o. are_related_intervals (queued_of x).affinity o.affinity) ∙ held_touch geometry p.phases k.placed x a) i)
+      && not ((ap (list_any (waits_for (queued_of x))) k.queue_waiting ∙ waits_touch geometry p.phases.waiting k.placed.waiting x a) i)
 
   or_turned : (a b : Bool) → (a || not b) ≡ (not b || a)
   or_turned true true = refl
@@ -182,8 +182,8 @@ module _ (keeps : Type 0) (p : Parts) (k : IsCore keeps p) where
         p.phases.waiting k.placed.waiting
 
     found_first : next_queued room p.queue.held p.queue.waiting ≡ find (λ t. has_room room t && is_conflict_free p.queue.held p.queue.waiting t) (map queued_of p.phases.waiting)
-    found_first = next_is_first room p.queue.held p.queue.waiting (subst Ascend (sym k.waits) (ascend_from p.phases.waiting k.sound.ascending))
-        ∙ ap (find (λ t. has_room room t && is_conflict_free p.queue.held p.queue.waiting t)) k.waits
+    found_first = next_is_first room p.queue.held p.queue.waiting (subst Ascend (sym k.queue_waiting) (ascend_from p.phases.waiting k.sound.ascending))
+        ∙ ap (find (λ t. has_room room t && is_conflict_free p.queue.held p.queue.waiting t)) k.queue_waiting
 
     pub goes_first : (t : QueuedMessage) → next_queued room p.queue.held p.queue.waiting ≡ Some t → Chosen (is_eligible geometry w) p.phases.waiting t
     goes_first t h = chosen _ (is_eligible geometry w) p.phases.waiting same_test t (sym found_first ∙ h)
@@ -200,25 +200,25 @@ module _ (keeps : Type 0) (p : Parts) (k : IsCore keeps p) where
   clear_test = all_of (IsPlaced geometry) _ (λ x a. clear_same x a) p.phases.waiting k.placed.waiting
 
   found_clear : next_queued true p.queue.held p.queue.waiting ≡ find (λ t. has_room true t && is_conflict_free p.queue.held p.queue.waiting t) (map queued_of p.phases.waiting)
-  found_clear = next_is_first true p.queue.held p.queue.waiting (subst Ascend (sym k.waits) (ascend_from p.phases.waiting k.sound.ascending))
-      ∙ ap (find (λ t. has_room true t && is_conflict_free p.queue.held p.queue.waiting t)) k.waits
+  found_clear = next_is_first true p.queue.held p.queue.waiting (subst Ascend (sym k.queue_waiting) (ascend_from p.phases.waiting k.sound.ascending))
+      ∙ ap (find (λ t. has_room true t && is_conflict_free p.queue.held p.queue.waiting t)) k.queue_waiting
 
-  lacking : (es : List Entry) → list_any (is_eligible geometry w) es ≡ false → list_any (lacks_room_alone geometry w) es ≡ list_any (is_clear_in geometry w) es
+  lacking : (es : List Entry) → list_any (is_eligible geometry w) es ≡ false → list_any (lacks_only_room geometry w) es ≡ list_any (is_clear_in geometry w) es
   lacking [] h = refl
   lacking (e ∷ es) h = by (is_clear_in geometry w e) (has_room_for w e) (list_any (is_eligible geometry w) es) h (lacking es)
     where
-      by : (c r rest : Bool) → ((c && r) || rest) ≡ false → (rest ≡ false → list_any (lacks_room_alone geometry w) es ≡ list_any (is_clear_in geometry w) es)
-          → ((c && not r) || list_any (lacks_room_alone geometry w) es) ≡ (c || list_any (is_clear_in geometry w) es)
+      by : (c r rest : Bool) → ((c && r) || rest) ≡ false → (rest ≡ false → list_any (lacks_only_room geometry w) es ≡ list_any (is_clear_in geometry w) es)
+          → ((c && not r) || list_any (lacks_only_room geometry w) es) ≡ (c || list_any (is_clear_in geometry w) es)
       by true true rest h j = absurd (true≢false h)
       by true false rest h j = refl
       by false r rest h j = j h
 
   module _ (room : Bool) (is_room : room ≡ nat_lt p.unlogged p.journal.room) (none : next_queued room p.queue.held p.queue.waiting ≡ None) where
-    pub lacks_room : (t : QueuedMessage) → next_queued true p.queue.held p.queue.waiting ≡ Some t → no_grant geometry w ≡ outcomes.NoRoom
+    pub lacks_room : (t : QueuedMessage) → next_queued true p.queue.held p.queue.waiting ≡ Some t → grant_refusal geometry w ≡ outcomes.NoRoom
     lacks_room t h = ap (λ b. if b then outcomes.NoRoom else outcomes.NoneEligible)
         (lacking w.waiting (none_any room is_room none) ∙ some_chosen _ (is_clear_in geometry w) p.phases.waiting clear_test t (sym found_clear ∙ h))
 
-    pub none_eligible : next_queued true p.queue.held p.queue.waiting ≡ None → no_grant geometry w ≡ outcomes.NoneEligible
+    pub none_eligible : next_queued true p.queue.held p.queue.waiting ≡ None → grant_refusal geometry w ≡ outcomes.NoneEligible
     none_eligible h = ap (λ b. if b then outcomes.NoRoom else outcomes.NoneEligible)
         (lacking w.waiting (none_any room is_room none) ∙ none_chosen _ (is_clear_in geometry w) p.phases.waiting clear_test (sym found_clear ∙ h))
 

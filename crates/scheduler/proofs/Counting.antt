@@ -36,9 +36,9 @@ pub unlogged_of : (p : Parts) → unlogged_changes (core_state_in p) ≡ changin
 unlogged_of p = λ i. out_changing p.phases.in_flight i + ran_changing p.phases.ran i
 
 -- how many messages wait or are held
-pub count_of : (p : Parts) → length (core_state_in p).waiting + length (held (core_state_in p))
+pub messages_counted : (p : Parts) → length (core_state_in p).waiting + length (held (core_state_in p))
     ≡ length p.phases.waiting + (length p.phases.logged + (length p.phases.ran + length p.phases.in_flight))
-count_of p = λ i. length-map p.phases.waiting entry_of i + (length_held (core_state_in p)
+messages_counted p = λ i. length-map p.phases.waiting entry_of i + (length_held (core_state_in p)
     ∙ (λ j. length-map p.phases.logged replied_of j + (length-map p.phases.ran replied_of j + length-map p.phases.in_flight entry_of j))) i
 
 pub held_count : (p : Parts) → length (held (core_state_in p)) ≡ length p.phases.logged + (length p.phases.ran + length p.phases.in_flight)

@@ -1,4 +1,4 @@
--- Those that ran, gathered one after the other.
+-- The changes among the messages that ran, gathered one after the other.
 use Rattle.std.proofs.Common.{◌≡◌, ℕ, zero, suc, ◌+◌, ◌≤◌, ◌<◌, Bool, true, false, List, [], ◌∷◌, ◌++◌, map, length, take, drop, get_or, Option, Some, None, refl, sym, ap, subst, ◌∙◌, arith, inl, inr}
 use Rattle.std.specs.Prelude.{cond, filter, slice_index_or, if◌then◌else◌, unwrap_or}
 use Rattle.std.specs.List.{concat}
@@ -8,61 +8,61 @@ use Rattle.std.proofs.lemmas.List.{length-append, map-append}
 use Rattle.std.proofs.lemmas.List.Elements.{filter-append}
 use Rattle.std.proofs.lemmas.List.Sums.{sum_by-append, sum_by-cons}
 use Rattle.std.proofs.lemmas.Option.{none-some, same_Some}
-use Rattle.arena.specs.Lists.{behind, behind_in, first_of, times}
-use Rattle.arena.specs.ArenaView.{ArenaView, IsParted, capacity_of, chain_at, next_of, value_at}
+use Rattle.arena.specs.Lists.{behind, behind_in, first_of, count_of}
+use Rattle.arena.specs.ArenaView.{ArenaView, IsPartitioned, capacity_of, chain_at, next_of, value_at}
 use Rattle.arena.proofs.ArenaLemmas.{chained-holds, length-parts}
-use Rattle.arena.proofs.Times.{times-append, times-at, times-cons_is, times-cons_other}
+use Rattle.arena.proofs.Counts.{count_of-append, count_of-at, count_of-cons_is, count_of-cons_other}
 use Rattle.legal_runs.specs.Eligible.{changes}
-use Rattle.legal_runs.specs.Events.{loggable}
+use Rattle.legal_runs.specs.Events.{recorded}
 use Rattle.legal_runs.specs.CoreState.{Replied}
 use Rattle.messages.specs.declared.Msg.{Msg}
 use Rattle.messages.specs.declared.Reply.{Reply}
 use Rattle.messages.specs.declared.Reply.TheVariants.{Done}
-use Rattle.meaning.specs.Serial.{is_loggable}
+use Rattle.meaning.specs.Serial.{is_recorded}
 use Rattle.scheduler.proofs.GrantCall.{some_value}
 use Rattle.scheduler.proofs.Shifting.{left_over, some_first}
-use Rattle.scheduler.proofs.Splits.{times-split}
-use Rattle.scheduler.specs.Moving.{changing_in, gathered}
+use Rattle.scheduler.proofs.Splits.{count_of-split}
+use Rattle.scheduler.specs.Moving.{changing_in, recorded_in}
 use Rattle.scheduler.specs.Parts.{replied_of}
-use Rattle.scheduler.specs.Slots.{HasChains, SlotView, no_slot, place_at}
+use Rattle.scheduler.specs.Slots.{HasChains, SlotView, no_slot, slot_view_at}
 use Rattle.scheduler.specs.declared.slot.Slot.{Slot}
 
 -- ---- the slot behind one on its chain
 
-behind_split : (i : ℕ) (front back : List ℕ) → times i (front ++ i ∷ back) ≤ 1 → behind i (front ++ i ∷ back) ≡ first_of back
+behind_split : (i : ℕ) (front back : List ℕ) → count_of i (front ++ i ∷ back) ≤ 1 → behind i (front ++ i ∷ back) ≡ first_of back
 behind_split i [] back once = ap (λ b. if b then first_of back else behind i back) (eq-eqb i i refl)
 behind_split i (x ∷ front) back once = elim (eqb_tells x i) [
-  | inl e ↦ absurd (let some = times-cons_is i x (front ++ i ∷ back) e.1 in let more = times-split i front back in omega (arith, some, more, once))
+  | inl e ↦ absurd (let some = count_of-cons_is i x (front ++ i ∷ back) e.1 in let more = count_of-split i front back in omega (arith, some, more, once))
   | inr n ↦ ap (λ b. if b then first_of (front ++ i ∷ back) else behind i (front ++ i ∷ back)) n.0
-      ∙ behind_split i front back (let same = times-cons_other i x (front ++ i ∷ back) n.1 in omega (arith, same, once))
+      ∙ behind_split i front back (let same = count_of-cons_other i x (front ++ i ∷ back) n.1 in omega (arith, same, once))
 ]
 
-behind_in_at : (i c : ℕ) (lists : List (List ℕ)) (front back : List ℕ) → slice_index_or lists c [] ≡ front ++ i ∷ back → times i (concat lists) ≤ 1
+behind_in_at : (i c : ℕ) (lists : List (List ℕ)) (front back : List ℕ) → slice_index_or lists c [] ≡ front ++ i ∷ back → count_of i (concat lists) ≤ 1
     → behind_in i lists ≡ first_of back
 behind_in_at i c [] front back whole once =
-    let none : times i (slice_index_or {A = List ℕ} [] c []) ≤ 0 = times-at i [] c in
-    let some = times-split i front back in
-    let same = ap (times i) whole in
+    let none : count_of i (slice_index_or {A = List ℕ} [] c []) ≤ 0 = count_of-at i [] c in
+    let some = count_of-split i front back in
+    let same = ap (count_of i) whole in
     absurd (omega (arith, none, some, same))
 behind_in_at i zero (ys ∷ lists) front back whole once =
-    let some = times-split i front back in
-    let same = ap (times i) whole in
-    let all = times-append i ys (concat lists) in
-    ap (λ b. if b then behind i ys else behind_in i lists) (lt-ltb 0 (times i ys) (omega (arith, some, same)))
+    let some = count_of-split i front back in
+    let same = ap (count_of i) whole in
+    let all = count_of-append i ys (concat lists) in
+    ap (λ b. if b then behind i ys else behind_in i lists) (lt-ltb 0 (count_of i ys) (omega (arith, some, same)))
     ∙ ap (behind i) whole ∙ behind_split i front back (omega (arith, some, same, all, once))
 behind_in_at i (suc c) (ys ∷ lists) front back whole once =
-    let at = times-at i lists c in
-    let some = times-split i front back in
-    let same = ap (times i) whole in
-    let all = times-append i ys (concat lists) in
-    ap (λ b. if b then behind i ys else behind_in i lists) (le-ltb 0 (times i ys) (omega (arith, at, some, same, all, once)))
+    let at = count_of-at i lists c in
+    let some = count_of-split i front back in
+    let same = ap (count_of i) whole in
+    let all = count_of-append i ys (concat lists) in
+    ap (λ b. if b then behind i ys else behind_in i lists) (le-ltb 0 (count_of i ys) (omega (arith, at, some, same, all, once)))
     ∙ behind_in_at i c lists front back whole (omega (arith, all, once))
 
-next_on : (row : ArenaView Slot) (c i : ℕ) (front back : List ℕ) → IsParted row → chain_at row c ≡ front ++ i ∷ back → next_of row i ≡ first_of back
-next_on row c i front back parted whole =
-    let all = times-append i row.free (concat row.chains) in
-    let once = parted.once i in
-    behind_in_at i c row.chains front back whole (omega (arith, all, once))
+next_on : (arena : ArenaView Slot) (c i : ℕ) (front back : List ℕ) → IsPartitioned arena → chain_at arena c ≡ front ++ i ∷ back → next_of arena i ≡ first_of back
+next_on arena c i front back partitioned whole =
+    let all = count_of-append i arena.free (concat arena.chains) in
+    let once = partitioned.once i in
+    behind_in_at i c arena.chains front back whole (omega (arith, all, once))
 
 length_at : (lists : List (List ℕ)) (c : ℕ) → length (slice_index_or lists c []) ≤ length (concat lists)
 length_at [] zero = omega arith
@@ -71,8 +71,8 @@ length_at (ys ∷ lists) zero = let all = length-append ys (concat lists) in ome
 length_at (ys ∷ lists) (suc c) = let all = length-append ys (concat lists) in let deeper = length_at lists c in omega (arith, all, deeper)
 
 -- a chain is no longer than the row
-pub chain_short : (row : ArenaView Slot) (c : ℕ) → IsParted row → length (chain_at row c) ≤ capacity_of row
-chain_short row c parted = let all = length-parts row parted in let at = length_at row.chains c in omega (arith, all, at)
+pub chain_short : (arena : ArenaView Slot) (c : ℕ) → IsPartitioned arena → length (chain_at arena c) ≤ capacity_of arena
+chain_short arena c partitioned = let all = length-parts arena partitioned in let at = length_at arena.chains c in omega (arith, all, at)
 
 -- ---- a chain, cut at one of its slots
 
@@ -93,62 +93,63 @@ take_one n i xs e = let count : n + 1 ≡ suc n = omega arith in ap (λ (m : ℕ
 
 -- ---- what is gathered
 
-gathered_append : (row : ArenaView Slot) (replies : List Reply) (xs ys : List ℕ) → gathered row replies (xs ++ ys) ≡ gathered row replies xs ++ gathered row replies ys
-gathered_append row replies xs ys =
-    ap (λ (l : List SlotView). loggable (map replied_of l)) (map-append (place_at row replies) xs ys)
-    ∙ ap loggable (map-append replied_of (map (place_at row replies) xs) (map (place_at row replies) ys))
+gathered_append : (arena : ArenaView Slot) (replies : List Reply) (xs ys : List ℕ) → recorded_in arena replies (xs ++ ys) ≡ recorded_in arena replies xs ++ recorded_in arena replies ys
+gathered_append arena replies xs ys =
+    ap (λ (l : List SlotView). recorded (map replied_of l)) (map-append (slot_view_at arena replies) xs ys)
+    ∙ ap recorded (map-append replied_of (map (slot_view_at arena replies) xs) (map (slot_view_at arena replies) ys))
     ∙ ap (λ (l : List Replied). map (λ (a : Replied). a.1) l)
-    (filter-append (λ (a : Replied). is_loggable a.1 a.2) (map replied_of (map (place_at row replies) xs)) (map replied_of (map (place_at row replies) ys)))
-    ∙ map-append (λ (a : Replied). a.1) (filter (λ (a : Replied). is_loggable a.1 a.2) (map replied_of (map (place_at row replies) xs)))
-    (filter (λ (a : Replied). is_loggable a.1 a.2) (map replied_of (map (place_at row replies) ys)))
+    (filter-append (λ (a : Replied). is_recorded a.1 a.2) (map replied_of (map (slot_view_at arena replies) xs)) (map replied_of (map (slot_view_at arena replies) ys)))
+    ∙ map-append (λ (a : Replied). a.1) (filter (λ (a : Replied). is_recorded a.1 a.2) (map replied_of (map (slot_view_at arena replies) xs)))
+    (filter (λ (a : Replied). is_recorded a.1 a.2) (map replied_of (map (slot_view_at arena replies) ys)))
 
-any_ticket : (t u : ℕ) (m : Msg) (r : Reply) → loggable ((t, m, r) ∷ []) ≡ loggable ((u, m, r) ∷ [])
-any_ticket t u m r = elim (is_loggable m r) as (λ b. map (λ (a : Replied). a.1) (cond b ((t, m, r) ∷ []) []) ≡ map (λ (a : Replied). a.1) (cond b ((u, m, r) ∷ []) [])) [
+any_ticket : (t u : ℕ) (m : Msg) (r : Reply) → recorded ((t, m, r) ∷ []) ≡ recorded ((u, m, r) ∷ [])
+any_ticket t u m r = elim (is_recorded m r) as (λ b. map (λ (a : Replied). a.1) (cond b ((t, m, r) ∷ []) []) ≡ map (λ (a : Replied). a.1) (cond b ((u, m, r) ∷ []) [])) [
   | true ↦ refl
   | false ↦ refl
 ]
 
-module _ (row : ArenaView Slot) (replies : List Reply) (is : HasChains row) (n i : ℕ) (first : first_of (drop n (chain_at row 2)) ≡ Some i) where
+module _ (arena : ArenaView Slot) (replies : List Reply) (is : HasChains arena) (n i : ℕ) (first : first_of (drop n (chain_at arena 2)) ≡ Some i) where
   abbrev xs : List ℕ
-  xs = chain_at row 2
+  xs = chain_at arena 2
 
-  chained : 0 < times i xs
-  chained = subst (λ (l : List ℕ). 0 < times i l) (sym (cut_at n i xs first)) (times-split i (take n xs) (drop (suc n) xs))
+  chained : 0 < count_of i xs
+  chained = subst (λ (l : List ℕ). 0 < count_of i l) (sym (cut_at n i xs first)) (count_of-split i (take n xs) (drop (suc n) xs))
 
-  pub ran_is_there : value_at row i ≡ None → ⊥
-  ran_is_there none = some_value (value_at row i) (chained-holds row i 2 is.parted chained) none
+  pub ran_is_there : value_at arena i ≡ None → ⊥
+  ran_is_there none = some_value (value_at arena i) (chained-holds arena i 2 is.partitioned chained) none
 
-  pub ran_next : next_of row i ≡ first_of (drop (n + 1) xs)
+  pub ran_next : next_of arena i ≡ first_of (drop (n + 1) xs)
   ran_next = let count : suc n ≡ n + 1 = omega arith in
-      next_on row 2 i (take n xs) (drop (suc n) xs) is.parted (cut_at n i xs first) ∙ ap (λ (m : ℕ). first_of (drop m xs)) count
+      next_on arena 2 i (take n xs) (drop (suc n) xs) is.partitioned (cut_at n i xs first) ∙ ap (λ (m : ℕ). first_of (drop m xs)) count
 
-  module _ (slot : Slot) (value : Some slot ≡ value_at row i) where
-    slot_is : unwrap_or (value_at row i) no_slot ≡ slot
+  module _ (slot : Slot) (value : Some slot ≡ value_at arena i) where
+    slot_is : unwrap_or (value_at arena i) no_slot ≡ slot
     slot_is = ap (λ (o : Option Slot). unwrap_or o no_slot) (sym value)
 
-    pub changing_more : (found more : ℕ) → found ≡ changing_in row (take n xs) → more ≡ cond (changes slot.message) 1 0 → found + more ≡ changing_in row (take (n + 1) xs)
+    pub changing_more : (found more : ℕ) → found ≡ changing_in arena (take n xs) → more ≡ cond (changes slot.message) 1 0 → found + more ≡ changing_in arena (take (n + 1) xs)
     changing_more found more was is_more =
         (λ z. was z + (is_more ∙ ap (λ (s : Slot). cond (changes s.message) 1 0) (sym slot_is)) z)
         ∙ one_changing (take n xs)
-        ∙ ap (changing_in row) (sym (take_one n i xs first))
+        ∙ ap (changing_in arena) (sym (take_one n i xs first))
       where
-        one_changing : (ys : List ℕ) → changing_in row ys + cond (changes (unwrap_or (value_at row i) no_slot).message) 1 0 ≡ changing_in row (ys ++ i ∷ [])
+        one_changing : (ys : List ℕ) → changing_in arena ys + cond (changes (unwrap_or (value_at arena i) no_slot).message) 1 0 ≡ changing_in arena (ys ++ i ∷ [])
         one_changing ys =
-            let f : ℕ → ℕ = λ (j : ℕ). cond (changes (unwrap_or (value_at row j) no_slot).message) 1 0 in
-            let all : changing_in row (ys ++ i ∷ []) ≡ changing_in row ys + changing_in row (i ∷ []) = sum_by-append f ys (i ∷ []) in
-            let one : changing_in row (i ∷ []) ≡ cond (changes (unwrap_or (value_at row i) no_slot).message) 1 0 + 0 = sum_by-cons f i [] in
+            let f : ℕ → ℕ = λ (j : ℕ). cond (changes (unwrap_or (value_at arena j) no_slot).message) 1 0 in
+            let all : changing_in arena (ys ++ i ∷ []) ≡ changing_in arena ys + changing_in arena (i ∷ []) = sum_by-append f ys (i ∷ []) in
+            let one : changing_in arena (i ∷ []) ≡ cond (changes (unwrap_or (value_at arena i) no_slot).message) 1 0 + 0 = sum_by-cons f i [] in
             omega (arith, all, one)
 
-    pub gathered_more : (reply : Reply) → get_or replies i Done ≡ reply → (old : List Msg) → old ≡ gathered row replies (take n xs)
-        → old ++ loggable ((0, slot.message, reply) ∷ []) ≡ gathered row replies (take (n + 1) xs)
-    gathered_more reply told old was =
-        (λ z. was z ++ loggable ((0, (sym slot_is z).message, sym told z) ∷ []))
-        ∙ ap (λ (l : List Msg). gathered row replies (take n xs) ++ l) (any_ticket 0 (unwrap_or (value_at row i) no_slot).ticket (unwrap_or (value_at row i) no_slot).message (get_or replies i Done))
-        ∙ sym (gathered_append row replies (take n xs) (i ∷ []))
-        ∙ ap (gathered row replies) (sym (take_one n i xs first))
+    pub gathered_more : (reply : Reply) → get_or replies i Done ≡ reply → (old : List Msg) → old ≡ recorded_in arena replies (take n xs)
+        → old ++ recorded ((0, slot.message, reply) ∷ []) ≡ recorded_in arena replies (take (n + 1) xs)
+    gathered_more reply reply_is old was =
+        (λ z. was z ++ recorded ((0, (sym slot_is z).message, sym reply_is z) ∷ []))
+        ∙ ap (λ (l : List Msg). recorded_in arena replies (take n xs) ++ l)
+        (any_ticket 0 (unwrap_or (value_at arena i) no_slot).ticket (unwrap_or (value_at arena i) no_slot).message (get_or replies i Done))
+        ∙ sym (gathered_append arena replies (take n xs) (i ∷ []))
+        ∙ ap (recorded_in arena replies) (sym (take_one n i xs first))
 
-pub ran_goes_on : (row : ArenaView Slot) (n count : ℕ) → n < count → count ≤ length (chain_at row 2) → first_of (drop n (chain_at row 2)) ≡ None → ⊥
-ran_goes_on row n count low few none = some_first (drop n (chain_at row 2)) (left_over n (chain_at row 2) (omega (arith, low, few))) none
+pub ran_goes_on : (arena : ArenaView Slot) (n count : ℕ) → n < count → count ≤ length (chain_at arena 2) → first_of (drop n (chain_at arena 2)) ≡ None → ⊥
+ran_goes_on arena n count low few none = some_first (drop n (chain_at arena 2)) (left_over n (chain_at arena 2) (omega (arith, low, few))) none
 
 pub at_most_one : (b : Bool) → cond b 1 0 ≤ 1
 at_most_one true = omega arith

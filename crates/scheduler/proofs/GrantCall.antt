@@ -9,42 +9,42 @@ use Rattle.affinity.specs.Interval.{Interval, IsAffinity, IsAffinityOf}
 use Rattle.affinity.specs.Path.{Path}
 use Rattle.affinity.specs.declared.geometry.Geometry.{Geometry}
 use Rattle.arena.proofs.ArenaLemmas.{chained-holds, chained-once}
-use Rattle.arena.proofs.Times.{times-append, times-cons_is, times-cons_other, times-cons_same}
-use Rattle.arena.specs.Lists.{times}
-use Rattle.arena.specs.ArenaView.{IsParted, ArenaView, after_move, capacity_of, chain_at, value_at}
+use Rattle.arena.proofs.Counts.{count_of-append, count_of-cons_is, count_of-cons_other, count_of-cons_same}
+use Rattle.arena.specs.Lists.{count_of}
+use Rattle.arena.specs.ArenaView.{IsPartitioned, ArenaView, after_move, capacity_of, chain_at, value_at}
 use Rattle.journal.specs.Journal.{JournalView}
 use Rattle.legal_runs.proofs.Lists.{all_back, all_join}
 use Rattle.legal_runs.specs.Eligible.{is_eligible}
 use Rattle.legal_runs.specs.Events.{grant}
 use Rattle.legal_runs.specs.CoreState.{Entry, CoreState}
-use Rattle.messages.specs.Messages.{place}
+use Rattle.messages.specs.Messages.{path_of}
 use Rattle.messages.specs.declared.Msg.{Msg}
 use Rattle.messages.specs.declared.Reply.{Reply}
 use Rattle.messages.specs.declared.Reply.TheVariants.{Done}
-use Rattle.parcel.specs.Fits.{Suits}
+use Rattle.parcel.specs.Fits.{IsRunnable}
 use Rattle.parcel.specs.Run.{JobView, Shows}
-use Rattle.parcel.specs.Tree.{HasGap, LendsAt, TreeView, in_tree}
+use Rattle.parcel.specs.Tree.{HasGap, LendsAt, TreeView, tree_nodes}
 use Rattle.parcel.specs.declared.parts.Parcels.{Parcels}
 use Rattle.parcel.specs.declared.parts.Standing.{Standing}
 use Rattle.scheduler.proofs.Choosing.{Chosen, goes_first}
 use Rattle.scheduler.proofs.Counting.{one_for}
 use Rattle.scheduler.proofs.Granting.{grant_core, grant_state, waits_without, with_grant}
 use Rattle.scheduler.proofs.Chains.{MovedSlot, slot_moved}
-use Rattle.scheduler.proofs.Splits.{MapSplit, map_split, times-split}
+use Rattle.scheduler.proofs.Splits.{MapSplit, map_split, count_of-split}
 use Rattle.scheduler.proofs.Trees.{grant_lends, grant_shows}
 use Rattle.scheduler.specs.Calls.{IsGrantOf}
 use Rattle.scheduler.specs.Parts.{IsCore, IsPlaced, Parts, entry_of, parts, queued_of, core_state_in}
-use Rattle.scheduler.specs.Slots.{HasChains, SlotView, slots_on, no_slot, place_at}
+use Rattle.scheduler.specs.Slots.{HasChains, SlotView, slots_on, no_slot, slot_view_at}
 use Rattle.scheduler.specs.declared.slot.Slot.{Slot}
 use Rattle.run_queue.specs.RunQueue.{HasJoined, RunQueueView, next_queued, without_slot}
 use Rattle.run_queue.specs.declared.queued_message.QueuedMessage.{QueuedMessage}
 
 -- places made of numbers among which this one isn't
-numbers_off : (row : ArenaView Slot) (replies : List Reply) (i : ℕ) (xs : List ℕ) → times i xs ≡ 0 → AllByRecursion (λ y. (y.0 == i) ≡ false) (map (place_at row replies) xs)
-numbers_off row replies i [] none = tt
-numbers_off row replies i (x ∷ xs) none = elim (eqb_tells x i) [
-  | inl e ↦ absurd (let some = times-cons_is i x xs e.1 in omega (arith, some, none))
-  | inr n ↦ (n.0, numbers_off row replies i xs (sym (times-cons_other i x xs n.1) ∙ none))
+numbers_off : (arena : ArenaView Slot) (replies : List Reply) (i : ℕ) (xs : List ℕ) → count_of i xs ≡ 0 → AllByRecursion (λ y. (y.0 == i) ≡ false) (map (slot_view_at arena replies) xs)
+numbers_off arena replies i [] none = tt
+numbers_off arena replies i (x ∷ xs) none = elim (eqb_tells x i) [
+  | inl e ↦ absurd (let some = count_of-cons_is i x xs e.1 in omega (arith, some, none))
+  | inr n ↦ (n.0, numbers_off arena replies i xs (sym (count_of-cons_other i x xs n.1) ∙ none))
 ]
 
 -- a slot that holds a value
@@ -52,12 +52,12 @@ pub some_value : (o : Option Slot) → is_some o ≡ true → o ≡ None → ⊥
 some_value None holds none = true≢false (sym holds)
 some_value (Some s) holds none = true≢false (sym holds ∙ ap is_some none)
 
-module _ (keeps : Type 0) (row : ArenaView Slot) (replies : List Reply) (tree : TreeView) (journal : JournalView) (queue : RunQueueView) (batch : List Msg) (next unlogged : ℕ)
-    (opened : TreeView) (since : List Msg) (is : HasChains row)
-    (k : IsCore keeps (parts row replies tree journal queue batch next unlogged opened since)) (room : Bool) (is_room : room ≡ nat_lt unlogged journal.room)
+module _ (keeps : Type 0) (arena : ArenaView Slot) (replies : List Reply) (tree : TreeView) (journal : JournalView) (queue : RunQueueView) (batch : List Msg) (next unlogged : ℕ)
+    (opened : TreeView) (since_open : List Msg) (is : HasChains arena)
+    (k : IsCore keeps (parts arena replies tree journal queue batch next unlogged opened since_open)) (room : Bool) (is_room : room ≡ nat_lt unlogged journal.room)
     (queued : QueuedMessage) (goes : next_queued room queue.held queue.waiting ≡ Some queued) where
   abbrev p : Parts
-  p = parts row replies tree journal queue batch next unlogged opened since
+  p = parts arena replies tree journal queue batch next unlogged opened since_open
 
   pub chosen : Chosen (is_eligible journal.geometry (core_state_in p)) p.phases.waiting queued
   chosen = goes_first keeps p k room is_room queued goes
@@ -68,77 +68,77 @@ module _ (keeps : Type 0) (row : ArenaView Slot) (replies : List Reply) (tree : 
   pub number : x.0 ≡ queued.slot
   number = ap (λ (t : QueuedMessage). t.slot) chosen.queued
 
-  split : MapSplit (place_at row replies) (chain_at row 0) chosen.before x chosen.behind
-  split = map_split (place_at row replies) (chain_at row 0) chosen.before x chosen.behind chosen.whole
+  split : MapSplit (slot_view_at arena replies) (chain_at arena 0) chosen.before x chosen.behind
+  split = map_split (slot_view_at arena replies) (chain_at arena 0) chosen.before x chosen.behind chosen.whole
 
   at_queued : split.at ≡ queued.slot
   at_queued = ap (λ (y : SlotView). y.0) split.at_is ∙ number
 
-  recovers : 0 < times split.at (chain_at row 0)
-  recovers = subst (λ xs. 0 < times split.at xs) (sym split.whole) (times-split split.at split.front split.back)
+  recovers : 0 < count_of split.at (chain_at arena 0)
+  recovers = subst (λ xs. 0 < count_of split.at xs) (sym split.whole) (count_of-split split.at split.front split.back)
 
-  pub grant_has_slot : value_at row queued.slot ≡ None → ⊥
-  grant_has_slot none = some_value (value_at row queued.slot) (subst (λ n. is_some (value_at row n) ≡ true) at_queued (chained-holds row split.at 0 is.parted recovers)) none
+  pub grant_has_slot : value_at arena queued.slot ≡ None → ⊥
+  grant_has_slot none = some_value (value_at arena queued.slot) (subst (λ n. is_some (value_at arena n) ≡ true) at_queued (chained-holds arena split.at 0 is.partitioned recovers)) none
 
-  pub grant_slot : (slot : Slot) → Some slot ≡ value_at row queued.slot → x.1 ≡ slot
-  grant_slot slot value = sym (ap (λ (y : SlotView). y.1) split.at_is) ∙ ap (λ n. unwrap_or (value_at row n) no_slot) at_queued ∙ ap (λ o. unwrap_or o no_slot) (sym value)
+  pub grant_slot : (slot : Slot) → Some slot ≡ value_at arena queued.slot → x.1 ≡ slot
+  grant_slot slot value = sym (ap (λ (y : SlotView). y.1) split.at_is) ∙ ap (λ n. unwrap_or (value_at arena n) no_slot) at_queued ∙ ap (λ o. unwrap_or o no_slot) (sym value)
 
-  pub granted_slot : MovedSlot row (after_move row queued.slot 1) replies replies 0 1 chosen.before x chosen.behind
-  granted_slot = slot_moved row replies replies is 0 1 (omega arith) (λ same. omega (arith, same)) chosen.before x chosen.behind chosen.whole (λ j other. refl) queued.slot (sym number)
+  pub granted_slot : MovedSlot arena (after_move arena queued.slot 1) replies replies 0 1 chosen.before x chosen.behind
+  granted_slot = slot_moved arena replies replies is 0 1 (omega arith) (λ same. omega (arith, same)) chosen.before x chosen.behind chosen.whole (λ j other. refl) queued.slot (sym number)
 
   pub grant_place : IsPlaced journal.geometry x
   grant_place = (all_back (IsPlaced journal.geometry) chosen.before (x ∷ chosen.behind) (subst (AllByRecursion (IsPlaced journal.geometry)) chosen.whole k.placed.waiting)).0
 
   pub grant_affinity : IsAffinity tree.geometry queued.affinity
   grant_affinity = subst (λ (a : Interval). IsAffinity tree.geometry a) (ap (λ (t : QueuedMessage). t.affinity) chosen.queued)
-      (place journal.geometry x.1.message, subst (λ h. IsAffinityOf h (place journal.geometry x.1.message) x.1.affinity) (sym k.geometry) grant_place.affinity)
+      (path_of journal.geometry x.1.message, subst (λ h. IsAffinityOf h (path_of journal.geometry x.1.message) x.1.affinity) (sym k.geometry) grant_place.affinity)
 
-  pub grant_has_room : HasGap journal.geometry (place journal.geometry x.1.message) (in_tree tree) → ⊥
-  grant_has_room gap = grant_lends journal.geometry (core_state_in p) k.sound (entry_of x, map entry_of (chosen.before ++ chosen.behind)) chosen.picked (in_tree tree) k.tree gap
+  pub grant_has_room : HasGap journal.geometry (path_of journal.geometry x.1.message) (tree_nodes tree) → ⊥
+  grant_has_room gap = grant_lends journal.geometry (core_state_in p) k.sound (entry_of x, map entry_of (chosen.before ++ chosen.behind)) chosen.picked (tree_nodes tree) k.tree gap
 
-  once_there : times split.at (split.front ++ split.at ∷ split.back) ≤ 1
-  once_there = subst (λ xs. times split.at xs ≤ 1) split.whole (chained-once row split.at 0 is.parted)
+  once_there : count_of split.at (split.front ++ split.at ∷ split.back) ≤ 1
+  once_there = subst (λ xs. count_of split.at xs ≤ 1) split.whole (chained-once arena split.at 0 is.partitioned)
 
   pub grant_others : AllByRecursion (λ y. (y.0 == x.0) ≡ false) (chosen.before ++ chosen.behind)
   grant_others =
-      let all = times-append split.at split.front (split.at ∷ split.back) in
-      let same = times-cons_same split.at split.back in
+      let all = count_of-append split.at split.front (split.at ∷ split.back) in
+      let same = count_of-cons_same split.at split.back in
       let once = once_there in
       subst (λ n. AllByRecursion (λ (y : SlotView). (y.0 == n) ≡ false) (chosen.before ++ chosen.behind)) (ap (λ (y : SlotView). y.0) split.at_is)
       (all_join (λ (y : SlotView). (y.0 == split.at) ≡ false) chosen.before chosen.behind
-      (subst (AllByRecursion (λ (y : SlotView). (y.0 == split.at) ≡ false)) split.before_is (numbers_off row replies split.at split.front (omega (arith, once, all, same))))
-      (subst (AllByRecursion (λ (y : SlotView). (y.0 == split.at) ≡ false)) split.behind_is (numbers_off row replies split.at split.back (omega (arith, once, all, same)))))
+      (subst (AllByRecursion (λ (y : SlotView). (y.0 == split.at) ≡ false)) split.before_is (numbers_off arena replies split.at split.front (omega (arith, once, all, same))))
+      (subst (AllByRecursion (λ (y : SlotView). (y.0 == split.at) ≡ false)) split.behind_is (numbers_off arena replies split.at split.back (omega (arith, once, all, same)))))
 
   -- ---- what holds afterwards
 
-  grant_path : IsAffinityOf tree.geometry (place journal.geometry x.1.message) queued.affinity
-  grant_path = subst (λ (a : Interval). IsAffinityOf tree.geometry (place journal.geometry x.1.message) a) (ap (λ (t : QueuedMessage). t.affinity) chosen.queued)
-      (subst (λ (h : Geometry). IsAffinityOf h (place journal.geometry x.1.message) x.1.affinity) (sym k.geometry) grant_place.affinity)
+  grant_path : IsAffinityOf tree.geometry (path_of journal.geometry x.1.message) queued.affinity
+  grant_path = subst (λ (a : Interval). IsAffinityOf tree.geometry (path_of journal.geometry x.1.message) a) (ap (λ (t : QueuedMessage). t.affinity) chosen.queued)
+      (subst (λ (h : Geometry). IsAffinityOf h (path_of journal.geometry x.1.message) x.1.affinity) (sym k.geometry) grant_place.affinity)
 
-  pub grant_chains : IsParted (after_move row queued.slot 1) → HasChains (after_move row queued.slot 1)
-  grant_chains parted = record { parted = parted; four = granted_slot.four ∙ is.four }
+  pub grant_chains : IsPartitioned (after_move arena queued.slot 1) → HasChains (after_move arena queued.slot 1)
+  grant_chains partitioned = record { partitioned = partitioned; four = granted_slot.four ∙ is.four }
 
-  pub grant_size : capacity_of (after_move row queued.slot 1) ≡ capacity_of row
+  pub grant_size : capacity_of (after_move arena queued.slot 1) ≡ capacity_of arena
   grant_size = ap (λ (vs : List (Option Slot)). length vs) granted_slot.values
 
-  pub grant_ran : length (slots_on (after_move row queued.slot 1) replies 2) ≡ length (slots_on row replies 2)
+  pub grant_ran : length (slots_on (after_move arena queued.slot 1) replies 2) ≡ length (slots_on arena replies 2)
   grant_ran = ap (λ (ps : List SlotView). length ps) (granted_slot.stays 2 (λ same. omega (arith, same)) (λ same. omega (arith, same)))
 
-  module _ (slot : Slot) (value : Some slot ≡ value_at row queued.slot) (lent : TreeView) (standing : Standing) (parcels : Parcels)
-      (lends : (q : Path) → IsAffinityOf tree.geometry q queued.affinity → LendsAt tree.geometry q standing parcels (in_tree tree) (in_tree lent)) where
-    lends_place : LendsAt journal.geometry (place journal.geometry x.1.message) standing parcels (in_tree tree) (in_tree lent)
-    lends_place = subst (λ (h : Geometry). LendsAt h (place journal.geometry x.1.message) standing parcels (in_tree tree) (in_tree lent)) k.geometry
-        (lends (place journal.geometry x.1.message) grant_path)
+  module _ (slot : Slot) (value : Some slot ≡ value_at arena queued.slot) (lent : TreeView) (standing : Standing) (parcels : Parcels)
+      (lends : (q : Path) → IsAffinityOf tree.geometry q queued.affinity → LendsAt tree.geometry q standing parcels (tree_nodes tree) (tree_nodes lent)) where
+    lends_place : LendsAt journal.geometry (path_of journal.geometry x.1.message) standing parcels (tree_nodes tree) (tree_nodes lent)
+    lends_place = subst (λ (h : Geometry). LendsAt h (path_of journal.geometry x.1.message) standing parcels (tree_nodes tree) (tree_nodes lent)) k.geometry
+        (lends (path_of journal.geometry x.1.message) grant_path)
 
-    pub grant_suits : Suits journal.geometry slot.message parcels
-    grant_suits = subst (λ (m : Msg). Suits journal.geometry m parcels) (ap (λ (s : Slot). s.message) (grant_slot slot value))
+    pub grant_suits : IsRunnable journal.geometry slot.message parcels
+    grant_suits = subst (λ (m : Msg). IsRunnable journal.geometry m parcels) (ap (λ (s : Slot). s.message) (grant_slot slot value))
         (record { range = grant_place.range; fits = lends_place.fits })
 
     module _ (same_geometry : lent.geometry ≡ tree.geometry) (went : RunQueueView)
         (waits : went ≡ record queue { waiting = without_slot queued.slot queue.waiting; held = went.held }) (joined : HasJoined queued queue.held went.held)
         (more : ℕ) (is_more : more ≡ cond queued.changing 1 0) where
       abbrev after : Parts
-      after = parts (after_move row queued.slot 1) replies lent journal went batch next (unlogged + more) opened since
+      after = parts (after_move arena queued.slot 1) replies lent journal went batch next (unlogged + more) opened since_open
 
       abbrev found : Entry × List Entry
       found = (entry_of x, map entry_of (chosen.before ++ chosen.behind))
@@ -147,7 +147,7 @@ module _ (keeps : Type 0) (row : ArenaView Slot) (replies : List Reply) (tree : 
       reply_there = ap (λ n. get_or replies n Done) (sym (ap (λ (y : SlotView). y.0) split.at_is)) ∙ ap (λ (y : SlotView). y.2) split.at_is
 
       goes_waits : without_slot queued.slot queue.waiting ≡ map queued_of (chosen.before ++ chosen.behind)
-      goes_waits = (λ i. without_slot (sym number i) ((k.waits ∙ ap (map queued_of) chosen.whole) i)) ∙ waits_without chosen.before x chosen.behind grant_others
+      goes_waits = (λ i. without_slot (sym number i) ((k.queue_waiting ∙ ap (map queued_of) chosen.whole) i)) ∙ waits_without chosen.before x chosen.behind grant_others
 
       one_more : more ≡ one_for x
       one_more = is_more ∙ ap (λ (t : QueuedMessage). cond t.changing 1 0) (sym chosen.queued)
@@ -180,21 +180,21 @@ module _ (keeps : Type 0) (row : ArenaView Slot) (replies : List Reply) (tree : 
       abbrev job : JobView
       job = record { geometry = journal.geometry; ticket = slot.ticket; message = slot.message; standing = standing; parcels = parcels }
 
-      job_told : entry_of x ≡ (slot.ticket, slot.message)
-      job_told = ap (λ (s : Slot). (s.ticket, s.message)) (grant_slot slot value)
+      job_same : entry_of x ≡ (slot.ticket, slot.message)
+      job_same = ap (λ (s : Slot). (s.ticket, s.message)) (grant_slot slot value)
 
       pub grant_call_is : journal.failed ≡ false → IsGrantOf journal.geometry (core_state_in p) (core_state_in after) job
       grant_call_is works = record {
         works = works;
         found = found;
         first = chosen.picked;
-        told = job_told;
+        entry_is = job_same;
         state_after = grant_call_state;
         is_job = record {
           geometry = refl;
           is_out = subst (λ (w : CoreState). Contains w.in_flight (slot.ticket, slot.message)) (sym grant_call_state)
-              (Contains-append_right (core_state_in p).in_flight (entry_of x ∷ []) (slot.ticket, slot.message) (0, omega arith, job_told));
-          lent = subst (λ (m : Msg). Shows journal.geometry (place journal.geometry m) standing parcels (core_state_in p).committed) (ap (λ (s : Slot). s.message) (grant_slot slot value))
-              (grant_shows journal.geometry (core_state_in p) k.sound found chosen.picked (in_tree tree) k.tree standing parcels (in_tree lent) lends_place);
+              (Contains-append_right (core_state_in p).in_flight (entry_of x ∷ []) (slot.ticket, slot.message) (0, omega arith, job_same));
+          lent = subst (λ (m : Msg). Shows journal.geometry (path_of journal.geometry m) standing parcels (core_state_in p).committed) (ap (λ (s : Slot). s.message) (grant_slot slot value))
+              (grant_shows journal.geometry (core_state_in p) k.sound found chosen.picked (tree_nodes tree) k.tree standing parcels (tree_nodes lent) lends_place);
         };
       }

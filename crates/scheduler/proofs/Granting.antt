@@ -12,9 +12,9 @@ use Rattle.legal_runs.specs.Eligible.{next_eligible}
 use Rattle.legal_runs.specs.Events.{grant}
 use Rattle.legal_runs.specs.Laws.{IsSoundCoreState}
 use Rattle.legal_runs.specs.CoreState.{Entry, held}
-use Rattle.messages.specs.Messages.{place}
+use Rattle.messages.specs.Messages.{path_of}
 use Rattle.parcel.specs.Holding.{TreeHolds}
-use Rattle.parcel.specs.Tree.{LendsAt, TreeView, in_tree}
+use Rattle.parcel.specs.Tree.{LendsAt, TreeView, tree_nodes}
 use Rattle.parcel.specs.declared.parts.Parcels.{Parcels}
 use Rattle.parcel.specs.declared.parts.Standing.{Standing}
 use Rattle.scheduler.proofs.Counting.{changing, changing-append, changing-cons, unlogged_of, one_for}
@@ -53,7 +53,7 @@ module _ (keeps : Type 0) (p : Parts) (k : IsCore keeps p) (before : List SlotVi
     (whole : p.phases.waiting ≡ before ++ x ∷ behind) (tree : TreeView) (held : List QueuedMessage)
     (first : next_eligible p.journal.geometry (core_state_in p) ≡ Some (entry_of x, map entry_of (before ++ behind)))
     (joined : HasJoined (queued_of x) p.queue.held held) (geometry : tree.geometry ≡ p.journal.geometry)
-    (t : Standing) (l : Parcels) (lent : LendsAt p.journal.geometry (place p.journal.geometry x.1.message) t l (in_tree p.tree) (in_tree tree)) where
+    (t : Standing) (l : Parcels) (lent : LendsAt p.journal.geometry (path_of p.journal.geometry x.1.message) t l (tree_nodes p.tree) (tree_nodes tree)) where
   abbrev after : Parts
   after = with_grant p (before ++ behind) x tree held
 
@@ -88,16 +88,16 @@ module _ (keeps : Type 0) (p : Parts) (k : IsCore keeps p) (before : List SlotVi
           logged = k.placed.logged;
         };
         queue_geometry = k.queue_geometry;
-        seats = k.seats;
-        waits = refl;
-        holds = λ test. joined test ∙ ap (λ b. test (queued_of x) || b) (k.holds test) ∙ any_granted test p.phases (before ++ behind) x;
+        queue_slots = k.queue_slots;
+        queue_waiting = refl;
+        queue_held = λ test. joined test ∙ ap (λ b. test (queued_of x) || b) (k.queue_held test) ∙ any_granted test p.phases (before ++ behind) x;
         unlogged_is = omega (arith, unlogged_was, unlogged_is, out);
         sound = subst (IsSoundCoreState p.journal.geometry) (sym grant_state)
             (move_sound p.journal.geometry (core_state_in p) _ _ (Grants found first refl refl) k.sound);
         geometry = geometry;
-        tree = subst (λ es. TreeHolds p.journal.geometry (is_below p.journal.geometry es) (in_tree tree) (reached p.journal.geometry (core_state_in p)))
+        tree = subst (λ es. TreeHolds p.journal.geometry (is_below p.journal.geometry es) (tree_nodes tree) (reached p.journal.geometry (core_state_in p)))
             (sym (map-append entry_of p.phases.in_flight (x ∷ [])))
-            (grant_tree p.journal.geometry (core_state_in p) k.sound found first (in_tree p.tree) k.tree t l (in_tree tree) lent);
+            (grant_tree p.journal.geometry (core_state_in p) k.sound found first (tree_nodes p.tree) k.tree t l (tree_nodes tree) lent);
         is_committed = k.is_committed;
         recovers = k.recovers;
         no_doubt = k.no_doubt;

@@ -15,9 +15,9 @@ use Rattle.legal_runs.specs.CoreState.{CoreState}
 use Rattle.legal_runs.specs.declared.outcomes.Outcome.{Outcome}
 use Rattle.legal_runs.specs.declared.outcomes.Step.{Step}
 use Rattle.messages.specs.declared.Msg.{Msg}
-use Rattle.meaning.specs.Serial.{fold}
+use Rattle.meaning.specs.Serial.{state_after_all}
 use Rattle.meaning.specs.State.{State}
-use Rattle.scheduler.specs.Calls.{IsCalled}
+use Rattle.scheduler.specs.Calls.{IsCallEvent}
 use Rattle.scheduler.specs.CoreView.{CoreView, RecoversNow, RecoversThroughout}
 use Rattle.scheduler.specs.Parts.{IsCore, Parts, core_view_of, core_state_in}
 
@@ -26,7 +26,7 @@ pub with_none : (g : Geometry) (x : State) (ms : List Msg) (c : List ℕ) → re
 with_none g x ms c is = record { added = 0; at_most = omega arith; is = is }
 
 pub from_none : (g : Geometry) (x : State) (ms : List Msg) (c : List ℕ) → RecoversWithPrefix g x [] c → RecoversWithPrefix g x ms c
-from_none g x ms c h = record { added = 0; at_most = omega arith; is = h.is ∙ ap (λ k. Some (fold g x (take k []))) (none h.added h.at_most) }
+from_none g x ms c h = record { added = 0; at_most = omega arith; is = h.is ∙ ap (λ k. Some (state_after_all g x (take k []))) (none h.added h.at_most) }
   where
     none : (k : ℕ) → k ≤ 0 → k ≡ 0
     none k few = omega (arith, few)
@@ -46,12 +46,12 @@ still_standing keeps p k keep ms new same =
         (subst (λ ds. RecoversWithPrefix p.journal.geometry (core_state_in p).committed ds c) (k.no_doubt e) h))
 
 -- an event leads to a sound core state
-pub called_sound : (g : Geometry) (old new : CoreState) (step : Step) (outcome : Outcome) (device_failed : Bool) → IsCalled g old new step outcome device_failed
+pub called_sound : (g : Geometry) (old new : CoreState) (step : Step) (outcome : Outcome) (device_failed : Bool) → IsCallEvent g old new step outcome device_failed
     → IsSoundCoreState g old → IsSoundCoreState g new
 called_sound g old new step outcome device_failed called sound = event_sound g (record { core = old; hands = [] }) _ (called []) sound
 
 abbrev pub with_journal : Parts → ℕ → Option ℕ → Bool → DirtyPieces → Medium → Parts
-with_journal p room left failed dirty medium = record p { journal = record p.journal { room = room; left = left; failed = failed; dirty = dirty; medium = medium } }
+with_journal p room pieces_left failed dirty medium = record p { journal = record p.journal { room = room; pieces_left = pieces_left; failed = failed; dirty = dirty; medium = medium } }
 
 module _ (keeps : Type 0) (p : Parts) (k : IsCore keeps p) (works : p.journal.failed ≡ false) where
   abbrev g : Geometry
@@ -70,26 +70,26 @@ module _ (keeps : Type 0) (p : Parts) (k : IsCore keeps p) (works : p.journal.fa
         subst (λ (m : Medium). CrashImagesAre p.journal.medium m (RecoversWithPrefix g (core_state_in p).committed (if p.journal.failed then p.batch else []))) (sym same)
         (subst (λ ds. CrashImagesAre p.journal.medium medium (RecoversWithPrefix g (core_state_in p).committed ds)) (sym (cond-false p.journal.failed p.batch [] works)) (step_moments keep))
 
-    pub step_recovers : (room : ℕ) (left : Option ℕ) (failed : Bool) (dirty : DirtyPieces) → keeps → RecoversNow (core_view_of (with_journal p room left failed dirty medium))
-    step_recovers room left failed dirty keep c leaves = subst (λ ds. RecoversWithPrefix g (core_state_in p).committed ds c) (sym (k.no_doubt works))
+    pub step_recovers : (room : ℕ) (pieces_left : Option ℕ) (failed : Bool) (dirty : DirtyPieces) → keeps → RecoversNow (core_view_of (with_journal p room pieces_left failed dirty medium))
+    step_recovers room pieces_left failed dirty keep c leaves = subst (λ ds. RecoversWithPrefix g (core_state_in p).committed ds c) (sym (k.no_doubt works))
         (leaves_now p.journal.medium medium _ (step_moments keep) c leaves)
 
     -- the step was made, or the device failed
-    pub step_core : (room : ℕ) (left : Option ℕ) (failed : Bool) (dirty : DirtyPieces) → IsSoundCoreState g (core_state_in (with_journal p room left failed dirty medium))
-        → (keeps → failed ≡ false → committed (record p.journal { room = room; left = left; failed = failed; dirty = dirty; medium = medium }) ≡ committed p.journal)
-        → IsCore keeps (with_journal p room left failed dirty medium)
-    step_core room left failed dirty sound same = record {
+    pub step_core : (room : ℕ) (pieces_left : Option ℕ) (failed : Bool) (dirty : DirtyPieces) → IsSoundCoreState g (core_state_in (with_journal p room pieces_left failed dirty medium))
+        → (keeps → failed ≡ false → committed (record p.journal { room = room; pieces_left = pieces_left; failed = failed; dirty = dirty; medium = medium }) ≡ committed p.journal)
+        → IsCore keeps (with_journal p room pieces_left failed dirty medium)
+    step_core room pieces_left failed dirty sound same = record {
       claimed = k.claimed;
       placed = k.placed;
       queue_geometry = k.queue_geometry;
-      seats = k.seats;
-      waits = k.waits;
-      holds = k.holds;
+      queue_slots = k.queue_slots;
+      queue_waiting = k.queue_waiting;
+      queue_held = k.queue_held;
       unlogged_is = k.unlogged_is;
       sound = sound;
       geometry = k.geometry;
       tree = k.tree;
       is_committed = λ keep fine. same keep fine ∙ committed_now keep;
-      recovers = step_recovers room left failed dirty;
+      recovers = step_recovers room pieces_left failed dirty;
       no_doubt = λ fine. k.no_doubt works;
     }

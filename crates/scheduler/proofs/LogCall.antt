@@ -9,11 +9,11 @@ use Rattle.std.proofs.lemmas.Option.{same_Some}
 use Rattle.arena.specs.ArenaView.{ArenaView, capacity_of, chain_at, value_at}
 use Rattle.checkpoint.specs.Recovery.{recovered_state}
 use Rattle.disk.specs.Device.{IsCrashImage, Medium}
-use Rattle.disk.specs.Moments.{CrashImagesAre, moment}
+use Rattle.disk.specs.Moments.{CrashImagesAre, moment_number}
 use Rattle.journal.specs.Journal.{after_call, AreCarriedOut, JournalView, RecoversWithPrefix, IsRecoverable, committed}
-use Rattle.legal_runs.proofs.SerialReplies.{fold-joined}
+use Rattle.legal_runs.proofs.SerialReplies.{state_after_all-joined}
 use Rattle.legal_runs.specs.Eligible.{changes}
-use Rattle.legal_runs.specs.Events.{batch as batch_of, log, loggable, touches_device}
+use Rattle.legal_runs.specs.Events.{batch as batch_of, log, recorded, touches_device}
 use Rattle.legal_runs.specs.Laws.{IsSoundCoreState}
 use Rattle.legal_runs.specs.declared.outcomes.Step.TheVariants as steps
 use Rattle.messages.specs.declared.Msg.{Msg}
@@ -23,15 +23,15 @@ use Rattle.oplog.specs.Costs.{Costs}
 use Rattle.oplog.specs.Changing.{AreChangesInRange}
 use Rattle.oplog.specs.declared.fault.LogFault.{LogFault}
 use Rattle.parcel.specs.Tree.{TreeView, state_in}
-use Rattle.meaning.specs.Serial.{fold}
+use Rattle.meaning.specs.Serial.{state_after_all}
 use Rattle.meaning.specs.State.{State}
 use Rattle.scheduler.proofs.Counting.{changing, changing-append, changing-cons, unlogged_of}
 use Rattle.scheduler.proofs.Chains.{same_slots}
 use Rattle.scheduler.proofs.Logging.{batch_at, batch_carried, batch_fits, batch_changes, doubt_core, log_core, log_throughout, log_state, same_batch, with_doubt, with_log}
 use Rattle.scheduler.specs.CoreView.{CoreView, RecoversThroughout}
-use Rattle.scheduler.specs.Moving.{HasLogged, changing_in, gathered}
+use Rattle.scheduler.specs.Moving.{HasLogged, changing_in, recorded_in}
 use Rattle.scheduler.specs.Parts.{IsCore, Parts, core_view_of, parts, replied_of, core_state_in}
-use Rattle.scheduler.specs.Slots.{HasChains, SlotView, slots_on, no_slot, place_at}
+use Rattle.scheduler.specs.Slots.{HasChains, SlotView, slots_on, no_slot, slot_view_at}
 use Rattle.scheduler.specs.declared.slot.Slot.{Slot}
 use Rattle.run_queue.specs.RunQueue.{RunQueueView}
 
@@ -46,15 +46,15 @@ made_from (Ok u) done old new e after = after
 made_from (Err why) done old new e after = absurd (true≢false e)
 
 -- the writes and syncs that it took
-pub broken_takes : (r : Result (Unit {0}) LogFault) (n : ℕ) (w0 w1 : Medium) → is_err r ≡ true → Costs r n w0 w1 → moment w1 ≤ moment w0 + n
+pub broken_takes : (r : Result (Unit {0}) LogFault) (n : ℕ) (w0 w1 : Medium) → is_err r ≡ true → Costs r n w0 w1 → moment_number w1 ≤ moment_number w0 + n
 broken_takes (Ok u) n w0 w1 e took = absurd (true≢false (sym e))
 broken_takes (Err why) n w0 w1 e took = took
 
-pub made_takes : (r : Result (Unit {0}) LogFault) (n : ℕ) (w0 w1 : Medium) → is_err r ≡ false → Costs r n w0 w1 → moment w1 ≡ moment w0 + n
+pub made_takes : (r : Result (Unit {0}) LogFault) (n : ℕ) (w0 w1 : Medium) → is_err r ≡ false → Costs r n w0 w1 → moment_number w1 ≡ moment_number w0 + n
 made_takes (Ok u) n w0 w1 e took = took
 made_takes (Err why) n w0 w1 e took = absurd (true≢false e)
 
-pub none_taken : (w : Medium) (n : ℕ) → moment w ≤ moment w + n
+pub none_taken : (w : Medium) (n : ℕ) → moment_number w ≤ moment_number w + n
 none_taken w n = omega arith
 
 none_to_log : (failed : Bool) (many : ℕ) → failed ≡ false → (not failed && nat_lt 0 many) ≡ false → many ≡ 0
@@ -62,25 +62,25 @@ none_to_log true many works quiet = absurd (true≢false works)
 none_to_log false many works quiet = let few = ltb-false 0 many quiet in omega (arith, few)
 
 -- as many are of a changing kind in these slots as at these places
-counted : (row : ArenaView Slot) (replies : List Reply) (ys : List ℕ) → changing_in row ys ≡ changing (map (place_at row replies) ys)
-counted row replies [] = refl
-counted row replies (y ∷ ys) =
-    sum_by-cons (λ (j : ℕ). cond (changes (unwrap_or (value_at row j) no_slot).message) 1 0) y ys
-    ∙ ap (λ (m : ℕ). cond (changes (unwrap_or (value_at row y) no_slot).message) 1 0 + m) (counted row replies ys)
-    ∙ sym (changing-cons (place_at row replies y) (map (place_at row replies) ys))
+counted : (arena : ArenaView Slot) (replies : List Reply) (ys : List ℕ) → changing_in arena ys ≡ changing (map (slot_view_at arena replies) ys)
+counted arena replies [] = refl
+counted arena replies (y ∷ ys) =
+    sum_by-cons (λ (j : ℕ). cond (changes (unwrap_or (value_at arena j) no_slot).message) 1 0) y ys
+    ∙ ap (λ (m : ℕ). cond (changes (unwrap_or (value_at arena y) no_slot).message) 1 0 + m) (counted arena replies ys)
+    ∙ sym (changing-cons (slot_view_at arena replies y) (map (slot_view_at arena replies) ys))
 
-module _ (keeps : Type 0) (row : ArenaView Slot) (replies : List Reply) (tree : TreeView) (journal : JournalView) (queue : RunQueueView) (batch : List Msg) (next unlogged : ℕ)
-    (opened : TreeView) (since : List Msg) (is : HasChains row)
-    (k : IsCore keeps (parts row replies tree journal queue batch next unlogged opened since)) (works : journal.failed ≡ false)
-    (n count ran : ℕ) (ran_is : ran ≡ length (slots_on row replies 2)) (count_is : count ≡ min n ran) where
+module _ (keeps : Type 0) (arena : ArenaView Slot) (replies : List Reply) (tree : TreeView) (journal : JournalView) (queue : RunQueueView) (batch : List Msg) (next unlogged : ℕ)
+    (opened : TreeView) (since_open : List Msg) (is : HasChains arena)
+    (k : IsCore keeps (parts arena replies tree journal queue batch next unlogged opened since_open)) (works : journal.failed ≡ false)
+    (n count ran : ℕ) (ran_is : ran ≡ length (slots_on arena replies 2)) (count_is : count ≡ min n ran) where
   abbrev p : Parts
-  p = parts row replies tree journal queue batch next unlogged opened since
+  p = parts arena replies tree journal queue batch next unlogged opened since_open
 
   abbrev slots : List ℕ
-  slots = chain_at row 2
+  slots = chain_at arena 2
 
   abbrev ran_slots : List SlotView
-  ran_slots = slots_on row replies 2
+  ran_slots = slots_on arena replies 2
 
   min_is : count ≡ min n (length ran_slots)
   min_is = count_is ∙ ap (λ (m : ℕ). min n m) ran_is
@@ -92,7 +92,7 @@ module _ (keeps : Type 0) (row : ArenaView Slot) (replies : List Reply) (tree : 
   drop_is = ap (λ (m : ℕ). drop m ran_slots) min_is ∙ drop_min n ran_slots
 
   long : length ran_slots ≡ length slots
-  long = length-map slots (place_at row replies)
+  long = length-map slots (slot_view_at arena replies)
 
   pub log_low : count ≤ length slots
   log_low = let few = min-le_right n (length ran_slots) in let at = long in let same = min_is in omega (arith, few, at, same)
@@ -100,10 +100,10 @@ module _ (keeps : Type 0) (row : ArenaView Slot) (replies : List Reply) (tree : 
   pub log_count : count ≡ length (take n (core_state_in p).ran)
   log_count = min_is ∙ ap (λ (m : ℕ). min n m) (sym (length-map ran_slots replied_of)) ∙ sym (length-take n (map replied_of ran_slots))
 
-  module _ (logged_changes : ℕ) (logged_changes_is : logged_changes ≡ changing_in row (take count slots)) where
+  module _ (logged_changes : ℕ) (logged_changes_is : logged_changes ≡ changing_in arena (take count slots)) where
     logged_changes_same : logged_changes ≡ changing (take n ran_slots)
-    logged_changes_same = logged_changes_is ∙ counted row replies (take count slots)
-        ∙ ap (λ (l : List SlotView). changing l) (sym (take-map (place_at row replies) count slots) ∙ take_is)
+    logged_changes_same = logged_changes_is ∙ counted arena replies (take count slots)
+        ∙ ap (λ (l : List SlotView). changing l) (sym (take-map (slot_view_at arena replies) count slots) ∙ take_is)
 
     unlogged_is : (unlogged - logged_changes) + changing (take n ran_slots) ≡ unlogged
     unlogged_is =
@@ -119,9 +119,9 @@ module _ (keeps : Type 0) (row : ArenaView Slot) (replies : List Reply) (tree : 
         let same = logged_changes_same in
         omega (arith, unlogged_was, all, same)
 
-  module _ (messages : List Msg) (gathered_is : messages ≡ gathered row replies (take count slots)) where
+  module _ (messages : List Msg) (gathered_is : messages ≡ recorded_in arena replies (take count slots)) where
     messages_are : messages ≡ batch_at p n
-    messages_are = gathered_is ∙ ap (λ (l : List SlotView). loggable (map replied_of l)) (sym (take-map (place_at row replies) count slots) ∙ take_is)
+    messages_are = gathered_is ∙ ap (λ (l : List SlotView). recorded (map replied_of l)) (sym (take-map (slot_view_at arena replies) count slots) ∙ take_is)
 
     module _ (passed : List Msg) (passed_is : passed ≡ messages) where
       passed_at : passed ≡ batch_at p n
@@ -159,7 +159,7 @@ module _ (keeps : Type 0) (row : ArenaView Slot) (replies : List Reply) (tree : 
 
         module _ (broken : new ≡ record journal { failed = true; medium = new.medium }) where
           abbrev doubting : Parts
-          doubting = parts row replies tree new queue messages next unlogged opened since
+          doubting = parts arena replies tree new queue messages next unlogged opened since_open
 
           doubting_is : doubting ≡ with_doubt p n new.medium
           doubting_is = λ i. record (with_doubt p n new.medium) { journal = broken i; batch = messages_are i }
@@ -187,9 +187,9 @@ module _ (keeps : Type 0) (row : ArenaView Slot) (replies : List Reply) (tree : 
         -- ---- they are logged
 
         module _ (made : new ≡ record journal { room = journal.room - length passed; dirty = new.dirty; medium = new.medium })
-            (settles : keeps → committed new ≡ option_map (λ x. fold journal.geometry x passed) (committed journal)) (recovers : keeps → IsRecoverable new)
-            (moved : ArenaView Slot) (has : HasLogged count row moved) (logged_changes : ℕ) (logged_changes_is : logged_changes ≡ changing_in row (take count slots))
-            (first : TreeView) (first_is : first ≡ opened) (after_since : List Msg) (since_is : after_since ≡ since ++ messages)
+            (settles : keeps → committed new ≡ option_map (λ x. state_after_all journal.geometry x passed) (committed journal)) (recovers : keeps → IsRecoverable new)
+            (moved : ArenaView Slot) (has : HasLogged count arena moved) (logged_changes : ℕ) (logged_changes_is : logged_changes ≡ changing_in arena (take count slots))
+            (first : TreeView) (first_is : first ≡ opened) (after_since : List Msg) (since_is : after_since ≡ since_open ++ messages)
             (emptied : List Msg) (empty : emptied ≡ []) where
           abbrev after : Parts
           after = parts moved replies tree new queue emptied next (unlogged - logged_changes) first after_since
@@ -197,18 +197,18 @@ module _ (keeps : Type 0) (row : ArenaView Slot) (replies : List Reply) (tree : 
           abbrev room : ℕ
           room = journal.room - length (batch_at p n)
 
-          moved_places : (ys : List ℕ) → map (place_at moved replies) ys ≡ map (place_at row replies) ys
+          moved_places : (ys : List ℕ) → map (slot_view_at moved replies) ys ≡ map (slot_view_at arena replies) ys
           moved_places ys = λ z. map (λ i. (i, unwrap_or (slice_index_or (has.values z) i None) no_slot, get_or replies i Done)) ys
 
           ran_now : slots_on moved replies 2 ≡ drop n ran_slots
-          ran_now = moved_places (chain_at moved 2) ∙ ap (map (place_at row replies)) has.ran ∙ sym (drop-map (place_at row replies) count slots) ∙ drop_is
+          ran_now = moved_places (chain_at moved 2) ∙ ap (map (slot_view_at arena replies)) has.ran ∙ sym (drop-map (slot_view_at arena replies) count slots) ∙ drop_is
 
-          logged_now : slots_on moved replies 3 ≡ slots_on row replies 3 ++ take n ran_slots
-          logged_now = moved_places (chain_at moved 3) ∙ ap (map (place_at row replies)) has.logged
-              ∙ map-append (place_at row replies) (chain_at row 3) (take count slots)
-              ∙ ap (λ (l : List SlotView). slots_on row replies 3 ++ l) (sym (take-map (place_at row replies) count slots) ∙ take_is)
+          logged_now : slots_on moved replies 3 ≡ slots_on arena replies 3 ++ take n ran_slots
+          logged_now = moved_places (chain_at moved 3) ∙ ap (map (slot_view_at arena replies)) has.logged
+              ∙ map-append (slot_view_at arena replies) (chain_at arena 3) (take count slots)
+              ∙ ap (λ (l : List SlotView). slots_on arena replies 3 ++ l) (sym (take-map (slot_view_at arena replies) count slots) ∙ take_is)
 
-          pub log_size : capacity_of moved ≡ capacity_of row
+          pub log_size : capacity_of moved ≡ capacity_of arena
           log_size = ap (λ (vs : List (Option Slot)). length vs) has.values
 
           pub log_ran : ran - count ≡ length (slots_on moved replies 2)
@@ -221,8 +221,8 @@ module _ (keeps : Type 0) (row : ArenaView Slot) (replies : List Reply) (tree : 
           after_is : after ≡ with_log p n (unlogged - logged_changes) room new.dirty new.medium
           after_is = λ i. record (with_log p n (unlogged - logged_changes) room new.dirty new.medium) {
             phases = record {
-              waiting = same_slots row moved replies 0 has.values has.waiting i;
-              in_flight = same_slots row moved replies 1 has.values has.in_flight i;
+              waiting = same_slots arena moved replies 0 has.values has.waiting i;
+              in_flight = same_slots arena moved replies 1 has.values has.in_flight i;
               ran = ran_now i;
               logged = logged_now i;
             };
@@ -231,16 +231,16 @@ module _ (keeps : Type 0) (row : ArenaView Slot) (replies : List Reply) (tree : 
             journal = (made ∙ (λ j. record journal { room = journal.room - length (passed_at j); dirty = new.dirty; medium = new.medium })) i;
             batch = empty i;
             opened = first_is i;
-            since = (since_is ∙ ap (λ (ms : List Msg). since ++ ms) messages_are) i;
+            since_open = (since_is ∙ ap (λ (ms : List Msg). since_open ++ ms) messages_are) i;
           }
 
           settles_at : keeps → committed (record journal { room = room; dirty = new.dirty; medium = new.medium })
               ≡ Some (core_state_in (with_log p n (unlogged - logged_changes) room new.dirty new.medium)).committed
           settles_at keep =
               sym (ap committed made) ∙ settles keep
-              ∙ ap (option_map (λ x. fold journal.geometry x passed)) (k.is_committed keep works)
-              ∙ ap (λ (ms : List Msg). Some (fold journal.geometry (core_state_in p).committed ms)) passed_at
-              ∙ ap Some (sym (fold-joined journal.geometry (state_in opened) since (batch_at p n)))
+              ∙ ap (option_map (λ x. state_after_all journal.geometry x passed)) (k.is_committed keep works)
+              ∙ ap (λ (ms : List Msg). Some (state_after_all journal.geometry (core_state_in p).committed ms)) passed_at
+              ∙ ap Some (sym (state_after_all-joined journal.geometry (state_in opened) since_open (batch_at p n)))
 
           recovers_at : keeps → (c : List ℕ) → IsCrashImage new.medium c → recovered_state journal.geometry c ≡ committed (record journal { room = room; dirty = new.dirty; medium = new.medium })
           recovers_at keep c leaves = ap (λ (j : JournalView). recovered_state j.geometry c) (sym made) ∙ (recovers keep).each c leaves ∙ ap committed made

@@ -17,17 +17,17 @@ use Rattle.legal_runs.proofs.Lists.{all_back, all_front, all_join, before_back, 
 use Rattle.legal_runs.proofs.Moves.{Logs}
 use Rattle.legal_runs.proofs.Room.{log_has_room}
 use Rattle.legal_runs.proofs.Sound.{move_sound}
-use Rattle.legal_runs.proofs.SerialReplies.{fold-joined, still_replied}
-use Rattle.legal_runs.specs.Events.{batch, log, loggable}
-use Rattle.legal_runs.specs.Laws.{AreApart, AreReplied, IsSoundCoreState}
+use Rattle.legal_runs.proofs.SerialReplies.{state_after_all-joined, still_replied}
+use Rattle.legal_runs.specs.Events.{batch, log, recorded}
+use Rattle.legal_runs.specs.Laws.{AreUnrelated, HaveRepliesAt, IsSoundCoreState}
 use Rattle.legal_runs.specs.CoreState.{Replied, CoreState, entries}
 use Rattle.messages.specs.Messages.{IsMessage, is_in_range, kind}
 use Rattle.messages.specs.declared.Msg.{Msg}
 use Rattle.oplog.specs.Changing.{AreChangesInRange, IsChangeInRange}
 use Rattle.parcel.specs.Holding.{TreeHolds}
-use Rattle.parcel.specs.Tree.{in_tree}
+use Rattle.parcel.specs.Tree.{tree_nodes}
 use Rattle.meaning.proofs.Unchanged.{unlogged_changes_nothing}
-use Rattle.meaning.specs.Serial.{fold, is_loggable, next_state}
+use Rattle.meaning.specs.Serial.{state_after_all, is_recorded, next_state}
 use Rattle.meaning.specs.State.{State}
 use Rattle.scheduler.proofs.Counting.{changing, changing-append, unlogged_of}
 use Rattle.scheduler.proofs.Journaling.{with_none}
@@ -50,30 +50,30 @@ first_true : (b c : Bool) → (b && c) ≡ true → b ≡ true
 first_true b c e = (and_parts b c e).0
 
 module _ (g : Geometry) where
-  pub carried_out : (x : State) (first rest : List Replied) → AreApart g (entries (first ++ rest)) → AreReplied g x (first ++ rest) → AreKnown g first
-      → AreCarriedOut g x (loggable first)
+  pub carried_out : (x : State) (first rest : List Replied) → AreUnrelated g (entries (first ++ rest)) → HaveRepliesAt g x (first ++ rest) → AreKnown g first
+      → AreCarriedOut g x (recorded first)
   carried_out x [] rest apart h known = tt
   carried_out x (a ∷ first) rest apart h known =
       let k = carried_out (next_state g x a.1) first rest apart.1 (still_replied g x a (first ++ rest) apart.0 h.1) known.1 in
-      elim (is_loggable a.1 a.2) as (λ b. is_loggable a.1 a.2 ≡ b
-      → AreCarriedOut g x (map (λ (a : Replied). a.1) (cond b (a ∷ filter (λ a. is_loggable a.1 a.2) first) (filter (λ a. is_loggable a.1 a.2) first)))) [
-        | true ↦ λ e. (known.0.0, (first_true (is_changing (kind a.1)) _ e, known.0.1), ap (is_loggable a.1) (sym h.0) ∙ e, k)
-        | false ↦ λ e. subst (λ y. AreCarriedOut g y (loggable first)) (unlogged_changes_nothing g x a.1 (ap (is_loggable a.1) (sym h.0) ∙ e)) k
+      elim (is_recorded a.1 a.2) as (λ b. is_recorded a.1 a.2 ≡ b
+      → AreCarriedOut g x (map (λ (a : Replied). a.1) (cond b (a ∷ filter (λ a. is_recorded a.1 a.2) first) (filter (λ a. is_recorded a.1 a.2) first)))) [
+        | true ↦ λ e. (known.0.0, (first_true (is_changing (kind a.1)) _ e, known.0.1), ap (is_recorded a.1) (sym h.0) ∙ e, k)
+        | false ↦ λ e. subst (λ y. AreCarriedOut g y (recorded first)) (unlogged_changes_nothing g x a.1 (ap (is_recorded a.1) (sym h.0) ∙ e)) k
       ] refl
 
-  pub each_changes : (first : List Replied) → AreKnown g first → AllByRecursion (λ m. IsChangeInRange g m) (loggable first)
+  pub each_changes : (first : List Replied) → AreKnown g first → AllByRecursion (λ m. IsChangeInRange g m) (recorded first)
   each_changes [] known = tt
   each_changes (a ∷ first) known =
       let k = each_changes first known.1 in
-      elim (is_loggable a.1 a.2) as (λ b. is_loggable a.1 a.2 ≡ b
-      → AllByRecursion (λ m. IsChangeInRange g m) (map (λ (a : Replied). a.1) (cond b (a ∷ filter (λ a. is_loggable a.1 a.2) first) (filter (λ a. is_loggable a.1 a.2) first)))) [
+      elim (is_recorded a.1 a.2) as (λ b. is_recorded a.1 a.2 ≡ b
+      → AllByRecursion (λ m. IsChangeInRange g m) (map (λ (a : Replied). a.1) (cond b (a ∷ filter (λ a. is_recorded a.1 a.2) first) (filter (λ a. is_recorded a.1 a.2) first)))) [
         | true ↦ λ e. ((first_true (is_changing (kind a.1)) _ e, known.0.1), k)
         | false ↦ λ e. k
       ] refl
 
 -- those that a log of n hands to the journal, by their places
 abbrev pub batch_at : Parts → ℕ → List Msg
-batch_at p n = loggable (map replied_of (take n p.phases.ran))
+batch_at p n = recorded (map replied_of (take n p.phases.ran))
 
 module _ (keeps : Type 0) (p : Parts) (k : IsCore keeps p) (n : ℕ) where
   abbrev g : Geometry
@@ -83,7 +83,7 @@ module _ (keeps : Type 0) (p : Parts) (k : IsCore keeps p) (n : ℕ) where
   w = core_state_in p
 
   pub same_batch : batch_at p n ≡ batch w n
-  same_batch = ap loggable (sym (take-map replied_of n p.phases.ran))
+  same_batch = ap recorded (sym (take-map replied_of n p.phases.ran))
 
   known : AreKnown g (take n w.ran)
   known = subst (AreKnown g) (sym (take-map replied_of n p.phases.ran))
@@ -97,8 +97,8 @@ module _ (keeps : Type 0) (p : Parts) (k : IsCore keeps p) (n : ℕ) where
   batch_carried =
       let whole : take n w.ran ++ drop n w.ran ≡ w.ran = take-append-drop n w.ran in
       subst (AreCarriedOut g w.committed) (sym same_batch) (carried_out g w.committed (take n w.ran) (drop n w.ran)
-      (subst (λ r. AreApart g (entries r)) (sym whole) (before_front _ (entries w.ran) w.in_flight (before_back _ (entries w.logged) _ k.sound.apart)))
-      (subst (AreReplied g w.committed) (sym whole) k.sound.replied) known)
+      (subst (λ r. AreUnrelated g (entries r)) (sym whole) (before_front _ (entries w.ran) w.in_flight (before_back _ (entries w.logged) _ k.sound.apart)))
+      (subst (HaveRepliesAt g w.committed) (sym whole) k.sound.replied) known)
 
   pub batch_fits : length (batch_at p n) ≤ p.journal.room
   batch_fits = subst (λ ms. length ms ≤ p.journal.room) (sym same_batch) (log_has_room w n k.sound.room)
@@ -111,7 +111,7 @@ with_log p n unlogged room dirty medium = record p {
   journal = record p.journal { room = room; dirty = dirty; medium = medium };
   batch = [];
   unlogged = unlogged;
-  since = p.since ++ batch_at p n;
+  since_open = p.since_open ++ batch_at p n;
 }
 
 abbrev pub with_doubt : Parts → ℕ → Medium → Parts
@@ -128,7 +128,7 @@ module _ (keeps : Type 0) (p : Parts) (k : IsCore keeps p) (works : p.journal.fa
   log_state = λ i. record (core_state_in after) {
     ran = sym (drop-map replied_of n p.phases.ran) i;
     logged = (map-append replied_of p.phases.logged (take n p.phases.ran) ∙ ap (λ as'. map replied_of p.phases.logged ++ as') (sym (take-map replied_of n p.phases.ran))) i;
-    committed = (fold-joined p.journal.geometry _ p.since (batch_at p n) ∙ ap (fold p.journal.geometry (core_state_in p).committed) (same_batch keeps p k n)) i;
+    committed = (state_after_all-joined p.journal.geometry _ p.since_open (batch_at p n) ∙ ap (state_after_all p.journal.geometry (core_state_in p).committed) (same_batch keeps p k n)) i;
     room = p.journal.room - length (same_batch keeps p k n i);
     doubt = sym (k.no_doubt works) i;
   }
@@ -156,14 +156,14 @@ module _ (keeps : Type 0) (p : Parts) (k : IsCore keeps p) (works : p.journal.fa
                 (all_front (IsPlaced p.journal.geometry) (take n p.phases.ran) (drop n p.phases.ran) placed);
           };
           queue_geometry = k.queue_geometry;
-          seats = k.seats;
-          waits = k.waits;
-          holds = λ test. k.holds test ∙ any_logged test p.phases (take n p.phases.ran) (drop n p.phases.ran) whole;
+          queue_slots = k.queue_slots;
+          queue_waiting = k.queue_waiting;
+          queue_held = λ test. k.queue_held test ∙ any_logged test p.phases (take n p.phases.ran) (drop n p.phases.ran) whole;
           unlogged_is = omega (arith, unlogged_was, unlogged_now, ran, unlogged_is);
           sound = subst (IsSoundCoreState p.journal.geometry) (sym log_state)
               (move_sound p.journal.geometry (core_state_in p) _ _ (Logs n refl refl) k.sound);
           geometry = k.geometry;
-          tree = subst (λ s. TreeHolds p.journal.geometry (is_below p.journal.geometry (map entry_of p.phases.in_flight)) (in_tree p.tree) s)
+          tree = subst (λ s. TreeHolds p.journal.geometry (is_below p.journal.geometry (map entry_of p.phases.in_flight)) (tree_nodes p.tree) s)
               (sym (log_reaches p.journal.geometry (core_state_in p) n k.sound) ∙ ap (reached p.journal.geometry) (sym log_state)) k.tree;
           is_committed = λ keep fine. is_committed keep;
           recovers = λ keep c leaves. with_none p.journal.geometry (core_state_in after).committed [] c (recovers keep c leaves ∙ is_committed keep);
@@ -185,9 +185,9 @@ module _ (keeps : Type 0) (p : Parts) (k : IsCore keeps p) (works : p.journal.fa
       claimed = k.claimed;
       placed = k.placed;
       queue_geometry = k.queue_geometry;
-      seats = k.seats;
-      waits = k.waits;
-      holds = k.holds;
+      queue_slots = k.queue_slots;
+      queue_waiting = k.queue_waiting;
+      queue_held = k.queue_held;
       unlogged_is = k.unlogged_is;
       sound = sound;
       geometry = k.geometry;

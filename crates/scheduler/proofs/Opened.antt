@@ -2,8 +2,8 @@
 use Rattle.std.proofs.Common.{◌≡◌, ℕ, List, [], Some, length, refl, sym, ap, subst, ◌∙◌, arith}
 use Rattle.std.proofs.lemmas.List.{length-replicate}
 use Rattle.affinity.specs.declared.geometry.Geometry.{Geometry}
-use Rattle.arena.proofs.Times.{length-numbers}
-use Rattle.arena.specs.ArenaView.{IsParted, ArenaView, capacity_of, empty_arena}
+use Rattle.arena.proofs.Counts.{length-numbers}
+use Rattle.arena.specs.ArenaView.{IsPartitioned, ArenaView, capacity_of, empty_arena}
 use Rattle.journal.specs.Journal.{JournalView, IsRecoverable, committed}
 use Rattle.legal_runs.proofs.Idle.{idle_sound}
 use Rattle.messages.specs.declared.Msg.{Msg}
@@ -11,7 +11,7 @@ use Rattle.messages.specs.declared.Reply.{Reply}
 use Rattle.parcel.proofs.Holding.{holds_alike, holds_whole}
 use Rattle.parcel.specs.Holding.{TreeHolds, nowhere}
 use Rattle.parcel.specs.Nodes.{tree_state}
-use Rattle.parcel.specs.Tree.{IsIn, IsWholeTree, TreeView, in_tree, state_in}
+use Rattle.parcel.specs.Tree.{IsIn, IsWholeTree, TreeView, tree_nodes, state_in}
 use Rattle.meaning.specs.State.{IsState}
 use Rattle.scheduler.specs.Parts.{IsCore, Parts, is_below, parts, core_state_in}
 use Rattle.scheduler.specs.Slots.{HasChains, slots_on}
@@ -27,12 +27,12 @@ module _ (keeps : Type 0) (slots : ℕ) (replies : List Reply) (tree : TreeView)
 
   module _ (same : tree.geometry ≡ journal.geometry) (whole : IsWholeTree tree)
       (holds : keeps → (committed journal ≡ Some (state_in tree)) × IsRecoverable journal) where
-    tree_holds : TreeHolds journal.geometry (is_below journal.geometry []) (in_tree tree) (state_in tree)
+    tree_holds : TreeHolds journal.geometry (is_below journal.geometry []) (tree_nodes tree) (state_in tree)
     tree_holds =
-        holds_alike journal.geometry nowhere (is_below journal.geometry []) (in_tree tree) (state_in tree) (λ q. refl)
-        (holds_whole journal.geometry (in_tree tree) (state_in tree)
-        (subst (λ (g : Geometry). IsIn g [] (in_tree tree)) same whole.all_in)
-        (ap (λ (g : Geometry). tree_state g (in_tree tree)) (sym same))
+        holds_alike journal.geometry nowhere (is_below journal.geometry []) (tree_nodes tree) (state_in tree) (λ q. refl)
+        (holds_whole journal.geometry (tree_nodes tree) (state_in tree)
+        (subst (λ (g : Geometry). IsIn g [] (tree_nodes tree)) same whole.all_in)
+        (ap (λ (g : Geometry). tree_state g (tree_nodes tree)) (sym same))
         (subst (λ (g : Geometry). IsState g (state_in tree)) same whole.state))
 
     pub opened_core : IsCore keeps opened
@@ -40,9 +40,9 @@ module _ (keeps : Type 0) (slots : ℕ) (replies : List Reply) (tree : TreeView)
       claimed = let all = length-numbers 0 slots in let there = size in omega (arith, all, there);
       placed = record { waiting = tt; in_flight = tt; ran = tt; logged = tt };
       queue_geometry = refl;
-      seats = sym size;
-      waits = refl;
-      holds = λ test. refl;
+      queue_slots = sym size;
+      queue_waiting = refl;
+      queue_held = λ test. refl;
       unlogged_is = refl;
       sound = idle_sound (core_state_in opened) (record { none_waits = refl; none_held = refl }) journal.geometry;
       geometry = same;
@@ -53,18 +53,18 @@ module _ (keeps : Type 0) (slots : ℕ) (replies : List Reply) (tree : TreeView)
     }
 
     -- the same of parts that are these
-    module _ (row : ArenaView Slot) (row_is : row ≡ empty_arena slots 4) where
-      pub opened_parts : (queue : RunQueueView) (batch : List Msg) (first : TreeView) (since : List Msg)
-          → queue ≡ queue_at_start journal.geometry slots → batch ≡ [] → first ≡ tree → since ≡ []
-          → IsCore keeps (parts row replies tree journal queue batch 0 0 first since)
-      opened_parts queue batch first since turns_are batch_is first_is since_is =
-          subst (IsCore keeps) (λ i. parts (sym row_is i) replies tree journal (sym turns_are i) (sym batch_is i) 0 0 (sym first_is i) (sym since_is i)) opened_core
+    module _ (arena : ArenaView Slot) (arena_is : arena ≡ empty_arena slots 4) where
+      pub opened_parts : (queue : RunQueueView) (batch : List Msg) (first : TreeView) (since_open : List Msg)
+          → queue ≡ queue_at_start journal.geometry slots → batch ≡ [] → first ≡ tree → since_open ≡ []
+          → IsCore keeps (parts arena replies tree journal queue batch 0 0 first since_open)
+      opened_parts queue batch first since_open turns_are batch_is first_is since_is =
+          subst (IsCore keeps) (λ i. parts (sym arena_is i) replies tree journal (sym turns_are i) (sym batch_is i) 0 0 (sym first_is i) (sym since_is i)) opened_core
 
-      pub opened_chains : IsParted row → HasChains row
-      opened_chains parted = record { parted = parted; four = ap (λ (r : ArenaView Slot). length r.chains) row_is }
+      pub opened_chains : IsPartitioned arena → HasChains arena
+      opened_chains partitioned = record { partitioned = partitioned; four = ap (λ (r : ArenaView Slot). length r.chains) arena_is }
 
-      pub opened_size : capacity_of row ≡ slots
-      opened_size = ap (λ (r : ArenaView Slot). capacity_of r) row_is ∙ size
+      pub opened_size : capacity_of arena ≡ slots
+      opened_size = ap (λ (r : ArenaView Slot). capacity_of r) arena_is ∙ size
 
-      pub opened_ran : 0 ≡ length (slots_on row replies 2)
-      opened_ran = ap (λ (r : ArenaView Slot). length (slots_on r replies 2)) (sym row_is)
+      pub opened_ran : 0 ≡ length (slots_on arena replies 2)
+      opened_ran = ap (λ (r : ArenaView Slot). length (slots_on r replies 2)) (sym arena_is)

@@ -1,10 +1,10 @@
 -- What the affinity of a message's kind and numbers shows of the message.
 use Rattle.std.proofs.Common.{◌≡◌, ℕ, true, List, sym, subst, ◌∙◌}
 use Rattle.affinity.specs.Interval.{Interval, IsAffinityOf}
-use Rattle.affinity.specs.Place.{is_in_range as numbers_are_in_range, place as place_of_numbers}
+use Rattle.affinity.specs.Place.{is_in_range as numbers_are_in_range, path_of_kind}
 use Rattle.affinity.specs.declared.geometry.Geometry.{Geometry}
 use Rattle.affinity.specs.declared.kinds.Kind.{Kind}
-use Rattle.messages.specs.Messages.{four_numbers, is_in_range, kind, place}
+use Rattle.messages.specs.Messages.{four_numbers, is_in_range, kind, path_of}
 use Rattle.messages.specs.declared.Msg.{Msg}
 
 module _ (h g : Geometry) (m : Msg) (k : Kind) (n : List ℕ) where
@@ -12,8 +12,8 @@ module _ (h g : Geometry) (m : Msg) (k : Kind) (n : List ℕ) where
   range_of same is_kind is_numbers e = sym (e ∙ (λ i. numbers_are_in_range (same i) (is_kind i) (is_numbers i)))
 
 module _ (h g : Geometry) (m : Msg) (k : Kind) (n : List ℕ) (a : Interval) where
-  pub placed_of : h ≡ g → k ≡ kind m → n ≡ four_numbers m → IsAffinityOf h (place_of_numbers h k n) a → IsAffinityOf g (place g m) a
+  pub placed_of : h ≡ g → k ≡ kind m → n ≡ four_numbers m → IsAffinityOf h (path_of_kind h k n) a → IsAffinityOf g (path_of g m) a
   placed_of same is_kind is_numbers is =
-      subst (λ (x : Geometry). IsAffinityOf x (place x m) a) same
-      (subst (λ (ns : List ℕ). IsAffinityOf h (place_of_numbers h (kind m) ns) a) is_numbers
-      (subst (λ (j : Kind). IsAffinityOf h (place_of_numbers h j n) a) is_kind is))
+      subst (λ (x : Geometry). IsAffinityOf x (path_of x m) a) same
+      (subst (λ (ns : List ℕ). IsAffinityOf h (path_of_kind h (kind m) ns) a) is_numbers
+      (subst (λ (j : Kind). IsAffinityOf h (path_of_kind h j n) a) is_kind is))

@@ -18,7 +18,7 @@ use Rattle.legal_runs.specs.declared.outcomes.Step.TheVariants as steps
 use Rattle.oplog.specs.declared.fault.LogFault.{LogFault}
 use Rattle.parcel.proofs.Holding.{whole_holds}
 use Rattle.parcel.specs.Holding.{TreeHolds, nowhere}
-use Rattle.parcel.specs.Tree.{IsIn, IsWholeTree, in_tree, state_in}
+use Rattle.parcel.specs.Tree.{IsIn, IsWholeTree, tree_nodes, state_in}
 use Rattle.parcel.specs.Nodes.{tree_state}
 use Rattle.meaning.specs.State.{IsState}
 use Rattle.scheduler.proofs.Called.{cut_called, point_called}
@@ -41,12 +41,12 @@ module _ (keeps : Type 0) (p : Parts) (k : IsCore keeps p) (why : point_refusal 
   pub point_works : p.journal.failed ≡ false
   point_works = (past p.journal.failed points.Failed _ why).0
 
-  running : (if is_some p.journal.left then Some points.Running else (if nat_lt 0 (length (held (core_state_in p))) then Some points.Held else None)) ≡ None
+  running : (if is_some p.journal.pieces_left then Some points.Running else (if nat_lt 0 (length (held (core_state_in p))) then Some points.Held else None)) ≡ None
   running = (past p.journal.failed points.Failed _ why).1
 
   none_held : length p.phases.logged + (length p.phases.ran + length p.phases.in_flight) ≡ 0
   none_held =
-      let none = (past (nat_lt 0 (length (held (core_state_in p)))) points.Held None (past (is_some p.journal.left) points.Running _ running).1).0 in
+      let none = (past (nat_lt 0 (length (held (core_state_in p)))) points.Held None (past (is_some p.journal.pieces_left) points.Running _ running).1).0 in
       let few = ltb-false 0 (length (held (core_state_in p))) none in
       let count = held_count p in
       omega (arith, few, count)
@@ -57,40 +57,40 @@ module _ (keeps : Type 0) (p : Parts) (k : IsCore keeps p) (why : point_refusal 
   none_ran : p.phases.ran ≡ []
   none_ran = no_items p.phases.ran (let none = none_held in omega (arith, none))
 
-  whole_tree : TreeHolds p.journal.geometry nowhere (in_tree p.tree) (core_state_in p).committed
+  whole_tree : TreeHolds p.journal.geometry nowhere (tree_nodes p.tree) (core_state_in p).committed
   whole_tree =
-      subst (λ os. TreeHolds p.journal.geometry (is_below p.journal.geometry (map entry_of os)) (in_tree p.tree) (core_state_in p).committed) none_in_flight
-      (subst (λ rs. TreeHolds p.journal.geometry (is_below p.journal.geometry (map entry_of p.phases.in_flight)) (in_tree p.tree)
+      subst (λ os. TreeHolds p.journal.geometry (is_below p.journal.geometry (map entry_of os)) (tree_nodes p.tree) (core_state_in p).committed) none_in_flight
+      (subst (λ rs. TreeHolds p.journal.geometry (is_below p.journal.geometry (map entry_of p.phases.in_flight)) (tree_nodes p.tree)
       (reached p.journal.geometry (core_state_in (record p { phases = record p.phases { ran = rs } })))) none_ran k.tree)
 
   pub point_whole : IsWholeTree p.tree
   point_whole =
-      let whole = whole_holds p.journal.geometry (in_tree p.tree) (core_state_in p).committed whole_tree in
+      let whole = whole_holds p.journal.geometry (tree_nodes p.tree) (core_state_in p).committed whole_tree in
       record {
-        all_in = subst (λ (g : Geometry). IsIn g [] (in_tree p.tree)) (sym k.geometry) whole.0;
-        state = subst (λ (g : Geometry). IsState g (tree_state g (in_tree p.tree))) (sym k.geometry) (subst (IsState p.journal.geometry) (sym whole.1) whole_tree.state);
+        all_in = subst (λ (g : Geometry). IsIn g [] (tree_nodes p.tree)) (sym k.geometry) whole.0;
+        state = subst (λ (g : Geometry). IsState g (tree_state g (tree_nodes p.tree))) (sym k.geometry) (subst (IsState p.journal.geometry) (sym whole.1) whole_tree.state);
       }
 
   pub point_state : keeps → committed p.journal ≡ Some (state_in p.tree)
   point_state keep =
       k.is_committed keep point_works
-      ∙ ap Some (sym (whole_holds p.journal.geometry (in_tree p.tree) (core_state_in p).committed whole_tree).1)
-      ∙ ap (λ (g : Geometry). Some (tree_state g (in_tree p.tree))) (sym k.geometry)
+      ∙ ap Some (sym (whole_holds p.journal.geometry (tree_nodes p.tree) (core_state_in p).committed whole_tree).1)
+      ∙ ap (λ (g : Geometry). Some (tree_state g (tree_nodes p.tree))) (sym k.geometry)
 
 -- ---- a step that was made, or at which the device failed
 
 module _ (keeps : Type 0) (p : Parts) (k : IsCore keeps p) (works : p.journal.failed ≡ false) (new : JournalView)
     (any : keeps → CrashImagesAre p.journal.medium new.medium (λ c. recovered_state p.journal.geometry c ≡ committed p.journal)) where
-  pub made_core : (room : ℕ) (left : Option ℕ) (dirty : DirtyPieces) → new ≡ record p.journal { room = room; left = left; dirty = dirty; medium = new.medium }
-      → (keeps → committed new ≡ committed p.journal) → IsSoundCoreState p.journal.geometry (core_state_in (with_journal p room left p.journal.failed dirty new.medium))
+  pub made_core : (room : ℕ) (pieces_left : Option ℕ) (dirty : DirtyPieces) → new ≡ record p.journal { room = room; pieces_left = pieces_left; dirty = dirty; medium = new.medium }
+      → (keeps → committed new ≡ committed p.journal) → IsSoundCoreState p.journal.geometry (core_state_in (with_journal p room pieces_left p.journal.failed dirty new.medium))
       → IsCore keeps (record p { journal = new })
-  made_core room left dirty is same sound = subst (λ (j : JournalView). IsCore keeps (record p { journal = j })) (sym is)
-      (step_core keeps p k works new.medium any room left p.journal.failed dirty sound (λ keep fine. sym (ap committed is) ∙ same keep))
+  made_core room pieces_left dirty is same sound = subst (λ (j : JournalView). IsCore keeps (record p { journal = j })) (sym is)
+      (step_core keeps p k works new.medium any room pieces_left p.journal.failed dirty sound (λ keep fine. sym (ap committed is) ∙ same keep))
 
   pub broken_core : new ≡ record p.journal { failed = true; medium = new.medium }
-      → IsSoundCoreState p.journal.geometry (core_state_in (with_journal p p.journal.room p.journal.left true p.journal.dirty new.medium)) → IsCore keeps (record p { journal = new })
+      → IsSoundCoreState p.journal.geometry (core_state_in (with_journal p p.journal.room p.journal.pieces_left true p.journal.dirty new.medium)) → IsCore keeps (record p { journal = new })
   broken_core is sound = subst (λ (j : JournalView). IsCore keeps (record p { journal = j })) (sym is)
-      (step_core keeps p k works new.medium any p.journal.room p.journal.left true p.journal.dirty sound (λ keep fine. absurd (true≢false fine)))
+      (step_core keeps p k works new.medium any p.journal.room p.journal.pieces_left true p.journal.dirty sound (λ keep fine. absurd (true≢false fine)))
 
   pub step_moment : keeps → RecoversThroughout [] (core_view_of p) (core_view_of (record p { journal = new }))
   step_moment = step_throughout keeps p k works new.medium any (core_view_of (record p { journal = new })) refl
@@ -104,7 +104,7 @@ module _ (keeps : Type 0) (p : Parts) (k : IsCore keeps p) (new : JournalView)
   w = core_state_in p
 
   -- failing leaves all that makes a core state sound
-  failed_sound : IsSoundCoreState g (core_state_in (with_journal p p.journal.room p.journal.left true p.journal.dirty new.medium))
+  failed_sound : IsSoundCoreState g (core_state_in (with_journal p p.journal.room p.journal.pieces_left true p.journal.dirty new.medium))
   failed_sound = record {
     apart = k.sound.apart;
     replied = k.sound.replied;
@@ -115,17 +115,17 @@ module _ (keeps : Type 0) (p : Parts) (k : IsCore keeps p) (new : JournalView)
     fits = k.sound.fits;
   }
 
-  pointed_sound : point_refusal (core_state_in p) ≡ None → IsSoundCoreState g (core_state_in (with_journal p g.half p.journal.left p.journal.failed new.dirty new.medium))
+  pointed_sound : point_refusal (core_state_in p) ≡ None → IsSoundCoreState g (core_state_in (with_journal p g.half p.journal.pieces_left p.journal.failed new.dirty new.medium))
   pointed_sound why = called_sound g w (record w { room = g.half }) steps.Point outcomes.Pointed false
       (point_called g w (record w { room = g.half }) (Ok tt) (why, refl)) k.sound
 
   cut_sound : point_refusal (core_state_in p) ≡ None → (n : ℕ) → n ≤ piece_count g → IsSoundCoreState g (core_state_in (with_journal p g.half (Some n) p.journal.failed new.dirty new.medium))
-  cut_sound why n few = called_sound g w (record w { room = g.half; left = Some n }) steps.Cut outcomes.Cut false
-      (cut_called g w (record w { room = g.half; left = Some n }) (Ok tt) (why, (n, few, refl))) k.sound
+  cut_sound why n few = called_sound g w (record w { room = g.half; pieces_left = Some n }) steps.Cut outcomes.Cut false
+      (cut_called g w (record w { room = g.half; pieces_left = Some n }) (Ok tt) (why, (n, few, refl))) k.sound
 
   -- whatever is left to write
-  left_sound : (left : Option ℕ) → IsSoundCoreState g (core_state_in (with_journal p p.journal.room left p.journal.failed new.dirty new.medium))
-  left_sound left = record {
+  left_sound : (pieces_left : Option ℕ) → IsSoundCoreState g (core_state_in (with_journal p p.journal.room pieces_left p.journal.failed new.dirty new.medium))
+  left_sound pieces_left = record {
     apart = k.sound.apart;
     replied = k.sound.replied;
     ascending = k.sound.ascending;
@@ -142,41 +142,42 @@ module _ (keeps : Type 0) (p : Parts) (k : IsCore keeps p) (new : JournalView)
       where
         by : (r : Result (Unit {0}) LogFault) → new ≡ after_call r (record p.journal { room = p.journal.geometry.half; dirty = pointed_dirty p.journal.dirty; medium = new.medium }) p.journal
             → OnOk r (keeps → committed new ≡ committed p.journal) → IsCore keeps (record p { journal = new })
-        by (Ok u) is same = made_core keeps p k (point_works keeps p k why) new any p.journal.geometry.half p.journal.left (pointed_dirty p.journal.dirty) is same (pointed_sound why)
+        by (Ok u) is same = made_core keeps p k (point_works keeps p k why) new any p.journal.geometry.half p.journal.pieces_left (pointed_dirty p.journal.dirty) is same (pointed_sound why)
         by (Err e) is same = broken_core keeps p k (point_works keeps p k why) new any is failed_sound
 
     abbrev pub cut_journal : JournalView
-    cut_journal = record p.journal { room = g.half; left = Some (count_dirty p.journal.dirty.others); dirty = cut_dirty p.journal.dirty; medium = new.medium }
+    cut_journal = record p.journal { room = g.half; pieces_left = Some (count_dirty p.journal.dirty.other); dirty = cut_dirty p.journal.dirty; medium = new.medium }
 
-    pub cut_core : OnOk result (new ≡ cut_journal) → OnOk result (count_dirty p.journal.dirty.others ≤ piece_count g)
+    pub cut_core : OnOk result (new ≡ cut_journal) → OnOk result (count_dirty p.journal.dirty.other ≤ piece_count g)
         → OnErr result (new ≡ record p.journal { failed = true; medium = new.medium }) → IsCore keeps (record p { journal = new })
     cut_core begun few broken = by result begun few broken settles
       where
-        by : (r : Result (Unit {0}) LogFault) → OnOk r (new ≡ cut_journal) → OnOk r (count_dirty p.journal.dirty.others ≤ piece_count g)
+        by : (r : Result (Unit {0}) LogFault) → OnOk r (new ≡ cut_journal) → OnOk r (count_dirty p.journal.dirty.other ≤ piece_count g)
             → OnErr r (new ≡ record p.journal { failed = true; medium = new.medium }) → OnOk r (keeps → committed new ≡ committed p.journal)
             → IsCore keeps (record p { journal = new })
         by (Ok u) begun few broken same =
-            made_core keeps p k (point_works keeps p k why) new any g.half (Some (count_dirty p.journal.dirty.others)) (cut_dirty p.journal.dirty)
-            begun same (cut_sound why (count_dirty p.journal.dirty.others) few)
+            made_core keeps p k (point_works keeps p k why) new any g.half (Some (count_dirty p.journal.dirty.other)) (cut_dirty p.journal.dirty)
+            begun same (cut_sound why (count_dirty p.journal.dirty.other) few)
         by (Err e) begun few broken same = broken_core keeps p k (point_works keeps p k why) new any broken failed_sound
 
   module _ (result : Result ℕ LogFault) (works : p.journal.failed ≡ false)
       (settles : OnOk result (keeps → committed new ≡ committed p.journal)) where
-    pub piece_core : new ≡ after_call result (record p.journal { left = option_map (λ l. l - 1) p.journal.left; medium = new.medium }) p.journal
+    pub piece_core : new ≡ after_call result (record p.journal { pieces_left = option_map (λ l. l - 1) p.journal.pieces_left; medium = new.medium }) p.journal
         → IsCore keeps (record p { journal = new })
     piece_core is = by result is settles
       where
-        by : (r : Result ℕ LogFault) → new ≡ after_call r (record p.journal { left = option_map (λ l. l - 1) p.journal.left; medium = new.medium }) p.journal
+        by : (r : Result ℕ LogFault) → new ≡ after_call r (record p.journal { pieces_left = option_map (λ l. l - 1) p.journal.pieces_left; medium = new.medium }) p.journal
             → OnOk r (keeps → committed new ≡ committed p.journal) → IsCore keeps (record p { journal = new })
-        by (Ok u) is same = made_core keeps p k works new any p.journal.room (option_map (λ l. l - 1) p.journal.left) p.journal.dirty is same (left_sound (option_map (λ l. l - 1) p.journal.left))
+        by (Ok u) is same = made_core keeps p k works new any p.journal.room (option_map (λ l. l - 1) p.journal.pieces_left) p.journal.dirty is same
+            (left_sound (option_map (λ l. l - 1) p.journal.pieces_left))
         by (Err e) is same = broken_core keeps p k works new any is failed_sound
 
   module _ (result : Result (Unit {0}) LogFault) (works : p.journal.failed ≡ false)
       (settles : OnOk result (keeps → committed new ≡ committed p.journal)) where
-    pub flip_core : new ≡ after_call result (record p.journal { left = None; dirty = flipped_dirty p.journal.dirty; medium = new.medium }) p.journal → IsCore keeps (record p { journal = new })
+    pub flip_core : new ≡ after_call result (record p.journal { pieces_left = None; dirty = flipped_dirty p.journal.dirty; medium = new.medium }) p.journal → IsCore keeps (record p { journal = new })
     flip_core is = by result is settles
       where
-        by : (r : Result (Unit {0}) LogFault) → new ≡ after_call r (record p.journal { left = None; dirty = flipped_dirty p.journal.dirty; medium = new.medium }) p.journal
+        by : (r : Result (Unit {0}) LogFault) → new ≡ after_call r (record p.journal { pieces_left = None; dirty = flipped_dirty p.journal.dirty; medium = new.medium }) p.journal
             → OnOk r (keeps → committed new ≡ committed p.journal) → IsCore keeps (record p { journal = new })
         by (Ok u) is same = made_core keeps p k works new any p.journal.room None (flipped_dirty p.journal.dirty) is same (left_sound None)
         by (Err e) is same = broken_core keeps p k works new any is failed_sound

@@ -4,7 +4,7 @@ use Rattle.std.specs.Prelude.{nat_lt}
 use Rattle.std.proofs.lemmas.Bool.{ltb-false}
 use Rattle.std.proofs.lemmas.List.{take-take}
 use Rattle.affinity.specs.declared.geometry.Geometry.{Geometry}
-use Rattle.checkpoint.proofs.Fine.{fine, head}
+use Rattle.checkpoint.proofs.NotRefused.{is_not_refused, has_header}
 use Rattle.checkpoint.proofs.OneGeometry.{same_geometry}
 use Rattle.checkpoint.specs.Header.{HasHeader, magic}
 use Rattle.checkpoint.specs.Recovery.{recovered_state}
@@ -14,7 +14,7 @@ use Rattle.checkpoint.specs.declared.fault.OpenFault.TheVariants.{Device, TooSho
 use Rattle.disk.specs.Device.{AreBytes}
 use Rattle.device_map.specs.Layout.{device_size, layout_of}
 use Rattle.meaning.specs.State.{State}
-use Rattle.scheduler.specs.Opening.{IsOfBytes}
+use Rattle.scheduler.specs.Opening.{IsShownByBytes}
 
 -- what is found first, and the answer to it
 data Found (c : List ℕ) (answer : Option OpenFault) : Type 0 where
@@ -51,16 +51,16 @@ module _ (c : List ℕ) where
   with_fault : (fault : OpenFault) → IsRefusedWith c fault → Found c (Some fault)
   with_fault fault r = With r.geometry r.long r.header r.is
 
-  found : (fault : OpenFault) → IsOfBytes fault → IsRefused c fault → Found c (Some fault)
-  found Device told r = absurd told
-  found OutOfMemory told r = absurd told
-  found TooShort told r = ⊎_elim (λ (few : length c < 128). Short few refl) (with_fault TooShort) r
-  found NotFormatted told r = Unformatted r refl
-  found BadGeometry told r = Without r refl
-  found BadVersion told r = with_fault BadVersion r
-  found (BadPiece n) told r = with_fault (BadPiece n) r
-  found BadChain told r = with_fault BadChain r
-  found (BadRecord h i) told r = with_fault (BadRecord h i) r
+  found : (fault : OpenFault) → IsShownByBytes fault → IsRefused c fault → Found c (Some fault)
+  found Device shown r = absurd shown
+  found OutOfMemory shown r = absurd shown
+  found TooShort shown r = ⊎_elim (λ (few : length c < 128). Short few refl) (with_fault TooShort) r
+  found NotFormatted shown r = Unformatted r refl
+  found BadGeometry shown r = Without r refl
+  found BadVersion shown r = with_fault BadVersion r
+  found (BadPiece n) shown r = with_fault (BadPiece n) r
+  found BadChain shown r = with_fault BadChain r
+  found (BadRecord h i) shown r = with_fault (BadRecord h i) r
 
   not_first : (short : Bool) (later : Option OpenFault) → fault_if short TooShort later ≡ None → short ≡ false
   not_first true later none = cc
@@ -74,14 +74,14 @@ module _ (c : List ℕ) where
   some_same : (e fault : OpenFault) → ◌≡◌ {A = Option OpenFault} (Some e) (Some fault) → e ≡ fault
   some_same e fault is = cc
 
-  pub one_fault : (e fault : OpenFault) → IsOfBytes e → IsRefused c e → IsOfBytes fault → IsRefused c fault → e ≡ fault
-  one_fault e fault told is also_told also = some_same e fault (one (Some e) (Some fault) (found e told is) (found fault also_told also))
+  pub one_fault : (e fault : OpenFault) → IsShownByBytes e → IsRefused c e → IsShownByBytes fault → IsRefused c fault → e ≡ fault
+  one_fault e fault shown is also_shown also = some_same e fault (one (Some e) (Some fault) (found e shown is) (found fault also_shown also))
 
-  pub opened_or_refused : (g : Geometry) (fault : OpenFault) → HasHeader g c → refused g c ≡ None → IsOfBytes fault → IsRefused c fault → ⊥
-  opened_or_refused g fault header none told is = absurd (none_some fault (one None (Some fault) (With g (long_enough g none) header none) (found fault told is)))
+  pub opened_or_refused : (g : Geometry) (fault : OpenFault) → HasHeader g c → refused g c ≡ None → IsShownByBytes fault → IsRefused c fault → ⊥
+  opened_or_refused g fault header none shown is = absurd (none_some fault (one None (Some fault) (With g (long_enough g none) header none) (found fault shown is)))
     where
       none_some : (fault : OpenFault) → ◌≡◌ {A = Option OpenFault} None (Some fault) → ⊥
       none_some fault is = cc
 
-  pub recovers_or_refused : (g : Geometry) (x : State) (fault : OpenFault) → AreBytes c → recovered_state g c ≡ Some x → IsOfBytes fault → IsRefused c fault → ⊥
-  recovers_or_refused g x fault are stood = opened_or_refused g fault (head g c x are stood) (fine g c x are stood)
+  pub recovers_or_refused : (g : Geometry) (x : State) (fault : OpenFault) → AreBytes c → recovered_state g c ≡ Some x → IsShownByBytes fault → IsRefused c fault → ⊥
+  recovers_or_refused g x fault are stood = opened_or_refused g fault (has_header g c x are stood) (is_not_refused g c x are stood)

@@ -10,16 +10,16 @@ use Rattle.affinity.specs.Interval.{Interval, IsAffinityOf, interval}
 use Rattle.affinity.specs.Path.{Path}
 use Rattle.affinity.specs.declared.geometry.Geometry.{Geometry}
 use Rattle.arena.proofs.ArenaLemmas.{chained-listed}
-use Rattle.arena.proofs.Times.{times-append}
-use Rattle.arena.specs.Lists.{times}
-use Rattle.arena.specs.ArenaView.{IsParted, ArenaView, after_move, capacity_of, chain_at}
+use Rattle.arena.proofs.Counts.{count_of-append}
+use Rattle.arena.specs.Lists.{count_of}
+use Rattle.arena.specs.ArenaView.{IsPartitioned, ArenaView, after_move, capacity_of, chain_at}
 use Rattle.journal.specs.Journal.{JournalView}
 use Rattle.legal_runs.proofs.Apart.{apart_turned}
 use Rattle.legal_runs.proofs.Lists.{all_back, all_front, before_first}
-use Rattle.legal_runs.specs.Events.{give_back, out_with}
-use Rattle.legal_runs.specs.Laws.{AreApart}
+use Rattle.legal_runs.specs.Events.{give_back, find_in_flight}
+use Rattle.legal_runs.specs.Laws.{AreUnrelated}
 use Rattle.legal_runs.specs.CoreState.{Entry, CoreState, held, are_related_entries}
-use Rattle.messages.specs.Messages.{place}
+use Rattle.messages.specs.Messages.{path_of}
 use Rattle.messages.specs.declared.Msg.{Msg}
 use Rattle.messages.specs.declared.Reply.{Reply}
 use Rattle.messages.specs.declared.Reply.TheVariants.{Done}
@@ -27,17 +27,17 @@ use Rattle.parcel.proofs.Lending.{kind_of}
 use Rattle.parcel.proofs.Serving.{fits_where_lent}
 use Rattle.parcel.specs.Fits.{Fits, IsKindOf}
 use Rattle.parcel.specs.Run.{Shows}
-use Rattle.parcel.specs.Tree.{IsOut, RestoresAt, TreeView, in_tree}
+use Rattle.parcel.specs.Tree.{IsOut, RestoresAt, TreeView, tree_nodes}
 use Rattle.parcel.specs.declared.job.Done.{Done as Result}
 use Rattle.meaning.specs.Serial.{next_state, reply_to}
 use Rattle.scheduler.proofs.Answering.{entries_of, other_numbers}
 use Rattle.scheduler.proofs.Chains.{MovedSlot, slot_moved}
 use Rattle.scheduler.proofs.Returning.{out_is, return_core, return_state, returned_is_found, returned_is_placed, with_return}
-use Rattle.scheduler.proofs.Splits.{MapSplit, map_split, times-split}
+use Rattle.scheduler.proofs.Splits.{MapSplit, map_split, count_of-split}
 use Rattle.scheduler.proofs.Trees.{back_is_out}
 use Rattle.scheduler.specs.Jobs.{IsResultOf}
 use Rattle.scheduler.specs.Parts.{IsCore, IsPlaced, Parts, entry_of, parts, queued_of, core_state_in}
-use Rattle.scheduler.specs.Slots.{HasChains, SlotView, slots_on, place_at}
+use Rattle.scheduler.specs.Slots.{HasChains, SlotView, slots_on, slot_view_at}
 use Rattle.scheduler.specs.declared.slot.Slot.{Slot}
 use Rattle.run_queue.specs.RunQueue.{RunQueueView, has_number, has_slot, holds_at}
 
@@ -112,7 +112,7 @@ module _ (keeps : Type 0) (p : Parts) (k : IsCore keeps p) (before : List SlotVi
       map_joined (x ∷ xs) ys = ap (λ (es : List Entry). entry_of x ∷ es) (map_joined xs ys)
 
   alone : AllByRecursion (λ d. are_related_entries g (entry_of x) d ≡ false) (us ++ map entry_of behind)
-  alone = (before_first (λ (e d : Entry). are_related_entries g e d ≡ false) (apart_turned g) us (entry_of x) (map entry_of behind) (subst (AreApart g) held_is k.sound.apart)).0
+  alone = (before_first (λ (e d : Entry). are_related_entries g e d ≡ false) (apart_turned g) us (entry_of x) (map entry_of behind) (subst (AreUnrelated g) held_is k.sound.apart)).0
 
   all_out : AllByRecursion (IsPlaced g) (before ++ x ∷ behind)
   all_out = subst (AllByRecursion (IsPlaced g)) whole k.placed.in_flight
@@ -160,7 +160,7 @@ module _ (keeps : Type 0) (p : Parts) (k : IsCore keeps p) (before : List SlotVi
       ∙ ap (list_any t) (sym whole)
       ∙ sym (or_false (list_any t p.phases.ran) (list_any t p.phases.in_flight) (none_at n slot p.phases.ran others_ran))
       ∙ sym (or_false (list_any t p.phases.logged) (list_any t p.phases.ran || list_any t p.phases.in_flight) (none_at n slot p.phases.logged others_logged))
-      ∙ sym (k.holds (holds_at n slot)) ∙ has in
+      ∙ sym (k.queue_held (holds_at n slot)) ∙ has in
       elim (eqb_tells x.0 slot) [
         | inl e ↦ sym e.1
         | inr e ↦ absurd (true≢false (sym (and_parts (x.0 == slot) (n == n) here).0 ∙ e.0))
@@ -169,7 +169,7 @@ module _ (keeps : Type 0) (p : Parts) (k : IsCore keeps p) (before : List SlotVi
   pub number_is_held : list_any (has_number n) p.queue.held ≡ true
   number_is_held =
       let t : SlotView → Bool = λ (y : SlotView). has_number n (queued_of y) in
-      k.holds (has_number n)
+      k.queue_held (has_number n)
       ∙ (λ i. list_any t p.phases.logged || (list_any t p.phases.ran || (ap (list_any t) whole ∙ list_any-append t before (x ∷ behind)) i))
       ∙ (λ i. list_any t p.phases.logged || (list_any t p.phases.ran || (list_any t before || (eq-eqb n n refl i || list_any t behind))))
       ∙ all_true (list_any t p.phases.logged) (list_any t p.phases.ran) (list_any t before)
@@ -182,12 +182,12 @@ module _ (keeps : Type 0) (p : Parts) (k : IsCore keeps p) (before : List SlotVi
 
 -- ---- the call
 
-module _ (keeps : Type 0) (row : ArenaView Slot) (replies : List Reply) (tree : TreeView) (journal : JournalView) (queue : RunQueueView) (batch : List Msg) (next unlogged : ℕ)
-    (opened : TreeView) (since : List Msg) (is : HasChains row)
-    (k : IsCore keeps (parts row replies tree journal queue batch next unlogged opened since)) (done : Result)
-    (result : IsResultOf journal.geometry (core_state_in (parts row replies tree journal queue batch next unlogged opened since)) done) where
+module _ (keeps : Type 0) (arena : ArenaView Slot) (replies : List Reply) (tree : TreeView) (journal : JournalView) (queue : RunQueueView) (batch : List Msg) (next unlogged : ℕ)
+    (opened : TreeView) (since_open : List Msg) (is : HasChains arena)
+    (k : IsCore keeps (parts arena replies tree journal queue batch next unlogged opened since_open)) (done : Result)
+    (result : IsResultOf journal.geometry (core_state_in (parts arena replies tree journal queue batch next unlogged opened since_open)) done) where
   abbrev p : Parts
-  p = parts row replies tree journal queue batch next unlogged opened since
+  p = parts arena replies tree journal queue batch next unlogged opened since_open
 
   recovers : Recovers (done.ticket, done.message) p.phases.in_flight
   recovers = recovers_in (done.ticket, done.message) p.phases.in_flight result.is_out
@@ -201,79 +201,79 @@ module _ (keeps : Type 0) (row : ArenaView Slot) (replies : List Reply) (tree : 
   placed : IsPlaced journal.geometry x
   placed = returned_is_placed keeps p k recovers.before x recovers.behind recovers.whole
 
-  module _ (a : Interval) (at : IsAffinityOf journal.geometry (place journal.geometry done.message) a) where
+  module _ (a : Interval) (at : IsAffinityOf journal.geometry (path_of journal.geometry done.message) a) where
     number_same : a.number ≡ x.1.affinity.number
     number_same = ap (λ (i : Interval). i.number)
-        (at.interval ∙ ap (λ (m : Msg). interval journal.geometry (place journal.geometry m)) (sym message_is) ∙ sym placed.affinity.interval)
+        (at.interval ∙ ap (λ (m : Msg). interval journal.geometry (path_of journal.geometry m)) (sym message_is) ∙ sym placed.affinity.interval)
 
     pub back_is_held : list_any (has_number a.number) queue.held ≡ true
     back_is_held = ap (λ (m : ℕ). list_any (has_number m) queue.held) number_same ∙ number_is_held keeps p k recovers.before x recovers.behind recovers.whole
 
     pub back_fits : (q : Path) → IsAffinityOf tree.geometry q a → IsKindOf q done.parcels → Fits tree.geometry q done.parcels
     back_fits = subst (λ (h : Geometry). (q : Path) → IsAffinityOf h q a → IsKindOf q done.parcels → Fits h q done.parcels) (sym k.geometry)
-        (fits_where_lent at result.suits)
+        (fits_where_lent at result.runnable)
 
-    at_tree : IsAffinityOf tree.geometry (place journal.geometry done.message) a
-    at_tree = subst (λ (h : Geometry). IsAffinityOf h (place journal.geometry done.message) a) (sym k.geometry) at
+    at_tree : IsAffinityOf tree.geometry (path_of journal.geometry done.message) a
+    at_tree = subst (λ (h : Geometry). IsAffinityOf h (path_of journal.geometry done.message) a) (sym k.geometry) at
 
-    pub back_goes_in : ((q : Path) → IsAffinityOf tree.geometry q a → IsOut q (in_tree tree) → IsKindOf q done.parcels → ⊥) → ⊥
-    back_goes_in refused = refused (place journal.geometry done.message) at_tree
-        (subst (λ (m : Msg). IsOut (place journal.geometry m) (in_tree tree)) message_is
+    pub back_goes_in : ((q : Path) → IsAffinityOf tree.geometry q a → IsOut q (tree_nodes tree) → IsKindOf q done.parcels → ⊥) → ⊥
+    back_goes_in refused = refused (path_of journal.geometry done.message) at_tree
+        (subst (λ (m : Msg). IsOut (path_of journal.geometry m) (tree_nodes tree)) message_is
         (back_is_out journal.geometry (core_state_in p) k.sound (map entry_of recovers.before) (entry_of x) (map entry_of recovers.behind)
-        (out_is keeps p k recovers.before x recovers.behind recovers.whole) (in_tree tree) k.tree placed.affinity.path))
-        (kind_of journal.geometry (place journal.geometry done.message) done.parcels result.suits.fits)
+        (out_is keeps p k recovers.before x recovers.behind recovers.whole) (tree_nodes tree) k.tree placed.affinity.path))
+        (kind_of journal.geometry (path_of journal.geometry done.message) done.parcels result.runnable.fits)
 
     module _ (slot : ℕ) (has : list_any (holds_at a.number slot) queue.held ≡ true) where
       slot_is : slot ≡ x.0
       slot_is = holder_is keeps p k recovers.before x recovers.behind recovers.whole slot (ap (λ (m : ℕ). list_any (holds_at m slot) queue.held) (sym number_same) ∙ has)
 
-      split : MapSplit (place_at row replies) (chain_at row 1) recovers.before x recovers.behind
-      split = map_split (place_at row replies) (chain_at row 1) recovers.before x recovers.behind recovers.whole
+      split : MapSplit (slot_view_at arena replies) (chain_at arena 1) recovers.before x recovers.behind
+      split = map_split (slot_view_at arena replies) (chain_at arena 1) recovers.before x recovers.behind recovers.whole
 
       at_slot : split.at ≡ slot
       at_slot = ap (λ (y : SlotView). y.0) split.at_is ∙ sym slot_is
 
-      pub back_low : slot < capacity_of row
+      pub back_low : slot < capacity_of arena
       back_low =
-          let some = chained-listed row split.at 1 (subst (λ xs. 0 < times split.at xs) (sym split.whole) (times-split split.at split.front split.back)) in
-          let all = times-append split.at row.free (concat row.chains) in
-          subst (λ n. n < capacity_of row) at_slot (is.parted.within split.at (omega (arith, some, all)))
+          let some = chained-listed arena split.at 1 (subst (λ xs. 0 < count_of split.at xs) (sym split.whole) (count_of-split split.at split.front split.back)) in
+          let all = count_of-append split.at arena.free (concat arena.chains) in
+          subst (λ n. n < capacity_of arena) at_slot (is.partitioned.within split.at (omega (arith, some, all)))
 
-      module _ (long : length replies ≡ capacity_of row) (reply : Reply) (reply_is : reply ≡ done.reply) (now : TreeView) (same_geometry : now.geometry ≡ tree.geometry)
-          (puts : (q : Path) → IsAffinityOf tree.geometry q a → RestoresAt tree.geometry q done.parcels (in_tree tree) (in_tree now)) where
-        abbrev told : List Reply
-        told = slice_set replies slot reply
+      module _ (long : length replies ≡ capacity_of arena) (reply : Reply) (reply_is : reply ≡ done.reply) (now : TreeView) (same_geometry : now.geometry ≡ tree.geometry)
+          (puts : (q : Path) → IsAffinityOf tree.geometry q a → RestoresAt tree.geometry q done.parcels (tree_nodes tree) (tree_nodes now)) where
+        abbrev new_replies : List Reply
+        new_replies = slice_set replies slot reply
 
         abbrev y : SlotView
         y = (x.0, x.1, done.reply)
 
-        moved_slot : MovedSlot row (after_move row slot 2) replies told 1 2 recovers.before x recovers.behind
-        moved_slot = slot_moved row replies told is 1 2 (omega arith) (λ same. omega (arith, same)) recovers.before x recovers.behind recovers.whole
+        moved_slot : MovedSlot arena (after_move arena slot 2) replies new_replies 1 2 recovers.before x recovers.behind
+        moved_slot = slot_moved arena replies new_replies is 1 2 (omega arith) (λ same. omega (arith, same)) recovers.before x recovers.behind recovers.whole
             (λ j other. get_or-set_other replies slot j reply Done (λ same. other (same ∙ slot_is))) slot slot_is
 
         there : slot < length replies
         there = subst (λ n. slot < n) (sym long) back_low
 
-        told_here : get_or told x.0 Done ≡ done.reply
-        told_here = ap (λ n. get_or told n Done) (sym slot_is) ∙ get_or-set_same replies slot reply Done there ∙ reply_is
+        reply_here : get_or new_replies x.0 Done ≡ done.reply
+        reply_here = ap (λ n. get_or new_replies n Done) (sym slot_is) ∙ get_or-set_same replies slot reply Done there ∙ reply_is
 
         abbrev after : Parts
-        after = parts (after_move row slot 2) told now journal queue batch next unlogged opened since
+        after = parts (after_move arena slot 2) new_replies now journal queue batch next unlogged opened since_open
 
-        joined : slots_on (after_move row slot 2) told 2 ≡ p.phases.ran ++ y ∷ []
-        joined = moved_slot.joined ∙ (λ j. p.phases.ran ++ (x.0, x.1, told_here j) ∷ [])
+        joined : slots_on (after_move arena slot 2) new_replies 2 ≡ p.phases.ran ++ y ∷ []
+        joined = moved_slot.joined ∙ (λ j. p.phases.ran ++ (x.0, x.1, reply_here j) ∷ [])
 
-        pub back_size : capacity_of (after_move row slot 2) ≡ capacity_of row
+        pub back_size : capacity_of (after_move arena slot 2) ≡ capacity_of arena
         back_size = ap (λ (vs : List (Option Slot)). length vs) moved_slot.values
 
-        pub back_long : length told ≡ capacity_of (after_move row slot 2)
+        pub back_long : length new_replies ≡ capacity_of (after_move arena slot 2)
         back_long = length-set replies slot reply ∙ long ∙ sym back_size
 
-        pub back_ran : (ran : ℕ) → ran ≡ length (slots_on row replies 2) → ran + 1 ≡ length (slots_on (after_move row slot 2) told 2)
+        pub back_ran : (ran : ℕ) → ran ≡ length (slots_on arena replies 2) → ran + 1 ≡ length (slots_on (after_move arena slot 2) new_replies 2)
         back_ran ran count = let now_is = ap (λ (ps : List SlotView). length ps) joined ∙ length-append p.phases.ran (y ∷ []) in omega (arith, count, now_is)
 
-        pub back_chains : IsParted (after_move row slot 2) → HasChains (after_move row slot 2)
-        back_chains parted = record { parted = parted; four = moved_slot.four ∙ is.four }
+        pub back_chains : IsPartitioned (after_move arena slot 2) → HasChains (after_move arena slot 2)
+        back_chains partitioned = record { partitioned = partitioned; four = moved_slot.four ∙ is.four }
 
         after_is : after ≡ with_return p (recovers.before ++ recovers.behind) y now
         after_is = λ i. record (with_return p (recovers.before ++ recovers.behind) y now) {
@@ -287,31 +287,31 @@ module _ (keeps : Type 0) (row : ArenaView Slot) (replies : List Reply) (tree : 
           capacity = back_size i;
         }
 
-        put : RestoresAt journal.geometry (place journal.geometry x.1.message) done.parcels (in_tree tree) (in_tree now)
-        put = subst (λ (m : Msg). RestoresAt journal.geometry (place journal.geometry m) done.parcels (in_tree tree) (in_tree now)) (sym message_is)
-            (subst (λ (h : Geometry). RestoresAt h (place journal.geometry done.message) done.parcels (in_tree tree) (in_tree now)) k.geometry
-            (puts (place journal.geometry done.message) at_tree))
+        put : RestoresAt journal.geometry (path_of journal.geometry x.1.message) done.parcels (tree_nodes tree) (tree_nodes now)
+        put = subst (λ (m : Msg). RestoresAt journal.geometry (path_of journal.geometry m) done.parcels (tree_nodes tree) (tree_nodes now)) (sym message_is)
+            (subst (λ (h : Geometry). RestoresAt h (path_of journal.geometry done.message) done.parcels (tree_nodes tree) (tree_nodes now)) k.geometry
+            (puts (path_of journal.geometry done.message) at_tree))
 
-        fits : Fits journal.geometry (place journal.geometry x.1.message) done.parcels
-        fits = subst (λ (m : Msg). Fits journal.geometry (place journal.geometry m) done.parcels) (sym message_is) result.suits.fits
+        fits : Fits journal.geometry (path_of journal.geometry x.1.message) done.parcels
+        fits = subst (λ (m : Msg). Fits journal.geometry (path_of journal.geometry m) done.parcels) (sym message_is) result.runnable.fits
 
-        shows : Shows journal.geometry (place journal.geometry x.1.message) result.standing done.parcels (next_state journal.geometry (core_state_in p).committed x.1.message)
-        shows = subst (λ (m : Msg). Shows journal.geometry (place journal.geometry m) result.standing done.parcels
+        shows : Shows journal.geometry (path_of journal.geometry x.1.message) result.standing done.parcels (next_state journal.geometry (core_state_in p).committed x.1.message)
+        shows = subst (λ (m : Msg). Shows journal.geometry (path_of journal.geometry m) result.standing done.parcels
             (next_state journal.geometry (core_state_in p).committed m)) (sym message_is) result.shows
 
-        reply_told : done.reply ≡ reply_to journal.geometry (core_state_in p).committed x.1.message
-        reply_told = result.reply ∙ ap (reply_to journal.geometry (core_state_in p).committed) (sym message_is)
+        reply_same : done.reply ≡ reply_to journal.geometry (core_state_in p).committed x.1.message
+        reply_same = result.reply ∙ ap (reply_to journal.geometry (core_state_in p).committed) (sym message_is)
 
         pub back_core : IsCore keeps after
         back_core = subst (IsCore keeps) (sym after_is)
-            (return_core keeps p k recovers.before x recovers.behind recovers.whole done.reply reply_told now (same_geometry ∙ k.geometry) result.standing done.parcels put fits shows)
+            (return_core keeps p k recovers.before x recovers.behind recovers.whole done.reply reply_same now (same_geometry ∙ k.geometry) result.standing done.parcels put fits shows)
 
-        pub back_state : (found : Entry × List Entry) × (out_with (core_state_in p) done.ticket ≡ Some found) × (found.0 ≡ (done.ticket, done.message))
+        pub back_state : (found : Entry × List Entry) × (find_in_flight (core_state_in p) done.ticket ≡ Some found) × (found.0 ≡ (done.ticket, done.message))
             × (core_state_in after ≡ give_back journal.geometry (core_state_in p) found)
         back_state = (
           (entry_of x, map entry_of (recovers.before ++ recovers.behind)),
-          ap (out_with (core_state_in p)) (sym (ap (λ (e : Entry). e.0) recovers.is)) ∙ returned_is_found keeps p k recovers.before x recovers.behind recovers.whole,
+          ap (find_in_flight (core_state_in p)) (sym (ap (λ (e : Entry). e.0) recovers.is)) ∙ returned_is_found keeps p k recovers.before x recovers.behind recovers.whole,
           recovers.is,
           ap core_state_in after_is
-              ∙ return_state keeps p k recovers.before x recovers.behind recovers.whole done.reply reply_told now (same_geometry ∙ k.geometry) result.standing done.parcels put fits shows,
+              ∙ return_state keeps p k recovers.before x recovers.behind recovers.whole done.reply reply_same now (same_geometry ∙ k.geometry) result.standing done.parcels put fits shows,
         )

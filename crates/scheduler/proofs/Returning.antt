@@ -9,15 +9,15 @@ use Rattle.legal_runs.proofs.Lists.{all_back, all_front, all_join, before_front,
 use Rattle.legal_runs.proofs.Moves.{Backs}
 use Rattle.legal_runs.proofs.Sound.{move_sound}
 use Rattle.legal_runs.specs.Eligible.{pick}
-use Rattle.legal_runs.specs.Events.{give_back, out_with}
-use Rattle.legal_runs.specs.Laws.{AreOnce, IsSoundCoreState}
+use Rattle.legal_runs.specs.Events.{give_back, find_in_flight}
+use Rattle.legal_runs.specs.Laws.{HaveDistinctTickets, IsSoundCoreState}
 use Rattle.legal_runs.specs.CoreState.{Entry}
-use Rattle.messages.specs.Messages.{place}
+use Rattle.messages.specs.Messages.{path_of}
 use Rattle.messages.specs.declared.Reply.{Reply}
 use Rattle.parcel.specs.Fits.{Fits}
 use Rattle.parcel.specs.Holding.{TreeHolds}
 use Rattle.parcel.specs.Run.{Shows}
-use Rattle.parcel.specs.Tree.{RestoresAt, TreeView, in_tree}
+use Rattle.parcel.specs.Tree.{RestoresAt, TreeView, tree_nodes}
 use Rattle.parcel.specs.declared.parts.Parcels.{Parcels}
 use Rattle.parcel.specs.declared.parts.Standing.{Standing}
 use Rattle.meaning.specs.Serial.{next_state, reply_to}
@@ -55,18 +55,18 @@ module _ (keeps : Type 0) (p : Parts) (k : IsCore keeps p) (before : List SlotVi
   pub returned_is_placed : IsPlaced p.journal.geometry x
   returned_is_placed = (all_back (IsPlaced p.journal.geometry) before (x ∷ behind) all_out).0
 
-  pub returned_is_found : out_with (core_state_in p) x.1.ticket ≡ Some (entry_of x, map entry_of (before ++ behind))
+  pub returned_is_found : find_in_flight (core_state_in p) x.1.ticket ≡ Some (entry_of x, map entry_of (before ++ behind))
   returned_is_found =
       ap (pick (λ (e : Entry). e.0 == x.1.ticket)) out_is
       ∙ picked_at (map entry_of before) (entry_of x) (map entry_of behind)
       (before_one (λ (e d : Entry). e.0 ≡ d.0 → ⊥) (map entry_of before) (entry_of x) (map entry_of behind)
-      (subst AreOnce out_is (before_front (λ (e d : Entry). e.0 ≡ d.0 → ⊥) (core_state_in p).in_flight (core_state_in p).waiting k.sound.once)))
+      (subst HaveDistinctTickets out_is (before_front (λ (e d : Entry). e.0 ≡ d.0 → ⊥) (core_state_in p).in_flight (core_state_in p).waiting k.sound.once)))
       ∙ ap (λ es. Some (entry_of x, es)) (sym (map-append entry_of before behind))
 
-  module _ (reply : Reply) (told : reply ≡ reply_to p.journal.geometry (core_state_in p).committed x.1.message) (tree : TreeView) (geometry : tree.geometry ≡ p.journal.geometry)
-      (t : Standing) (l : Parcels) (put : RestoresAt p.journal.geometry (place p.journal.geometry x.1.message) l (in_tree p.tree) (in_tree tree))
-      (fits : Fits p.journal.geometry (place p.journal.geometry x.1.message) l)
-      (shows : Shows p.journal.geometry (place p.journal.geometry x.1.message) t l (next_state p.journal.geometry (core_state_in p).committed x.1.message)) where
+  module _ (reply : Reply) (reply_is : reply ≡ reply_to p.journal.geometry (core_state_in p).committed x.1.message) (tree : TreeView) (geometry : tree.geometry ≡ p.journal.geometry)
+      (t : Standing) (l : Parcels) (put : RestoresAt p.journal.geometry (path_of p.journal.geometry x.1.message) l (tree_nodes p.tree) (tree_nodes tree))
+      (fits : Fits p.journal.geometry (path_of p.journal.geometry x.1.message) l)
+      (shows : Shows p.journal.geometry (path_of p.journal.geometry x.1.message) t l (next_state p.journal.geometry (core_state_in p).committed x.1.message)) where
     abbrev y : SlotView
     y = (x.0, x.1, reply)
 
@@ -78,7 +78,7 @@ module _ (keeps : Type 0) (p : Parts) (k : IsCore keeps p) (before : List SlotVi
 
     pub return_state : core_state_in after ≡ give_back p.journal.geometry (core_state_in p) found
     return_state = λ i. record (core_state_in after) {
-      ran = (map-append replied_of p.phases.ran (y ∷ []) ∙ (λ j. map replied_of p.phases.ran ++ (x.1.ticket, x.1.message, told j) ∷ [])) i;
+      ran = (map-append replied_of p.phases.ran (y ∷ []) ∙ (λ j. map replied_of p.phases.ran ++ (x.1.ticket, x.1.message, reply_is j) ∷ [])) i;
     }
 
     pub return_core : IsCore keeps after
@@ -103,20 +103,20 @@ module _ (keeps : Type 0) (p : Parts) (k : IsCore keeps p) (before : List SlotVi
             logged = k.placed.logged;
           };
           queue_geometry = k.queue_geometry;
-          seats = k.seats;
-          waits = k.waits;
-          holds = λ test. k.holds test ∙ any_back test p.phases before x y behind whole refl;
+          queue_slots = k.queue_slots;
+          queue_waiting = k.queue_waiting;
+          queue_held = λ test. k.queue_held test ∙ any_back test p.phases before x y behind whole refl;
           unlogged_is = omega (arith, unlogged_was, unlogged_is, out_was, out_now, ran_now);
           sound = subst (IsSoundCoreState p.journal.geometry) (sym return_state)
               (move_sound p.journal.geometry (core_state_in p) _ _ (Backs x.1.ticket found returned_is_found refl refl) k.sound);
           geometry = geometry;
-          tree = subst (λ s. TreeHolds p.journal.geometry (is_below p.journal.geometry (map entry_of (before ++ behind))) (in_tree tree) s)
+          tree = subst (λ s. TreeHolds p.journal.geometry (is_below p.journal.geometry (map entry_of (before ++ behind))) (tree_nodes tree) s)
               (sym (ap (λ as'. reached p.journal.geometry (record (core_state_in after) { ran = as' })) (map-append replied_of p.phases.ran (y ∷ []))
               ∙ back_reaches p.journal.geometry (core_state_in p).committed (map replied_of p.phases.ran) (replied_of y)))
-              (subst (λ es. TreeHolds p.journal.geometry (is_below p.journal.geometry es) (in_tree tree) (next_state p.journal.geometry (reached p.journal.geometry (core_state_in p)) x.1.message))
+              (subst (λ es. TreeHolds p.journal.geometry (is_below p.journal.geometry es) (tree_nodes tree) (next_state p.journal.geometry (reached p.journal.geometry (core_state_in p)) x.1.message))
               (sym (map-append entry_of before behind))
-              (back_tree p.journal.geometry (core_state_in p) k.sound (map entry_of before) (entry_of x) (map entry_of behind) out_is (in_tree p.tree) k.tree
-              t l (in_tree tree) put fits shows returned_is_placed.message));
+              (back_tree p.journal.geometry (core_state_in p) k.sound (map entry_of before) (entry_of x) (map entry_of behind) out_is (tree_nodes p.tree) k.tree
+              t l (tree_nodes tree) put fits shows returned_is_placed.message));
           is_committed = k.is_committed;
           recovers = k.recovers;
           no_doubt = k.no_doubt;

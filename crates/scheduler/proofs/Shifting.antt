@@ -1,9 +1,9 @@
--- Those that ran: one after the other on their chain, and moved to the chain of those that are logged.
+-- The messages that ran: one after the other on their chain, and moved to the chain of those that are logged.
 use Rattle.std.proofs.Common.{◌≡◌, ◌≢◌, ℕ, zero, suc, ◌+◌, ◌<◌, List, [], ◌∷◌, ◌++◌, length, take, drop, Some, None, refl, sym, ap, subst, ◌∙◌, arith, append_assoc}
 use Rattle.arena.specs.Lists.{first_of, without}
-use Rattle.arena.specs.ArenaView.{ArenaView, IsParted, after_move, chain_at, front_of}
+use Rattle.arena.specs.ArenaView.{ArenaView, IsPartitioned, after_move, chain_at, front_of}
 use Rattle.arena.proofs.ArenaLemmas.{chain-front}
-use Rattle.scheduler.proofs.Chains.{chain_joined, chain_left, chain_stays, four_moved, row_moved}
+use Rattle.scheduler.proofs.Chains.{chain_joined, chain_left, chain_stays, four_moved, arena_moved}
 use Rattle.scheduler.specs.Moving.{HasLogged}
 use Rattle.scheduler.specs.Slots.{HasChains}
 use Rattle.scheduler.specs.declared.slot.Slot.{Slot}
@@ -31,10 +31,10 @@ left_over (suc n) (x ∷ xs) low = left_over n xs (omega (arith, low))
 
 -- ---- what ran is logged
 
-pub none_logged : (row : ArenaView Slot) → HasChains row → HasLogged 0 row row
-none_logged row is = record {
+pub none_logged : (arena : ArenaView Slot) → HasChains arena → HasLogged 0 arena arena
+none_logged arena is = record {
   ran = refl;
-  logged = sym (append_none (chain_at row 3));
+  logged = sym (append_none (chain_at arena 3));
   waiting = refl;
   in_flight = refl;
   values = refl;
@@ -46,28 +46,28 @@ pub some_first : (xs : List ℕ) → 0 < length xs → first_of xs ≡ None → 
 some_first [] some none = omega (arith, some)
 some_first (x ∷ xs) some none = absurd (cc)
 
-pub first_is_there : (row : ArenaView Slot) → 0 < length (chain_at row 2) → front_of row 2 ≡ None → ⊥
-first_is_there row some none = some_first (chain_at row 2) some none
+pub first_is_there : (arena : ArenaView Slot) → 0 < length (chain_at arena 2) → front_of arena 2 ≡ None → ⊥
+first_is_there arena some none = some_first (chain_at arena 2) some none
 
-module _ (row : ArenaView Slot) (is : HasChains row) (i : ℕ) (first : front_of row 2 ≡ Some i) (parted : IsParted (after_move row i 3)) where
-  whole : chain_at row 2 ≡ [] ++ i ∷ without i (chain_at row 2)
-  whole = chain-front row i 2 is.parted first
+module _ (arena : ArenaView Slot) (is : HasChains arena) (i : ℕ) (first : front_of arena 2 ≡ Some i) (partitioned : IsPartitioned (after_move arena i 3)) where
+  whole : chain_at arena 2 ≡ [] ++ i ∷ without i (chain_at arena 2)
+  whole = chain-front arena i 2 is.partitioned first
 
-  there : 3 < length row.chains
+  there : 3 < length arena.chains
   there = let four = is.four in omega (arith, four)
 
   other : ◌≢◌ {A = ℕ} 3 2
   other same = omega (arith, same)
 
-  pub first_logged : HasLogged 1 row (after_move row i 3)
+  pub first_logged : HasLogged 1 arena (after_move arena i 3)
   first_logged = record {
-    ran = chain_left row is.parted i 2 3 there other [] (without i (chain_at row 2)) whole ∙ sym (ap (λ (l : List ℕ). drop 1 l) whole);
-    logged = chain_joined row is.parted i 2 3 there other [] (without i (chain_at row 2)) whole ∙ sym (ap (λ (l : List ℕ). chain_at row 3 ++ take 1 l) whole);
-    waiting = chain_stays row is.parted i 2 3 there other [] (without i (chain_at row 2)) whole 0 (λ same. omega (arith, same)) (λ same. omega (arith, same));
-    in_flight = chain_stays row is.parted i 2 3 there other [] (without i (chain_at row 2)) whole 1 (λ same. omega (arith, same)) (λ same. omega (arith, same));
-    values = ap (λ (r : ArenaView Slot). r.values) (row_moved row is.parted i 2 3 there other [] (without i (chain_at row 2)) whole);
-    free = ap (λ (r : ArenaView Slot). r.free) (row_moved row is.parted i 2 3 there other [] (without i (chain_at row 2)) whole);
-    chains = record { parted = parted; four = four_moved row is.parted i 2 3 there other [] (without i (chain_at row 2)) whole ∙ is.four };
+    ran = chain_left arena is.partitioned i 2 3 there other [] (without i (chain_at arena 2)) whole ∙ sym (ap (λ (l : List ℕ). drop 1 l) whole);
+    logged = chain_joined arena is.partitioned i 2 3 there other [] (without i (chain_at arena 2)) whole ∙ sym (ap (λ (l : List ℕ). chain_at arena 3 ++ take 1 l) whole);
+    waiting = chain_stays arena is.partitioned i 2 3 there other [] (without i (chain_at arena 2)) whole 0 (λ same. omega (arith, same)) (λ same. omega (arith, same));
+    in_flight = chain_stays arena is.partitioned i 2 3 there other [] (without i (chain_at arena 2)) whole 1 (λ same. omega (arith, same)) (λ same. omega (arith, same));
+    values = ap (λ (r : ArenaView Slot). r.values) (arena_moved arena is.partitioned i 2 3 there other [] (without i (chain_at arena 2)) whole);
+    free = ap (λ (r : ArenaView Slot). r.free) (arena_moved arena is.partitioned i 2 3 there other [] (without i (chain_at arena 2)) whole);
+    chains = record { partitioned = partitioned; four = four_moved arena is.partitioned i 2 3 there other [] (without i (chain_at arena 2)) whole ∙ is.four };
   }
 
 pub one_more_logged : (n : ℕ) (a b c : ArenaView Slot) → HasLogged n a b → HasLogged 1 b c → HasLogged (n + 1) a c

@@ -3,28 +3,28 @@ use Rattle.std.proofs.Common.{◌≡◌, ◌≢◌, ℕ, ◌≤◌, ◌<◌, Lis
 use Rattle.std.proofs.lemmas.Bool.{eq-eqb}
 use Rattle.std.proofs.lemmas.Bool.Decides.{eqb_tells}
 use Rattle.std.proofs.lemmas.List.Elements.{filter-append}
-use Rattle.arena.specs.Lists.{times, without}
-use Rattle.arena.proofs.Times.{times-append, times-cons_is, times-cons_other, times-cons_same, without-absent}
+use Rattle.arena.specs.Lists.{count_of, without}
+use Rattle.arena.proofs.Counts.{count_of-append, count_of-cons_is, count_of-cons_other, count_of-cons_same, without-absent}
 
 -- a list without one that occurs in it once
-pub without-split : (i : ℕ) (xs ys : List ℕ) → times i (xs ++ i ∷ ys) ≤ 1 → without i (xs ++ i ∷ ys) ≡ xs ++ ys
+pub without-split : (i : ℕ) (xs ys : List ℕ) → count_of i (xs ++ i ∷ ys) ≤ 1 → without i (xs ++ i ∷ ys) ≡ xs ++ ys
 without-split i xs ys once =
-    let all = times-append i xs (i ∷ ys) in
-    let same = times-cons_same i ys in
+    let all = count_of-append i xs (i ∷ ys) in
+    let same = count_of-cons_same i ys in
     let head : without i (i ∷ ys) ≡ without i ys = rw (eq-eqb i i refl) refl in
     filter-append _ xs (i ∷ ys)
     ∙ (λ k. without-absent i xs (omega (arith, once, all, same)) k
     ++ (head ∙ without-absent i ys (omega (arith, once, all, same))) k)
 
-pub times-split : (i : ℕ) (xs ys : List ℕ) → 0 < times i (xs ++ i ∷ ys)
-times-split i xs ys = let all = times-append i xs (i ∷ ys) in let same = times-cons_same i ys in omega (arith, all, same)
+pub count_of-split : (i : ℕ) (xs ys : List ℕ) → 0 < count_of i (xs ++ i ∷ ys)
+count_of-split i xs ys = let all = count_of-append i xs (i ∷ ys) in let same = count_of-cons_same i ys in omega (arith, all, same)
 
 -- two ways to make items of numbers that agree but for one number, which isn't in the list
-pub map_same : {X : Type 0} (f h : ℕ → X) (i : ℕ) (xs : List ℕ) → ((j : ℕ) → j ≢ i → h j ≡ f j) → times i xs ≡ 0 → map h xs ≡ map f xs
+pub map_same : {X : Type 0} (f h : ℕ → X) (i : ℕ) (xs : List ℕ) → ((j : ℕ) → j ≢ i → h j ≡ f j) → count_of i xs ≡ 0 → map h xs ≡ map f xs
 map_same f h i [] agree none = refl
 map_same f h i (x ∷ xs) agree none = elim (eqb_tells x i) [
-  | inl e ↦ absurd (let some = times-cons_is i x xs e.1 in omega (arith, none, some))
-  | inr n ↦ (λ k. agree x n.1 k ∷ map_same f h i xs agree (sym (times-cons_other i x xs n.1) ∙ none) k)
+  | inl e ↦ absurd (let some = count_of-cons_is i x xs e.1 in omega (arith, none, some))
+  | inr n ↦ (λ k. agree x n.1 k ∷ map_same f h i xs agree (sym (count_of-cons_other i x xs n.1) ∙ none) k)
 ]
 
 -- a list of items that are made of numbers, cut at one of them

@@ -8,30 +8,30 @@ use Rattle.legal_runs.proofs.Outs.{event_sees}
 use Rattle.legal_runs.specs.Events.{Event, MachineState, IsAllowed}
 use Rattle.legal_runs.specs.Laws.{IsSoundCoreState}
 use Rattle.legal_runs.specs.CoreState.{Entry, CoreState}
-use Rattle.messages.specs.Messages.{place}
+use Rattle.messages.specs.Messages.{path_of}
 use Rattle.parcel.proofs.SerialRuns.{serial_run}
-use Rattle.parcel.specs.Fits.{Suits}
+use Rattle.parcel.specs.Fits.{IsRunnable}
 use Rattle.parcel.specs.Run.{JobView, IsJobRun, Shows}
 use Rattle.parcel.specs.RunLaws.{IsSerialStepOf}
 use Rattle.parcel.specs.declared.job.Done.{Done}
 use Rattle.meaning.proofs.Agree.{agree-sym, agree-trans}
 use Rattle.meaning.proofs.Frame.{reads_only}
 use Rattle.meaning.specs.Serial.{next_state, reply_to}
-use Rattle.meaning.specs.Shares.{AgreeOn}
+use Rattle.meaning.specs.Subtrees.{AgreeOn}
 use Rattle.scheduler.specs.Jobs.{IsJobOf, IsResultOf}
 
 -- what a message in flight can read of the committed state stays
 event_leaves : (g : Geometry) (e : Entry) (old : MachineState) (event : Event) → IsAllowed g old event → IsSoundCoreState g old.core
-    → Contains old.core.in_flight e → AgreeOn g (are_related (place g e.1)) event.state_after.core.committed old.core.committed
+    → Contains old.core.in_flight e → AgreeOn g (are_related (path_of g e.1)) event.state_after.core.committed old.core.committed
 event_leaves g e old event allowed sound there = event_sees g old event e allowed sound (in_contained old.core.in_flight e there)
 
 pub ran_gives : (g : Geometry) (w : CoreState) (job : JobView) (done : Done) → IsJobOf g w job → IsJobRun job done → IsResultOf g w done
 ran_gives g w job done is ran = subst (λ (h : Geometry). IsResultOf h w done) is.geometry (record {
   is_out = subst (λ e. Contains w.in_flight e) (λ i. (sym ran.ticket i, sym ran.message i)) is.is_out;
-  suits = subst (λ m. Suits job.geometry m done.parcels) (sym ran.message) ran.suits;
+  runnable = subst (λ m. IsRunnable job.geometry m done.parcels) (sym ran.message) ran.runnable;
   reply = serial.reply ∙ ap (reply_to job.geometry w.committed) (sym ran.message);
   standing = job.standing;
-  shows = subst (λ m. Shows job.geometry (place job.geometry m) job.standing done.parcels (next_state job.geometry w.committed m)) (sym ran.message) serial.shows;
+  shows = subst (λ m. Shows job.geometry (path_of job.geometry m) job.standing done.parcels (next_state job.geometry w.committed m)) (sym ran.message) serial.shows;
 })
   where
     serial : IsSerialStepOf job done w.committed
@@ -43,7 +43,7 @@ job_stays g old event job allowed sound is there = record {
   geometry = is.geometry;
   is_out = there;
   lent = agree-trans is.lent
-      (subst (λ (h : Geometry). AgreeOn h (are_related (place h job.message)) old.core.committed event.state_after.core.committed) (sym is.geometry)
+      (subst (λ (h : Geometry). AgreeOn h (are_related (path_of h job.message)) old.core.committed event.state_after.core.committed) (sym is.geometry)
       (agree-sym (event_leaves g (job.ticket, job.message) old event allowed sound is.is_out)));
 }
 
@@ -51,13 +51,13 @@ pub result_stays : (g : Geometry) (old : MachineState) (event : Event) (done : D
     → Contains event.state_after.core.in_flight (done.ticket, done.message) → IsResultOf g event.state_after.core done
 result_stays g old event done allowed sound is there = record {
   is_out = there;
-  suits = is.suits;
+  runnable = is.runnable;
   reply = is.reply ∙ same.0;
   standing = is.standing;
   shows = agree-trans is.shows same.1;
 }
   where
     same : (reply_to g old.core.committed done.message ≡ reply_to g event.state_after.core.committed done.message)
-        × AgreeOn g (are_related (place g done.message)) (next_state g old.core.committed done.message) (next_state g event.state_after.core.committed done.message)
-    same = reads_only g (are_related (place g done.message)) old.core.committed event.state_after.core.committed done.message
+        × AgreeOn g (are_related (path_of g done.message)) (next_state g old.core.committed done.message) (next_state g event.state_after.core.committed done.message)
+    same = reads_only g (are_related (path_of g done.message)) old.core.committed event.state_after.core.committed done.message
         (agree-sym (event_leaves g (done.ticket, done.message) old event allowed sound is.is_out)) (λ q r. r)

@@ -7,18 +7,18 @@ use Rattle.std.proofs.lemmas.List.{take-append-drop}
 use Rattle.std.proofs.lemmas.List.Folds.{list_any-append}
 use Rattle.affinity.proofs.Paths.{unrelated_below, unrelated_turned}
 use Rattle.affinity.specs.Interval.{IsPath}
-use Rattle.affinity.specs.Path.{Path, are_related, begins}
+use Rattle.affinity.specs.Path.{Path, are_related, is_prefix}
 use Rattle.affinity.specs.declared.geometry.Geometry.{Geometry}
 use Rattle.legal_runs.specs.Eligible.{next_eligible}
 use Rattle.legal_runs.specs.Events.{log}
-use Rattle.legal_runs.specs.Laws.{IsSoundCoreState, AreApart}
+use Rattle.legal_runs.specs.Laws.{IsSoundCoreState, AreUnrelated}
 use Rattle.legal_runs.specs.CoreState.{Entry, Replied, CoreState, entries, held, are_related_entries}
 use Rattle.legal_runs.proofs.Apart.{apart_turned, entries-append, granted_is_free}
 use Rattle.legal_runs.proofs.Lists.{all_back, all_front, all_weaker, before_back, before_first, before_one}
 use Rattle.legal_runs.proofs.Outs.{entries_leave}
 use Rattle.legal_runs.proofs.Sound.{row_of}
-use Rattle.legal_runs.proofs.SerialReplies.{fold-append}
-use Rattle.messages.specs.Messages.{IsMessage, place}
+use Rattle.legal_runs.proofs.SerialReplies.{state_after_all-append}
+use Rattle.messages.specs.Messages.{IsMessage, path_of}
 use Rattle.parcel.proofs.Holding.{can_be_lent, holds_alike, lent_holds, lent_shows, place_is_out, restored_holds}
 use Rattle.parcel.specs.Fits.{Fits}
 use Rattle.parcel.specs.Holding.{IsApart, TreeHolds, with_place}
@@ -30,21 +30,22 @@ use Rattle.parcel.specs.declared.parts.Standing.{Standing}
 use Rattle.meaning.proofs.Agree.{agree-sym, agree-trans}
 use Rattle.meaning.proofs.Frame.{reads_only}
 use Rattle.meaning.specs.Order.{messages}
-use Rattle.meaning.specs.Serial.{fold, next_state}
-use Rattle.meaning.specs.Shares.{AgreeOn}
+use Rattle.meaning.specs.Serial.{state_after_all, next_state}
+use Rattle.meaning.specs.Subtrees.{AgreeOn}
 use Rattle.meaning.specs.State.{State}
 use Rattle.scheduler.specs.Parts.{is_below, reached}
 
 -- a place that is unrelated to those of some messages is unrelated to all below them
-pub apart_below : (g : Geometry) (e : Entry) (es : List Entry) → AllByRecursion (λ d. are_related_entries g e d ≡ false) es → IsApart (place g e.1) (is_below g es)
+pub apart_below : (g : Geometry) (e : Entry) (es : List Entry) → AllByRecursion (λ d. are_related_entries g e d ≡ false) es → IsApart (path_of g e.1) (is_below g es)
 apart_below g e [] apart q below = absurd (false_is below)
   where
     false_is : false ≡ true → ⊥
     false_is h = true≢false (sym h)
 apart_below g e (d ∷ es) apart q below =
-    ⊎_elim (λ (here : begins (place g d.1) q ≡ true). unrelated_turned q (place g e.1) (unrelated_below (place g d.1) (place g e.1) q (unrelated_turned (place g e.1) (place g d.1) apart.0) here))
+    ⊎_elim (λ (here : is_prefix (path_of g d.1) q ≡ true). unrelated_turned q (path_of g e.1)
+    (unrelated_below (path_of g d.1) (path_of g e.1) q (unrelated_turned (path_of g e.1) (path_of g d.1) apart.0) here))
     (λ there. apart_below g e es apart.1 q there)
-    (or_cases (begins (place g d.1) q) (is_below g es q) below)
+    (or_cases (is_prefix (path_of g d.1) q) (is_below g es q) below)
 
 or_nothing : (b : Bool) → (b || false) ≡ b
 or_nothing true = refl
@@ -56,11 +57,11 @@ or_turned true false = refl
 or_turned false b = sym (or_nothing b)
 
 -- one place more, and one fewer
-pub below_push : (g : Geometry) (es : List Entry) (e : Entry) (q : Path) → with_place (place g e.1) (is_below g es) q ≡ is_below g (es ++ e ∷ []) q
+pub below_push : (g : Geometry) (es : List Entry) (e : Entry) (q : Path) → with_place (path_of g e.1) (is_below g es) q ≡ is_below g (es ++ e ∷ []) q
 below_push g es e q =
-    or_turned (begins (place g e.1) q) (is_below g es q)
-    ∙ ap (λ b. is_below g es q || b) (sym (or_nothing (begins (place g e.1) q)))
-    ∙ sym (list_any-append (λ (e : Entry). begins (place g e.1) q) es (e ∷ []))
+    or_turned (is_prefix (path_of g e.1) q) (is_below g es q)
+    ∙ ap (λ b. is_below g es q || b) (sym (or_nothing (is_prefix (path_of g e.1) q)))
+    ∙ sym (list_any-append (λ (e : Entry). is_prefix (path_of g e.1) q) es (e ∷ []))
 
 or_middle : (a b c : Bool) → (a || (b || c)) ≡ (b || (a || c))
 or_middle true true c = refl
@@ -68,9 +69,9 @@ or_middle true false c = refl
 or_middle false b c = refl
 
 pub below_cut : (g : Geometry) (before : List Entry) (e : Entry) (behind : List Entry) (q : Path)
-    → is_below g (before ++ e ∷ behind) q ≡ with_place (place g e.1) (is_below g (before ++ behind)) q
+    → is_below g (before ++ e ∷ behind) q ≡ with_place (path_of g e.1) (is_below g (before ++ behind)) q
 below_cut g before e behind q =
-    let t : Entry → Bool = λ (e : Entry). begins (place g e.1) q in
+    let t : Entry → Bool = λ (e : Entry). is_prefix (path_of g e.1) q in
     list_any-append t before (e ∷ behind) ∙ or_middle (list_any t before) (t e) (list_any t behind)
     ∙ ap (λ b. t e || b) (sym (list_any-append t before behind))
 
@@ -87,68 +88,68 @@ module _ (g : Geometry) (w : CoreState) (sound : IsSoundCoreState g w) (found : 
   free_of_ran = all_front _ (entries w.ran) w.in_flight (all_back _ (entries w.logged) _ free)
 
   module _ (n : Nodes) (tree : TreeHolds g (is_below g w.in_flight) n (reached g w)) where
-    pub grant_lends : HasGap g (place g found.0.1) n → ⊥
-    grant_lends gap = can_be_lent g (is_below g w.in_flight) (place g found.0.1) (apart_below g found.0 w.in_flight free_of_out) n (reached g w) tree gap
+    pub grant_lends : HasGap g (path_of g found.0.1) n → ⊥
+    grant_lends gap = can_be_lent g (is_below g w.in_flight) (path_of g found.0.1) (apart_below g found.0 w.in_flight free_of_out) n (reached g w) tree gap
 
-    module _ (t : Standing) (l : Parcels) (lent : Nodes) (taken : LendsAt g (place g found.0.1) t l n lent) where
-      pub grant_shows : Shows g (place g found.0.1) t l w.committed
+    module _ (t : Standing) (l : Parcels) (lent : Nodes) (taken : LendsAt g (path_of g found.0.1) t l n lent) where
+      pub grant_shows : Shows g (path_of g found.0.1) t l w.committed
       grant_shows = agree-trans
-          (lent_shows g (is_below g w.in_flight) (place g found.0.1) (apart_below g found.0 w.in_flight free_of_out) t l n lent (reached g w) tree taken)
+          (lent_shows g (is_below g w.in_flight) (path_of g found.0.1) (apart_below g found.0 w.in_flight free_of_out) t l n lent (reached g w) tree taken)
           (entries_leave g w.committed found.0 (entries w.ran) free_of_ran)
 
       pub grant_tree : TreeHolds g (is_below g (w.in_flight ++ found.0 ∷ [])) lent (reached g w)
-      grant_tree = holds_alike g (with_place (place g found.0.1) (is_below g w.in_flight)) (is_below g (w.in_flight ++ found.0 ∷ [])) lent (reached g w)
+      grant_tree = holds_alike g (with_place (path_of g found.0.1) (is_below g w.in_flight)) (is_below g (w.in_flight ++ found.0 ∷ [])) lent (reached g w)
           (λ q. below_push g w.in_flight found.0 q)
-          (lent_holds g (is_below g w.in_flight) (place g found.0.1) (apart_below g found.0 w.in_flight free_of_out) t l n lent (reached g w) tree taken)
+          (lent_holds g (is_below g w.in_flight) (path_of g found.0.1) (apart_below g found.0 w.in_flight free_of_out) t l n lent (reached g w) tree taken)
 
 -- ---- a message that is given back
 
 module _ (g : Geometry) (w : CoreState) (sound : IsSoundCoreState g w) (before : List Entry) (e : Entry) (behind : List Entry) (out : w.in_flight ≡ before ++ e ∷ behind)
     (n : Nodes) (tree : TreeHolds g (is_below g w.in_flight) n (reached g w)) where
-  apart_out : AreApart g (before ++ e ∷ behind)
-  apart_out = subst (AreApart g) out (before_back _ (entries w.ran) w.in_flight (before_back _ (entries w.logged) _ sound.apart))
+  apart_out : AreUnrelated g (before ++ e ∷ behind)
+  apart_out = subst (AreUnrelated g) out (before_back _ (entries w.ran) w.in_flight (before_back _ (entries w.logged) _ sound.apart))
 
   pub apart_others : AllByRecursion (λ d. are_related_entries g e d ≡ false) (before ++ behind)
   apart_others = (go before apart_out)
     where
-      go : (us : List Entry) → AreApart g (us ++ e ∷ behind) → AllByRecursion (λ d. are_related_entries g e d ≡ false) (us ++ behind)
+      go : (us : List Entry) → AreUnrelated g (us ++ e ∷ behind) → AllByRecursion (λ d. are_related_entries g e d ≡ false) (us ++ behind)
       go us apart = (before_first (λ e d. are_related_entries g e d ≡ false) (apart_turned g) us e behind apart).0
 
   pub apart_ran : AllByRecursion (λ d. are_related_entries g e d ≡ false) (entries w.ran)
   apart_ran =
-      let whole : AreApart g (entries w.ran ++ (before ++ e ∷ behind)) = subst (λ o. AreApart g (entries w.ran ++ o)) out (before_back _ (entries w.logged) _ sound.apart) in
+      let whole : AreUnrelated g (entries w.ran ++ (before ++ e ∷ behind)) = subst (λ o. AreUnrelated g (entries w.ran ++ o)) out (before_back _ (entries w.logged) _ sound.apart) in
       all_weaker (λ d. are_related_entries g d e ≡ false) (λ d. are_related_entries g e d ≡ false) (λ d. apart_turned g d e) (entries w.ran)
       (all_front (λ d. are_related_entries g d e ≡ false) (entries w.ran) before
-      (before_one (λ e d. are_related_entries g e d ≡ false) (entries w.ran ++ before) e behind (subst (AreApart g) (sym (append_assoc (entries w.ran) before (e ∷ behind))) whole)))
+      (before_one (λ e d. are_related_entries g e d ≡ false) (entries w.ran ++ before) e behind (subst (AreUnrelated g) (sym (append_assoc (entries w.ran) before (e ∷ behind))) whole)))
 
-  held_out : TreeHolds g (with_place (place g e.1) (is_below g (before ++ behind))) n (reached g w)
-  held_out = holds_alike g (is_below g w.in_flight) (with_place (place g e.1) (is_below g (before ++ behind))) n (reached g w)
+  held_out : TreeHolds g (with_place (path_of g e.1) (is_below g (before ++ behind))) n (reached g w)
+  held_out = holds_alike g (is_below g w.in_flight) (with_place (path_of g e.1) (is_below g (before ++ behind))) n (reached g w)
       (λ q. ap (λ es. is_below g es q) out ∙ below_cut g before e behind q) tree
 
-  pub back_is_out : IsPath g (place g e.1) → IsOut (place g e.1) n
-  back_is_out path = place_is_out g (is_below g (before ++ behind)) (place g e.1) (apart_below g e (before ++ behind) apart_others) n (reached g w) path held_out
+  pub back_is_out : IsPath g (path_of g e.1) → IsOut (path_of g e.1) n
+  back_is_out path = place_is_out g (is_below g (before ++ behind)) (path_of g e.1) (apart_below g e (before ++ behind) apart_others) n (reached g w) path held_out
 
   -- what a run in the committed state leaves is what one leaves in the state that was reached
-  back_agrees : AgreeOn g (are_related (place g e.1)) (next_state g w.committed e.1) (next_state g (reached g w) e.1)
-  back_agrees = (reads_only g (are_related (place g e.1)) w.committed (reached g w) e.1
+  back_agrees : AgreeOn g (are_related (path_of g e.1)) (next_state g w.committed e.1) (next_state g (reached g w) e.1)
+  back_agrees = (reads_only g (are_related (path_of g e.1)) w.committed (reached g w) e.1
       (agree-sym (entries_leave g w.committed e (entries w.ran) apart_ran)) (λ q r. r)).1
 
-  pub back_tree : (t : Standing) (l : Parcels) (new : Nodes) → RestoresAt g (place g e.1) l n new → Fits g (place g e.1) l
-      → Shows g (place g e.1) t l (next_state g w.committed e.1) → IsMessage e.1
+  pub back_tree : (t : Standing) (l : Parcels) (new : Nodes) → RestoresAt g (path_of g e.1) l n new → Fits g (path_of g e.1) l
+      → Shows g (path_of g e.1) t l (next_state g w.committed e.1) → IsMessage e.1
       → TreeHolds g (is_below g (before ++ behind)) new (next_state g (reached g w) e.1)
   back_tree t l new put fits shows message =
-      restored_holds g (is_below g (before ++ behind)) (place g e.1) (apart_below g e (before ++ behind) apart_others) e.1 refl t l n new (reached g w)
+      restored_holds g (is_below g (before ++ behind)) (path_of g e.1) (apart_below g e (before ++ behind) apart_others) e.1 refl t l n new (reached g w)
       held_out put fits (agree-trans shows back_agrees) message
 
 -- ---- messages that are logged
 
 pub log_reaches : (g : Geometry) (w : CoreState) (n : ℕ) → IsSoundCoreState g w → reached g (log g w n) ≡ reached g w
 log_reaches g w n sound =
-    ap (λ x. fold g x (messages (entries (drop n w.ran)))) (row_of g w n sound).logs
-    ∙ sym (fold-append g w.committed (entries (take n w.ran)) (entries (drop n w.ran)))
-    ∙ ap (λ es. fold g w.committed (messages es)) (sym (entries-append (take n w.ran) (drop n w.ran)) ∙ ap entries (take-append-drop n w.ran))
+    ap (λ x. state_after_all g x (messages (entries (drop n w.ran)))) (row_of g w n sound).logs
+    ∙ sym (state_after_all-append g w.committed (entries (take n w.ran)) (entries (drop n w.ran)))
+    ∙ ap (λ es. state_after_all g w.committed (messages es)) (sym (entries-append (take n w.ran) (drop n w.ran)) ∙ ap entries (take-append-drop n w.ran))
 
 -- a message that is given back leads on from what was reached
 pub back_reaches : (g : Geometry) (x : State) (ran : List Replied) (a : Replied)
-    → fold g x (messages (entries (ran ++ a ∷ []))) ≡ next_state g (fold g x (messages (entries ran))) a.1
-back_reaches g x ran a = ap (λ es. fold g x (messages es)) (entries-append ran (a ∷ [])) ∙ fold-append g x (entries ran) ((a.0, a.1) ∷ [])
+    → state_after_all g x (messages (entries (ran ++ a ∷ []))) ≡ next_state g (state_after_all g x (messages (entries ran))) a.1
+back_reaches g x ran a = ap (λ es. state_after_all g x (messages es)) (entries-append ran (a ∷ [])) ∙ state_after_all-append g x (entries ran) ((a.0, a.1) ∷ [])

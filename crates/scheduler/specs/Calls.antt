@@ -2,7 +2,7 @@
 use Rattle.std.specs.Prelude.{◌≡◌, ℕ, ◌+◌, Bool, true, false, List, take, length, Option, Some, None, Result, Ok, Err}
 use Rattle.affinity.specs.declared.geometry.Geometry.{Geometry}
 use Rattle.legal_runs.specs.Eligible.{next_eligible}
-use Rattle.legal_runs.specs.Events.{Hand, IsAllowed, arrive, batch, fails, fewer, grant, is_ended, log, no_grant, piece_refusal}
+use Rattle.legal_runs.specs.Events.{Hand, IsAllowed, arrive, batch, fails, pieces_after, grant, all_pieces_written, log, grant_refusal, piece_refusal}
 use Rattle.legal_runs.specs.CoreState.{Entry, CoreState}
 use Rattle.legal_runs.specs.declared.outcomes.ArriveRefusal.{ArriveRefusal}
 use Rattle.legal_runs.specs.declared.outcomes.CoreFault.{CoreFault}
@@ -27,17 +27,18 @@ pub record IsGrantOf (g : Geometry) (old new : CoreState) (job : JobView) : Type
   pub works : old.failed ≡ false
   pub found : Entry × List Entry
   pub first : next_eligible g old ≡ Some found
-  pub told : found.0 ≡ (job.ticket, job.message)
+  pub entry_is : found.0 ≡ (job.ticket, job.message)
   pub state_after : new ≡ grant old found
   pub is_job : IsJobOf g new job
 
--- None is eligible, this is why none is dispatched, and nothing has changed.
+-- No message is eligible, `why` says why none is dispatched, and nothing has changed.
 pub record IsNoGrant (g : Geometry) (old new : CoreState) (why : Outcome) : Type 0 where
   pub works : old.failed ≡ false
   pub none : next_eligible g old ≡ None
-  pub reason : no_grant g old ≡ why
+  pub reason : grant_refusal g old ≡ why
   pub same : new ≡ old
 
+-- What `Core::grant` gave: the job of a message that was dispatched, or why there was none.
 abbrev pub IsGranted : Geometry → CoreState → CoreState → Granted → Type 0
 IsGranted g old new (granted.Job job) = IsGrantOf g old new job
 IsGranted g old new granted.NoneEligible = IsNoGrant g old new outcomes.NoneEligible
@@ -46,7 +47,7 @@ IsGranted g old new granted.Failed = (old.failed ≡ true) × (new ≡ old)
 
 -- ---- messages that are logged
 
--- The first n that ran were logged; or the device failed, and none was.
+-- The first n messages that ran were logged; or none was, since the device failed during the call or had failed before.
 abbrev pub IsLogStep : Geometry → CoreState → CoreState → ℕ → Result ℕ CoreFault → Type 0
 IsLogStep g old new n (Ok count) = (old.failed ≡ false) × (count ≡ length (take n old.ran)) × (new ≡ log g old n)
 IsLogStep g old new n (Err faults.Device) =
@@ -55,43 +56,44 @@ IsLogStep g old new n (Err faults.Failed) = (old.failed ≡ true) × (new ≡ ol
 
 -- ---- steps of a checkpoint
 
--- The step was made where there is no reason against it: so at `Ok`. Else it was refused for this reason, or the device
--- failed.
-abbrev pub IsPointStep : CoreState → CoreState → Option PointRefusal → Type 0 → Result (Unit {0}) PointRefusal → Type 0
-IsPointStep old new why made (Ok _) = (why ≡ None) × made
-IsPointStep old new why made (Err points.Device) = (why ≡ None) × (new ≡ fails old)
-IsPointStep old new why made (Err refusal) = (why ≡ Some refusal) × (new ≡ old)
+-- At `Ok` there was no reason (`why`) against the step, and it was made. At `Err` it was refused for the reason that there was, or
+-- there was none and the device failed.
+abbrev pub IsCheckpointStep : CoreState → CoreState → Option PointRefusal → Type 0 → Result (Unit {0}) PointRefusal → Type 0
+IsCheckpointStep old new why made (Ok _) = (why ≡ None) × made
+IsCheckpointStep old new why made (Err points.Device) = (why ≡ None) × (new ≡ fails old)
+IsCheckpointStep old new why made (Err refusal) = (why ≡ Some refusal) × (new ≡ old)
 
--- One more piece was written, if any was left, and this is how many are left now.
+-- At `Ok` one more piece was written, if any was left, and n are left now. At `Err` the step was refused, or the device failed.
 abbrev pub IsPieceStep : CoreState → CoreState → Result ℕ PointRefusal → Type 0
-IsPieceStep old new (Ok n) = (piece_refusal old ≡ None) × (n ≡ fewer old.left) × (new ≡ record old { left = Some n })
-IsPieceStep old new (Err points.Device) = (piece_refusal old ≡ None) × (is_ended old.left ≡ false) × (new ≡ fails old)
+IsPieceStep old new (Ok n) = (piece_refusal old ≡ None) × (n ≡ pieces_after old.pieces_left) × (new ≡ record old { pieces_left = Some n })
+IsPieceStep old new (Err points.Device) = (piece_refusal old ≡ None) × (all_pieces_written old.pieces_left ≡ false) × (new ≡ fails old)
 IsPieceStep old new (Err refusal) = (piece_refusal old ≡ Some refusal) × (new ≡ old)
 
 -- ---- how often the device failed
 
--- whether the device failed during the call
+-- whether the device failed during the call of `Core::log` with this result
 abbrev pub log_device_failed : Result ℕ CoreFault → Bool
 log_device_failed (Err faults.Device) = true
 log_device_failed _ = false
 
-abbrev pub point_device_failed : {T : Type 0} → Result T PointRefusal → Bool
-point_device_failed (Err points.Device) = true
-point_device_failed _ = false
+-- whether the device failed during the step of a checkpoint with this result
+abbrev pub checkpoint_device_failed : {T : Type 0} → Result T PointRefusal → Bool
+checkpoint_device_failed (Err points.Device) = true
+checkpoint_device_failed _ = false
 
--- A call adds one to the count of failures exactly where the device failed during it.
+-- The count of device faults has grown by one if the device failed during the call, and else is the same.
 abbrev pub CountsFailure : Bool → ℕ → ℕ → Type 0
 CountsFailure true old new = new ≡ old + 1
 CountsFailure false old new = new ≡ old
 
 -- ---- a call as an event
 
--- The call was this event: it may come whatever the hands hold, and leaves them so.
-abbrev pub IsCalled : Geometry → CoreState → CoreState → Step → Outcome → Bool → Type 0
-IsCalled g old new step outcome device_failed = (hands : List Hand)
-    → IsAllowed g (record { core = old; hands = hands })
+-- The call was an event of this step and outcome, which is allowed whatever the hands have, and leaves them as they are.
+abbrev pub IsCallEvent : Geometry → CoreState → CoreState → Step → Outcome → Bool → Type 0
+IsCallEvent g old new step outcome device_failed = (hands : List Hand) → IsAllowed g (record { core = old; hands = hands })
     (record { step = step; outcome = outcome; device_failed = device_failed; state_after = record { core = new; hands = hands } })
 
+-- the outcome of a step by the result of the core's call: of `arrive`, of `answer` and of `log`
 abbrev pub arrive_outcome : Result ℕ ArriveRefusal → Outcome
 arrive_outcome (Ok ticket) = outcomes.Ticket ticket
 arrive_outcome (Err why) = outcomes.ArriveRefused why
@@ -104,15 +106,14 @@ abbrev pub log_outcome : Result ℕ CoreFault → Outcome
 log_outcome (Ok count) = outcomes.Logged count
 log_outcome (Err why) = outcomes.LogFault why
 
--- of a step of a checkpoint, that answers so where it was made
+-- the outcome of a step of a checkpoint: `made` of what the call gives, or the refusal
 abbrev pub step_outcome : {T : Type 0} → (T → Outcome) → Result T PointRefusal → Outcome
 step_outcome made (Ok x) = made x
 step_outcome made (Err why) = outcomes.PointRefused why
 
 -- ---- messages that arrive by the lines that encode them
 
--- The message of a line has arrived as an event of its own, if there is one: with a ticket, or refused. Where there is none, nothing has
--- changed.
+-- The message that a line encodes has arrived, and got a ticket or was refused. Where the line encodes none, nothing has changed.
 abbrev pub ArrivesByLine : CoreView → CoreView → Option Msg → Result (Option ℕ) ArriveRefusal → Type 0
 ArrivesByLine old new None r = (r ≡ Ok None) × (new ≡ old)
 ArrivesByLine old new (Some m) (Ok None) = ⊥

@@ -7,19 +7,20 @@ use Rattle.journal.specs.Journal.{RecoversWithPrefix}
 use Rattle.legal_runs.specs.CoreState.{Entry, Replied, CoreState}
 use Rattle.messages.specs.declared.Msg.{Msg}
 use Rattle.parcel.specs.Tree.{TreeView, state_in}
-use Rattle.meaning.specs.Serial.{fold}
+use Rattle.meaning.specs.Serial.{state_after_all}
 
+-- what contracts see of a core
 pub record CoreView : Type 0 where
   pub geometry : Geometry
-  -- the messages, by how far each has come: as in its core state
+  -- the messages, by how far each has come: as in the core state
   pub waiting : List Entry
   pub in_flight : List Entry
   pub ran : List Replied
   pub logged : List Replied
-  -- the tree when the core was opened, and the messages appended to the log since: they lead to what is committed
+  -- the tree when the core was opened, and the messages appended to the log since then: they lead to the committed state
   pub opened : TreeView
-  pub since : List Msg
-  -- how many records the log still takes, the ticket of the next message, and how many messages fit in
+  pub since_open : List Msg
+  -- how many records the log still takes, the ticket of the next message, and how many messages the core can have at once
   pub room : ℕ
   pub next : ℕ
   pub slots : ℕ
@@ -27,30 +28,31 @@ pub record CoreView : Type 0 where
   pub failed : Bool
   pub doubt : List Msg
   -- how many pieces are left to write, while a checkpoint is in progress
-  pub left : Option ℕ
+  pub pieces_left : Option ℕ
   pub medium : Medium
 
+-- the core state of `legal_runs` for this view
 abbrev pub core_state_of : CoreView → CoreState
 core_state_of c = record {
   waiting = c.waiting;
   in_flight = c.in_flight;
   ran = c.ran;
   logged = c.logged;
-  committed = fold c.geometry (state_in c.opened) c.since;
+  committed = state_after_all c.geometry (state_in c.opened) c.since_open;
   room = c.room;
   next = c.next;
   slots = c.slots;
   failed = c.failed;
   doubt = c.doubt;
-  left = c.left;
+  pieces_left = c.pieces_left;
 }
 
 -- A crash now leaves the committed state, with a prefix of the messages in `doubt`.
 abbrev pub RecoversNow : CoreView → Type 0
 RecoversNow c = (bytes : List ℕ) → IsCrashImage c.medium bytes → RecoversWithPrefix c.geometry (core_state_of c).committed c.doubt bytes
 
--- A crash at any moment of a call leaves the committed state, with a prefix of the messages in `doubt`: where the
--- device had not failed before, of those that the call is to append.
+-- A crash at any moment of a call leaves the state committed before it, with a prefix of the messages that the call is to append, or,
+-- where the device had failed before, of those in `doubt`.
 abbrev pub RecoversThroughout : List Msg → CoreView → CoreView → Type 0
 RecoversThroughout appended old new =
     CrashImagesAre old.medium new.medium (RecoversWithPrefix old.geometry (core_state_of old).committed
@@ -67,4 +69,4 @@ pub record IsJustOpened (slots : ℕ) (c : CoreView) : Type 0 where
   pub slots_are : c.slots ≡ slots
   pub works : c.failed ≡ false
   pub no_doubt : c.doubt ≡ []
-  pub no_cut : c.left ≡ None
+  pub no_cut : c.pieces_left ≡ None

@@ -7,7 +7,7 @@ use Rattle.scheduler.specs.declared.history.Appended.{Appended, Nothing, After'}
 -- the tree when the core was opened, and the messages appended to the log since
 pub record HistoryView : Type 0 where
   pub opened : TreeView
-  pub since : List Msg
+  pub since_open : List Msg
 
 -- the messages of all batches, the oldest first
 abbrev pub messages_in : Appended → List Msg

@@ -3,8 +3,8 @@ use Rattle.std.specs.Prelude.{◌≡◌}
 use Rattle.std.specs.List.{Contains}
 use Rattle.affinity.specs.declared.geometry.Geometry.{Geometry}
 use Rattle.legal_runs.specs.CoreState.{CoreState}
-use Rattle.messages.specs.Messages.{place}
-use Rattle.parcel.specs.Fits.{Suits}
+use Rattle.messages.specs.Messages.{path_of}
+use Rattle.parcel.specs.Fits.{IsRunnable}
 use Rattle.parcel.specs.Run.{JobView, Shows}
 use Rattle.parcel.specs.RunLaws.{IsLentOf}
 use Rattle.parcel.specs.declared.job.Done.{Done}
@@ -17,10 +17,10 @@ pub record IsJobOf (g : Geometry) (w : CoreState) (job : JobView) : Type 0 where
   pub is_out : Contains w.in_flight (job.ticket, job.message)
   pub lent : IsLentOf job w.committed
 
--- The message is in flight, and this is its result if it runs in the committed state.
+-- The message is in flight, and `done` is its result if it runs in the committed state: the reply, and the parcels after it.
 pub record IsResultOf (g : Geometry) (w : CoreState) (done : Done) : Type 0 where
   pub is_out : Contains w.in_flight (done.ticket, done.message)
-  pub suits : Suits g done.message done.parcels
+  pub runnable : IsRunnable g done.message done.parcels
   pub reply : done.reply ≡ reply_to g w.committed done.message
   pub standing : Standing
-  pub shows : Shows g (place g done.message) standing done.parcels (next_state g w.committed done.message)
+  pub shows : Shows g (path_of g done.message) standing done.parcels (next_state g w.committed done.message)

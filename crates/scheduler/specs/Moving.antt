@@ -1,23 +1,23 @@
--- Inner: What becomes of those that ran when they are logged.
+-- Inner: What becomes of the messages that ran when they are logged.
 use Rattle.std.specs.Prelude.{◌≡◌, ℕ, List, ◌++◌, map, take, drop, count_by, unwrap_or}
 use Rattle.arena.specs.ArenaView.{ArenaView, chain_at, value_at}
 use Rattle.legal_runs.specs.Eligible.{changes}
-use Rattle.legal_runs.specs.Events.{loggable}
+use Rattle.legal_runs.specs.Events.{recorded}
 use Rattle.messages.specs.declared.Msg.{Msg}
 use Rattle.messages.specs.declared.Reply.{Reply}
 use Rattle.scheduler.specs.Parts.{replied_of}
-use Rattle.scheduler.specs.Slots.{HasChains, no_slot, place_at}
+use Rattle.scheduler.specs.Slots.{HasChains, no_slot, slot_view_at}
 use Rattle.scheduler.specs.declared.slot.Slot.{Slot}
 
 -- those of the messages in these slots that the log keeps
-abbrev pub gathered : ArenaView Slot → List Reply → List ℕ → List Msg
-gathered row replies slots = loggable (map replied_of (map (place_at row replies) slots))
+abbrev pub recorded_in : ArenaView Slot → List Reply → List ℕ → List Msg
+recorded_in arena replies slots = recorded (map replied_of (map (slot_view_at arena replies) slots))
 
--- how many of them are of a changing kind
+-- how many of the messages in these slots are of a changing kind
 abbrev pub changing_in : ArenaView Slot → List ℕ → ℕ
-changing_in row slots = count_by (λ i. changes (unwrap_or (value_at row i) no_slot).message) slots
+changing_in arena slots = count_by (λ i. changes (unwrap_or (value_at arena i) no_slot).message) slots
 
--- The first n of those that ran became the last of those that are logged, and nothing else has changed.
+-- The slots of the first n messages that ran moved to the end of the chain of those that are logged, and nothing else has changed.
 pub record HasLogged (n : ℕ) (old new : ArenaView Slot) : Type 0 where
   pub ran : chain_at new 2 ≡ drop n (chain_at old 2)
   pub logged : chain_at new 3 ≡ chain_at old 3 ++ take n (chain_at old 2)

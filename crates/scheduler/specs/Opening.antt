@@ -3,7 +3,7 @@ use Rattle.checkpoint.specs.declared.fault.OpenFault.{OpenFault}
 use Rattle.checkpoint.specs.declared.fault.OpenFault.TheVariants.{Device, OutOfMemory}
 
 -- The bytes of a device may show this fault. They don't show that the device fails, or that there is no memory.
-abbrev pub IsOfBytes : OpenFault → Type 0
-IsOfBytes Device = ⊥
-IsOfBytes OutOfMemory = ⊥
-IsOfBytes fault = Unit {0}
+abbrev pub IsShownByBytes : OpenFault → Type 0
+IsShownByBytes Device = ⊥
+IsShownByBytes OutOfMemory = ⊥
+IsShownByBytes fault = Unit {0}

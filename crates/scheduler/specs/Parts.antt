@@ -2,20 +2,20 @@
 use Rattle.std.specs.Prelude.{◌≡◌, ◌+◌, ℕ, Bool, true, false, List, [], ◌||◌, map, length, Some}
 use Rattle.std.specs.List.{AllByRecursion, list_any}
 use Rattle.affinity.specs.Interval.{IsAffinityOf}
-use Rattle.affinity.specs.Path.{Path, begins}
+use Rattle.affinity.specs.Path.{Path, is_prefix}
 use Rattle.affinity.specs.declared.geometry.Geometry.{Geometry}
 use Rattle.arena.specs.ArenaView.{ArenaView, capacity_of}
 use Rattle.journal.specs.Journal.{JournalView, committed}
 use Rattle.legal_runs.specs.Eligible.{changes, unlogged_changes}
 use Rattle.legal_runs.specs.Laws.{IsSoundCoreState}
 use Rattle.legal_runs.specs.CoreState.{Entry, Replied, CoreState, entries}
-use Rattle.messages.specs.Messages.{IsMessage, is_in_range, place}
+use Rattle.messages.specs.Messages.{IsMessage, is_in_range, path_of}
 use Rattle.messages.specs.declared.Msg.{Msg}
 use Rattle.messages.specs.declared.Reply.{Reply}
 use Rattle.parcel.specs.Holding.{TreeHolds}
-use Rattle.parcel.specs.Tree.{TreeView, in_tree}
+use Rattle.parcel.specs.Tree.{TreeView, tree_nodes}
 use Rattle.meaning.specs.Order.{messages}
-use Rattle.meaning.specs.Serial.{fold}
+use Rattle.meaning.specs.Serial.{state_after_all}
 use Rattle.meaning.specs.State.{State}
 use Rattle.scheduler.specs.CoreView.{CoreView, RecoversNow, core_state_of}
 use Rattle.scheduler.specs.Slots.{Phases, SlotView, phases_of}
@@ -23,6 +23,7 @@ use Rattle.scheduler.specs.declared.slot.Slot.{Slot}
 use Rattle.run_queue.specs.RunQueue.{RunQueueView}
 use Rattle.run_queue.specs.declared.queued_message.QueuedMessage.{QueuedMessage}
 
+-- the message in a slot with its ticket; with its reply too; and as the run queue has it
 abbrev pub entry_of : SlotView → Entry
 entry_of x = (x.1.ticket, x.1.message)
 
@@ -32,12 +33,13 @@ replied_of x = (x.1.ticket, x.1.message, x.2)
 abbrev pub queued_of : SlotView → QueuedMessage
 queued_of x = record { slot = x.0; affinity = x.1.affinity; changing = changes x.1.message; ticket = x.1.ticket }
 
--- whether one of the held ones passes a test
+-- whether one of the held messages passes a test
 abbrev pub held_any : (QueuedMessage → Bool) → Phases → Bool
 held_any test l =
     list_any (λ x. test (queued_of x)) l.logged
     || (list_any (λ x. test (queued_of x)) l.ran || list_any (λ x. test (queued_of x)) l.in_flight)
 
+-- the parts of which a core is made, as contracts see them
 pub record Parts : Type 0 where
   pub phases : Phases
   -- how many slots are free, and how many there are
@@ -46,20 +48,22 @@ pub record Parts : Type 0 where
   pub tree : TreeView
   pub journal : JournalView
   pub queue : RunQueueView
-  -- what is handed to the journal: after a fault of the device what was to be appended
+  -- the batch that is handed to the journal; after a fault of the device it stays, as `doubt`
   pub batch : List Msg
+  -- the ticket of the next message
   pub next : ℕ
   -- how many changing messages are in flight or ran
   pub unlogged : ℕ
+  -- the tree when the core was opened, and the messages appended to the log since then
   pub opened : TreeView
-  pub since : List Msg
+  pub since_open : List Msg
 
 -- the parts of a core with these fields
 abbrev pub parts : ArenaView Slot → List Reply → TreeView → JournalView → RunQueueView → List Msg → ℕ → ℕ → TreeView → List Msg → Parts
-parts row replies tree journal queue batch next unlogged opened since = record {
-  phases = phases_of row replies;
-  free = length row.free;
-  capacity = capacity_of row;
+parts arena replies tree journal queue batch next unlogged opened since_open = record {
+  phases = phases_of arena replies;
+  free = length arena.free;
+  capacity = capacity_of arena;
   tree = tree;
   journal = journal;
   queue = queue;
@@ -67,9 +71,10 @@ parts row replies tree journal queue batch next unlogged opened since = record {
   next = next;
   unlogged = unlogged;
   opened = opened;
-  since = since;
+  since_open = since_open;
 }
 
+-- the core that is made of these parts
 abbrev pub core_view_of : Parts → CoreView
 core_view_of p = record {
   geometry = p.journal.geometry;
@@ -78,22 +83,22 @@ core_view_of p = record {
   ran = map replied_of p.phases.ran;
   logged = map replied_of p.phases.logged;
   opened = p.opened;
-  since = p.since;
+  since_open = p.since_open;
   room = p.journal.room;
   next = p.next;
   slots = p.capacity;
   failed = p.journal.failed;
   doubt = p.batch;
-  left = p.journal.left;
+  pieces_left = p.journal.pieces_left;
   medium = p.journal.medium;
 }
 
 abbrev pub core_state_in : Parts → CoreState
 core_state_in p = core_state_of (core_view_of p)
 
--- The message is one, in range, and its affinity is that of its place.
+-- The message in the slot is well formed and in range, and the slot's affinity is that of its place.
 pub record IsPlaced (g : Geometry) (x : SlotView) : Type 0 where
-  pub affinity : IsAffinityOf g (place g x.1.message) x.1.affinity
+  pub affinity : IsAffinityOf g (path_of g x.1.message) x.1.affinity
   pub range : is_in_range g x.1.message ≡ true
   pub message : IsMessage x.1.message
 
@@ -105,27 +110,28 @@ pub record ArePlaced (g : Geometry) (l : Phases) : Type 0 where
 
 -- whether a path is the place of one of these messages, or lies below it
 abbrev pub is_below : Geometry → List Entry → Path → Bool
-is_below g es q = list_any (λ e. begins (place g e.1) q) es
+is_below g es q = list_any (λ e. is_prefix (path_of g e.1) q) es
 
 -- the state that all messages which ran so far have led to, logged or not
 abbrev pub reached : Geometry → CoreState → State
-reached g w = fold g w.committed (messages (entries w.ran))
+reached g w = state_after_all g w.committed (messages (entries w.ran))
 
+-- What a core keeps true of its parts.
 pub record IsCore (keeps : Type 0) (p : Parts) : Type 0 where
-  -- each slot is free or on a chain
+  -- each slot is free or in one of the four lists of `phases`
   pub claimed : p.free
       + (length p.phases.waiting + (length p.phases.logged + (length p.phases.ran + length p.phases.in_flight))) ≡ p.capacity
   pub placed : ArePlaced p.journal.geometry p.phases
-  -- the run queue
+  -- the run queue has the core's geometry and as many slots, and its messages are those that wait and those that are held
   pub queue_geometry : p.queue.geometry ≡ p.journal.geometry
-  pub seats : p.queue.slots ≡ p.capacity
-  pub waits : p.queue.waiting ≡ map queued_of p.phases.waiting
-  pub holds : (test : QueuedMessage → Bool) → list_any test p.queue.held ≡ held_any test p.phases
+  pub queue_slots : p.queue.slots ≡ p.capacity
+  pub queue_waiting : p.queue.waiting ≡ map queued_of p.phases.waiting
+  pub queue_held : (test : QueuedMessage → Bool) → list_any test p.queue.held ≡ held_any test p.phases
   pub unlogged_is : p.unlogged ≡ unlogged_changes (core_state_in p)
   pub sound : IsSoundCoreState p.journal.geometry (core_state_in p)
   -- the tree holds what was reached, but for the places of messages in flight
   pub geometry : p.tree.geometry ≡ p.journal.geometry
-  pub tree : TreeHolds p.journal.geometry (is_below p.journal.geometry (map entry_of p.phases.in_flight)) (in_tree p.tree)
+  pub tree : TreeHolds p.journal.geometry (is_below p.journal.geometry (map entry_of p.phases.in_flight)) (tree_nodes p.tree)
       (reached p.journal.geometry (core_state_in p))
   -- the device
   pub is_committed : keeps → p.journal.failed ≡ false → committed p.journal ≡ Some (core_state_in p).committed

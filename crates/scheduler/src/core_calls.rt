@@ -6,31 +6,31 @@ ghost use Rattle.checkpoint.specs.Recovery.{recovered_state};
 ghost use Rattle.checkpoint.specs.Refusals.{IsRefused};
 ghost use Rattle.checkpoint.specs.declared.fault.OpenFault.{OpenFault};
 ghost use Rattle.checkpoint.specs.declared.fault.OpenFault.TheVariants as faults;
-ghost use Rattle.disk.specs.Moments.{moment};
+ghost use Rattle.disk.specs.Moments.{moment_number};
 ghost use Rattle.image.specs.Pieces.{piece_count};
 ghost use Rattle.journal.specs.Costs.{longest_point, opening_cost};
 ghost use Rattle.journal.specs.Opening.{IsRefusedUnwritten, OpeningCrashImages};
-ghost use Rattle.legal_runs.specs.Events.{answer, arrive, batch, flip_refusal, give_back, out_with, point_refusal, touches_device};
+ghost use Rattle.legal_runs.specs.Events.{answer, arrive, batch, flip_refusal, give_back, find_in_flight, point_refusal, touches_device};
 ghost use Rattle.legal_runs.specs.Laws.{IsSoundCoreState};
 ghost use Rattle.legal_runs.specs.CoreState.{Entry};
 ghost use Rattle.legal_runs.specs.declared.outcomes.Step.TheVariants as steps;
 ghost use Rattle.oplog.specs.Beyond.{KeepsBeyond};
-ghost use Rattle.oplog.specs.Costs.{Costs, batches};
+ghost use Rattle.oplog.specs.Costs.{Costs, write_groups};
 ghost use Rattle.device_map.specs.Layout.{layout_of};
 ghost use Rattle.oplog.specs.Recovery.{in_force, named_area};
 ghost use Rattle.meaning.specs.State.{State};
-ghost use Rattle.scheduler.specs.Calls.{CountsFailure, IsGranted, IsLogStep, IsPieceStep, IsPointStep, answer_outcome, arrive_outcome, log_device_failed, point_device_failed};
+ghost use Rattle.scheduler.specs.Calls.{CountsFailure, IsGranted, IsLogStep, IsPieceStep, IsCheckpointStep, answer_outcome, arrive_outcome, log_device_failed, checkpoint_device_failed};
 ghost use Rattle.arena.specs.ArenaView.{chain_at};
 ghost use Rattle.scheduler.specs.Slots.{HasChains};
 ghost use Rattle.scheduler.specs.Jobs.{IsResultOf};
 ghost use Rattle.scheduler.specs.CoreView.{IsJustOpened, CoreView, RecoversNow, RecoversThroughout, core_state_of};
-ghost use Rattle.scheduler.specs.Opening.{IsOfBytes};
+ghost use Rattle.scheduler.specs.Opening.{IsShownByBytes};
 
 use crate::Granted;
 use crate::granted::choose;
 use crate::history::History;
-use crate::log_batch::{collect_loggable, move_ran};
-use crate::memory::{Memory, take_memory};
+use crate::log_batch::{collect_recorded, move_ran};
+use crate::memory::{CoreMemory, take_memory};
 use crate::slot::{IN_FLIGHT, LOGGED, RAN, Slot, WAITING};
 use affinity::{changing, place_of};
 use arena::Arena;
@@ -53,7 +53,7 @@ use std::marker::Model;
 pub struct Core<D: Disk> {
     slots: Arena<Slot>,
 
-    /// By slot: what a message that ran is answered.
+    /// By slot: the reply to the message there, once it ran.
     replies: Vec<Reply>,
     queue: RunQueue,
     tree: Tree,
@@ -83,11 +83,11 @@ impl<D: Disk> Model for Core<D> {
     ghost Value = { CoreView };
 
     ghost view = { λ c. core_view_of
-        (parts c.slots c.replies.items c.tree c.journal c.queue c.batch.items c.next c.unlogged c.history.opened c.history.since) };
+        (parts c.slots c.replies.items c.tree c.journal c.queue c.batch.items c.next c.unlogged c.history.opened c.history.since_open) };
 
     ghost invariant = { λ c. HasChains c.slots
         × IsCore D.keeps
-        (parts c.slots c.replies.items c.tree c.journal c.queue c.batch.items c.next c.unlogged c.history.opened c.history.since)
+        (parts c.slots c.replies.items c.tree c.journal c.queue c.batch.items c.next c.unlogged c.history.opened c.history.since_open)
         × (capacity_of c.slots ≤ vec_capacity c.batch)
         × (length c.replies.items ≡ capacity_of c.slots)
         × (c.ran ≡ length (slots_on c.slots c.replies.items 2)) };
@@ -111,9 +111,9 @@ fn holds_any(slots: &Arena<Slot>) -> bool
 impl<D: Disk> Core<D> {
     /// Opens a device that a crash may have left, for as many messages at once as there are slots.
     ///
-    /// Takes its own memory first: where there is none, the device is handed back as it was given. Then the device is opened as
-    /// `journal::open` does it, which reads it, finishes a cut that was in progress and makes a checkpoint, and with the same faults. No
-    /// message waits or is held then, the next ticket is 0, and the log has all its room, with no record in force.
+    /// Takes its own memory first: where there is none, the device is handed back as it was given. Then the device is opened as by
+    /// `journal::open`, with the same faults: it is read, a cut that was in progress is finished, and a checkpoint is made. No message
+    /// waits or is held then, the next ticket is 0, and the log has all its room, with no record in force.
     pub fn open(alloc: Global, d: D, slots: usize) -> Result<Core<D>, OpenError<D>>
         ensures opened { IfOk result (IsJustOpened slots) }
         ensures header { IfOk result (λ core. D.keeps → HasHeader core.geometry (D.medium d).now) }
@@ -122,8 +122,8 @@ impl<D: Disk> Core<D> {
         ensures emptied { IfOk result (λ core. D.keeps → in_force (layout_of core.geometry)
             (named_area (layout_of core.geometry) core.medium.now) core.medium.now ≡ []) }
 
-        // A crash at any moment of the call leaves what a crash before might have left, until the first sync is over, and
-        // then what recovers to the same, or is refused for the same fault.
+        // Until the first sync of the call is over, a crash leaves what one just before the call might have left. After it, what a
+        // crash leaves recovers to the same state, or is refused for the same fault.
         ensures any_moment { D.keeps → MatchResult result
             (λ core. OpeningCrashImages (D.medium d) core.medium)
             (λ e. OpeningCrashImages (D.medium d) (D.medium e.disk)) }
@@ -132,18 +132,20 @@ impl<D: Disk> Core<D> {
         ensures beyond { D.keeps → (g : Geometry) → HasHeader g (D.medium d).now → MatchResult result
             (λ core. KeepsBeyond (layout_of g) (D.medium d) core.medium)
             (λ e. KeepsBeyond (layout_of g) (D.medium d) (D.medium e.disk)) }
+
+        // How many writes and syncs it takes: 11 at most where it returns a fault.
         ensures costs { D.keeps → MatchResult result
-            (λ core. moment core.medium ≡ moment (D.medium d) + opening_cost core.geometry (D.medium d).now)
-            (λ e. moment (D.medium e.disk) ≤ moment (D.medium d) + 11) }
+            (λ core. moment_number core.medium ≡ moment_number (D.medium d) + opening_cost core.geometry (D.medium d).now)
+            (λ e. moment_number (D.medium e.disk) ≤ moment_number (D.medium d) + 11) }
         ensures refused { IfErr result (λ e. D.keeps → IsRefused (D.medium d).now e.fault) }
         ensures unwritten { IfErr result (λ e. D.keeps → IsRefusedUnwritten (D.medium d) e.fault (D.medium e.disk)) }
 
         // What recovers to a state is opened, and what is to be refused is refused for its one fault, unless the device fails
         // or `OutOfMemory` is reported.
         ensures opens { (g : Geometry) (x : State) → D.keeps → recovered_state g (D.medium d).now ≡ Some x
-            → IfErr result (λ e. IsOfBytes e.fault → ⊥) }
-        ensures exact { (fault : OpenFault) → D.keeps → IsRefused (D.medium d).now fault → IsOfBytes fault
-            → MatchResult result (λ core. ⊥) (λ e. IsOfBytes e.fault → e.fault ≡ fault) }
+            → IfErr result (λ e. IsShownByBytes e.fault → ⊥) }
+        ensures exact { (fault : OpenFault) → D.keeps → IsRefused (D.medium d).now fault → IsShownByBytes fault
+            → MatchResult result (λ core. ⊥) (λ e. IsShownByBytes e.fault → e.fault ≡ fault) }
         ensures device { IfErr result (λ e. e.fault ≡ faults.Device ↔ ((D.medium e.disk).faults ≡ (D.medium d).faults + 1)) }
         ensures no_fault { IfOk result (λ core. core.medium.faults ≡ (D.medium d).faults) }
         ensures len { MatchResult result
@@ -157,7 +159,7 @@ impl<D: Disk> Core<D> {
             });
         };
         let (journal, tree) = journal::open(alloc, d)?;
-        let Memory {
+        let CoreMemory {
             slots,
             replies,
             mut queue,
@@ -250,7 +252,7 @@ impl<D: Disk> Core<D> {
     /// Takes back the result of a job in flight.
     pub fn give_back(&mut self, d: Done)
         requires { IsResultOf self.old.geometry (core_state_of self.old) d }
-        ensures state_after { (found : Entry × List Entry) × (out_with (core_state_of self.old) d.ticket ≡ Some found)
+        ensures state_after { (found : Entry × List Entry) × (find_in_flight (core_state_of self.old) d.ticket ≡ Some found)
             × (found.0 ≡ (d.ticket, d.message))
             × (core_state_of self.new ≡ give_back self.old.geometry (core_state_of self.old) found) }
         ensures geometry { self.new.geometry ≡ self.old.geometry }
@@ -272,8 +274,8 @@ impl<D: Disk> Core<D> {
     }
 
     /// Logs the first `n` messages that ran, in the order in which they were given back, or all where fewer ran, and
-    /// returns how many these were. The changes among them that were carried out are appended to the log in one go. With
-    /// none of these the device isn't touched.
+    /// returns how many these were. The changes among them that were carried out are appended to the log in one go; reads
+    /// and refused messages have no record. With no change the device isn't touched.
     pub fn log(&mut self, n: usize) -> Result<usize, CoreFault>
         ensures state_after { IsLogStep self.old.geometry (core_state_of self.old) (core_state_of self.new) n result }
         ensures geometry { self.new.geometry ≡ self.old.geometry }
@@ -283,22 +285,23 @@ impl<D: Disk> Core<D> {
         ensures any_moment { D.keeps → RecoversThroughout (batch (core_state_of self.old) n) self.old self.new }
         ensures beyond { D.keeps → KeepsBeyond (layout_of self.old.geometry) self.old.medium self.new.medium }
 
-        // It takes no more writes and syncs than its batches do.
-        ensures costs { D.keeps → Costs result (4 * batches (length (batch (core_state_of self.old) n))) self.old.medium self.new.medium }
+        // It takes four writes and syncs for each 64 records or fewer; where it fails, at most that.
+        ensures costs { D.keeps
+            → Costs result (4 * write_groups (length (batch (core_state_of self.old) n))) self.old.medium self.new.medium }
         ensures untouched { touches_device (core_state_of self.old) (steps.Log n) ≡ false → self.new.medium ≡ self.old.medium }
     {
         if self.journal.failed() {
             return Err(CoreFault::Failed);
         }
         let count = n.min(self.ran);
-        let changing = collect_loggable(&self.slots, &self.replies, count, &mut self.batch);
+        let changing_count = collect_recorded(&self.slots, &self.replies, count, &mut self.batch);
         if self.journal.log(&self.batch).is_err() {
             return Err(CoreFault::Device);
         }
         self.history.note(&self.batch);
         self.batch.clear();
         move_ran(&mut self.slots, count);
-        self.unlogged -= changing;
+        self.unlogged -= changing_count;
         self.ran -= count;
         Ok(count)
     }
@@ -326,7 +329,7 @@ impl<D: Disk> Core<D> {
         if self.journal.failed() {
             return Some(PointRefusal::Failed);
         }
-        if self.journal.left().is_some() {
+        if self.journal.pieces_left().is_some() {
             return Some(PointRefusal::Running);
         }
         if holds_any(&self.slots) {
@@ -337,17 +340,17 @@ impl<D: Disk> Core<D> {
 
     /// Makes a checkpoint, where no message is held: the log is empty then.
     pub fn point(&mut self) -> Result<(), PointRefusal>
-        ensures state_after { IsPointStep (core_state_of self.old) (core_state_of self.new) (point_refusal (core_state_of self.old))
+        ensures state_after { IsCheckpointStep (core_state_of self.old) (core_state_of self.new) (point_refusal (core_state_of self.old))
             (core_state_of self.new ≡ record (core_state_of self.old) { room = self.old.geometry.half }) result }
         ensures geometry { self.new.geometry ≡ self.old.geometry }
-        ensures counts { CountsFailure (point_device_failed result) self.old.medium.faults self.new.medium.faults }
+        ensures counts { CountsFailure (checkpoint_device_failed result) self.old.medium.faults self.new.medium.faults }
 
         // A crash at any moment of the call leaves what was committed.
         ensures any_moment { D.keeps → RecoversThroughout [] self.old self.new }
         ensures beyond { D.keeps → KeepsBeyond (layout_of self.old.geometry) self.old.medium self.new.medium }
         ensures emptied { OnOk result (D.keeps → in_force (layout_of self.new.geometry)
             (named_area (layout_of self.new.geometry) self.new.medium.now) self.new.medium.now ≡ []) }
-        ensures costs { D.keeps → moment self.new.medium ≤ moment self.old.medium + longest_point self.old.geometry }
+        ensures costs { D.keeps → moment_number self.new.medium ≤ moment_number self.old.medium + longest_point self.old.geometry }
         ensures untouched { touches_device (core_state_of self.old) steps.Point ≡ false → self.new.medium ≡ self.old.medium }
     {
         if let Some(why) = self.point_refusal() {
@@ -361,11 +364,11 @@ impl<D: Disk> Core<D> {
 
     /// Begins a checkpoint that goes on while messages are served: what is committed now is what it will hold.
     pub fn cut(&mut self) -> Result<(), PointRefusal>
-        ensures state_after { IsPointStep (core_state_of self.old) (core_state_of self.new) (point_refusal (core_state_of self.old))
+        ensures state_after { IsCheckpointStep (core_state_of self.old) (core_state_of self.new) (point_refusal (core_state_of self.old))
             ((n : ℕ) × (n ≤ piece_count self.old.geometry)
-            × (core_state_of self.new ≡ record (core_state_of self.old) { room = self.old.geometry.half; left = Some n })) result }
+            × (core_state_of self.new ≡ record (core_state_of self.old) { room = self.old.geometry.half; pieces_left = Some n })) result }
         ensures geometry { self.new.geometry ≡ self.old.geometry }
-        ensures counts { CountsFailure (point_device_failed result) self.old.medium.faults self.new.medium.faults }
+        ensures counts { CountsFailure (checkpoint_device_failed result) self.old.medium.faults self.new.medium.faults }
         ensures any_moment { D.keeps → RecoversThroughout [] self.old self.new }
         ensures beyond { D.keeps → KeepsBeyond (layout_of self.old.geometry) self.old.medium self.new.medium }
         ensures costs { D.keeps → Costs result 4 self.old.medium self.new.medium }
@@ -384,30 +387,30 @@ impl<D: Disk> Core<D> {
     pub fn piece(&mut self) -> Result<usize, PointRefusal>
         ensures state_after { IsPieceStep (core_state_of self.old) (core_state_of self.new) result }
         ensures geometry { self.new.geometry ≡ self.old.geometry }
-        ensures counts { CountsFailure (point_device_failed result) self.old.medium.faults self.new.medium.faults }
+        ensures counts { CountsFailure (checkpoint_device_failed result) self.old.medium.faults self.new.medium.faults }
         ensures any_moment { D.keeps → RecoversThroughout [] self.old self.new }
         ensures beyond { D.keeps → KeepsBeyond (layout_of self.old.geometry) self.old.medium self.new.medium }
-        ensures costs { self.old.left ≢ Some 0 → D.keeps → Costs result 1 self.old.medium self.new.medium }
+        ensures costs { self.old.pieces_left ≢ Some 0 → D.keeps → Costs result 1 self.old.medium self.new.medium }
         ensures untouched { touches_device (core_state_of self.old) steps.Piece ≡ false → self.new.medium ≡ self.old.medium }
     {
         if self.journal.failed() {
             return Err(PointRefusal::Failed);
         }
-        let Some(_) = self.journal.left() else {
+        let Some(_) = self.journal.pieces_left() else {
             return Err(PointRefusal::NotRunning);
         };
         match self.journal.piece() {
-            Ok(left) => Ok(left),
+            Ok(pieces_left) => Ok(pieces_left),
             Err(_) => Err(PointRefusal::Device),
         }
     }
 
     /// Ends the checkpoint in progress, once every piece is written.
     pub fn flip(&mut self) -> Result<(), PointRefusal>
-        ensures state_after { IsPointStep (core_state_of self.old) (core_state_of self.new) (flip_refusal (core_state_of self.old))
-            (core_state_of self.new ≡ record (core_state_of self.old) { left = None }) result }
+        ensures state_after { IsCheckpointStep (core_state_of self.old) (core_state_of self.new) (flip_refusal (core_state_of self.old))
+            (core_state_of self.new ≡ record (core_state_of self.old) { pieces_left = None }) result }
         ensures geometry { self.new.geometry ≡ self.old.geometry }
-        ensures counts { CountsFailure (point_device_failed result) self.old.medium.faults self.new.medium.faults }
+        ensures counts { CountsFailure (checkpoint_device_failed result) self.old.medium.faults self.new.medium.faults }
         ensures any_moment { D.keeps → RecoversThroughout [] self.old self.new }
         ensures beyond { D.keeps → KeepsBeyond (layout_of self.old.geometry) self.old.medium self.new.medium }
         ensures costs { D.keeps → Costs result 3 self.old.medium self.new.medium }
@@ -416,10 +419,10 @@ impl<D: Disk> Core<D> {
         if self.journal.failed() {
             return Err(PointRefusal::Failed);
         }
-        let Some(left) = self.journal.left() else {
+        let Some(pieces_left) = self.journal.pieces_left() else {
             return Err(PointRefusal::NotRunning);
         };
-        if left > 0 {
+        if pieces_left > 0 {
             return Err(PointRefusal::Unfinished);
         }
         if self.journal.flip().is_err() {
@@ -437,10 +440,10 @@ impl<D: Disk> Core<D> {
     }
 
     /// How many pieces are left to write, while a checkpoint is in progress.
-    pub fn left(&self) -> Option<usize>
-        ensures { result ≡ self.now.left }
+    pub fn pieces_left(&self) -> Option<usize>
+        ensures { result ≡ self.now.pieces_left }
     {
-        self.journal.left()
+        self.journal.pieces_left()
     }
 
     /// Whether the device has failed: it has to be opened again.

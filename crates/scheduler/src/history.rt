@@ -1,4 +1,4 @@
-//! What contracts know of a core and no memory holds: the tree when it was opened, and what was appended to its log since.
+//! What contracts know of a core, though it takes no memory: the tree when it was opened, and what was appended to its log since.
 ghost use Rattle.std.specs.Prelude.{◌≡◌, ◌++◌, []};
 
 use messages::Msg;
@@ -14,7 +14,7 @@ pub(crate) enum Appended {
     After(Snapshot<Vec<Msg>>, Snapshot<Appended>),
 }
 
-/// It has no bytes. Once the device has failed neither its bytes nor the tree show what was committed, so this does.
+/// A history takes no memory. After a device failure neither the device's bytes nor the tree show what was committed; this does.
 #[derive(Drop)]
 pub(crate) struct History {
     opened: Snapshot<Tree>,
@@ -26,13 +26,13 @@ impl Model for History {
 
     ghost Value = { HistoryView };
 
-    ghost view = { λ h. record { opened = h.opened.value; since = messages_in h.appended.value } };
+    ghost view = { λ h. record { opened = h.opened.value; since_open = messages_in h.appended.value } };
 }
 
 impl History {
     /// A core was opened with this tree.
     pub(crate) fn begun(tree: &Tree) -> History
-        ensures { (result.opened ≡ tree.now) × (result.since ≡ []) }
+        ensures { (result.opened ≡ tree.now) × (result.since_open ≡ []) }
     {
         History {
             opened: Snapshot::of(tree),
@@ -42,7 +42,7 @@ impl History {
 
     /// Notes that this batch was appended to the log.
     pub(crate) fn note(&mut self, batch: &Vec<Msg>)
-        ensures { self.new ≡ record self.old { since = self.old.since ++ batch.now.items } }
+        ensures { self.new ≡ record self.old { since_open = self.old.since_open ++ batch.now.items } }
     {
         let before = mem::replace(&mut self.appended, Snapshot::of(&Appended::Nothing));
         self.appended = Snapshot::of(&Appended::After(Snapshot::of(batch), before));

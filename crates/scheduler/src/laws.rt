@@ -10,7 +10,8 @@ ghost use Rattle.parcel.specs.Run.{JobView, IsJobRun};
 ghost use Rattle.parcel.specs.declared.job.Done.{Done};
 ghost use Rattle.scheduler.specs.Jobs.{IsJobOf, IsResultOf};
 
-/// A job and its result stay the same while other events come, as long as it is in flight.
+/// Running a job of the core gives its result. While the job is in flight no other event touches what it needs of the state: it stays a
+/// job of the core (`IsJobOf`), and its result stays the result (`IsResultOf`).
 pub fn jobs_stay()
     ensures ran { (g : Geometry) (w : CoreState) (job : JobView) (done : Done) → IsJobOf g w job → IsJobRun job done → IsResultOf g w done }
     ensures job { (g : Geometry) (old : MachineState) (event : Event) (job : JobView) → IsAllowed g old event → IsSoundCoreState g old.core

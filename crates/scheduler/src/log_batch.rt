@@ -1,9 +1,10 @@
-//! The messages that ran: what is to be logged of them, and how they become those that are logged.
+//! The messages that ran: what is to be logged of them, and how they become those that are logged. In clauses chain 2 of the arena is that
+//! of the messages that ran, chain 3 that of the logged ones.
 ghost use Rattle.std.specs.Prelude.{◌≡◌, ◌≤◌, ◌<◌, ◌+◌, [], ◌∷◌, ◌++◌, length, take, vec_capacity};
 ghost use Rattle.arena.specs.ArenaView.{capacity_of, chain_at};
-ghost use Rattle.legal_runs.specs.Events.{loggable};
-ghost use Rattle.meaning.specs.Serial.{is_loggable};
-ghost use Rattle.scheduler.specs.Moving.{HasLogged, changing_in, gathered};
+ghost use Rattle.legal_runs.specs.Events.{recorded};
+ghost use Rattle.meaning.specs.Serial.{is_recorded};
+ghost use Rattle.scheduler.specs.Moving.{HasLogged, changing_in, recorded_in};
 ghost use Rattle.scheduler.specs.Slots.{HasChains};
 
 use crate::core_calls::one_if;
@@ -13,27 +14,27 @@ use arena::Arena;
 use messages::{Msg, Reply};
 
 // Whether the log keeps a message with this reply: a change that was carried out.
-fn is_loggable(message: &Msg, reply: &Reply) -> bool
-    ensures { result ≡ is_loggable message.now reply.now }
+fn is_recorded(message: &Msg, reply: &Reply) -> bool
+    ensures { result ≡ is_recorded message.now reply.now }
 {
     changing(message.kind()) && matches!(reply, Reply::Done)
 }
 
 // Appends a message that ran to the batch if the log keeps it.
-fn push_if_loggable(message: &Msg, reply: &Reply, batch: &mut Vec<Msg>)
+fn push_if_recorded(message: &Msg, reply: &Reply, batch: &mut Vec<Msg>)
     requires room { length batch.old.items < vec_capacity batch.old }
-    ensures batch { batch.new.items ≡ batch.old.items ++ loggable ((0, message.now, reply.now) ∷ []) }
+    ensures batch { batch.new.items ≡ batch.old.items ++ recorded ((0, message.now, reply.now) ∷ []) }
     ensures few { length batch.new.items ≤ length batch.old.items + 1 }
     ensures capacity { vec_capacity batch.new ≡ vec_capacity batch.old }
 {
-    if is_loggable(message, reply) {
+    if is_recorded(message, reply) {
         batch.push_reserved(*message);
     }
 }
 
 /// Appends to the batch those of the first `count` messages that ran that the log keeps. Returns how many of the `count` are of a changing
 /// kind.
-pub(crate) fn collect_loggable(
+pub(crate) fn collect_recorded(
     slots: &Arena<Slot>,
     replies: &[Reply],
     count: usize,
@@ -44,7 +45,7 @@ pub(crate) fn collect_loggable(
     requires replies { length replies.now ≡ capacity_of slots.now }
     requires empty { batch.old.items ≡ [] }
     requires room { capacity_of slots.now ≤ vec_capacity batch.old }
-    ensures batch { batch.new.items ≡ gathered slots.now replies.now (take count (chain_at slots.now 2)) }
+    ensures batch { batch.new.items ≡ recorded_in slots.now replies.now (take count (chain_at slots.now 2)) }
     ensures capacity { vec_capacity batch.new ≡ vec_capacity batch.old }
     ensures changing { result ≡ changing_in slots.now (take count (chain_at slots.now 2)) }
 {
@@ -55,7 +56,7 @@ pub(crate) fn collect_loggable(
         let Some(slot) = slots.get(i) else {
             unreachable!()
         };
-        push_if_loggable(&slot.message, &replies[i], batch);
+        push_if_recorded(&slot.message, &replies[i], batch);
         found += one_if(changing(slot.message.kind()));
         at = slots.next(i);
     }

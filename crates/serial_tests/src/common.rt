@@ -1,4 +1,4 @@
-//! What tests share: the numbers of servers, blocks, and assertions that are called with rows.
+//! What tests share: geometries, blocks, and assertions, called for each row of a test's table: as functions they are proved once.
 
 use message::Block;
 use std::process::Abort;

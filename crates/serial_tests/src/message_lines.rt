@@ -1,4 +1,4 @@
-//! Which lines are messages, and which.
+//! Which lines are messages, and which message each of them is.
 
 use crate::common::{block_of, padded};
 use message::{Msg, parse_line};

@@ -24,38 +24,38 @@ fn serve(tree: &mut Tree, message: &Msg) -> Option<Reply> {
     }
 }
 
-// Adds the reply of a tree to a line.
-fn tell(
+// Appends the reply of a tree to a line to the output.
+fn append_reply(
     rt: &impl Abort,
     tree: &mut Tree,
     line: &str,
-    told: &mut Vec<u8>,
+    output: &mut Vec<u8>,
 ) -> Result<(), AllocError> {
     let Some(message) = parse_line(line.as_bytes()) else {
-        return told.extend_from_slice(no_message_line());
+        return output.extend_from_slice(no_message_line());
     };
     let reply = serve(tree, &message).expect(rt, "nothing is out");
     let mut out = [0; 1031];
     let size = write_reply(&reply, &mut out);
-    told.extend_from_slice(&out[..size])
+    output.extend_from_slice(&out[..size])
 }
 
-/// A tree answers the lines so, in a session that shows this.
-pub(crate) fn expect_told(
+/// A tree answers each row's line with the row's reply. `name` says what the rows show.
+pub(crate) fn expect_replies(
     rt: &impl Abort,
     alloc: Global,
     tree: &mut Tree,
     name: &str,
     rows: &[(&str, &str)],
 ) -> Result<(), AllocError> {
-    let mut told = Vec::new(alloc);
+    let mut output = Vec::new(alloc);
     let mut replies = Vec::new(alloc);
     for (line, reply) in rows {
-        tell(rt, tree, line, &mut told)?;
+        append_reply(rt, tree, line, &mut output)?;
         replies.extend_from_slice(reply.as_bytes())?;
         replies.push(b'\n')?;
     }
-    same_text(rt, name, told.as_slice(), replies.as_slice());
+    same_text(rt, name, output.as_slice(), replies.as_slice());
     Ok(())
 }
 
@@ -63,7 +63,7 @@ pub(crate) fn expect_told(
 fn each_session_is_answered_as_by_the_serial_server(rt: HostRuntime) -> Result<(), Fail> {
     for &(name, numbers, rows) in &SESSIONS {
         let mut tree = Tree::new(rt.alloc(), Geometry::new(numbers)?)?;
-        expect_told(&rt, rt.alloc(), &mut tree, name, rows)?;
+        expect_replies(&rt, rt.alloc(), &mut tree, name, rows)?;
     }
     Ok(())
 }

@@ -3,7 +3,7 @@ ghost use Rattle.std.specs.Prelude.{◌≡◌, length, IfOk, OnOk};
 ghost use Rattle.serial_tests.specs.Pieces.{IsNewTree, IsSmallTree};
 
 use crate::common::{SMALL, holds};
-use crate::parcel_lines::expect_told;
+use crate::parcel_lines::expect_replies;
 use affinity::Geometry;
 use parcel::{BadPiece, Tree, read_piece, read_piece_1, write_piece};
 use std::alloc::Global;
@@ -130,7 +130,7 @@ fn good_pieces_come_back_and_bad_ones_are_refused(rt: HostRuntime) -> Result<(),
     Ok(())
 }
 
-const TOLD: [(&str, &str); 6] = [
+const OF_TWO_FILES: [(&str, &str); 6] = [
     ("list 0 0", "files 0 1"),
     ("label 0 0", "label 07"),
     ("read 0 0 0 0", "block 62"),
@@ -139,13 +139,13 @@ const TOLD: [(&str, &str); 6] = [
     ("create 0 0 1", "error exists"),
 ];
 
-const TOLD_OF_LABELED: [(&str, &str); 3] = [
+const OF_LABELED: [(&str, &str); 3] = [
     ("list 0 0", "files 0"),
     ("label 0 0", "label 6162"),
     ("usage 0 0", "usage 1 0 open"),
 ];
 
-const TOLD_OF_SEALED: [(&str, &str); 4] = [
+const OF_SEALED: [(&str, &str); 4] = [
     ("list 0 0", "files 0 1"),
     ("label 0 0", "label 00"),
     ("usage 0 0", "usage 2 1 sealed"),
@@ -153,14 +153,14 @@ const TOLD_OF_SEALED: [(&str, &str); 4] = [
 ];
 
 /// What the volume is, its pieces, and what is answered of it.
-const TOLD_OF: [(&str, Row<'static>, &[(&str, &str)]); 3] = [
-    ("a volume with two files", (&VOLUME, &STRIPE), &TOLD),
-    ("a labeled volume", (&LABELED, &[]), &TOLD_OF_LABELED),
-    ("a sealed volume", (&SEALED, &ONE_BLOCK), &TOLD_OF_SEALED),
+const ANSWERS: [(&str, Row<'static>, &[(&str, &str)]); 3] = [
+    ("a volume with two files", (&VOLUME, &STRIPE), &OF_TWO_FILES),
+    ("a labeled volume", (&LABELED, &[]), &OF_LABELED),
+    ("a sealed volume", (&SEALED, &ONE_BLOCK), &OF_SEALED),
 ];
 
-// A new tree takes in both pieces, and answers the lines so.
-fn expect_pieces_told(
+// A new tree takes in both pieces, and answers each line by its reply.
+fn expect_answers_of(
     rt: &impl Abort,
     alloc: Global,
     name: &str,
@@ -171,14 +171,14 @@ fn expect_pieces_told(
     let mut tree = new_tree(alloc)?;
     let read = read_both(&mut tree, &volume_piece(volume), &stripe_piece(stripe));
     holds(rt, read == Ok(()));
-    expect_told(rt, alloc, &mut tree, name, rows)?;
+    expect_replies(rt, alloc, &mut tree, name, rows)?;
     Ok(())
 }
 
 #[test]
-fn what_pieces_say_is_told(rt: HostRuntime) -> Result<(), Fail> {
-    for &(name, pieces, rows) in &TOLD_OF {
-        expect_pieces_told(&rt, rt.alloc(), name, pieces, rows)?;
+fn a_tree_answers_by_its_pieces(rt: HostRuntime) -> Result<(), Fail> {
+    for &(name, pieces, rows) in &ANSWERS {
+        expect_answers_of(&rt, rt.alloc(), name, pieces, rows)?;
     }
     Ok(())
 }
@@ -194,7 +194,7 @@ fn expect_version_1(
     let read = first_piece(&mut tree, &volume_piece(volume));
     holds(rt, read.is_ok() == good);
     if good {
-        expect_told(
+        expect_replies(
             rt,
             alloc,
             &mut tree,

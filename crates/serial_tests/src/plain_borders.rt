@@ -1,9 +1,10 @@
-//! Each kind of message at the greatest number that it may have at each place, and at the limit.
+//! Each kind of message with the greatest number that each of its arguments may have, and with the one after it, which is out of range.
 
-/// Two aggregates of three volumes, each of three files of five blocks. No number is 1.
+/// Two aggregates of three volumes, each with two stripes (of width 2) and three files of five blocks; a quota of 2; five records a half.
+/// No number is 1, so a limit that is off by one shows.
 pub(crate) const WIDE: [u16; 8] = [2, 3, 2, 2, 3, 5, 2, 5];
 
-/// Lines and the reply to each, where the greatest numbers are 0, 0, 1 and 3.
+/// Lines and the reply to each, where the greatest numbers of an aggregate, a volume, a file and a block are 0, 0, 1 and 3.
 pub(crate) const SMALL_ROWS: [(&str, &str); 48] = [
     ("makevol 0 0", "done"),
     ("makevol 1 0", "error range"),
@@ -55,7 +56,7 @@ pub(crate) const SMALL_ROWS: [(&str, &str); 48] = [
     ("dropvol 0 1", "error range"),
 ];
 
-/// Lines and the reply to each, where the greatest numbers are 1, 2, 2 and 4.
+/// Lines and the reply to each, where those numbers are 1, 2, 2 and 4.
 pub(crate) const WIDE_ROWS: [(&str, &str); 48] = [
     ("makevol 1 2", "done"),
     ("makevol 2 2", "error range"),

@@ -1,5 +1,5 @@
 //! Calls of the command `plain` on messages.
-use crate::commands_calls::{Call, NOTHING, Said, Streams, expect};
+use crate::commands_calls::{Call, Expected, NOTHING, Streams, expect};
 use std::test::Fail;
 
 const PLAIN: &str = "waffd plain";
@@ -51,7 +51,8 @@ error volume
 summary 0 0 0
 ";
 
-/// Words, lines and the answers. Behind those without options each option gives its range, and the last two take the ends of all ranges.
+/// The arguments, the input's lines and the answers. Rows without options come first, then some with one option, each with what it limits;
+/// the last two give every option its least and its greatest value.
 const ANSWERED: [(&str, &str, &str); 15] = [
     (PLAIN, "", ""),
     (PLAIN, MADE, MADE_REPLY),
@@ -108,9 +109,9 @@ const ANSWERED: [(&str, &str, &str); 15] = [
 
 #[test]
 fn answers_each_line_with_a_line(rt: HostRuntime) -> Result<(), Fail> {
-    for &(words, input, output) in &ANSWERED {
-        let call = Call::of(words, input.as_bytes());
-        expect(&rt, call, 0, Said::Is(output), NOTHING)?;
+    for &(arguments, input, output) in &ANSWERED {
+        let call = Call::of(arguments, input.as_bytes());
+        expect(&rt, call, 0, Expected::Is(output), NOTHING)?;
     }
     Ok(())
 }
@@ -129,7 +130,7 @@ fn long_lines_are_one_line(rt: HostRuntime) -> Result<(), Fail> {
         let mut input = vec![in rt.alloc(); b'a'; length]?;
         input.extend_from_slice(behind)?;
         let call = Call::of(PLAIN, input.as_slice());
-        expect(&rt, call, 0, Said::Is(output), NOTHING)?;
+        expect(&rt, call, 0, Expected::Is(output), NOTHING)?;
     }
     Ok(())
 }
@@ -150,14 +151,20 @@ const GIVEN: [(Streams, &str, u8, &str, &str); 3] = [
 
 #[test]
 fn answers_however_the_lines_are_given(rt: HostRuntime) -> Result<(), Fail> {
-    for &(streams, input, status, output, told) in &GIVEN {
+    for &(streams, input, status, output, error_text) in &GIVEN {
         let call = Call {
-            words: PLAIN,
+            arguments: PLAIN,
             path: "",
             input: input.as_bytes(),
             streams,
         };
-        expect(&rt, call, status, Said::Is(output), Said::Is(told))?;
+        expect(
+            &rt,
+            call,
+            status,
+            Expected::Is(output),
+            Expected::Is(error_text),
+        )?;
     }
     Ok(())
 }

@@ -1,4 +1,4 @@
-//! Calls of the program over memory: which words it takes, what it prints of them, and where.
+//! Calls of the program with its streams in memory: which arguments it takes, what it prints of them, and where.
 use commands::{Fault, command, report, report_unreadable_arguments};
 use std::alloc::{AllocError, Global};
 use std::cell::Cell;
@@ -10,7 +10,7 @@ use std::sync::Wait;
 use std::test::Fail;
 use std::thread::Threads;
 
-/// What a call of the program takes, and what its tests ask for beside.
+/// The runtime that a call of the program needs, with an allocator for its tests.
 pub(crate) trait System: AllocGlobal + Files<File = File> + Threads + Wait + Sync {}
 
 impl<T: AllocGlobal + Files<File = File> + Threads + Wait + Sync> System for T {}
@@ -24,10 +24,10 @@ pub(crate) enum Streams {
     /// One byte at a time.
     ByteByByte,
 
-    /// One line at a time, where each line before has its answer; else a read fails.
+    /// One line a read. A read fails if a line read before it has no answer yet.
     LineByLine,
 
-    /// A read behind the input fails.
+    /// The read after the end of the input fails.
     FailingInput,
 
     /// The output takes nothing.
@@ -40,7 +40,7 @@ pub(crate) enum Streams {
     AllClosed,
 }
 
-/// An input that is given so.
+/// An input that gives its bytes as its `Streams` says.
 #[derive(Drop)]
 struct Input<'a> {
     left: &'a [u8],
@@ -121,20 +121,20 @@ impl Write for Output<'_> {
 /// A call of the program: its words, among which `@` stands for a path, its input, and its streams.
 #[derive(Clone, Copy, Drop)]
 pub(crate) struct Call<'a> {
-    pub(crate) words: &'a str,
+    pub(crate) arguments: &'a str,
     pub(crate) path: &'a str,
     pub(crate) input: &'a [u8],
     pub(crate) streams: Streams,
 }
 
 impl<'a> Call<'a> {
-    pub(crate) fn of(words: &'a str, input: &'a [u8]) -> Call<'a> {
-        Call::on("", words, input)
+    pub(crate) fn of(arguments: &'a str, input: &'a [u8]) -> Call<'a> {
+        Call::on("", arguments, input)
     }
 
-    pub(crate) fn on(path: &'a str, words: &'a str, input: &'a [u8]) -> Call<'a> {
+    pub(crate) fn on(path: &'a str, arguments: &'a str, input: &'a [u8]) -> Call<'a> {
         Call {
-            words,
+            arguments,
             path,
             input,
             streams: Streams::Open,
@@ -152,16 +152,16 @@ struct Ended {
 
 /// The words of a call, which lie between spaces.
 fn split(alloc: Global, call: &Call<'_>) -> Result<Vec<String>, AllocError> {
-    let mut words = Vec::new(alloc);
-    for word in call.words.split_ascii_whitespace() {
+    let mut arguments = Vec::new(alloc);
+    for word in call.arguments.split_ascii_whitespace() {
         let word = if word == "@" { call.path } else { word };
-        words.push(String::from_str(alloc, word)?)?;
+        arguments.push(String::from_str(alloc, word)?)?;
     }
-    Ok(words)
+    Ok(arguments)
 }
 
 fn end_of<T: System>(rt: &T, call: &Call<'_>) -> Result<Ended, AllocError> {
-    let words = split(rt.alloc(), call)?;
+    let arguments = split(rt.alloc(), call)?;
     let answered = Cell::new(0);
     let mut input = Input {
         left: call.input,
@@ -185,7 +185,7 @@ fn end_of<T: System>(rt: &T, call: &Call<'_>) -> Result<Ended, AllocError> {
     let status = command(
         rt,
         rt.alloc(),
-        words.as_slice(),
+        arguments.as_slice(),
         &mut input,
         &mut output,
         &mut faults,
@@ -199,30 +199,30 @@ fn end_of<T: System>(rt: &T, call: &Call<'_>) -> Result<Ended, AllocError> {
 
 /// A text that is printed, or a part of it.
 #[derive(Clone, Copy, Drop)]
-pub(crate) enum Said<'a> {
+pub(crate) enum Expected<'a> {
     Is(&'a str),
     Has(&'a str),
 }
 
-pub(crate) const NOTHING: Said<'static> = Said::Is("");
+pub(crate) const NOTHING: Expected<'static> = Expected::Is("");
 
 fn text(bytes: &[u8]) -> &str {
     str::from_utf8(bytes).unwrap_or("no text")
 }
 
-fn is_said(printed: &[u8], said: Said<'_>) -> bool {
-    match said {
-        Said::Is(whole) => text(printed) == whole,
-        Said::Has(part) => text(printed).contains(part),
+fn is_as_expected(printed: &[u8], expected: Expected<'_>) -> bool {
+    match expected {
+        Expected::Is(whole) => text(printed) == whole,
+        Expected::Has(part) => text(printed).contains(part),
     }
 }
 
 /// How a call ended that should have ended otherwise.
-fn amiss(words: &str, ended: &Ended) -> Fail {
+fn amiss(arguments: &str, ended: &Ended) -> Fail {
     let found = ended.status;
     let printed = text(ended.output.as_slice());
-    let told = text(ended.faults.as_slice());
-    Fail::new(format_args!("{words}: {found}, {printed}, {told}"))
+    let error_text = text(ended.faults.as_slice());
+    Fail::new(format_args!("{arguments}: {found}, {printed}, {error_text}"))
 }
 
 /// That a call ends so: its status, what it prints, and what it prints of faults.
@@ -230,17 +230,17 @@ pub(crate) fn expect<T: System>(
     rt: &T,
     call: Call<'_>,
     status: u8,
-    output: Said<'_>,
-    faults: Said<'_>,
+    output: Expected<'_>,
+    faults: Expected<'_>,
 ) -> Result<(), Fail> {
     let ended = end_of(rt, &call)?;
     let is_so = ended.status == status
-        && is_said(ended.output.as_slice(), output)
-        && is_said(ended.faults.as_slice(), faults);
+        && is_as_expected(ended.output.as_slice(), output)
+        && is_as_expected(ended.faults.as_slice(), faults);
     if is_so {
         Ok(())
     } else {
-        Err(amiss(call.words, &ended))
+        Err(amiss(call.arguments, &ended))
     }
 }
 
@@ -257,11 +257,11 @@ const OPTIONS: &str = "
 
 const SERVICE: &str = "
       --workers <N>  Threads that run messages, 0 to 64 [default: 2]
-      --slots <N>    Lines that are read and not answered yet, 1 to 1024 [default: 16]
-      --every <N>    Changes between consistency points, 0 to 1024; 0 makes them where the log is full [default: 0]
+      --slots <N>    Lines that are read and whose reply is not sent, 1 to 1024 [default: 16]
+      --every <N>    Changes between checkpoints, 0 to 1024; 0 makes them where the log is full [default: 0]
 ";
 
-/// Words that ask for help or the version, and a part of what is printed. `tests/run` looks at the kit and the logic in the version.
+/// Arguments that ask for help or the version, and a part of what is printed. `tests/run` looks at the kit and the logic in the version.
 const HELP: [(&str, &str); 24] = [
     ("waffd --help", "Usage: waffd "),
     ("waffd -h", "Usage: waffd "),
@@ -294,95 +294,107 @@ const HELP: [(&str, &str); 24] = [
 
 #[test]
 fn help_goes_to_the_output(rt: HostRuntime) -> Result<(), Fail> {
-    for &(words, part) in &HELP {
-        expect(&rt, Call::of(words, b""), 0, Said::Has(part), NOTHING)?;
+    for &(arguments, part) in &HELP {
+        expect(
+            &rt,
+            Call::of(arguments, b""),
+            0,
+            Expected::Has(part),
+            NOTHING,
+        )?;
     }
     Ok(())
 }
 
-const UNMET: Said<'static> = Said::Has("error: the following required arguments were not provided");
+const UNMET: Expected<'static> = Expected::Has(
+    "error: the following required arguments were not provided",
+);
 
-const OUT_OF_RANGE: Said<'static> = Said::Is("waffd: geometry out of range\n");
+const OUT_OF_RANGE: Expected<'static> = Expected::Is("waffd: geometry out of range\n");
 
-/// Wrong words, and what is printed of them. Of each number of a geometry these are below its range, above it, and the greatest.
-const WRONG: [(&str, Said<'static>); 48] = [
+/// Wrong arguments, and what is printed of them. The last rows give each number of a geometry a value below its range, one above it, and
+/// 65535.
+const WRONG: [(&str, Expected<'static>); 48] = [
     (
         "waffd plain --version",
-        Said::Has("error: unexpected argument '--version'"),
+        Expected::Has("error: unexpected argument '--version'"),
     ),
     ("waffd serve", UNMET),
     (
         "waffd serve d e",
-        Said::Has("error: unexpected argument 'e'"),
+        Expected::Has("error: unexpected argument 'e'"),
     ),
     (
         "waffd serve d --files 2",
-        Said::Has("error: unexpected argument '--files'"),
+        Expected::Has("error: unexpected argument '--files'"),
     ),
     (
         "waffd serve d --workers 65",
-        Said::Has("error: invalid value '65'"),
+        Expected::Has("error: invalid value '65'"),
     ),
     (
         "waffd serve d --slots 0",
-        Said::Has("error: invalid value '0'"),
+        Expected::Has("error: invalid value '0'"),
     ),
     (
         "waffd serve d --slots=1025",
-        Said::Has("error: invalid value '1025'"),
+        Expected::Has("error: invalid value '1025'"),
     ),
     (
         "waffd serve --every 1025 d",
-        Said::Has("error: invalid value '1025'"),
+        Expected::Has("error: invalid value '1025'"),
     ),
-    ("", Said::Has("Usage: waffd")),
-    ("waffd", Said::Has("Usage: waffd")),
+    ("", Expected::Has("Usage: waffd")),
+    ("waffd", Expected::Has("Usage: waffd")),
     (
         "waffd flat",
-        Said::Has("error: unrecognized subcommand 'flat'"),
+        Expected::Has("error: unrecognized subcommand 'flat'"),
     ),
     (
         "waffd help flat",
-        Said::Has("error: unrecognized subcommand 'flat'"),
+        Expected::Has("error: unrecognized subcommand 'flat'"),
     ),
     (
         "waffd --plain",
-        Said::Has("error: unexpected argument '--plain'"),
+        Expected::Has("error: unexpected argument '--plain'"),
     ),
-    ("waffd plain x", Said::Has("error: unexpected argument 'x'")),
+    (
+        "waffd plain x",
+        Expected::Has("error: unexpected argument 'x'"),
+    ),
     (
         "waffd plain --files",
-        Said::Has("error: a value is required"),
+        Expected::Has("error: a value is required"),
     ),
     (
         "waffd plain --files two",
-        Said::Has("error: invalid value 'two'"),
+        Expected::Has("error: invalid value 'two'"),
     ),
     (
         "waffd plain --files 65536",
-        Said::Has("error: invalid value '65536'"),
+        Expected::Has("error: invalid value '65536'"),
     ),
     (
         "waffd plain --files=-1",
-        Said::Has("error: invalid value '-1'"),
+        Expected::Has("error: invalid value '-1'"),
     ),
     (
         "waffd plain --files 2 --files 2",
-        Said::Has("error: the argument '--files <N>' cannot be used multiple times"),
+        Expected::Has("error: the argument '--files <N>' cannot be used multiple times"),
     ),
     (
         "waffd plain --files 0 --blocks x",
-        Said::Has("error: invalid value 'x'"),
+        Expected::Has("error: invalid value 'x'"),
     ),
     ("waffd format", UNMET),
     ("waffd show", UNMET),
     (
         "waffd show d e",
-        Said::Has("error: unexpected argument 'e'"),
+        Expected::Has("error: unexpected argument 'e'"),
     ),
     (
         "waffd show d --files 2",
-        Said::Has("error: unexpected argument '--files'"),
+        Expected::Has("error: unexpected argument '--files'"),
     ),
     ("waffd plain --aggregates 0", OUT_OF_RANGE),
     ("waffd plain --aggregates 5", OUT_OF_RANGE),
@@ -410,16 +422,22 @@ const WRONG: [(&str, Said<'static>); 48] = [
     ("waffd plain --half 65535", OUT_OF_RANGE),
 ];
 
-/// Nothing is read for them.
+/// No line is answered for them.
 #[test]
-fn wrong_words_are_told_on_the_standard_error(rt: HostRuntime) -> Result<(), Fail> {
-    for &(words, told) in &WRONG {
-        expect(&rt, Call::of(words, b"makevol 0 0\n"), 2, NOTHING, told)?;
+fn wrong_arguments_are_reported_on_standard_error(rt: HostRuntime) -> Result<(), Fail> {
+    for &(arguments, error_text) in &WRONG {
+        expect(
+            &rt,
+            Call::of(arguments, b"makevol 0 0\n"),
+            2,
+            NOTHING,
+            error_text,
+        )?;
     }
     Ok(())
 }
 
-/// Calls whose output isn't taken, their status, and what is printed of it where that is taken.
+/// Calls whose output refuses what is written, their status, and what is printed on the standard error, where that takes it.
 const UNWRITTEN: [(&str, Streams, u8, &str); 6] = [
     (
         "waffd --help",
@@ -451,25 +469,25 @@ const UNWRITTEN: [(&str, Streams, u8, &str); 6] = [
 
 #[test]
 fn what_cannot_be_written_is_a_write_fault(rt: HostRuntime) -> Result<(), Fail> {
-    for &(words, streams, status, told) in &UNWRITTEN {
+    for &(arguments, streams, status, error_text) in &UNWRITTEN {
         let call = Call {
-            words,
+            arguments,
             path: "",
             input: b"summary\n",
             streams,
         };
-        expect(&rt, call, status, NOTHING, Said::Is(told))?;
+        expect(&rt, call, status, NOTHING, Expected::Is(error_text))?;
     }
     Ok(())
 }
 
 /// That a fault which was met outside a command has this status and this text.
-fn expect_told(found: u8, faults: &[u8], status: u8, told: &str) -> Result<(), Fail> {
-    if found == status && text(faults) == told {
+fn expect_report(found: u8, faults: &[u8], status: u8, error_text: &str) -> Result<(), Fail> {
+    if found == status && text(faults) == error_text {
         return Ok(());
     }
     let faults = text(faults);
-    Err(Fail::new(format_args!("{told}: {found}, {faults}")))
+    Err(Fail::new(format_args!("{error_text}: {found}, {faults}")))
 }
 
 const NO_TEXT: &str = "error: invalid UTF-8 was detected in one or more arguments
@@ -478,23 +496,23 @@ For more information, try '--help'.
 ";
 
 #[test]
-fn words_that_are_no_text_are_wrong_words(rt: HostRuntime) -> Result<(), Fail> {
+fn unreadable_arguments_are_reported(rt: HostRuntime) -> Result<(), Fail> {
     let rows = [
         (ErrorKind::InvalidData, 2, NO_TEXT),
         (ErrorKind::OutOfMemory, 3, "waffd: out of memory\n"),
     ];
-    for (kind, status, told) in rows {
+    for (kind, status, error_text) in rows {
         let mut faults = Vec::new(rt.alloc());
         let found = report_unreadable_arguments(&io::Error::from(kind), &mut faults);
-        expect_told(found, faults.as_slice(), status, told)?;
+        expect_report(found, faults.as_slice(), status, error_text)?;
     }
     Ok(())
 }
 
-/// How it is reported that no ticket was left to a message, which takes 2^64 of them to meet.
+/// How it is reported that no ticket was left. No test can use up 2^64 - 1 tickets, so the fault is given.
 #[test]
 fn that_no_ticket_is_left_has_its_text(rt: HostRuntime) -> Result<(), Fail> {
     let mut faults = Vec::new(rt.alloc());
     let found = report(Fault::NoTicketLeft, &mut faults);
-    expect_told(found, faults.as_slice(), 1, "waffd: no ticket left\n")
+    expect_report(found, faults.as_slice(), 1, "waffd: no ticket left\n")
 }

@@ -1,5 +1,5 @@
 //! Calls of the commands for devices, on files of the system.
-use crate::commands_calls::{Call, NOTHING, Said, Streams, System, expect};
+use crate::commands_calls::{Call, Expected, NOTHING, Streams, System, expect};
 use std::alloc::{AllocError, Global};
 use std::fs::{self, OpenOptions, Permissions};
 use std::os::unix::fs::PermissionsExt;
@@ -87,8 +87,8 @@ pub(crate) fn expect_left<T: System>(
     rt: &T,
     call: Call<'_>,
     status: u8,
-    output: Said<'_>,
-    faults: Said<'_>,
+    output: Expected<'_>,
+    faults: Expected<'_>,
     left: Left<'_>,
 ) -> Result<(), Fail> {
     let wanted = match left {
@@ -103,14 +103,14 @@ pub(crate) fn expect_left<T: System>(
     if fs::read(rt, call.path)?.as_slice() == wanted.as_slice() {
         return Ok(());
     }
-    let words = call.words;
-    Err(Fail::new(format_args!("{words}: other bytes")))
+    let arguments = call.arguments;
+    Err(Fail::new(format_args!("{arguments}: other bytes")))
 }
 
 /// That `show` prints this of the device in a file, which stays.
 pub(crate) fn expect_shown<T: System>(rt: &T, path: &str, output: &str) -> Result<(), Fail> {
     let call = Call::on(path, SHOW, b"");
-    expect_left(rt, call, 0, Said::Is(output), NOTHING, Left::Same)
+    expect_left(rt, call, 0, Expected::Is(output), NOTHING, Left::Same)
 }
 
 /// Calls that make a device and show it, what they print, and what they leave. What was in the file before is gone, also where it was
@@ -125,9 +125,9 @@ const MAKING: [(&str, &str, Left<'static>); 4] = [
 #[test]
 fn a_device_is_made_and_shown(rt: HostRuntime) -> Result<(), Fail> {
     let path = new_path(&rt, "made")?;
-    for &(words, output, left) in &MAKING {
-        let call = Call::on(path.as_str(), words, b"");
-        expect_left(&rt, call, 0, Said::Is(output), NOTHING, left)?;
+    for &(arguments, output, left) in &MAKING {
+        let call = Call::on(path.as_str(), arguments, b"");
+        expect_left(&rt, call, 0, Expected::Is(output), NOTHING, left)?;
     }
     fs::remove_file(&rt, path.as_str())?;
     Ok(())
@@ -145,12 +145,12 @@ const LENGTHS: [(u64, u8, &str, &str); 4] = [
 fn a_device_may_be_longer_and_not_shorter(rt: HostRuntime) -> Result<(), Fail> {
     let path = new_path(&rt, "longer")?;
     write_made(&rt, path.as_str(), &[])?;
-    for &(len, status, output, told) in &LENGTHS {
+    for &(len, status, output, error_text) in &LENGTHS {
         let file = OpenOptions::new().write(true).open(&rt, path.as_str())?;
         file.set_len(len)?;
         let call = Call::on(path.as_str(), SHOW, b"");
-        let (output, told) = (Said::Is(output), Said::Is(told));
-        expect_left(&rt, call, status, output, told, Left::Same)?;
+        let (output, error_text) = (Expected::Is(output), Expected::Is(error_text));
+        expect_left(&rt, call, status, output, error_text, Left::Same)?;
     }
     fs::remove_file(&rt, path.as_str())?;
     Ok(())
@@ -189,23 +189,23 @@ pub(crate) const DAMAGED: [Damage<'static>; 18] = [
 fn expect_refusal<T: System>(
     rt: &T,
     path: &str,
-    words: &str,
+    arguments: &str,
     before: Changes<'_>,
     status: u8,
-    told: &str,
+    error_text: &str,
     after: Changes<'_>,
 ) -> Result<(), Fail> {
     write_made(rt, path, before)?;
     let times = if status == 1 { 2 } else { 1 };
     for _ in 0..times {
-        let call = Call::on(path, words, b"makevol 0 0\nsummary\n");
+        let call = Call::on(path, arguments, b"makevol 0 0\nsummary\n");
         let left = Left::Made(after);
-        expect_left(rt, call, status, NOTHING, Said::Is(told), left)?;
+        expect_left(rt, call, status, NOTHING, Expected::Is(error_text), left)?;
     }
     Ok(())
 }
 
-/// Behind a point that was cut short a record that is none: `serve` finishes the point before it reports that.
+/// Behind a checkpoint that was cut short there is a bad record: `serve` finishes the checkpoint before it reports that.
 const BAD_BEHIND: Changes<'static> = &[(128, 1), (2340, 1)];
 
 const BAD_RECORD: &str = "waffd: bad record 1 0\n";
@@ -217,8 +217,8 @@ const WITHOUT_WORKERS: &str = "waffd serve @ --workers 0";
 /// A call, what is set in its device, with which status and fault it ends, and what is set afterwards.
 type Refused<'a> = (&'a str, Changes<'a>, u8, &'a str, Changes<'a>);
 
-/// A device is opened before its workers are counted, which leaves a point of the empty state in the other area: a new one, one with an
-/// image of the first version, and one that is refused.
+/// A device is opened before its workers are counted, which leaves a checkpoint of the empty state in the other area: a new one,
+/// one with an image of the first version, and one that is refused.
 const REFUSED: [Refused<'static>; 5] = [
     (SHOW, BAD_BEHIND, 1, BAD_RECORD, BAD_BEHIND),
     (
@@ -248,13 +248,29 @@ const REFUSED: [Refused<'static>; 5] = [
 #[test]
 fn each_refusal_has_its_text_and_leaves_the_file_so(rt: HostRuntime) -> Result<(), Fail> {
     let path = new_path(&rt, "refused")?;
-    for &(changes, told) in &DAMAGED {
-        for words in [SHOW, SERVE] {
-            expect_refusal(&rt, path.as_str(), words, changes, 1, told, changes)?;
+    for &(changes, error_text) in &DAMAGED {
+        for arguments in [SHOW, SERVE] {
+            expect_refusal(
+                &rt,
+                path.as_str(),
+                arguments,
+                changes,
+                1,
+                error_text,
+                changes,
+            )?;
         }
     }
-    for &(words, before, status, told, after) in &REFUSED {
-        expect_refusal(&rt, path.as_str(), words, before, status, told, after)?;
+    for &(arguments, before, status, error_text, after) in &REFUSED {
+        expect_refusal(
+            &rt,
+            path.as_str(),
+            arguments,
+            before,
+            status,
+            error_text,
+            after,
+        )?;
     }
     fs::remove_file(&rt, path.as_str())?;
     Ok(())
@@ -293,8 +309,8 @@ fn what_a_device_holds_is_shown(rt: HostRuntime) -> Result<(), Fail> {
 fn no_file_is_made_for_a_geometry_out_of_range(rt: HostRuntime) -> Result<(), Fail> {
     let path = new_path(&rt, "range")?;
     let call = Call::on(path.as_str(), "waffd format @ --half 3", b"");
-    let told = Said::Is("waffd: geometry out of range\n");
-    expect(&rt, call, 2, NOTHING, told)?;
+    let error_text = Expected::Is("waffd: geometry out of range\n");
+    expect(&rt, call, 2, NOTHING, error_text)?;
     if fs::exists(&rt, path.as_str())? {
         return Err(Fail::new(format_args!("a file was made")));
     }
@@ -322,8 +338,14 @@ const UNOPENED: [(&str, &str); 11] = [
 
 #[test]
 fn what_the_system_refuses_is_a_device_fault(rt: HostRuntime) -> Result<(), Fail> {
-    for &(words, told) in &UNOPENED {
-        expect(&rt, Call::of(words, b""), 1, NOTHING, Said::Is(told))?;
+    for &(arguments, error_text) in &UNOPENED {
+        expect(
+            &rt,
+            Call::of(arguments, b""),
+            1,
+            NOTHING,
+            Expected::Is(error_text),
+        )?;
     }
     Ok(())
 }
@@ -338,10 +360,17 @@ fn a_device_that_may_only_be_read_is_shown(rt: HostRuntime) -> Result<(), Fail> 
         .write(true)
         .open(&rt, path.as_str())
         .is_ok();
-    for words in [SERVE, FORMAT] {
+    for arguments in [SERVE, FORMAT] {
         if !may_write {
-            let call = Call::on(path.as_str(), words, b"");
-            expect_left(&rt, call, 1, NOTHING, Said::Is(DEVICE_FAULT), Left::Same)?;
+            let call = Call::on(path.as_str(), arguments, b"");
+            expect_left(
+                &rt,
+                call,
+                1,
+                NOTHING,
+                Expected::Is(DEVICE_FAULT),
+                Left::Same,
+            )?;
         }
     }
     expect_shown(&rt, path.as_str(), MADE)?;
@@ -358,16 +387,16 @@ const UNWRITTEN: [(&str, Streams); 4] = [
 ];
 
 #[test]
-fn what_is_told_of_a_device_may_fail_to_be_written(rt: HostRuntime) -> Result<(), Fail> {
+fn a_report_of_a_device_may_fail_to_be_written(rt: HostRuntime) -> Result<(), Fail> {
     let path = new_path(&rt, "closed")?;
-    for &(words, streams) in &UNWRITTEN {
+    for &(arguments, streams) in &UNWRITTEN {
         let call = Call {
-            words,
+            arguments,
             path: path.as_str(),
             input: b"",
             streams,
         };
-        expect(&rt, call, 1, NOTHING, Said::Is("waffd: write fault\n"))?;
+        expect(&rt, call, 1, NOTHING, Expected::Is("waffd: write fault\n"))?;
     }
     fs::remove_file(&rt, path.as_str())?;
     Ok(())

@@ -1,5 +1,5 @@
 //! Calls of the command `serve`, on files of the system.
-use crate::commands_calls::{Call, NOTHING, Said, Streams, System, expect};
+use crate::commands_calls::{Call, Expected, NOTHING, Streams, System, expect};
 use crate::commands_devices::{
     Changes, LEN, MADE as JUST_MADE, SERVE, expect_shown, made_bytes, new_path, write_made,
 };
@@ -137,21 +137,21 @@ fn expect_next<T: System>(
         shown(rt.alloc(), area, records, summary)?.as_str(),
     )?;
     let mut call = Call::on(path, SERVE, b"summary");
-    let told = format!(in rt.alloc(); "summary {summary}\n")?;
-    expect(rt, call, 0, Said::Is(told.as_str()), NOTHING)?;
+    let error_text = format!(in rt.alloc(); "summary {summary}\n")?;
+    expect(rt, call, 0, Expected::Is(error_text.as_str()), NOTHING)?;
     call.streams = Streams::ClosedOutput;
-    expect(rt, call, 1, NOTHING, Said::Is("waffd: write fault\n"))?;
+    expect(rt, call, 1, NOTHING, Expected::Is("waffd: write fault\n"))?;
     call.streams = Streams::Open;
-    expect(rt, call, 0, Said::Is(told.as_str()), NOTHING)
+    expect(rt, call, 0, Expected::Is(error_text.as_str()), NOTHING)
 }
 
 #[test]
 fn each_incarnation_goes_on_from_the_last(rt: HostRuntime) -> Result<(), Fail> {
-    let path = new_path(&rt, "life")?;
-    for &(before, words, input, output, area, summary) in &INCARNATIONS {
+    let path = new_path(&rt, "incarnation")?;
+    for &(before, arguments, input, output, area, summary) in &INCARNATIONS {
         write_made(&rt, path.as_str(), before)?;
-        let call = Call::on(path.as_str(), words, input.as_bytes());
-        expect(&rt, call, 0, Said::Is(output), NOTHING)?;
+        let call = Call::on(path.as_str(), arguments, input.as_bytes());
+        expect(&rt, call, 0, Expected::Is(output), NOTHING)?;
         expect_next(&rt, path.as_str(), area, 0, summary)?;
     }
     fs::remove_file(&rt, path.as_str())?;
@@ -181,8 +181,8 @@ fn a_fault_of_the_input_leaves_the_changes_in_the_log(rt: HostRuntime) -> Result
         write_made(&rt, path.as_str(), &[])?;
         let mut call = Call::on(path.as_str(), SERVE, lines.as_bytes());
         call.streams = Streams::FailingInput;
-        let told = Said::Is("waffd: read fault\n");
-        expect(&rt, call, 1, Said::Is(output), told)?;
+        let error_text = Expected::Is("waffd: read fault\n");
+        expect(&rt, call, 1, Expected::Is(output), error_text)?;
         expect_next(&rt, path.as_str(), 1, records, summary)?;
     }
     fs::remove_file(&rt, path.as_str())?;
@@ -365,11 +365,11 @@ fn all_lines(alloc: Global) -> Result<Vec<u8>, AllocError> {
 /// What is answered to them.
 fn all_replies(alloc: Global) -> Result<String, AllocError> {
     let mut replies = String::new(alloc);
-    for &(_, told) in &LINES {
-        replies.push_str(told)?;
+    for &(_, error_text) in &LINES {
+        replies.push_str(error_text)?;
     }
-    for &(_, _, _, told) in &LONG {
-        replies.push_str(told)?;
+    for &(_, _, _, error_text) in &LONG {
+        replies.push_str(error_text)?;
     }
     Ok(replies)
 }
@@ -394,11 +394,11 @@ const SERVERS: [&str; 12] = [
 fn each_server_answers_the_same(rt: HostRuntime) -> Result<(), Fail> {
     let input = all_lines(rt.alloc())?;
     let output = all_replies(rt.alloc())?;
-    let output = Said::Is(output.as_str());
+    let output = Expected::Is(output.as_str());
     let path = new_path(&rt, "servers")?;
-    for &words in &SERVERS {
+    for &arguments in &SERVERS {
         write_made(&rt, path.as_str(), &[])?;
-        let call = Call::on(path.as_str(), words, input.as_slice());
+        let call = Call::on(path.as_str(), arguments, input.as_slice());
         expect(&rt, call, 0, output, NOTHING)?;
     }
     fs::remove_file(&rt, path.as_str())?;
@@ -415,11 +415,11 @@ fn what_lies_behind_a_device_stays(rt: HostRuntime) -> Result<(), Fail> {
     bytes.extend_from_slice(BEHIND)?;
     fs::write(&rt, path.as_str(), bytes.as_slice())?;
     expect_shown(&rt, path.as_str(), JUST_MADE)?;
-    let words = "waffd serve @ --every 2";
-    let call = Call::on(path.as_str(), words, THREE_CHANGES.as_bytes());
-    expect(&rt, call, 0, Said::Is(THREE_DONE), NOTHING)?;
-    let told = shown(rt.alloc(), 1, 0, "1 1 1")?;
-    expect_shown(&rt, path.as_str(), told.as_str())?;
+    let arguments = "waffd serve @ --every 2";
+    let call = Call::on(path.as_str(), arguments, THREE_CHANGES.as_bytes());
+    expect(&rt, call, 0, Expected::Is(THREE_DONE), NOTHING)?;
+    let error_text = shown(rt.alloc(), 1, 0, "1 1 1")?;
+    expect_shown(&rt, path.as_str(), error_text.as_str())?;
     let left = fs::read(&rt, path.as_str())?;
     fs::remove_file(&rt, path.as_str())?;
     if left.get(LEN..) == Some(BEHIND) {

@@ -1,4 +1,6 @@
 //! Tests of the server and of the program's commands by their public surfaces, over devices in memory and in files, and with threads.
+//! Shared by the others: serving_running (whole calls of a server), serving_noting (devices and streams that note what is done with them)
+//! and serving_drawing (lines drawn from a seed).
 #![tactic(auto)]
 
 #[cfg(test)]
@@ -18,6 +20,8 @@ mod serving_drawing;
 #[cfg(test)]
 mod serving_faults;
 #[cfg(test)]
+mod serving_images;
+#[cfg(test)]
 mod serving_noting;
 #[cfg(test)]
 mod serving_open_lines;
@@ -29,8 +33,6 @@ mod serving_pieces;
 mod serving_points;
 #[cfg(test)]
 mod serving_precedence;
-#[cfg(test)]
-mod serving_rows;
 #[cfg(test)]
 mod serving_running;
 #[cfg(test)]

@@ -3,8 +3,8 @@ ghost use Rattle.std.specs.Prelude.{◌≡◌, false, IfOk, IsTrue};
 ghost use Rattle.legal_runs.specs.Laws.{IsIdle};
 ghost use Rattle.scheduler.specs.CoreView.{core_state_of};
 
+use crate::serving_images::leaves;
 use crate::serving_noting::{Notes, Pieces};
-use crate::serving_rows::leaves;
 use crate::serving_running::{SMALL, writes};
 use disk::MemDisk;
 use harness::{Wrong, device_with};
@@ -24,7 +24,7 @@ const SECOND: &[u8] = b"read 0 0 0 0\nwrite 0 0 0 1 62\nread 0 0 0 1\n";
 const ANSWERS: &[u8] = b"done\ndone\ndone\nblock 61\ndone\nblock 62\n";
 
 /// Whether the first input can't be read to its end, whether a cut is begun after it, and which area is named in the end:
-/// opening names area 1, and each point the other one. An input that ends has a point after it.
+/// opening names area 1, and each checkpoint the other one. An input that ends has a checkpoint after it.
 const TWICE: [(bool, bool, usize); 4] = [
     (false, false, 1),
     (true, false, 0),

@@ -1,6 +1,6 @@
 //! Servers on devices that fail or stop at any call, and are torn after that.
 use crate::serving_noting::Notes;
-use crate::serving_running::{End, Left, PIPED, SMALL, Way, holds, session};
+use crate::serving_running::{ALL_AT_ONCE, End, Left, SMALL, Way, holds, session};
 use affinity::Geometry;
 use checkpoint::OpenFault;
 use disk::MemDisk;
@@ -28,7 +28,7 @@ const CHANGES: [&str; 10] = [
     "unseal 0 0",
 ];
 
-/// Orders in which they are logged. Wherever one stops, no other leaves anything else.
+/// Orders in which they may be logged: any other order leaves at each point a state that one of these leaves.
 const ORDERS: [[usize; 10]; 2] = [
     [0, 1, 2, 3, 4, 5, 6, 7, 8, 9],
     [0, 1, 3, 2, 4, 6, 5, 7, 8, 9],
@@ -37,24 +37,26 @@ const ORDERS: [[usize; 10]; 2] = [
 /// Some changes, and what a server answers to the questions after them.
 #[derive(Drop)]
 struct Known {
-    /// The sum of 2 to the power of each one's place.
+    /// The sum of 2 to the power of each one's index.
     changes: u32,
-    sent: Vec<u8>,
+    replies: Vec<u8>,
 }
 
 /// A device that recovers to a prefix of the changes and on which the others are served, and what may be found on it.
 #[derive(Drop)]
 struct Play {
-    there: usize,
+    /// To how many of the changes the device recovers.
+    recovered_changes: usize,
     lines: Vec<u8>,
-    blank: Vec<u8>,
+    /// The device before anything is served on it.
+    initial_bytes: Vec<u8>,
     questions: Questions,
-    /// The first of these are behind the changes in their own order.
+    /// First those after 0 to 10 changes in the order of `CHANGES`.
     known: Vec<Known>,
 }
 
-/// What is known after the first m changes in this order.
-fn behind(
+/// What is known after the changes of this order.
+fn known_after(
     alloc: Global,
     g: &Geometry,
     order: &[usize],
@@ -62,15 +64,15 @@ fn behind(
 ) -> Result<Known, Wrong> {
     let mut lines = Vec::new(alloc);
     let mut changes = 0;
-    for place in order {
-        let Some(line) = CHANGES.get(*place) else {
+    for index in order {
+        let Some(line) = CHANGES.get(*index) else {
             return Err(Wrong::Unfit);
         };
         lines.push(*line)?;
-        changes |= first(*place + 1) ^ first(*place);
+        changes |= first(*index + 1) ^ first(*index);
     }
-    let sent = expected(alloc, g, lines.as_slice(), questions)?;
-    Ok(Known { changes, sent })
+    let replies = expected(alloc, g, lines.as_slice(), questions)?;
+    Ok(Known { changes, replies })
 }
 
 /// The sum of 2 to the power of each number below this one.
@@ -84,39 +86,43 @@ fn first(count: usize) -> u32 {
 
 impl Play {
     /// One on a device that was formatted, with other bytes at some places, so that it recovers to a prefix of the changes.
-    fn new(alloc: Global, changes: &[(usize, u8)], there: usize) -> Result<Play, Wrong> {
+    fn new(
+        alloc: Global,
+        patches: &[(usize, u8)],
+        recovered_changes: usize,
+    ) -> Result<Play, Wrong> {
         let Ok(g) = Geometry::new(SMALL) else {
             return Err(Wrong::Unfit);
         };
         let mut play = Play {
-            there,
+            recovered_changes,
             lines: Vec::new(alloc),
-            blank: device_with(alloc, SMALL, changes)?.bytes().to_vec(alloc)?,
+            initial_bytes: device_with(alloc, SMALL, patches)?.bytes().to_vec(alloc)?,
             questions: Questions::new(alloc, &g)?,
             known: Vec::new(alloc),
         };
-        for line in CHANGES.iter().skip(there) {
+        for line in CHANGES.iter().skip(recovered_changes) {
             play.lines.extend_from_slice(line.as_bytes())?;
             play.lines.push(b'\n')?;
         }
         for &order in &ORDERS {
             for count in 0..=order.len() {
                 let some = order.get(..count).unwrap_or_default();
-                let known = behind(alloc, &g, some, &play.questions)?;
+                let known = known_after(alloc, &g, some, &play.questions)?;
                 play.known.push(known)?;
             }
         }
         Ok(play)
     }
 
-    /// Whether this may be found where this many lines were written.
-    fn allows(&self, answered: usize, found: &OpenedDevice) -> bool {
-        let OpenedDevice::Tells(sent) = found else {
+    /// Whether this may be found on the device after this many lines were written.
+    fn allows(&self, acknowledged: usize, found: &OpenedDevice) -> bool {
+        let OpenedDevice::Answers(replies) = found else {
             return false;
         };
-        let answered = first(self.there.saturating_add(answered));
+        let acknowledged = first(self.recovered_changes.saturating_add(acknowledged));
         let mut known = self.known.iter();
-        known.any(|known| known.changes & answered == answered && known.sent == *sent)
+        known.any(|known| known.changes & acknowledged == acknowledged && known.replies == *replies)
     }
 
     /// Serves on a device that fails at this call, and gives what a crash leaves.
@@ -127,30 +133,41 @@ impl Play {
         way: Way,
         crash: Crash,
     ) -> Result<Met, Wrong> {
-        let mut device = MemDisk::of_bytes(alloc, self.blank.to_vec(alloc)?)?;
+        let mut device = MemDisk::of_bytes(alloc, self.initial_bytes.to_vec(alloc)?)?;
         let n = set_injected_fault(&mut device, crash);
         let notes = Notes::new();
         let lines = self.lines.as_slice();
-        let left = session(rt, alloc, device, way, lines, PIPED, &OpenGate, &notes);
+        let left = session(
+            rt,
+            alloc,
+            device,
+            way,
+            lines,
+            ALL_AT_ONCE,
+            &OpenGate,
+            &notes,
+        );
         let Left {
             device,
             end,
             output: _output,
         } = left;
-        let is_whole = device.calls() < n;
+        let is_faultless = device.calls() < n;
         // No call follows the one that failed, also where the core that was given back is asked for more.
-        let is_last = is_whole || device.calls() == n;
-        let is_reported = is_last && is_told(end, is_whole) && has_said(&notes, way);
-        let answered = notes.taken.get() as usize;
-        let is_chained = answered >= 2 && is_chained(device.bytes());
+        let is_last = is_faultless || device.calls() == n;
+        let is_reported = is_last
+            && is_fault_reported(end, is_faultless)
+            && only_synced_are_acknowledged(&notes, way);
+        let acknowledged = notes.taken.get() as usize;
+        let is_chained = acknowledged >= 2 && is_chained(device.bytes());
         let left = left_of(alloc, device, crash)?;
         if !is_reported {
-            return Err(Wrong::Untold(crash));
+            return Err(Wrong::Unreported(crash));
         }
         Ok(Met {
-            is_whole,
+            is_faultless,
             is_chained,
-            answered,
+            acknowledged,
             left,
         })
     }
@@ -165,7 +182,7 @@ fn left_of(alloc: Global, device: MemDisk, crash: Crash) -> Result<MemDisk, Wron
     }
 }
 
-/// Lets the call of this crash fail, or stop the device permanently: which call that is.
+/// Makes the call of this crash fail (kind `KINDS`: it alone), or stops the device from it on. Returns the call's number.
 fn set_injected_fault(device: &mut MemDisk, crash: Crash) -> u64 {
     let n = crash.call.max(1);
     if crash.kind < KINDS {
@@ -176,22 +193,22 @@ fn set_injected_fault(device: &mut MemDisk, crash: Crash) -> u64 {
     n
 }
 
-/// Whether each change whose record was synced is reported, but for those after one that isn't; and no other is. Among these
-/// changes at most one can be logged while another worker has the one before it.
-fn has_said(notes: &Notes, way: Way) -> bool {
-    let behind = notes.logged.get().saturating_sub(notes.taken.get());
-    !notes.is_early.get() && behind < way.workers as u64
+/// Whether no reply was written before its record was synced, and fewer synced changes than there are workers have no reply yet: each of
+/// these comes after one that another worker still has.
+fn only_synced_are_acknowledged(notes: &Notes, way: Way) -> bool {
+    let unacknowledged = notes.logged.get().saturating_sub(notes.taken.get());
+    !notes.is_early.get() && unacknowledged < way.workers as u64
 }
 
 /// What came of a session whose device was to fail.
 #[derive(Drop)]
 struct Met {
     /// It ended before that.
-    is_whole: bool,
+    is_faultless: bool,
     /// Lines were written, and records are in the half behind the one that is named.
     is_chained: bool,
     /// How many lines were written.
-    answered: usize,
+    acknowledged: usize,
     /// The device behind the crash.
     left: MemDisk,
 }
@@ -205,13 +222,13 @@ fn is_chained(bytes: &[u8]) -> bool {
         && bytes.get(*gate) == Some(&1))
 }
 
-/// Whether a server ends so where its device has not failed, or has.
-fn is_told(end: End, is_whole: bool) -> bool {
+/// Whether a server may end so on a device that has not failed (`is_faultless`), or has failed.
+fn is_fault_reported(end: End, is_faultless: bool) -> bool {
     match end {
-        End::Whole => is_whole,
-        End::Unopened(why) => !is_whole && why == OpenFault::Device,
-        End::Fault(why) => !is_whole && why == ServeFault::Device,
-        End::Deaf => false,
+        End::Whole => is_faultless,
+        End::Unopened(why) => !is_faultless && why == OpenFault::Device,
+        End::Fault(why) => !is_faultless && why == ServeFault::Device,
+        End::IgnoresFault => false,
     }
 }
 
@@ -226,7 +243,7 @@ struct Openings {
 
 impl Openings {
     /// The place of a device of these bytes among the opened ones.
-    fn place_of(&self, bytes: &[u8]) -> Option<usize> {
+    fn index_of(&self, bytes: &[u8]) -> Option<usize> {
         self.seen
             .iter()
             .position(|seen| seen.bytes.as_slice() == bytes)
@@ -240,19 +257,19 @@ impl Openings {
         crash: Crash,
         left: MemDisk,
     ) -> Result<usize, Wrong> {
-        if let Some(place) = self.place_of(left.bytes()) {
-            return Ok(place);
+        if let Some(index) = self.index_of(left.bytes()) {
+            return Ok(index);
         }
         let bytes = left.bytes().to_vec(alloc)?;
         let (found, _) = find(alloc, left, &play.questions)?;
         let seen = Seen { bytes, found };
-        let place = self.seen.len();
+        let index = self.seen.len();
         reopen(alloc, &play.questions, crash, &seen)?;
         self.seen.push(seen)?;
-        Ok(place)
+        Ok(index)
     }
 
-    /// Whether this may be found where this many lines were written.
+    /// Whether this may be found on the device after this many lines were written.
     fn allows(
         &mut self,
         alloc: Global,
@@ -260,9 +277,9 @@ impl Openings {
         crash: Crash,
         met: Met,
     ) -> Result<bool, Wrong> {
-        let place = self.open(alloc, play, crash, met.left)?;
-        let seen = self.seen.get(place);
-        Ok(seen.is_some_and(|seen| play.allows(met.answered, &seen.found)))
+        let index = self.open(alloc, play, crash, met.left)?;
+        let seen = self.seen.get(index);
+        Ok(seen.is_some_and(|seen| play.allows(met.acknowledged, &seen.found)))
     }
 }
 
@@ -279,17 +296,17 @@ fn survives<T: Threads + Wait + Sync>(
     };
     let mut was_chained = false;
     for call in 1..MOST_CALLS {
-        let mut is_whole = false;
+        let mut is_faultless = false;
         for kind in 0..=KINDS {
             let crash = Crash { call, kind };
             let met = play.meet(rt, alloc, way, crash)?;
-            is_whole = met.is_whole;
+            is_faultless = met.is_faultless;
             was_chained = was_chained || met.is_chained;
             if !openings.allows(alloc, play, crash, met)? {
                 return Err(Wrong::Found(crash));
             }
         }
-        if is_whole {
+        if is_faultless {
             return if was_chained {
                 Ok(())
             } else {
@@ -331,9 +348,9 @@ const THREE: &[u8] = b"makevol 0 0\ncreate 0 0 0\nwrite 0 0 0 0 61\n";
 
 const TWO_DONE: &[u8] = b"done\ndone\n";
 
-/// Serves three changes with one worker and a point after each, on a device that stops at its n-th call: whether that was met, and whether
-/// two lines were written while the chain of half 1 was open and half 0 had a record behind it.
-fn stops_in_a_point<T: Threads + Wait + Sync>(
+/// Serves three changes with one worker and a checkpoint (a cut) after each, on a device that stops at its n-th call. Returns whether that
+/// was met, and whether two lines were written while the chain of half 1 was open and half 0 had a record behind it.
+fn stops_in_a_cut<T: Threads + Wait + Sync>(
     rt: &T,
     alloc: Global,
     n: u64,
@@ -347,7 +364,7 @@ fn stops_in_a_point<T: Threads + Wait + Sync>(
         device,
         way(1, 1),
         THREE,
-        PIPED,
+        ALL_AT_ONCE,
         &OpenGate,
         &notes,
     );
@@ -358,17 +375,17 @@ fn stops_in_a_point<T: Threads + Wait + Sync>(
     } = left;
     let bytes = device.bytes();
     let is_chained = bytes.get(2276) == Some(&1) && bytes.get(192) == Some(&1);
-    let is_in_a_point = end == End::Fault(ServeFault::Device) && is_chained;
-    let has_told_two = output.as_slice().starts_with(TWO_DONE);
-    Ok((device.calls() >= n, is_in_a_point && has_told_two))
+    let is_in_a_cut = end == End::Fault(ServeFault::Device) && is_chained;
+    let has_sent_two = output.as_slice().starts_with(TWO_DONE);
+    Ok((device.calls() >= n, is_in_a_cut && has_sent_two))
 }
 
 #[test]
 fn a_device_stops_with_records_in_both_halves(rt: HostRuntime) -> Result<(), Fail> {
     let mut is_found = false;
     for n in 1..MOST_CALLS {
-        let (is_met, is_in_a_point) = stops_in_a_point(&rt, rt.alloc(), n)?;
-        is_found = is_found || is_in_a_point;
+        let (is_met, is_in_a_cut) = stops_in_a_cut(&rt, rt.alloc(), n)?;
+        is_found = is_found || is_in_a_cut;
         if !is_met {
             holds(&rt, is_found);
             return Ok(());
@@ -377,8 +394,9 @@ fn a_device_stops_with_records_in_both_halves(rt: HostRuntime) -> Result<(), Fai
     Err(Wrong::Endless.into())
 }
 
-/// Images of version 1 and to how many changes the devices recover: none; and three of them, where a cut was in progress: the image has
-/// the volume, half 0 the file, and half 1 behind it the block.
+/// Patches of a formatted device (at 4424 the version of image 0, at 4488 its first piece; at 128, 192 and 2340 a chain byte and gates, and
+/// then records), and to how many changes the device then recovers: none; and three, where a cut was in progress: the image has the volume,
+/// half 0 the file, and half 1 behind it the block.
 const OLD_IMAGES: [(&[(usize, u8)], usize); 2] = [
     (&[(4424, 1)], 0),
     (
@@ -398,8 +416,8 @@ const OLD_IMAGES: [(&[(usize, u8)], usize); 2] = [
 
 #[test]
 fn answers_behind_an_old_image_survive(rt: HostRuntime) -> Result<(), Fail> {
-    for &(changes, there) in &OLD_IMAGES {
-        let play = Play::new(rt.alloc(), changes, there)?;
+    for &(patches, recovered_changes) in &OLD_IMAGES {
+        let play = Play::new(rt.alloc(), patches, recovered_changes)?;
         survives(&rt, rt.alloc(), way(1, 1), &play)?;
     }
     Ok(())

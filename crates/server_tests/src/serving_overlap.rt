@@ -1,6 +1,6 @@
 //! Which messages run at once.
 use crate::serving_noting::Notes;
-use crate::serving_running::{End, FLAT, PIPED, SMALL, Way, serve_lines, session, writes};
+use crate::serving_running::{ALL_AT_ONCE, End, FLAT, SMALL, Way, serve_lines, session, writes};
 use harness::{Wrong, device_with};
 use std::alloc::Global;
 use std::sync::Wait;
@@ -151,7 +151,16 @@ fn runs_at_once<T: Threads + Wait + Sync>(
         gave_up: AtomicBool::new(false),
     };
     let notes = Notes::new();
-    let left = session(rt, alloc, device, way, row.lines, PIPED, &gate, &notes);
+    let left = session(
+        rt,
+        alloc,
+        device,
+        way,
+        row.lines,
+        ALL_AT_ONCE,
+        &gate,
+        &notes,
+    );
     if left.end != End::Whole || gate.gave_up.load(Ordering::SeqCst) {
         return Err(Wrong::Endless);
     }

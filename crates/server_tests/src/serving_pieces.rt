@@ -1,7 +1,7 @@
 //! How far the checkpoint in progress goes on after an answer, while a job is in flight, and before a reply is sent.
 use crate::serving_noting::{Count, Flag, Notes, Noting, Pieces};
 use crate::serving_running::{
-    End, PIPED, Way, ends, holds, serve_lines, serve_on, session, writes,
+    ALL_AT_ONCE, End, Way, ends, holds, serve_lines, serve_on, session, writes,
 };
 use disk::MemDisk;
 use harness::{Wrong, device_with};
@@ -91,7 +91,16 @@ fn one_piece_is_written_behind_each_answer(rt: HostRuntime) -> Result<(), Fail> 
         is_amiss: Flag::new(),
     };
     let device = device_with(rt.alloc(), WIDE, &[])?;
-    let left = session(&rt, rt.alloc(), device, EIGHT, &lines, PIPED, &gate, &notes);
+    let left = session(
+        &rt,
+        rt.alloc(),
+        device,
+        EIGHT,
+        &lines,
+        ALL_AT_ONCE,
+        &gate,
+        &notes,
+    );
     ends(&rt, left.end, End::Whole);
     writes(&rt, left.output.as_slice(), answers.as_slice());
     holds(&rt, gate.steps.get() > 0);
@@ -163,7 +172,16 @@ fn no_piece_is_written_while_a_job_is_out_and_none_is_answered(
         is_amiss: Flag::new(),
     };
     let device = with_a_file(&rt, rt.alloc())?;
-    let left = session(&rt, rt.alloc(), device, EACH, TWICE, PIPED, &gate, &notes);
+    let left = session(
+        &rt,
+        rt.alloc(),
+        device,
+        EACH,
+        TWICE,
+        ALL_AT_ONCE,
+        &gate,
+        &notes,
+    );
     ends(&rt, left.end, End::Whole);
     writes(&rt, left.output.as_slice(), b"done\ndone\n");
     let written = notes.pieces.get().saturating_sub(gate.pieces.get());

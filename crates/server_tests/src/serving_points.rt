@@ -1,7 +1,7 @@
-//! When records are logged, and when points are made.
+//! When records are logged, and when checkpoints are made.
 use crate::serving_noting::Notes;
 use crate::serving_running::{
-    End, FLAT, Left, PIPED, SMALL, Streams, Way, holds, serve_lines, session,
+    ALL_AT_ONCE, End, FLAT, Left, SMALL, Streams, Way, holds, serve_lines, session,
 };
 use checkpoint::inspect;
 use harness::{Wrong, device_with};
@@ -26,10 +26,10 @@ fn changes(alloc: Global, count: usize) -> Result<Vec<u8>, AllocError> {
     Ok(lines)
 }
 
-/// How many changes there are, and after how many there is a point; and how many points are made, at least and at most. A half of the
-/// log has four records.
+/// How many changes there are, and after how many there is a checkpoint; and how many checkpoints are made, at least and at most. A half
+/// of the log has four records.
 const POINTS: [(usize, u64, u64, u64); 10] = [
-    // There is a point where the log is full and at the end.
+    // There is a checkpoint where the log is full and at the end.
     (0, 0, 1, 1),
     (4, 0, 1, 1),
     (5, 0, 2, 2),
@@ -43,7 +43,7 @@ const POINTS: [(usize, u64, u64, u64); 10] = [
     (40, 100, 10, 10),
 ];
 
-/// Serves changes in pieces of this size. No line is written before its record is synced; gives how many points there
+/// Serves changes in pieces of this size. No line is written before its record is synced; gives how many checkpoints there
 /// were.
 fn points_of<T: Threads + Wait + Sync + Abort>(
     rt: &T,
@@ -56,7 +56,7 @@ fn points_of<T: Threads + Wait + Sync + Abort>(
     let streams = Streams {
         read: size,
         written: size,
-        ..PIPED
+        ..ALL_AT_ONCE
     };
     let device = device_with(alloc, SMALL, &[])?;
     let lines = changes(alloc, count)?;
@@ -68,7 +68,7 @@ fn points_of<T: Threads + Wait + Sync + Abort>(
     let Ok((shown, _)) = inspect(alloc, device) else {
         return Err(Wrong::Unfit);
     };
-    // Opening names area 1, and each point the other one.
+    // Opening names area 1, and each checkpoint the other one.
     holds(
         rt,
         shown.records == 0 && shown.area as u64 == notes.points.get() % 2,
@@ -103,7 +103,7 @@ punch 0 0 0 6
 punch 0 0 0 7
 ";
 
-/// How many syncs there are where these lines come with one read and one worker runs them, from the opening to the last point.
+/// How many syncs there are where these lines come with one read and one worker runs them, from the opening to the last checkpoint.
 fn syncs_of<T: Threads + Wait + Sync + Abort>(
     rt: &T,
     alloc: Global,
@@ -117,7 +117,16 @@ fn syncs_of<T: Threads + Wait + Sync + Abort>(
     let device = device_with(alloc, FLAT, &[])?;
     let (device, _) = serve_lines(rt, alloc, device, way, b"makevol 0 0\ncreate 0 0 0\n")?;
     let notes = Notes::new();
-    let left = session(rt, alloc, device, way, lines, PIPED, &OpenGate, &notes);
+    let left = session(
+        rt,
+        alloc,
+        device,
+        way,
+        lines,
+        ALL_AT_ONCE,
+        &OpenGate,
+        &notes,
+    );
     holds(rt, left.end == End::Whole);
     Ok(notes.syncs.get())
 }

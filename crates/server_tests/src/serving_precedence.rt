@@ -1,6 +1,6 @@
 //! Which fault is reported if several befall one session.
 use crate::serving_noting::Notes;
-use crate::serving_running::{End, Left, PIPED, SMALL, Streams, Way, ends, holds, session};
+use crate::serving_running::{ALL_AT_ONCE, End, Left, SMALL, Streams, Way, ends, holds, session};
 use checkpoint::OpenFault;
 use disk::MemDisk;
 use harness::{Wrong, device_with};
@@ -56,7 +56,7 @@ fn sent<T: Threads + Wait + Sync + Abort>(
     let streams = Streams {
         fails: true,
         fails_at: failing.writer,
-        ..PIPED
+        ..ALL_AT_ONCE
     };
     let mut device: MemDisk = device_with(alloc, SMALL, &[])?;
     if failing.device != 0 {
@@ -77,8 +77,8 @@ fn sent<T: Threads + Wait + Sync + Abort>(
 /// More calls than a session has.
 const MOST_CALLS: u64 = 1000;
 
-/// Lets each call of the device fail in turn, with this call of the writer: whether both failed at some of them.
-fn tell_each<T: Threads + Wait + Sync + Abort>(
+/// Lets each call of the device fail in turn, together with this call of the writer. Returns whether both failed at some of them.
+fn fail_each_call<T: Threads + Wait + Sync + Abort>(
     rt: &T,
     alloc: Global,
     way: Way,
@@ -96,7 +96,7 @@ fn tell_each<T: Threads + Wait + Sync + Abort>(
 }
 
 #[test]
-fn the_output_is_told_before_the_device_and_that_before_the_input(
+fn an_output_fault_is_reported_before_a_device_fault_and_that_before_a_read_fault(
     rt: HostRuntime,
 ) -> Result<(), Fail> {
     for every in [0, 1] {
@@ -107,7 +107,7 @@ fn the_output_is_told_before_the_device_and_that_before_the_input(
         };
         let mut both = false;
         for writer in 0..4 {
-            both = tell_each(&rt, rt.alloc(), way, writer)? || both;
+            both = fail_each_call(&rt, rt.alloc(), way, writer)? || both;
         }
         holds(&rt, both);
     }

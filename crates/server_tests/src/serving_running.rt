@@ -24,7 +24,7 @@ pub(crate) const SMALL: [u16; 8] = [1, 1, 2, 1, 2, 4, 2, 4];
 /// One volume of one file of eight blocks, each in a stripe of its own, and eight records in a half.
 pub(crate) const FLAT: [u16; 8] = [1, 1, 8, 1, 1, 8, 1, 8];
 
-/// How a server is run: its workers and slots, and after how many records there is a point.
+/// How a server is run: its workers and slots, and after how many records there is a checkpoint.
 #[derive(Clone, Copy)]
 pub(crate) struct Way {
     pub(crate) workers: usize,
@@ -41,7 +41,7 @@ pub(crate) enum End {
     Unopened(OpenFault),
     Fault(ServeFault),
     /// Its device failed, and the core that was given back goes on as if it had not.
-    Deaf,
+    IgnoresFault,
 }
 
 /// A device that was served on, and how that ended.
@@ -89,7 +89,7 @@ fn says_failed<D: Disk>(core: &mut Core<D>) -> bool {
 /// How a server ended with this fault. Where its device failed, its core is asked for more.
 fn fault_end<D: Disk>(core: &mut Core<D>, fault: ServeFault) -> End {
     if fault == ServeFault::Device && !says_failed(core) {
-        return End::Deaf;
+        return End::IgnoresFault;
     }
     End::Fault(fault)
 }
@@ -142,7 +142,7 @@ pub(crate) struct Streams {
 }
 
 /// All at once, and nothing fails.
-pub(crate) const PIPED: Streams = Streams {
+pub(crate) const ALL_AT_ONCE: Streams = Streams {
     read: 70_000,
     fails: false,
     written: 70_000,

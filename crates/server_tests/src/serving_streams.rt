@@ -2,7 +2,7 @@
 use crate::serving_drawing::draw_lines;
 use crate::serving_noting::Notes;
 use crate::serving_running::{
-    End, Left, PIPED, SMALL, Streams, Way, ends, holds, serial, serve_lines, session, writes,
+    ALL_AT_ONCE, End, Left, SMALL, Streams, Way, ends, holds, serial, serve_lines, session, writes,
 };
 use checkpoint::inspect;
 use harness::{Wrong, device_with};
@@ -27,7 +27,7 @@ fn serve_new<T: Threads + Wait + Sync>(
     Ok(session(rt, alloc, device, way, lines, streams, &OpenGate, notes))
 }
 
-/// Workers, slots, and how many records are between points.
+/// Workers, slots, and how many records are between checkpoints.
 const WAYS: [Way; 3] = [
     Way {
         workers: 1,
@@ -63,7 +63,7 @@ fn whole_lines(bytes: &[u8]) -> &[u8] {
     }
 }
 
-/// Where the input can be read so far alone, its whole lines are answered, and the last point is left out.
+/// Where the input can be read so far alone, its whole lines are answered, and the last checkpoint is left out.
 fn meets_fault<T: Threads + Wait + Sync + Abort>(
     rt: &T,
     alloc: Global,
@@ -75,7 +75,7 @@ fn meets_fault<T: Threads + Wait + Sync + Abort>(
     let streams = Streams {
         read,
         fails: true,
-        ..PIPED
+        ..ALL_AT_ONCE
     };
     let want = serial(alloc, SMALL, whole_lines(input))?;
     let Left {
@@ -179,7 +179,10 @@ fn calls_of<T: Threads + Wait + Sync + Abort>(
     read: usize,
 ) -> Result<(u64, u64), Wrong> {
     let notes = Notes::new();
-    let streams = Streams { read, ..PIPED };
+    let streams = Streams {
+        read,
+        ..ALL_AT_ONCE
+    };
     let left = serve_new(rt, alloc, way, lines, streams, &notes)?;
     ends(rt, left.end, End::Whole);
     let want = serial(alloc, SMALL, lines)?;

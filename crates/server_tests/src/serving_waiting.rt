@@ -1,7 +1,7 @@
-//! Jobs that are held until the output is written to, while a point is due, and while the output fails.
+//! Jobs that are held until the output is written to, while a checkpoint is due, and while the output fails.
 use crate::serving_noting::{Flag, Notes};
 use crate::serving_running::{
-    End, Left, PIPED, SMALL, Streams, Way, ends, holds, serve_lines, session,
+    ALL_AT_ONCE, End, Left, SMALL, Streams, Way, ends, holds, serve_lines, session,
 };
 use checkpoint::inspect;
 use disk::MemDisk;
@@ -91,7 +91,10 @@ fn meet<T: Threads + Wait + Sync + Abort>(
         is_early: Flag::new(),
         answered: Flag::new(),
     };
-    let streams = Streams { fails_at, ..PIPED };
+    let streams = Streams {
+        fails_at,
+        ..ALL_AT_ONCE
+    };
     let left = session(rt, alloc, device, way, lines, streams, &gate, &notes);
     let Left { device, end, .. } = left;
     holds(rt, !gate.gave_up.get() && !notes.is_early.get());
@@ -106,7 +109,7 @@ fn meet<T: Threads + Wait + Sync + Abort>(
 #[test]
 fn nothing_goes_out_while_a_point_is_due(rt: HostRuntime) -> Result<(), Fail> {
     let lines = b"write 0 0 0 0 61\nwrite 0 0 0 1 62\nwrite 0 0 0 0 63\n";
-    // After message 0 message 2 may be granted, where no point is due.
+    // After message 0 message 2 may be dispatched, where no checkpoint is due.
     for (every, is_early) in [(0, true), (1, false)] {
         let met = meet(&rt, rt.alloc(), every, lines, 0)?;
         ends(&rt, met.end, End::Whole);

@@ -7,15 +7,15 @@ use Rattle.std.specs.Io.KnownBytes.{Appends}
 use Rattle.std.specs.List.{AllByRecursion}
 use Rattle.runs.specs.Machine.{MachineView}
 use Rattle.serving.specs.Progress.{ServingProgress}
-use Rattle.serving.specs.Lines.{AreKnown, Line, is_completed, text}
+use Rattle.serving.specs.Lines.{AreKnown, Line, has_answer, answer_text}
 use Rattle.meaning.specs.Output.{joined}
 use Rattle.legal_runs.proofs.Lists.{all_join}
 
 -- ---- the answers to lines
 
-pub texts_both : (sent_lines more : List Line) → joined (map text (sent_lines ++ more)) ≡ joined (map text sent_lines) ++ joined (map text more)
+pub texts_both : (sent_lines more : List Line) → joined (map answer_text (sent_lines ++ more)) ≡ joined (map answer_text sent_lines) ++ joined (map answer_text more)
 texts_both [] more = refl
-texts_both (x ∷ sent_lines) more = ap (λ z. text x ++ z) (texts_both sent_lines more) ∙ sym (append_assoc (text x) (joined (map text sent_lines)) (joined (map text more)))
+texts_both (x ∷ sent_lines) more = ap (λ z. answer_text x ++ z) (texts_both sent_lines more) ∙ sym (append_assoc (answer_text x) (joined (map answer_text sent_lines)) (joined (map answer_text more)))
 
 -- ---- fewer lines outstanding
 
@@ -23,12 +23,12 @@ texts_both (x ∷ sent_lines) more = ap (λ z. text x ++ z) (texts_both sent_lin
 pub record Sends (old new : List Line) (before written : Option (List ℕ)) : Type 0 where
   pub sent_lines : List Line
   pub were : old ≡ sent_lines ++ new
-  pub are_completed : AllByRecursion (λ line. is_completed line ≡ true) sent_lines
-  pub output : Appends before written (joined (map text sent_lines))
+  pub have_answers : AllByRecursion (λ line. has_answer line ≡ true) sent_lines
+  pub output : Appends before written (joined (map answer_text sent_lines))
 
 pub forgets : {keeps : Type 0} {start now : MachineView} {unsent : List Line} {input unread : Option (List ℕ)} {ended : Bool} {before written : Option (List ℕ)}
     → ServingProgress keeps start now unsent input unread ended before written → ServingProgress keeps start now unsent input unread ended None None
-forgets h = record { taken = h.taken; sent_lines = h.sent_lines; takes = h.takes; serving = h.serving; output = tt }
+forgets h = record { consumed = h.consumed; sent_lines = h.sent_lines; takes = h.takes; serving = h.serving; output = tt }
 
 -- The first of the lines that were not sent were written.
 pub sends_on : {keeps : Type 0} {start m : MachineView} {unsent rest : List Line} {input unread : Option (List ℕ)} {ended : Bool} {before old now : Option (List ℕ)}
@@ -37,18 +37,18 @@ sends_on {start} {rest} {before} {old} {now} sends h =
     let g = start.core.geometry in
     let s = h.serving in
     record {
-      taken = h.taken;
+      consumed = h.consumed;
       sent_lines = h.sent_lines ++ sends.sent_lines;
       takes = h.takes;
       serving = record {
         reply_pairs = s.reply_pairs;
-        passes = s.passes;
-        known = subst (λ (l : List Line). AreKnown g s.reply_pairs start.core.next h.taken l) (sym (append_assoc h.sent_lines sends.sent_lines rest))
-            (subst (λ (l : List Line). AreKnown g s.reply_pairs start.core.next h.taken (h.sent_lines ++ l)) sends.were s.known);
-        answered = all_join (λ line. is_completed line ≡ true) h.sent_lines sends.sent_lines s.answered sends.are_completed;
+        segment = s.segment;
+        known = subst (λ (l : List Line). AreKnown g s.reply_pairs start.core.next h.consumed l) (sym (append_assoc h.sent_lines sends.sent_lines rest))
+            (subst (λ (l : List Line). AreKnown g s.reply_pairs start.core.next h.consumed (h.sent_lines ++ l)) sends.were s.known);
+        answered = all_join (λ line. has_answer line ≡ true) h.sent_lines sends.sent_lines s.answered sends.have_answers;
       };
       output = subst (λ (z : List ℕ). Appends before now z) (sym (texts_both h.sent_lines sends.sent_lines))
-          (Appends-trans before old now (joined (map text h.sent_lines)) (joined (map text sends.sent_lines)) h.output sends.output);
+          (Appends-trans before old now (joined (map answer_text h.sent_lines)) (joined (map answer_text sends.sent_lines)) h.output sends.output);
     }
 
 -- Where the device works, all is logged.

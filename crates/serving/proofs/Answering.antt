@@ -20,9 +20,9 @@ use Rattle.messages.specs.declared.Msg.{Msg}
 use Rattle.messages.specs.declared.Reply.{Reply}
 use Rattle.scheduler.specs.Calls.{answer_outcome}
 use Rattle.scheduler.specs.CoreView.{CoreView}
-use Rattle.serving.specs.Lines.{Completed, AreKnown, IsKnown, Line, NoMessage, NoneIsTo, OutOfRange, Pending, complete_one, admitted, admitted_in, is_completed, next_ticket, ticketed}
+use Rattle.serving.specs.Lines.{Completed, AreKnown, IsKnown, Line, NoMessage, NoneIsTo, OutOfRange, Pending, complete_one, admitted, admitted_in, has_answer, next_ticket, ticketed}
 use Rattle.serving.specs.Progress.{ServingProgress}
-use Rattle.serving.specs.Runs.{Holds, IsInternal, RunsBetween}
+use Rattle.serving.specs.Runs.{HandsHaveJobs, IsInternal, RunsBetween}
 use Rattle.serving.proofs.Chain.{passes_on}
 use Rattle.serving.proofs.Segments.{core_is_quiet, step_passes}
 
@@ -50,7 +50,7 @@ module _ (g : Geometry) (reply_pairs : List (ℕ × Reply)) (ticket : ℕ) (repl
       (in_more reply_pairs (t, r) (in_contained more (t, r) there))
 
   -- What was known of a line that is completed is known of it still.
-  known_still : (n : ℕ) (o : Option Msg) (known : Line) → is_completed known ≡ true → IsKnown g reply_pairs n o known → IsKnown g more n o known
+  known_still : (n : ℕ) (o : Option Msg) (known : Line) → has_answer known ≡ true → IsKnown g reply_pairs n o known → IsKnown g more n o known
   known_still n None NoMessage done k = tt
   known_still n None OutOfRange done k = absurd k
   known_still n None (Pending t) done k = absurd k
@@ -79,7 +79,7 @@ module _ (g : Geometry) (reply_pairs : List (ℕ × Reply)) (ticket : ℕ) (repl
   each_answered n (l ∷ ls) (known ∷ lines) k =
       (known_answered n (message_of l) known k.0, each_answered (next_ticket n (admitted_in g (message_of l))) ls lines k.1)
 
-  lines_answered : (n : ℕ) (ls : List (List ℕ)) (sent_lines unsent : List Line) → AllByRecursion (λ line. is_completed line ≡ true) sent_lines
+  lines_answered : (n : ℕ) (ls : List (List ℕ)) (sent_lines unsent : List Line) → AllByRecursion (λ line. has_answer line ≡ true) sent_lines
       → AreKnown g reply_pairs n ls (sent_lines ++ unsent) → AreKnown g more n ls (sent_lines ++ map (complete_one ticket reply) unsent)
   lines_answered n ls [] unsent done k = each_answered n ls unsent k
   lines_answered n [] (known ∷ sent_lines) unsent done k = absurd k
@@ -95,17 +95,17 @@ pub answered_goes_on : {keeps : Type 0} {start old new : MachineView} {ticket : 
     → ServingProgress keeps start new (map (complete_one ticket reply) unsent) input unread ended before written
 answered_goes_on {keeps} {start} {new} {ticket} {reply} {unsent} p h =
     let g = start.core.geometry in
-    let come = ticketed start.core.next (admitted g h.taken) in
+    let arriving = ticketed start.core.next (admitted g h.consumed) in
     let s = h.serving in
     let reply_pairs = s.reply_pairs ++ (ticket, reply) ∷ [] in
     record {
-      taken = h.taken;
+      consumed = h.consumed;
       sent_lines = h.sent_lines;
       takes = h.takes;
       serving = record {
         reply_pairs = reply_pairs;
-        passes = subst (λ (es : List Entry). RunsBetween keeps start new es reply_pairs) (append-nil come) (passes_on s.passes p);
-        known = lines_answered g s.reply_pairs ticket reply start.core.next h.taken h.sent_lines unsent s.answered s.known;
+        segment = subst (λ (es : List Entry). RunsBetween keeps start new es reply_pairs) (append-nil arriving) (passes_on s.segment p);
+        known = lines_answered g s.reply_pairs ticket reply start.core.next h.consumed h.sent_lines unsent s.answered s.known;
         answered = s.answered;
       };
       output = h.output;
@@ -114,10 +114,10 @@ answered_goes_on {keeps} {start} {new} {ticket} {reply} {unsent} p h =
 -- A message was answered with this reply, or none was.
 abbrev pub IsAnswered : Type 0 → MachineView → MachineView → Option (ℕ × Reply) → Type 0
 IsAnswered keeps old new None = IsInternal keeps old new
-IsAnswered keeps old new (Some reply_pairs) = Holds new × RunsBetween keeps old new [] (reply_pairs ∷ [])
+IsAnswered keeps old new (Some reply_pairs) = HandsHaveJobs new × RunsBetween keeps old new [] (reply_pairs ∷ [])
 
 pub is_answered_so : (keeps : Type 0) (old new : CoreView) (r : Option (ℕ × Reply)) → IsCoreStep keeps old new steps.Answer (answer_outcome r)
-    → (hands : List Holding) → Holds (record { core = old; hands = hands })
+    → (hands : List Holding) → HandsHaveJobs (record { core = old; hands = hands })
     → IsAnswered keeps (record { core = old; hands = hands }) (record { core = new; hands = hands }) r
 is_answered_so keeps old new None k hands h = core_is_quiet steps.Answer outcomes.Idle k refl refl refl h
 is_answered_so keeps old new (Some a) k hands h =

@@ -12,7 +12,7 @@ use Rattle.legal_runs.specs.declared.outcomes.Outcome.{Outcome}
 use Rattle.legal_runs.specs.declared.outcomes.Outcome.TheVariants as outcomes
 use Rattle.legal_runs.specs.declared.outcomes.Step.TheVariants as steps
 use Rattle.runs.proofs.Events.{core_holds, core_step}
-use Rattle.runs.specs.Stages.{events_of}
+use Rattle.runs.specs.DeviceEvents.{events_of}
 use Rattle.runs.specs.Steps.{IsCoreStep}
 use Rattle.runs.specs.declared.hands.Holding.{Holding}
 use Rattle.messages.specs.Messages.{is_in_range}
@@ -26,10 +26,10 @@ use Rattle.meaning.specs.Order.{messages}
 use Rattle.serving.specs.Progress.{IsServing}
 use Rattle.serving.specs.Lines.{AreKnown, IsKnown, Line, NoneIsTo, OutOfRange, Pending, admitted, admitted_in, next_ticket, ticketed, Completed, NoMessage}
 use Rattle.serving.specs.Reads.{IsRefusedLine, IsTaken}
-use Rattle.serving.specs.Runs.{Holds, RunsBetween}
+use Rattle.serving.specs.Runs.{HandsHaveJobs, RunsBetween}
 use Rattle.serving.proofs.Chain.{passes_on}
 use Rattle.serving.proofs.Serial.{admitted-append, messages-ticketed}
-use Rattle.serving.proofs.Served.{told_before}
+use Rattle.serving.proofs.Served.{ticket_before}
 use Rattle.serving.proofs.Segments.{core_is_quiet, step_passes}
 use Rattle.serving.proofs.Tickets.{next-append, run_next, ticketed-append}
 
@@ -48,33 +48,33 @@ module _ (g : Geometry) (reply_pairs : List (ℕ × Reply)) (l : List ℕ) (know
             (subst (λ (t : ℕ). IsKnown g reply_pairs t (message_of l) known) (next-append n (admitted_in g (message_of y)) (admitted g ls)) one),
       )
 
-module _ {keeps : Type 0} {start old : MachineView} {taken : List (List ℕ)} {sent_lines unsent : List Line} (s : IsServing keeps start old taken sent_lines unsent) where
+module _ {keeps : Type 0} {start old : MachineView} {consumed : List (List ℕ)} {sent_lines unsent : List Line} (s : IsServing keeps start old consumed sent_lines unsent) where
   abbrev g : Geometry
   g = start.core.geometry
 
   -- the ticket that the core gives next
-  pub next_is : old.core.next ≡ next_ticket start.core.next (admitted g taken)
-  next_is = ap (λ (w : MachineState). w.core.next) (sym s.passes.ends) ∙ run_next g _ (events_of s.passes.stages) s.passes.legal
-      ∙ ap (λ (es : List Entry). next_ticket start.core.next (messages es)) s.passes.come_are
-      ∙ ap (next_ticket start.core.next) (messages-ticketed start.core.next (admitted g taken))
+  pub next_is : old.core.next ≡ next_ticket start.core.next (admitted g consumed)
+  next_is = ap (λ (w : MachineState). w.core.next) (sym s.segment.ends) ∙ run_next g _ (events_of s.segment.device_events) s.segment.legal
+      ∙ ap (λ (es : List Entry). next_ticket start.core.next (messages es)) s.segment.arrived_are
+      ∙ ap (next_ticket start.core.next) (messages-ticketed start.core.next (admitted g consumed))
 
   -- A line was read, and its message has arrived, if it takes a ticket.
   takes_in : (new : MachineView) (line : List ℕ) (known : Line) → RunsBetween keeps old new (ticketed old.core.next (admitted_in g (message_of line))) []
-      → IsKnown g s.reply_pairs old.core.next (message_of line) known → IsServing keeps start new (taken ++ line ∷ []) sent_lines (unsent ++ known ∷ [])
+      → IsKnown g s.reply_pairs old.core.next (message_of line) known → IsServing keeps start new (consumed ++ line ∷ []) sent_lines (unsent ++ known ∷ [])
   takes_in new line known p k =
-      let come = ticketed start.core.next (admitted g taken) in
+      let arriving = ticketed start.core.next (admitted g consumed) in
       let one = admitted_in g (message_of line) in
-      let all : come ++ ticketed old.core.next one ≡ ticketed start.core.next (admitted g (taken ++ line ∷ [])) =
-      ap (λ (n : ℕ). come ++ ticketed n one) next_is ∙ sym (ticketed-append start.core.next (admitted g taken) one)
-      ∙ ap (λ (ms : List Msg). ticketed start.core.next (admitted g taken ++ ms)) (sym (append-nil one))
-      ∙ ap (ticketed start.core.next) (sym (admitted-append g taken (line ∷ []))) in
+      let all : arriving ++ ticketed old.core.next one ≡ ticketed start.core.next (admitted g (consumed ++ line ∷ [])) =
+      ap (λ (n : ℕ). arriving ++ ticketed n one) next_is ∙ sym (ticketed-append start.core.next (admitted g consumed) one)
+      ∙ ap (λ (ms : List Msg). ticketed start.core.next (admitted g consumed ++ ms)) (sym (append-nil one))
+      ∙ ap (ticketed start.core.next) (sym (admitted-append g consumed (line ∷ []))) in
       record {
         reply_pairs = s.reply_pairs;
-        passes = subst (λ (es : List Entry). RunsBetween keeps start new es s.reply_pairs) all
-            (subst (λ (l : List (ℕ × Reply)). RunsBetween keeps start new (come ++ ticketed old.core.next one) l) (append-nil s.reply_pairs)
-            (passes_on s.passes p));
-        known = subst (λ (l : List Line). AreKnown g s.reply_pairs start.core.next (taken ++ line ∷ []) l) (append_assoc sent_lines unsent (known ∷ []))
-            (known_push g s.reply_pairs line known start.core.next taken (sent_lines ++ unsent) s.known
+        segment = subst (λ (es : List Entry). RunsBetween keeps start new es s.reply_pairs) all
+            (subst (λ (l : List (ℕ × Reply)). RunsBetween keeps start new (arriving ++ ticketed old.core.next one) l) (append-nil s.reply_pairs)
+            (passes_on s.segment p));
+        known = subst (λ (l : List Line). AreKnown g s.reply_pairs start.core.next (consumed ++ line ∷ []) l) (append_assoc sent_lines unsent (known ∷ []))
+            (known_push g s.reply_pairs line known start.core.next consumed (sent_lines ++ unsent) s.known
             (subst (λ (n : ℕ). IsKnown g s.reply_pairs n (message_of line) known) next_is k));
         answered = s.answered;
       }
@@ -92,19 +92,19 @@ known_anyway g reply_pairs n (Some m) (Pending t) fresh k = (k.0, k.1, subst (No
 known_anyway g reply_pairs n (Some m) (Completed t r) fresh k = let none = k.2.1 in absurd (omega (arith, none))
 
 -- A line is consumed.
-pub serves_taken : {keeps : Type 0} {start old new : MachineView} {taken : List (List ℕ)} {sent_lines unsent : List Line} {known : Line} (line : List ℕ)
-    → IsIdle (core_state_of start.core) → IsTaken keeps old new (message_of line) known → IsServing keeps start old taken sent_lines unsent
-    → IsServing keeps start new (taken ++ line ∷ []) sent_lines (unsent ++ known ∷ [])
+pub serves_taken : {keeps : Type 0} {start old new : MachineView} {consumed : List (List ℕ)} {sent_lines unsent : List Line} {known : Line} (line : List ℕ)
+    → IsIdle (core_state_of start.core) → IsTaken keeps old new (message_of line) known → IsServing keeps start old consumed sent_lines unsent
+    → IsServing keeps start new (consumed ++ line ∷ []) sent_lines (unsent ++ known ∷ [])
 serves_taken {keeps} {start} {old} {new} {known} line idle t s =
     let o = message_of line in
     let is = next_is s in
     let fresh : NoneIsTo s.reply_pairs old.core.next = λ reply there.
-    let before = told_before keeps start old idle s (old.core.next, reply) (in_contained s.reply_pairs (old.core.next, reply) there) in
+    let before = ticket_before keeps start old idle s (old.core.next, reply) (in_contained s.reply_pairs (old.core.next, reply) there) in
     absurd (omega (arith, before, is)) in
     takes_in s new line known
-    (subst (λ (y : Geometry). RunsBetween keeps old new (ticketed old.core.next (admitted_in y o)) []) s.passes.geometry t.passes)
+    (subst (λ (y : Geometry). RunsBetween keeps old new (ticketed old.core.next (admitted_in y o)) []) s.segment.geometry t.segment)
     (known_anyway start.core.geometry s.reply_pairs old.core.next o known fresh
-    (subst (λ (y : Geometry). IsKnown y [] old.core.next o known) s.passes.geometry t.is_known))
+    (subst (λ (y : Geometry). IsKnown y [] old.core.next o known) s.segment.geometry t.is_known))
 
 -- ---- what follows from a ticket and from a refusal
 
@@ -136,7 +136,7 @@ module _ (k : ℕ) (w x : CoreState) where
   is_refused false true false true new e = let o : outcomes.ArriveRefused arrivals.Range ≡ outcomes.ArriveRefused arrivals.Full = ap (λ (z : Outcome × CoreState). z.0) e in cc
   is_refused false true false false new e = let o : outcomes.ArriveRefused arrivals.Range ≡ outcomes.Ticket k = ap (λ (z : Outcome × CoreState). z.0) e in cc
 
-module _ (keeps : Type 0) (old new : CoreView) (m : Msg) (hands : List Holding) (h : Holds (record { core = old; hands = hands })) where
+module _ (keeps : Type 0) (old new : CoreView) (m : Msg) (hands : List Holding) (h : HandsHaveJobs (record { core = old; hands = hands })) where
   abbrev was : MachineView
   was = record { core = old; hands = hands }
 
@@ -147,11 +147,11 @@ module _ (keeps : Type 0) (old new : CoreView) (m : Msg) (hands : List Holding) 
       → IsTaken keeps was now (Some m) (Pending t)
   with_ticket t step fits is_next =
       let one : admitted_in old.geometry (Some m) ≡ m ∷ [] = ap (λ (b : Bool). if b then m ∷ [] else []) fits in
-      let come : ◌≡◌ {A = List Entry} ((t, m) ∷ []) (ticketed old.next (admitted_in old.geometry (Some m))) =
+      let arriving : ◌≡◌ {A = List Entry} ((t, m) ∷ []) (ticketed old.next (admitted_in old.geometry (Some m))) =
       (λ i. (is_next i, m) ∷ []) ∙ ap (ticketed old.next) (sym one) in
       record {
         holds = core_holds keeps old new hands (steps.Arrive m) (outcomes.Ticket t) h step refl;
-        passes = subst (λ (es : List Entry). RunsBetween keeps was now es []) come
+        segment = subst (λ (es : List Entry). RunsBetween keeps was now es []) arriving
             (step_passes (core_step keeps old new hands (steps.Arrive m) (outcomes.Ticket t) h step));
         is_known = (fits, is_next, λ reply there. absurd (in_contained [] (t, reply) there));
       }
@@ -163,7 +163,7 @@ module _ (keeps : Type 0) (old new : CoreView) (m : Msg) (hands : List Holding) 
       let none : admitted_in old.geometry (Some m) ≡ [] = ap (λ (b : Bool). if b then m ∷ [] else []) out in
       record {
         holds = core_holds keeps old new hands (steps.Arrive m) outcome h step refl;
-        passes = subst (λ (es : List Entry). RunsBetween keeps was now es []) (ap (ticketed old.next) (sym none))
+        segment = subst (λ (es : List Entry). RunsBetween keeps was now es []) (ap (ticketed old.next) (sym none))
             (step_passes (core_step keeps old new hands (steps.Arrive m) outcome h step));
         is_known = out;
       }

@@ -1,15 +1,15 @@
 -- A session that reads no more, and what it promises in the end.
 use Rattle.std.proofs.Common.{arith, ◌≡◌, ◌≢◌, ℕ, zero, suc, Bool, true, false, List, [], Option, Some, None, refl, ap, sym, ◌∙◌, subst, length, map, replicate, append-nil}
 use Rattle.std.specs.Prelude.{Result, Ok, Err, IfOk, IfSome, MatchResult, OnErr, OnOk, ◌&&◌}
-use Rattle.message.specs.Waiting.{so_far}
+use Rattle.message.specs.Waiting.{all_output}
 use Rattle.std.proofs.lemmas.Bool.{true≢false}
 use Rattle.std.proofs.lemmas.List.{length-replicate}
 use Rattle.legal_runs.proofs.Full.{last_none_out}
 use Rattle.legal_runs.proofs.Idle.{idle_sound, none_in_flight}
 use Rattle.legal_runs.specs.Events.{MachineState}
-use Rattle.legal_runs.specs.Laws.{IsIdle, full}
+use Rattle.legal_runs.specs.Laws.{IsIdle, full_hands}
 use Rattle.runs.specs.Machine.{MachineView, hand_of as hand_in, machine_of}
-use Rattle.runs.specs.Stages.{events_of}
+use Rattle.runs.specs.DeviceEvents.{events_of}
 use Rattle.parcel.specs.Run.{JobView}
 use Rattle.scheduler.specs.CoreView.{CoreView, RecoversNow, core_state_of}
 use Rattle.serving.specs.Ends.{EndsWith, IsQuiesced}
@@ -18,7 +18,7 @@ use Rattle.serving.specs.Lending.{NoneInFlight}
 use Rattle.serving.specs.Lines.{Line}
 use Rattle.reorder_buffer.specs.ReorderBuffer.{ReorderBufferView, can_retire}
 use Rattle.serving.specs.Serve.{HasEmptyLog, HasRunWith, HadWorkers, FailsWithoutWorkers, ServePromise}
-use Rattle.serving.specs.Runs.{Holds, lent_hand, with_lent}
+use Rattle.serving.specs.Runs.{HandsHaveJobs, lent_hand, machine_with_jobs}
 use Rattle.serving.specs.Session.{EndsBy, EndsOrDeclines, HasFinished, SessionProgress, HasHalted, HasEndedReading, CanBegin, IsServed, SessionInvariant, SessionInvariantFrom, SessionView, ReadsOrHasEnded, machine, known_unless, end_of, reported}
 use Rattle.serving.specs.Output.{Start, start_machine}
 use Rattle.serving.specs.declared.session.Halted.{Halted}
@@ -30,11 +30,11 @@ use Rattle.workers.specs.Seats.{DispatchSeatView}
 use Rattle.serving.proofs.Promises.{no_memory_ran, runs_to_device, runs_to_last_ticket, runs_to_read, runs_to_write, runs_whole}
 use Rattle.serving.proofs.Starting.{holds_at_start, starts}
 use Rattle.serving.proofs.Served.{ends_at_device, ends_at_read, ends_exhausted, ends_whole}
-use Rattle.serving.proofs.Invariant.{begins_at, gone, to_reorder_buffer}
+use Rattle.serving.proofs.Invariant.{begins_at, progress_at_end, to_reorder_buffer}
 
 -- ---- what it promises
 
-so_far_none : (contents : Option (List ℕ)) → so_far contents [] ≡ contents
+so_far_none : (contents : Option (List ℕ)) → all_output contents [] ≡ contents
 so_far_none None = refl
 so_far_none (Some bytes) = ap (λ (l : List ℕ). Some l) (append-nil bytes)
 
@@ -45,7 +45,7 @@ pub record PromisesAll (keeps : Type 0) (start : MachineView) (new : CoreView) (
   pub ends : EndsWith start.core new input remaining before written result
 
 -- nothing is in flight once all is collected
-all_empty : (n : ℕ) → full (map hand_in (map lent_hand (replicate n None))) ≡ 0
+all_empty : (n : ℕ) → full_hands (map hand_in (map lent_hand (replicate n None))) ≡ 0
 all_empty zero = refl
 all_empty (suc n) = all_empty n
 
@@ -61,24 +61,24 @@ module _ {keeps : Type 0} {s : Start} {p : SessionView} (u : SessionInvariant ke
       → p.reply_buffer ≡ [] → ServingProgress keeps start now unsent s.input unread drained s.before p.sent
   written {unsent} {unread} {drained} h is output_works flushed =
       subst (λ (w : Option (List ℕ)). ServingProgress keeps start now unsent s.input unread drained s.before w) (so_far_none p.sent)
-      (subst (λ (o : List ℕ). ServingProgress keeps start now unsent s.input unread drained s.before (so_far p.sent o)) flushed
-      (subst (λ (b : Bool). ServingProgress keeps start now unsent s.input unread drained (known_unless b s.before) (known_unless b (so_far p.sent p.reply_buffer))) output_works
-      (subst (λ (l : List Line). ServingProgress keeps start now l s.input unread drained (known_unless p.output_failed s.before) (known_unless p.output_failed (so_far p.sent p.reply_buffer)))
+      (subst (λ (o : List ℕ). ServingProgress keeps start now unsent s.input unread drained s.before (all_output p.sent o)) flushed
+      (subst (λ (b : Bool). ServingProgress keeps start now unsent s.input unread drained (known_unless b s.before) (known_unless b (all_output p.sent p.reply_buffer))) output_works
+      (subst (λ (l : List Line). ServingProgress keeps start now l s.input unread drained (known_unless p.output_failed s.before) (known_unless p.output_failed (all_output p.sent p.reply_buffer)))
       is (to_reorder_buffer h))))
 
   module _ (k : IsServed p) where
-    all_said : {unread : Option (List ℕ)} {drained : Bool} → SessionProgress keeps s p unread drained → ServingProgress keeps start now [] s.input unread drained s.before p.sent
-    all_said h = written h k.all_retired k.output_works k.flushed
+    all_lines_answered : {unread : Option (List ℕ)} {drained : Bool} → SessionProgress keeps s p unread drained → ServingProgress keeps start now [] s.input unread drained s.before p.sent
+    all_lines_answered h = written h k.all_retired k.output_works k.flushed
 
     at_end : HasEndedReading keeps s p ends_of_reading.EndOfInput → PromisesAll keeps start p.core s.input p.remaining s.before p.sent (Ok tt)
     at_end h =
-        let g = all_said h.gone in
+        let g = all_lines_answered h.progress_at_end in
         let e = ends_whole keeps start now u.idle g k.works h.why.0 in
         record { run = λ no_doubt recovers. runs_whole u.idle no_doubt recovers g h.why.0; ends = (e.0, e.1, h.why.1, e.3) }
 
     at_fault : HasEndedReading keeps s p ends_of_reading.ReadFailed → PromisesAll keeps start p.core s.input p.remaining s.before p.sent (Err faults.Read)
     at_fault h =
-        let g = all_said h.gone in
+        let g = all_lines_answered h.progress_at_end in
         record {
           run = λ no_doubt recovers. runs_to_read u.idle no_doubt recovers g;
           ends = ends_at_read keeps start now u.idle p.remaining
@@ -87,7 +87,7 @@ module _ {keeps : Type 0} {s : Start} {p : SessionView} (u : SessionInvariant ke
 
     exhausted : HasEndedReading keeps s p ends_of_reading.TicketsExhausted → PromisesAll keeps start p.core s.input p.remaining s.before p.sent (Err faults.Exhausted)
     exhausted h =
-        let g = all_said h.gone in
+        let g = all_lines_answered h.progress_at_end in
         record {
           run = λ no_doubt recovers. runs_to_last_ticket u.idle no_doubt recovers g;
           ends = ends_exhausted keeps start now u.idle p.remaining g k.works h.why;
@@ -99,20 +99,20 @@ module _ {keeps : Type 0} {s : Start} {p : SessionView} (u : SessionInvariant ke
     wound_up : {unsent : List Line} {unread before torn : Option (List ℕ)} {drained : Bool} → ServingProgress keeps start now unsent s.input unread drained before torn
         → IsQuiesced p.core
     wound_up h =
-        let r = h.serving.passes in
-        let none : full (machine_of now).hands ≡ 0 =
-        ap (λ (l : List (Option JobView)). full (map hand_in (map lent_hand l))) none_lent ∙ all_empty (length p.dispatch_seat.lent) in
+        let r = h.serving.segment in
+        let none : full_hands (machine_of now).hands ≡ 0 =
+        ap (λ (l : List (Option JobView)). full_hands (map hand_in (map lent_hand l))) none_lent ∙ all_empty (length p.dispatch_seat.lent) in
         record {
           none_in_flight = ap (λ (w : MachineState). w.core.in_flight) (sym r.ends)
-              ∙ last_none_out start.core.geometry (machine_of start) (events_of r.stages) r.legal (none_in_flight (core_state_of start.core) u.idle)
-              (ap (λ (w : MachineState). full w.hands) r.ends ∙ none);
+              ∙ last_none_out start.core.geometry (machine_of start) (events_of r.device_events) r.legal (none_in_flight (core_state_of start.core) u.idle)
+              (ap (λ (w : MachineState). full_hands w.hands) r.ends ∙ none);
           none_logged = answered;
         }
 
     device_ends : p.core.failed ≡ true → p.output_failed ≡ false → p.reply_buffer ≡ [] → can_retire p.reorder_buffer.lines ≡ false
         → PromisesAll keeps start p.core s.input p.remaining s.before p.sent (Err faults.Device)
     device_ends failed output_works flushed last =
-        let g = written (gone keeps s p p.stop u.reads).2 refl output_works flushed in
+        let g = written (progress_at_end keeps s p p.read_end u.reads).2 refl output_works flushed in
         record {
           run = λ no_doubt recovers. runs_to_device u.idle no_doubt recovers g last;
           ends = ends_at_device keeps start now u.idle g failed (wound_up g);
@@ -120,10 +120,10 @@ module _ {keeps : Type 0} {s : Start} {p : SessionView} (u : SessionInvariant ke
 
     write_ends : (p.core.failed ≡ false → p.core.ran ≡ []) → PromisesAll keeps start p.core s.input p.remaining s.before p.sent (Err faults.Write)
     write_ends ran =
-        let goes = (gone keeps s p p.stop u.reads).2.goes in
-        record { run = λ no_doubt recovers. runs_to_write u.idle no_doubt recovers p.sent goes; ends = (wound_up goes, ran) }
+        let progress = (progress_at_end keeps s p p.read_end u.reads).2.progress in
+        record { run = λ no_doubt recovers. runs_to_write u.idle no_doubt recovers p.sent progress; ends = (wound_up progress, ran) }
 
-  stopped : {stop : ReadEnd} → p.stop ≡ Some stop → HasEndedReading keeps s p stop
+  stopped : {read_end : ReadEnd} → p.read_end ≡ Some read_end → HasEndedReading keeps s p read_end
   stopped is = subst (λ (o : Option _). ReadsOrHasEnded keeps s p o) is u.reads
 
   -- By what has ended it, it promises all that a server does.
@@ -174,15 +174,15 @@ pub promises_from : {keeps : Type 0} {s : Start} {old p now : SessionView} → S
 promises_from {old} u is at result e = promises_or_declines u at result (subst (λ (p : SessionView). EndsOrDeclines old p result) (sym is) e)
 
 -- Where each line that was read is answered and nothing has failed, the reason why no more was read has ended it.
-ended_for : (keeps : Type 0) (o : Option Start) (p : SessionView) → SessionInvariantFrom keeps o p → IsServed p → (stop : ReadEnd) → p.stop ≡ Some stop
-    → EndsBy p (end_of stop)
-ended_for keeps None p u served stop is = absurd u
+ended_for : (keeps : Type 0) (o : Option Start) (p : SessionView) → SessionInvariantFrom keeps o p → IsServed p → (read_end : ReadEnd) → p.read_end ≡ Some read_end
+    → EndsBy p (end_of read_end)
+ended_for keeps None p u served read_end is = absurd u
 ended_for keeps (Some s) p u served ends_of_reading.EndOfInput is = (served, is)
 ended_for keeps (Some s) p u served ends_of_reading.ReadFailed is = (served, is)
 ended_for keeps (Some s) p u served ends_of_reading.TicketsExhausted is = (served, is)
 ended_for keeps (Some s) p u served ends_of_reading.DeviceFailed is = absurd (true≢false (sym (stopped u is).why ∙ served.works))
 
-empties_for : (stop : ReadEnd) (P : Type 0) → (stop ≡ ends_of_reading.EndOfInput → P) → OnOk (end_of stop) P
+empties_for : (read_end : ReadEnd) (P : Type 0) → (read_end ≡ ends_of_reading.EndOfInput → P) → OnOk (end_of read_end) P
 empties_for ends_of_reading.EndOfInput P emptied = emptied refl
 empties_for ends_of_reading.ReadFailed P emptied = tt
 empties_for ends_of_reading.TicketsExhausted P emptied = tt
@@ -190,25 +190,25 @@ empties_for ends_of_reading.DeviceFailed P emptied = tt
 
 -- It has finished, or it has halted.
 module _ (keeps : Type 0) (p : SessionView) (same : Type 0) where
-  pub finished : {stop : ReadEnd} (r : Result (Unit {0}) Halted) → p.stop ≡ Some stop
+  pub finished : {read_end : ReadEnd} (r : Result (Unit {0}) Halted) → p.read_end ≡ Some read_end
       → OnOk r ((p.reorder_buffer.lines ≡ []) × (p.reply_buffer ≡ []) × (p.output_failed ≡ false)) → OnOk r (p.core.failed ≡ false)
-      → OnOk r (stop ≡ ends_of_reading.EndOfInput → keeps → HasEmptyLog p.core) → MatchResult r (λ _. same) (λ _. HasHalted p)
+      → OnOk r (read_end ≡ ends_of_reading.EndOfInput → keeps → HasEmptyLog p.core) → MatchResult r (λ _. same) (λ _. HasHalted p)
       → MatchResult r (λ _. (x : ReadEnd) × HasFinished keeps p x) (λ _. HasHalted p)
-  finished {stop} (Ok x) is all works emptied moves =
-      (stop, record { is = is; served = record { all_retired = all.0; flushed = all.1; works = works; output_works = all.2 }; emptied = emptied })
+  finished {read_end} (Ok x) is all works emptied moves =
+      (read_end, record { is = is; served = record { all_retired = all.0; flushed = all.1; works = works; output_works = all.2 }; emptied = emptied })
   finished (Err h) is all works emptied moves = moves
 
 so_if : {A : Type 0} (o : Option A) (x : A) (P : A → Type 0) → o ≡ Some x → IfSome o P → P x
 so_if o x P is h = subst (λ (o : Option _). IfSome o P) is h
 
 -- Where it has finished, it ends as is reported for the reason why no more was read.
-pub ends_finished : (keeps : Type 0) (o : Option Start) (p : SessionView) → SessionInvariantFrom keeps o p → (stop : ReadEnd) → HasFinished keeps p stop
-    → (result : Result (Unit {0}) ServeFault) → IfSome p.stop (λ why. result ≡ end_of why)
+pub ends_finished : (keeps : Type 0) (o : Option Start) (p : SessionView) → SessionInvariantFrom keeps o p → (read_end : ReadEnd) → HasFinished keeps p read_end
+    → (result : Result (Unit {0}) ServeFault) → IfSome p.read_end (λ why. result ≡ end_of why)
     → EndsBy p result × OnOk result (keeps → HasEmptyLog p.core)
-ends_finished keeps o p u stop f result reported =
-    let is = so_if p.stop stop (λ (why : ReadEnd). result ≡ end_of why) f.is reported in
+ends_finished keeps o p u read_end f result reported =
+    let is = so_if p.read_end read_end (λ (why : ReadEnd). result ≡ end_of why) f.is reported in
     subst (λ (r : Result (Unit {0}) ServeFault). EndsBy p r × OnOk r (keeps → HasEmptyLog p.core)) (sym is)
-    (ended_for keeps o p u f.served stop f.is, empties_for stop (keeps → HasEmptyLog p.core) f.emptied)
+    (ended_for keeps o p u f.served read_end f.is, empties_for read_end (keeps → HasEmptyLog p.core) f.emptied)
 
 -- By what is reported of a call for which all workers were started, or one wasn't.
 reported_so : (old p : SessionView) (F : Type 0) (r : Result (Result (Unit {0}) ServeFault) F) → IfOk r (λ end. EndsBy p end) → OnErr r (p ≡ old)
@@ -273,8 +273,8 @@ serves_as {keeps} {core} {back} {input} {before} {written} {rest} {places} as_ma
 pub not_drained : (ended none_held : Bool) → ended ≡ false → (ended && none_held) ≡ false
 not_drained ended none_held not_ended = ap (λ (b : Bool). b && none_held) not_ended
 
-pub holds_first : (core : CoreView) (lent : List (Option JobView)) (n : ℕ) → lent ≡ replicate n None → IsIdle (core_state_of core) → Holds (with_lent core lent)
-holds_first core lent n none idle = subst (λ (l : List (Option JobView)). Holds (with_lent core l)) (sym none)
+pub holds_first : (core : CoreView) (lent : List (Option JobView)) (n : ℕ) → lent ≡ replicate n None → IsIdle (core_state_of core) → HandsHaveJobs (machine_with_jobs core lent)
+holds_first core lent n none idle = subst (λ (l : List (Option JobView)). HandsHaveJobs (machine_with_jobs core l)) (sym none)
     (holds_at_start core n (idle_sound (core_state_of core) idle core.geometry))
 
 pub places_first : (lent : List (Option JobView)) (n : ℕ) → lent ≡ replicate n None → length lent ≡ n
@@ -301,7 +301,7 @@ pub first_at : (keeps : Type 0) {o : Option Start} {core : CoreView} {dispatch_s
       sent = sent;
       outstanding = 0;
       output_failed = false;
-      stop = None;
+      read_end = None;
       unread = unread;
       drained = drained;
       ended = ended;
@@ -319,11 +319,11 @@ first_at keeps {o} {core} {dispatch_seat} {reorder_buffer} {unread} {input} {sen
       knows = λ e. absurd (true≢false (sym e ∙ unused.not_ended));
       reads = record {
         waiting = [];
-        are_completed = tt;
+        have_answers = tt;
         reply_buffer_is = unused.none_waits;
         counted = omega (arith, ap length r.none);
         bounded = omega arith;
-        goes = subst (λ (l : List (Option JobView)). ServingProgress keeps start (with_lent core l) reorder_buffer.lines input unread drained sent sent) (sym unused.none_lent)
+        progress = subst (λ (l : List (Option JobView)). ServingProgress keeps start (machine_with_jobs core l) reorder_buffer.lines input unread drained sent sent) (sym unused.none_lent)
             (subst (λ (l : List Line). ServingProgress keeps start start l input unread drained sent sent) (sym r.none)
             (subst (λ (d : Bool). ServingProgress keeps start start [] input unread d sent sent) (sym unused.none_read)
             (subst (λ (l : Option (List ℕ)). ServingProgress keeps start start [] input l false sent sent) (sym unused.all)

@@ -10,7 +10,7 @@ use Rattle.messages.specs.declared.Reply.{Reply}
 use Rattle.messages.specs.declared.Reply.TheVariants.{Done, Summary}
 use Rattle.meaning.specs.Output.{joined, output_lines}
 use Rattle.meaning.specs.State.{empty}
-use Rattle.serving.specs.Lines.{Completed, AreKnown, NoMessage, NoneIsTo, OutOfRange, Pending, admitted, next_ticket, text, ticketed}
+use Rattle.serving.specs.Lines.{Completed, AreKnown, NoMessage, NoneIsTo, OutOfRange, Pending, admitted, next_ticket, answer_text, ticketed}
 
 -- ---- lines
 
@@ -59,7 +59,7 @@ unfolding message_of kind_named number_in_word
 no_ticket_out_of_range h = cc
 
 -- The answers to these lines are what the serial server writes.
-what_they_say : joined (map text (Completed 7 Done ∷ OutOfRange ∷ NoMessage ∷ [])) ≡ codes "done\nerror range\nerror line\n"
+what_they_say : joined (map answer_text (Completed 7 Done ∷ OutOfRange ∷ NoMessage ∷ [])) ≡ codes "done\nerror range\nerror line\n"
 what_they_say = refl
 
 the_same_as_the_serial_server : joined (output_lines small empty (codes "makevol 0 0" ∷ codes "makevol 9 0" ∷ codes "hello" ∷ [])) ≡ codes "done\nerror range\nerror line\n"

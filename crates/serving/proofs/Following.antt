@@ -8,14 +8,14 @@ use Rattle.messages.specs.declared.Msg.{Msg}
 use Rattle.messages.specs.declared.Reply.{Reply}
 use Rattle.serving.specs.Progress.{IsServing}
 use Rattle.serving.specs.Lines.{Completed, AreKnown, IsKnown, Line, NoMessage, OutOfRange, Pending, admitted, admitted_in, next_ticket}
-use Rattle.reorder_buffer.specs.ReorderBuffer.{AreFrom, AreConsecutive, with_tickets}
+use Rattle.reorder_buffer.specs.ReorderBuffer.{HaveTicketsFrom, AreConsecutive, with_tickets}
 use Rattle.serving.proofs.Arriving.{next_is}
 use Rattle.serving.proofs.Tickets.{next-append}
 
 module _ (g : Geometry) (reply_pairs : List (ℕ × Reply)) where
   -- so are those with tickets, from n on, and the last ticket after them
   abbrev Follow : ℕ → ℕ → List Line → Type 0
-  Follow n last lines = AreFrom n (with_tickets lines ++ Pending last ∷ [])
+  Follow n last lines = HaveTicketsFrom n (with_tickets lines ++ Pending last ∷ [])
 
   one_follows : (n last : ℕ) (o : Option Msg) (known : Line) (lines : List Line) → IsKnown g reply_pairs n o known
       → Follow (next_ticket n (admitted_in g o)) last lines → Follow n last (known ∷ lines)
@@ -55,8 +55,8 @@ module _ (g : Geometry) (reply_pairs : List (ℕ × Reply)) where
       (rest_follows (next_ticket n (admitted_in g o)) ls sent_lines unsent k.1)
 
 -- The next ticket comes after those of the reorder buffer.
-pub next_follows : {keeps : Type 0} {start now : MachineView} {taken : List (List ℕ)} {sent_lines unsent : List Line} → IsServing keeps start now taken sent_lines unsent
+pub next_follows : {keeps : Type 0} {start now : MachineView} {consumed : List (List ℕ)} {sent_lines unsent : List Line} → IsServing keeps start now consumed sent_lines unsent
     → AreConsecutive (with_tickets unsent ++ Pending now.core.next ∷ [])
-next_follows {start} {taken} {sent_lines} {unsent} s =
+next_follows {start} {consumed} {sent_lines} {unsent} s =
     subst (λ (last : ℕ). AreConsecutive (with_tickets unsent ++ Pending last ∷ [])) (sym (next_is s))
-    (rest_follows start.core.geometry s.reply_pairs start.core.next taken sent_lines unsent s.known)
+    (rest_follows start.core.geometry s.reply_pairs start.core.next consumed sent_lines unsent s.known)

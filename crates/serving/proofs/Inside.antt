@@ -9,18 +9,18 @@ use Rattle.legal_runs.proofs.Elements.{in_contained}
 use Rattle.legal_runs.proofs.SerialReplies.{IsIn}
 use Rattle.legal_runs.specs.Events.{MachineState}
 use Rattle.legal_runs.specs.Laws.{IsIdle}
-use Rattle.legal_runs.specs.Runs.{answered, arrived, last}
+use Rattle.legal_runs.specs.Runs.{answered, arrived, end_state}
 use Rattle.legal_runs.specs.CoreState.{CoreState, held}
 use Rattle.runs.specs.Machine.{MachineView, machine_of}
-use Rattle.runs.specs.Stages.{events_of}
+use Rattle.runs.specs.DeviceEvents.{events_of}
 use Rattle.messages.specs.Grammar.{message_of}
 use Rattle.messages.specs.Messages.{is_in_range}
 use Rattle.messages.specs.declared.Msg.{Msg}
 use Rattle.messages.specs.declared.Reply.{Reply}
 use Rattle.scheduler.specs.CoreView.{core_state_of}
 use Rattle.serving.specs.Progress.{ServingProgress, IsServing}
-use Rattle.serving.specs.Lines.{Completed, AreKnown, IsKnown, Line, NoMessage, OutOfRange, Pending, admitted, admitted_in, is_completed, next_ticket, ticketed}
-use Rattle.serving.specs.Runs.{inside}
+use Rattle.serving.specs.Lines.{Completed, AreKnown, IsKnown, Line, NoMessage, OutOfRange, Pending, admitted, admitted_in, has_answer, next_ticket, ticketed}
+use Rattle.serving.specs.Runs.{unanswered}
 use Rattle.serving.proofs.Counting.{run_counts}
 
 -- ---- how many of the replies are to tickets from one on
@@ -90,7 +90,7 @@ module _ (g : Geometry) (replies : List (ℕ × Reply)) where
       omega (arith, rest, few, all)
 
   -- A line that is completed takes no ticket, or one to which a reply was given.
-  answered_takes : (n : ℕ) (o : Option Msg) (known : Line) → IsKnown g replies n o known → is_completed known ≡ true
+  answered_takes : (n : ℕ) (o : Option Msg) (known : Line) → IsKnown g replies n o known → has_answer known ≡ true
       → length (admitted_in g o) + later (next_ticket n (admitted_in g o)) replies ≤ later n replies
   answered_takes n None NoMessage k done = omega arith
   answered_takes n None OutOfRange k done = absurd k
@@ -109,7 +109,7 @@ module _ (g : Geometry) (replies : List (ℕ × Reply)) where
 
   -- The lines that take tickets are those that were written, each of which was answered, and at most those that were not.
   lines_take : (n : ℕ) (ls : List (List ℕ)) (sent_lines unsent : List Line) → AreKnown g replies n ls (sent_lines ++ unsent)
-      → AllByRecursion (λ line. is_completed line ≡ true) sent_lines → length (admitted g ls) ≤ later n replies + length unsent
+      → AllByRecursion (λ line. has_answer line ≡ true) sent_lines → length (admitted g ls) ≤ later n replies + length unsent
   lines_take n ls [] unsent k done = let l = unsent_take n ls unsent k in omega (arith, l)
   lines_take n [] (known ∷ sent_lines) unsent k done = absurd k
   lines_take n (l ∷ ls) (known ∷ sent_lines) unsent k done =
@@ -125,35 +125,35 @@ length-ticketed : (n : ℕ) (ms : List Msg) → length (ticketed n ms) ≡ lengt
 length-ticketed n [] = refl
 length-ticketed n (m ∷ ms) = let l = length-ticketed (n + 1) ms in omega (arith, l)
 
-pub idle_inside : (w : CoreState) → IsIdle w → inside w ≡ 0
+pub idle_inside : (w : CoreState) → IsIdle w → unanswered w ≡ 0
 idle_inside w h = let waits = ap length h.none_waits in let holds = ap length h.none_held in omega (arith, waits, holds)
 
 none_long : {A : Type 0} (xs : List A) → length xs ≤ 0 → xs ≡ []
 none_long [] h = refl
 none_long (x ∷ xs) h = absurd (omega (arith, h))
 
-none_inside : (w : CoreState) → inside w ≤ 0 → IsIdle w
+none_inside : (w : CoreState) → unanswered w ≤ 0 → IsIdle w
 none_inside w h = record { none_waits = none_long w.waiting (omega (arith, h)); none_held = none_long (held w) (omega (arith, h)) }
 
 module _ {keeps : Type 0} {start now : MachineView} (idle : IsIdle (core_state_of start.core)) where
-  serving_inside : {taken : List (List ℕ)} {sent_lines unsent : List Line} → IsServing keeps start now taken sent_lines unsent
-      → inside (core_state_of now.core) ≤ length unsent
-  serving_inside {taken} {sent_lines} {unsent} s =
-      let p = s.passes in
+  serving_inside : {consumed : List (List ℕ)} {sent_lines unsent : List Line} → IsServing keeps start now consumed sent_lines unsent
+      → unanswered (core_state_of now.core) ≤ length unsent
+  serving_inside {consumed} {sent_lines} {unsent} s =
+      let p = s.segment in
       let g = start.core.geometry in
       let n = start.core.next in
-      let counts = run_counts g (machine_of start) (events_of p.stages) p.legal in
-      let ends : inside (core_state_of now.core) ≡ inside (last (machine_of start) (events_of p.stages)).core = ap (λ (w : MachineState). inside w.core) (sym p.ends) in
-      let come : length (arrived (events_of p.stages)) ≡ length (admitted g taken) = ap length p.come_are ∙ length-ticketed n (admitted g taken) in
-      let reply_pairs : length (answered (events_of p.stages)) ≡ length s.reply_pairs = ap length p.reply_pairs_are in
+      let counts = run_counts g (machine_of start) (events_of p.device_events) p.legal in
+      let ends : unanswered (core_state_of now.core) ≡ unanswered (end_state (machine_of start) (events_of p.device_events)).core = ap (λ (w : MachineState). unanswered w.core) (sym p.ends) in
+      let arriving : length (arrived (events_of p.device_events)) ≡ length (admitted g consumed) = ap length p.arrived_are ∙ length-ticketed n (admitted g consumed) in
+      let reply_pairs : length (answered (events_of p.device_events)) ≡ length s.reply_pairs = ap length p.reply_pairs_are in
       let none = idle_inside (core_state_of start.core) idle in
-      let takes = lines_take g s.reply_pairs n taken sent_lines unsent s.known s.answered in
+      let takes = lines_take g s.reply_pairs n consumed sent_lines unsent s.known s.answered in
       let most = later_most n s.reply_pairs in
-      omega (arith, counts, ends, come, reply_pairs, none, takes, most)
+      omega (arith, counts, ends, arriving, reply_pairs, none, takes, most)
 
   -- No more messages wait or are held than there are lines that were read and aren't written.
   pub few_inside : {unsent : List Line} {input unread : Option (List ℕ)} {ended : Bool} {before written : Option (List ℕ)}
-      → ServingProgress keeps start now unsent input unread ended before written → inside (core_state_of now.core) ≤ length unsent
+      → ServingProgress keeps start now unsent input unread ended before written → unanswered (core_state_of now.core) ≤ length unsent
   few_inside h = serving_inside h.serving
 
   -- Where all is written, nothing waits and nothing is held.

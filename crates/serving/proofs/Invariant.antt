@@ -11,17 +11,17 @@ use Rattle.legal_runs.specs.Laws.{IsIdle}
 use Rattle.legal_runs.specs.declared.outcomes.ArriveRefusal.TheVariants as arrivals
 use Rattle.legal_runs.specs.declared.outcomes.Outcome.TheVariants.{ArriveRefused}
 use Rattle.messages.specs.Grammar.{message_of}
-use Rattle.messages.specs.FirstLine.{GivesLine, IsClosed, PassesLine}
-use Rattle.message.specs.Waiting.{so_far}
+use Rattle.messages.specs.FirstLine.{GivesLine, HasWholeFirstLine, PassesLine}
+use Rattle.message.specs.Waiting.{all_output}
 use Rattle.messages.specs.declared.Msg.{Msg}
 use Rattle.messages.specs.declared.Reply.{Reply}
 use Rattle.scheduler.specs.CoreView.{CoreView, RecoversNow, core_state_of}
 use Rattle.serving.specs.Progress.{ServingProgress}
 use Rattle.meaning.specs.Output.{joined}
-use Rattle.serving.specs.Lines.{AreCompleted, Completed, Line, NoMessage, OutOfRange, Pending, complete_one, is_completed, text}
+use Rattle.serving.specs.Lines.{HaveAnswers, Completed, Line, NoMessage, OutOfRange, Pending, complete_one, has_answer, answer_text}
 use Rattle.serving.specs.Reads.{IsTaken}
 use Rattle.reorder_buffer.specs.ReorderBuffer.{AreConsecutive, ReorderBufferView, can_retire, retired_text, with_tickets}
-use Rattle.serving.specs.Runs.{Holds, IsInternal, RunsBetween, with_lent}
+use Rattle.serving.specs.Runs.{HandsHaveJobs, IsInternal, RunsBetween, machine_with_jobs}
 use Rattle.serving.specs.Session.{SessionProgress, IsReadEnd, SessionInvariant, SessionInvariantFrom, SessionView, ReadsOrHasEnded, machine, known_unless}
 use Rattle.serving.specs.Output.{MaySend, Start, start_machine}
 use Rattle.serving.specs.declared.session.ReadEnd.{ReadEnd}
@@ -41,24 +41,24 @@ use Rattle.serving.proofs.Tickets.{quiet_ticket}
 
 -- what was written of lines, where the output may have failed
 sends_unless : {lines rest : List Line} {old now : Option (List ℕ)} (b : Bool) → Sends lines rest old now → Sends lines rest (known_unless b old) (known_unless b now)
-sends_unless true sends = record { sent_lines = sends.sent_lines; were = sends.were; are_completed = sends.are_completed; output = tt }
+sends_unless true sends = record { sent_lines = sends.sent_lines; were = sends.were; have_answers = sends.have_answers; output = tt }
 sends_unless false sends = sends
 
 -- What waits is to be sent after what was sent.
-sends_waiting : (waiting lines : List Line) (reply_buffer : List ℕ) (sent : Option (List ℕ)) → AreCompleted waiting → reply_buffer ≡ joined (map text waiting)
-    → Sends (waiting ++ lines) lines sent (so_far sent reply_buffer)
-sends_waiting waiting lines reply_buffer None answered is = record { sent_lines = waiting; were = refl; are_completed = answered; output = tt }
+sends_waiting : (waiting lines : List Line) (reply_buffer : List ℕ) (sent : Option (List ℕ)) → HaveAnswers waiting → reply_buffer ≡ joined (map answer_text waiting)
+    → Sends (waiting ++ lines) lines sent (all_output sent reply_buffer)
+sends_waiting waiting lines reply_buffer None answered is = record { sent_lines = waiting; were = refl; have_answers = answered; output = tt }
 sends_waiting waiting lines reply_buffer (Some bytes) answered is =
-    record { sent_lines = waiting; were = refl; are_completed = answered; output = ap (λ (l : List ℕ). bytes ++ l) is }
+    record { sent_lines = waiting; were = refl; have_answers = answered; output = ap (λ (l : List ℕ). bytes ++ l) is }
 
 -- A line that is completed stays as it is at a further answer.
-is_left : (ticket : ℕ) (reply : Reply) (line : Line) → is_completed line ≡ true → complete_one ticket reply line ≡ line
+is_left : (ticket : ℕ) (reply : Reply) (line : Line) → has_answer line ≡ true → complete_one ticket reply line ≡ line
 is_left ticket reply NoMessage answered = refl
 is_left ticket reply OutOfRange answered = refl
 is_left ticket reply (Pending t) answered = absurd (true≢false (sym answered))
 is_left ticket reply (Completed t r) answered = refl
 
-are_left : (ticket : ℕ) (reply : Reply) (waiting lines : List Line) → AreCompleted waiting
+are_left : (ticket : ℕ) (reply : Reply) (waiting lines : List Line) → HaveAnswers waiting
     → map (complete_one ticket reply) (waiting ++ lines) ≡ waiting ++ map (complete_one ticket reply) lines
 are_left ticket reply [] lines answered = refl
 are_left ticket reply (line ∷ waiting) lines answered =
@@ -69,8 +69,8 @@ are_left ticket reply (line ∷ waiting) lines answered =
 pub record Fronts (lines rest : List Line) : Type 0 where
   pub line : Line
   pub were : lines ≡ line ∷ rest
-  pub answered : is_completed line ≡ true
-  pub retires : retired_text lines ≡ text line
+  pub answered : has_answer line ≡ true
+  pub retires : retired_text lines ≡ answer_text line
 
 fronts : (lines rest : List Line) → rest ≡ drop 1 lines → can_retire lines ≡ true → Fronts lines rest
 fronts [] rest is next = absurd (true≢false (sym next))
@@ -79,14 +79,14 @@ fronts (line ∷ lines) rest is next = record { line = line; were = ap (λ (l : 
 -- All that was answered in the output leads to the reorder buffer, whether it waits or not.
 pub to_reorder_buffer : {keeps : Type 0} {s : Start} {p : SessionView} {unread : Option (List ℕ)} {drained : Bool} → SessionProgress keeps s p unread drained
     → ServingProgress keeps (start_machine s) (machine p) p.reorder_buffer.lines s.input unread drained (known_unless p.output_failed s.before)
-    (known_unless p.output_failed (so_far p.sent p.reply_buffer))
-to_reorder_buffer {p} h = sends_on (sends_unless p.output_failed (sends_waiting h.waiting p.reorder_buffer.lines p.reply_buffer p.sent h.are_completed h.reply_buffer_is)) h.goes
+    (known_unless p.output_failed (all_output p.sent p.reply_buffer))
+to_reorder_buffer {p} h = sends_on (sends_unless p.output_failed (sends_waiting h.waiting p.reorder_buffer.lines p.reply_buffer p.sent h.have_answers h.reply_buffer_is)) h.progress
 
 module _ (keeps : Type 0) where
   module _ (s : Start) (p : SessionView) where
     -- Why no more is read stays so.
-    why_on : (core : CoreView) (unread : Option (List ℕ)) (drained : Bool) (stop : ReadEnd) → core.next ≡ p.core.next → (p.core.failed ≡ true → core.failed ≡ true)
-        → IsReadEnd s.core.geometry p.core unread drained p.remaining stop → IsReadEnd s.core.geometry core unread drained p.remaining stop
+    why_on : (core : CoreView) (unread : Option (List ℕ)) (drained : Bool) (read_end : ReadEnd) → core.next ≡ p.core.next → (p.core.failed ≡ true → core.failed ≡ true)
+        → IsReadEnd s.core.geometry p.core unread drained p.remaining read_end → IsReadEnd s.core.geometry core unread drained p.remaining read_end
     why_on core unread drained ends_of_reading.EndOfInput next failed h = h
     why_on core unread drained ends_of_reading.ReadFailed next failed h = h
     why_on core unread drained ends_of_reading.TicketsExhausted next failed h = (next ∙ h.0, h.1)
@@ -98,23 +98,23 @@ module _ (keeps : Type 0) where
 
     reads_on : (q : SessionView) → q.core.next ≡ p.core.next → (p.core.failed ≡ true → q.core.failed ≡ true)
         → ((unread : Option (List ℕ)) (drained : Bool) → SessionProgress keeps s p unread drained → SessionProgress keeps s (reading_at q) unread drained)
-        → (stop : Option ReadEnd) → ReadsOrHasEnded keeps s p stop → ReadsOrHasEnded keeps s (reading_at q) stop
-    reads_on q next failed goes None h = goes p.unread p.drained h
-    reads_on q next failed goes (Some stop) h = record {
+        → (read_end : Option ReadEnd) → ReadsOrHasEnded keeps s p read_end → ReadsOrHasEnded keeps s (reading_at q) read_end
+    reads_on q next failed progress None h = progress p.unread p.drained h
+    reads_on q next failed progress (Some read_end) h = record {
       unread = h.unread;
       drained = h.drained;
-      gone = goes h.unread h.drained h.gone;
-      why = why_on q.core h.unread h.drained stop next failed h.why;
+      progress_at_end = progress h.unread h.drained h.progress_at_end;
+      why = why_on q.core h.unread h.drained read_end next failed h.why;
     }
 
     -- so much of the input is unread, wherever it is
-    pub gone : (stop : Option ReadEnd) → ReadsOrHasEnded keeps s p stop → (unread : Option (List ℕ)) × (drained : Bool) × SessionProgress keeps s p unread drained
-    gone None h = (p.unread, p.drained, h)
-    gone (Some stop) h = (h.unread, h.drained, h.gone)
+    pub progress_at_end : (read_end : Option ReadEnd) → ReadsOrHasEnded keeps s p read_end → (unread : Option (List ℕ)) × (drained : Bool) × SessionProgress keeps s p unread drained
+    progress_at_end None h = (p.unread, p.drained, h)
+    progress_at_end (Some read_end) h = (h.unread, h.drained, h.progress_at_end)
 
   -- ---- what follows from the invariant
 
-  pub holds_of : (o : Option Start) (p : SessionView) → SessionInvariantFrom keeps o p → Holds (machine p)
+  pub holds_of : (o : Option Start) (p : SessionView) → SessionInvariantFrom keeps o p → HandsHaveJobs (machine p)
   holds_of None p u = absurd u
   holds_of (Some s) p u = u.holds
 
@@ -129,9 +129,9 @@ module _ (keeps : Type 0) where
   pub idle_of : (o : Option Start) (p : SessionView) → SessionInvariantFrom keeps o p → p.reorder_buffer.lines ≡ [] → IsIdle (core_state_of p.core)
   idle_of None p u none = absurd u
   idle_of (Some s) p u none =
-      let k = gone s p p.stop u.reads in
+      let k = progress_at_end s p p.read_end u.reads in
       idle_again u.idle (subst (λ (l : List Line). ServingProgress keeps (start_machine s) (machine p) l s.input k.0 k.1 (known_unless p.output_failed s.before)
-      (known_unless p.output_failed (so_far p.sent p.reply_buffer))) none (to_reorder_buffer k.2))
+      (known_unless p.output_failed (all_output p.sent p.reply_buffer))) none (to_reorder_buffer k.2))
 
   -- ---- steps
 
@@ -139,14 +139,14 @@ module _ (keeps : Type 0) where
   module _ (o : Option Start) (p : SessionView) (u : SessionInvariantFrom keeps o p) where
     -- To another it goes on, if it does from each start.
     goes_to : (q : SessionView) → ((s : Start) → SessionInvariant keeps s p → SessionInvariant keeps s q) → SessionInvariantFrom keeps o q
-    goes_to q goes = from o u
+    goes_to q progress = from o u
       where
         from : (o : Option Start) → SessionInvariantFrom keeps o p → SessionInvariantFrom keeps o q
         from None u = absurd u
-        from (Some s) u = goes s u
+        from (Some s) u = progress s u
 
     -- The machine goes on.
-    pub on_machine : (core : CoreView) (dispatch_seat : DispatchSeatView) → IsInternal keeps (machine p) (with_lent core dispatch_seat.lent)
+    pub on_machine : (core : CoreView) (dispatch_seat : DispatchSeatView) → IsInternal keeps (machine p) (machine_with_jobs core dispatch_seat.lent)
         → dispatch_seat.bench ≡ p.dispatch_seat.bench → length dispatch_seat.lent ≡ length p.dispatch_seat.lent
         → SessionInvariantFrom keeps o (record p { core = core; dispatch_seat = dispatch_seat })
     on_machine core dispatch_seat k bench places =
@@ -158,20 +158,20 @@ module _ (keeps : Type 0) where
           holds = k.holds;
           places = places ∙ u.places ∙ ap (λ (z : _). z.slots) (sym bench);
           knows = u.knows;
-          reads = reads_on s p q (quiet_ticket k.passes) (still_failed k.passes)
+          reads = reads_on s p q (quiet_ticket k.segment) (still_failed k.segment)
               (λ unread drained h. record {
                 waiting = h.waiting;
-                are_completed = h.are_completed;
+                have_answers = h.have_answers;
                 reply_buffer_is = h.reply_buffer_is;
                 counted = h.counted;
                 bounded = h.bounded;
-                goes = quiet_goes_on k.passes h.goes;
-              }) p.stop u.reads;
+                progress = quiet_goes_on k.segment h.progress;
+              }) p.read_end u.reads;
         })
 
     -- A message is answered, and its line in the reorder buffer is completed.
     pub on_answer : (core : CoreView) (reorder_buffer : ReorderBufferView) (ticket : ℕ) (reply : Reply)
-        → Holds (with_lent core p.dispatch_seat.lent) × RunsBetween keeps (machine p) (with_lent core p.dispatch_seat.lent) [] ((ticket, reply) ∷ [])
+        → HandsHaveJobs (machine_with_jobs core p.dispatch_seat.lent) × RunsBetween keeps (machine p) (machine_with_jobs core p.dispatch_seat.lent) [] ((ticket, reply) ∷ [])
         → reorder_buffer.lines ≡ map (complete_one ticket reply) p.reorder_buffer.lines → reorder_buffer.slots ≡ p.reorder_buffer.slots
         → SessionInvariantFrom keeps o (record p { core = core; reorder_buffer = reorder_buffer })
     on_answer core reorder_buffer ticket reply k is slots =
@@ -186,15 +186,15 @@ module _ (keeps : Type 0) where
           reads = reads_on s p q (quiet_ticket k.1) (still_failed k.1)
               (λ unread drained h. record {
                 waiting = h.waiting;
-                are_completed = h.are_completed;
+                have_answers = h.have_answers;
                 reply_buffer_is = h.reply_buffer_is;
                 counted = let counted = h.counted in omega (arith, counted, ap length is, length-map p.reorder_buffer.lines (complete_one ticket reply));
                 bounded = let bounded = h.bounded in omega (arith, bounded, slots);
-                goes = subst (λ (l : List Line). ServingProgress keeps (start_machine s) (machine q) l s.input unread drained (known_unless p.output_failed s.before)
+                progress = subst (λ (l : List Line). ServingProgress keeps (start_machine s) (machine q) l s.input unread drained (known_unless p.output_failed s.before)
                     (known_unless p.output_failed p.sent))
-                    (are_left ticket reply h.waiting p.reorder_buffer.lines h.are_completed ∙ ap (λ (l : List Line). h.waiting ++ l) (sym is))
-                    (answered_goes_on k.1 h.goes);
-              }) p.stop u.reads;
+                    (are_left ticket reply h.waiting p.reorder_buffer.lines h.have_answers ∙ ap (λ (l : List Line). h.waiting ++ l) (sym is))
+                    (answered_goes_on k.1 h.progress);
+              }) p.read_end u.reads;
         })
 
     -- The oldest line of the reorder buffer waits to be sent.
@@ -215,15 +215,15 @@ module _ (keeps : Type 0) where
           reads = reads_on s p q refl (λ x. x)
               (λ unread drained h. record {
                 waiting = h.waiting ++ one;
-                are_completed = all_join (λ line. is_completed line ≡ true) h.waiting one h.are_completed (f.answered, tt);
+                have_answers = all_join (λ line. has_answer line ≡ true) h.waiting one h.have_answers (f.answered, tt);
                 reply_buffer_is = added ∙ ap (λ (l : List ℕ). l ++ retired_text p.reorder_buffer.lines) h.reply_buffer_is
-                    ∙ ap (λ (l : List ℕ). joined (map text h.waiting) ++ l) (f.retires ∙ sym (append-nil (text f.line))) ∙ sym (texts_both h.waiting one);
+                    ∙ ap (λ (l : List ℕ). joined (map answer_text h.waiting) ++ l) (f.retires ∙ sym (append-nil (answer_text f.line))) ∙ sym (texts_both h.waiting one);
                 counted = let counted = h.counted in omega (arith, counted, ap length f.were, length-append h.waiting one);
                 bounded = let bounded = h.bounded in omega (arith, bounded, slots);
-                goes = subst (λ (l : List Line). ServingProgress keeps (start_machine s) (machine p) l s.input unread drained (known_unless p.output_failed s.before)
+                progress = subst (λ (l : List Line). ServingProgress keeps (start_machine s) (machine p) l s.input unread drained (known_unless p.output_failed s.before)
                     (known_unless p.output_failed p.sent))
-                    (ap (λ (l : List Line). h.waiting ++ l) f.were ∙ sym (append_assoc h.waiting one buffer.lines)) h.goes;
-              }) p.stop u.reads;
+                    (ap (λ (l : List Line). h.waiting ++ l) f.were ∙ sym (append_assoc h.waiting one buffer.lines)) h.progress;
+              }) p.read_end u.reads;
         })
 
     -- So it does where it is completed, and else nothing moves.
@@ -251,19 +251,19 @@ module _ (keeps : Type 0) where
           reads = reads_on s p q refl (λ x. x)
               (λ unread drained h. record {
                 waiting = [];
-                are_completed = tt;
+                have_answers = tt;
                 reply_buffer_is = none;
                 counted = omega (arith, are);
                 bounded = let counted = h.counted in
                     let bounded = h.bounded in
                     omega (arith, are, counted, bounded);
-                goes = sends_on (sends_unless p.output_failed (record {
+                progress = sends_on (sends_unless p.output_failed (record {
                   sent_lines = h.waiting;
                   were = refl;
-                  are_completed = h.are_completed;
+                  have_answers = h.have_answers;
                   output = subst (λ (l : List ℕ). Appends p.sent sent l) h.reply_buffer_is appends;
-                })) h.goes;
-              }) p.stop u.reads;
+                })) h.progress;
+              }) p.read_end u.reads;
         })
 
     -- It could not be sent.
@@ -280,12 +280,12 @@ module _ (keeps : Type 0) where
           reads = reads_on s p q refl (λ x. x)
               (λ unread drained h. record {
                 waiting = h.waiting;
-                are_completed = h.are_completed;
+                have_answers = h.have_answers;
                 reply_buffer_is = h.reply_buffer_is;
                 counted = h.counted;
                 bounded = h.bounded;
-                goes = forgets h.goes;
-              }) p.stop u.reads;
+                progress = forgets h.progress;
+              }) p.read_end u.reads;
         })
 
   -- What waits may be sent, where the core is as it always is.
@@ -293,7 +293,7 @@ module _ (keeps : Type 0) where
       → (keeps → RecoversNow p.core) → MaySend keeps o p.sent p.core p.reply_buffer
   may_send None p u output_works none recovers = absurd u
   may_send (Some s) p u output_works none recovers =
-      let k = gone s p p.stop u.reads in
+      let k = progress_at_end s p p.read_end u.reads in
       let h = k.2 in
       record {
         idle = u.idle;
@@ -302,19 +302,19 @@ module _ (keeps : Type 0) where
         rest = p.reorder_buffer.lines;
         served = has_served keeps (start_machine s) (machine p) u.idle none recovers
             (subst (λ (b : Bool). ServingProgress keeps (start_machine s) (machine p) (h.waiting ++ p.reorder_buffer.lines) s.input k.0 k.1 (known_unless b s.before)
-            (known_unless b p.sent)) output_works h.goes);
-        are_completed = h.are_completed;
+            (known_unless b p.sent)) output_works h.progress);
+        have_answers = h.have_answers;
         bytes_are = h.reply_buffer_is;
       }
 
   -- ---- lines that are read
 
   -- From a place where it reads, to what was read: how the start sees it.
-  pub reading : (s : Start) (p : SessionView) → p.stop ≡ None → SessionInvariant keeps s p → SessionProgress keeps s p p.unread p.drained
+  pub reading : (s : Start) (p : SessionView) → p.read_end ≡ None → SessionInvariant keeps s p → SessionProgress keeps s p p.unread p.drained
   reading s p is u = subst (λ (o : Option ReadEnd). ReadsOrHasEnded keeps s p o) is u.reads
 
   module _ (p : SessionView) (core : CoreView) (reorder_buffer : ReorderBufferView) (n : ℕ) (unread : Option (List ℕ)) (drained ended : Bool)
-      (remaining : Option (List ℕ)) (none : p.stop ≡ None) (slots : reorder_buffer.slots ≡ p.reorder_buffer.slots)
+      (remaining : Option (List ℕ)) (none : p.read_end ≡ None) (slots : reorder_buffer.slots ≡ p.reorder_buffer.slots)
       (more : n + length p.reorder_buffer.lines ≡ p.outstanding + length reorder_buffer.lines) (few : n ≤ p.reorder_buffer.slots) (knows : IsTrue ended → IsAtEnd remaining) where
     abbrev next : SessionView
     next = record p { core = core; reorder_buffer = reorder_buffer; outstanding = n; unread = unread; drained = drained; ended = ended; remaining = remaining }
@@ -325,18 +325,18 @@ module _ (keeps : Type 0) where
     bounded_next : n ≤ reorder_buffer.slots
     bounded_next = omega (arith, few, slots)
 
-    reads_next : (s : Start) → SessionInvariant keeps s p → Holds (machine next) → SessionProgress keeps s next unread drained → SessionInvariant keeps s next
-    reads_next s u holds gone = record {
+    reads_next : (s : Start) → SessionInvariant keeps s p → HandsHaveJobs (machine next) → SessionProgress keeps s next unread drained → SessionInvariant keeps s next
+    reads_next s u holds progress_at_end = record {
       idle = u.idle;
       none_in_doubt = u.none_in_doubt;
       fits = subst (λ (n : ℕ). n ≤ s.core.slots) (sym slots) u.fits;
       holds = holds;
       places = u.places;
       knows = knows;
-      reads = subst (λ (x : Option ReadEnd). ReadsOrHasEnded keeps s next x) (sym none) gone;
+      reads = subst (λ (x : Option ReadEnd). ReadsOrHasEnded keeps s next x) (sym none) progress_at_end;
     }
 
-    module _ (known : Line) (pushed : reorder_buffer.lines ≡ p.reorder_buffer.lines ++ known ∷ []) (going : p.drained ≡ false) (closes : IsClosed p.unread drained) where
+    module _ (known : Line) (pushed : reorder_buffer.lines ≡ p.reorder_buffer.lines ++ known ∷ []) (going : p.drained ≡ false) (closes : HasWholeFirstLine p.unread drained) where
       at_end : (waiting : List Line) → (waiting ++ p.reorder_buffer.lines) ++ known ∷ [] ≡ waiting ++ reorder_buffer.lines
       at_end waiting = append_assoc waiting p.reorder_buffer.lines (known ∷ []) ∙ ap (λ (l : List Line). waiting ++ l) (sym pushed)
 
@@ -349,13 +349,13 @@ module _ (keeps : Type 0) where
           let sent = known_unless p.output_failed p.sent in
           reads_next s u t.holds (record {
             waiting = h.waiting;
-            are_completed = h.are_completed;
+            have_answers = h.have_answers;
             reply_buffer_is = h.reply_buffer_is;
             counted = counted_next h.waiting h.counted;
             bounded = bounded_next;
-            goes = subst (λ (l : List Line). ServingProgress keeps (start_machine s) (machine next) l s.input unread drained (known_unless p.output_failed s.before) sent)
+            progress = subst (λ (l : List Line). ServingProgress keeps (start_machine s) (machine next) l s.input unread drained (known_unless p.output_failed s.before) sent)
                 (at_end h.waiting)
-                (line_goes_on u.idle going closes line t found h.goes);
+                (line_goes_on u.idle going closes line t found h.progress);
           })
 
       -- One that is too long is read.
@@ -367,20 +367,20 @@ module _ (keeps : Type 0) where
           let sent = known_unless p.output_failed p.sent in
           reads_next s u t.holds (record {
             waiting = h.waiting;
-            are_completed = h.are_completed;
+            have_answers = h.have_answers;
             reply_buffer_is = h.reply_buffer_is;
             counted = counted_next h.waiting h.counted;
             bounded = bounded_next;
-            goes = subst (λ (l : List Line). ServingProgress keeps (start_machine s) (machine next) l s.input unread drained (known_unless p.output_failed s.before) sent)
+            progress = subst (λ (l : List Line). ServingProgress keeps (start_machine s) (machine next) l s.input unread drained (known_unless p.output_failed s.before) sent)
                 (at_end h.waiting)
-                (long_line_goes_on u.idle going closes t found h.goes);
+                (long_line_goes_on u.idle going closes t found h.progress);
           })
 
     -- No more is read for this reason.
-    pub on_stop : (o : Option Start) (stop : ReadEnd) → SessionInvariantFrom keeps o p → IsInternal keeps (machine p) (machine next) → reorder_buffer.lines ≡ p.reorder_buffer.lines
-        → IsReadEnd p.core.geometry core p.unread p.drained remaining stop → SessionInvariantFrom keeps o (record next { stop = Some stop })
-    on_stop None stop u k same why = absurd u
-    on_stop (Some s) stop u k same why =
+    pub on_read_end : (o : Option Start) (read_end : ReadEnd) → SessionInvariantFrom keeps o p → IsInternal keeps (machine p) (machine next) → reorder_buffer.lines ≡ p.reorder_buffer.lines
+        → IsReadEnd p.core.geometry core p.unread p.drained remaining read_end → SessionInvariantFrom keeps o (record next { read_end = Some read_end })
+    on_read_end None read_end u k same why = absurd u
+    on_read_end (Some s) read_end u k same why =
         let h = reading s p none u in
         let sent = known_unless p.output_failed p.sent in
         record {
@@ -393,21 +393,21 @@ module _ (keeps : Type 0) where
           reads = record {
             unread = p.unread;
             drained = p.drained;
-            gone = record {
+            progress_at_end = record {
               waiting = h.waiting;
-              are_completed = h.are_completed;
+              have_answers = h.have_answers;
               reply_buffer_is = h.reply_buffer_is;
               counted = counted_next h.waiting h.counted;
               bounded = bounded_next;
-              goes = subst (λ (l : List Line). ServingProgress keeps (start_machine s) (machine next) l s.input p.unread p.drained (known_unless p.output_failed s.before) sent)
-                  (ap (λ (l : List Line). h.waiting ++ l) (sym same)) (quiet_goes_on k.passes h.goes);
+              progress = subst (λ (l : List Line). ServingProgress keeps (start_machine s) (machine next) l s.input p.unread p.drained (known_unless p.output_failed s.before) sent)
+                  (ap (λ (l : List Line). h.waiting ++ l) (sym same)) (quiet_goes_on k.segment h.progress);
             };
-            why = subst (λ (y : Geometry). IsReadEnd y core p.unread p.drained remaining stop) h.goes.serving.passes.geometry why;
+            why = subst (λ (y : Geometry). IsReadEnd y core p.unread p.drained remaining read_end) h.progress.serving.segment.geometry why;
           };
         }
 
   -- The next ticket comes after those of the reorder buffer.
-  pub follows : (o : Option Start) (p : SessionView) → p.stop ≡ None → SessionInvariantFrom keeps o p
+  pub follows : (o : Option Start) (p : SessionView) → p.read_end ≡ None → SessionInvariantFrom keeps o p
       → AreConsecutive (with_tickets p.reorder_buffer.lines ++ Pending p.core.next ∷ [])
   follows None p none u = absurd u
   follows (Some s) p none u = next_follows (to_reorder_buffer (reading s p none u)).serving
@@ -416,12 +416,12 @@ module _ (keeps : Type 0) where
   pub has_place : (o : Option Start) (p : SessionView) → SessionInvariantFrom keeps o p → p.outstanding < p.reorder_buffer.slots → length p.reorder_buffer.lines < p.reorder_buffer.slots
   has_place None p u room = absurd u
   has_place (Some s) p u room =
-      let k = gone s p p.stop u.reads in
+      let k = progress_at_end s p p.read_end u.reads in
       let counted = k.2.counted in
       omega (arith, counted, room)
 
   -- Where the reorder buffer has room for a line, its message isn't refused for want of a slot.
-  pub has_slot : (o : Option Start) (p : SessionView) (m : Msg) → p.stop ≡ None → SessionInvariantFrom keeps o p → length p.reorder_buffer.lines < p.reorder_buffer.slots
+  pub has_slot : (o : Option Start) (p : SessionView) (m : Msg) → p.read_end ≡ None → SessionInvariantFrom keeps o p → length p.reorder_buffer.lines < p.reorder_buffer.slots
       → (arrive p.core.geometry (core_state_of p.core) m).0 ≢ ArriveRefused arrivals.Full
   has_slot None p m none u room = absurd u
   has_slot (Some s) p m none u room =

@@ -8,28 +8,28 @@ use Rattle.std.proofs.lemmas.List.{length-map, take_all}
 use Rattle.affinity.specs.declared.geometry.Geometry.{Geometry}
 use Rattle.disk.proofs.Moments.{counts_now}
 use Rattle.disk.specs.Device.{IsCrashImage, Medium}
-use Rattle.disk.specs.Moments.{left_since, moment}
+use Rattle.disk.specs.Moments.{left_since, moment_number}
 use Rattle.legal_runs.proofs.Answering.{run_replies}
 use Rattle.legal_runs.proofs.Arrivals.{run_ascending}
 use Rattle.legal_runs.proofs.Crashes.{went_first}
 use Rattle.legal_runs.proofs.Elements.{contains_in, holds_of, in_contained}
-use Rattle.legal_runs.proofs.SerialLogs.{answered_came, left_in_order, logged_begins, one_message, still_serial}
+use Rattle.legal_runs.proofs.SerialHistories.{answered_came, left_in_order, logged_begins, one_message, still_serial}
 use Rattle.legal_runs.proofs.SerialReplies.{IsIn, in_left, in_right}
-use Rattle.legal_runs.specs.Events.{Event, MachineState, loggable}
-use Rattle.legal_runs.specs.Laws.{AreAscending, IsIdle, IsSerialLog, ticket_replies}
-use Rattle.legal_runs.specs.Runs.{answered, answered_messages, arrived, arrives, last, logged_messages}
+use Rattle.legal_runs.specs.Events.{Event, MachineState, recorded}
+use Rattle.legal_runs.specs.Laws.{AreAscending, IsIdle, IsSerialHistory, ticket_replies}
+use Rattle.legal_runs.specs.Runs.{answered, answered_messages, arrived, arrives, end_state, logged_messages}
 use Rattle.legal_runs.specs.CoreState.{Entry, Replied, entry}
 use Rattle.runs.specs.Machine.{MachineView, machine_of}
-use Rattle.runs.specs.Stages.{Stage, RecoversForRun, device_after, events_of}
+use Rattle.runs.specs.DeviceEvents.{DeviceEvent, RecoversForRun, device_after, events_of}
 use Rattle.messages.specs.Grammar.{message_of}
 use Rattle.messages.specs.declared.Msg.{Msg}
 use Rattle.messages.specs.declared.Reply.{Reply}
-use Rattle.meaning.specs.Serial.{fold}
+use Rattle.meaning.specs.Serial.{state_after_all}
 use Rattle.meaning.specs.State.{State}
 use Rattle.scheduler.specs.CoreView.{CoreView, core_state_of}
 use Rattle.serving.specs.Ends.{HasRunLines, HasServed, committed_in}
-use Rattle.serving.specs.Lines.{Completed, AreKnown, IsKnown, Line, NoMessage, OutOfRange, Pending, admitted, admitted_in, is_completed, next_ticket, text, ticketed}
-use Rattle.serving.specs.Logged.{AreInLog, HoldsLog, IsInLog}
+use Rattle.serving.specs.Lines.{Completed, AreKnown, IsKnown, Line, NoMessage, OutOfRange, Pending, admitted, admitted_in, has_answer, next_ticket, answer_text, ticketed}
+use Rattle.serving.specs.Logged.{AreInHistory, RecoversToHistory, IsInHistory}
 use Rattle.serving.proofs.Tickets.{ticketed-append}
 
 -- ---- what a crash leaves
@@ -41,8 +41,8 @@ arrived_parted (event ∷ events) (suc k) =
     append_assoc (arrives event.step event.outcome) (arrived (take k events)) (arrived (drop k events))
     ∙ ap (λ es. arrives event.step event.outcome ++ es) (arrived_parted events k)
 
-module _ (keeps : Type 0) (start : MachineView) (new : CoreView) (input : Option (List ℕ)) (taken : List (List ℕ)) (stages : List Stage)
-    (idle : IsIdle (core_state_of start.core)) (none : start.core.doubt ≡ []) (r : HasRunLines keeps start new input taken stages) where
+module _ (keeps : Type 0) (start : MachineView) (new : CoreView) (input : Option (List ℕ)) (consumed : List (List ℕ)) (device_events : List DeviceEvent)
+    (idle : IsIdle (core_state_of start.core)) (none : start.core.doubt ≡ []) (r : HasRunLines keeps start new input consumed device_events) where
   abbrev g : Geometry
   g = start.core.geometry
 
@@ -50,48 +50,48 @@ module _ (keeps : Type 0) (start : MachineView) (new : CoreView) (input : Option
   w = machine_of start
 
   abbrev events : List Event
-  events = events_of stages
+  events = events_of device_events
 
   -- What recovers to a state of the run since event k holds all that was logged by then.
-  holds_since : (k : ℕ) (c : List ℕ) → RecoversForRun g w events k c → HoldsLog g (committed_in start.core) (arrived events) (logged_messages w (take k events)) c
+  holds_since : (k : ℕ) (c : List ℕ) → RecoversForRun g w events k c → RecoversToHistory g (committed_in start.core) (arrived events) (logged_messages w (take k events)) c
   holds_since k c s =
       let after = s.left.after in
       let found = left_in_order g r.legal idle none s.left.is_log in
-      let some = take found.0 (last w (take after events)).core.ran in
+      let some = take found.0 (end_state w (take after events)).core.ran in
       let first = went_first w events k after s.left.since in
       let whole : logged_messages w (take after events) ++ some ≡ logged_messages w (take k events) ++ (first.0 ++ some) =
       ap (λ (l : List Replied). l ++ some) first.1 ∙ append_assoc (logged_messages w (take k events)) first.0 some in
       let all = arrived_parted events after in
-      let serial : IsSerialLog g (committed_in start.core) (arrived events) (logged_messages w (take after events) ++ some) =
-      subst (λ (es : List Entry). IsSerialLog g (committed_in start.core) es (logged_messages w (take after events) ++ some)) all
+      let serial : IsSerialHistory g (committed_in start.core) (arrived events) (logged_messages w (take after events) ++ some) =
+      subst (λ (es : List Entry). IsSerialHistory g (committed_in start.core) es (logged_messages w (take after events) ++ some)) all
       (still_serial g (committed_in start.core) (arrived (take after events)) (arrived (drop after events)) (logged_messages w (take after events) ++ some)
       (subst AreAscending (sym all) (run_ascending g w events r.legal)) found.1) in
       record {
         more = first.0 ++ some;
-        serial = subst (IsSerialLog g (committed_in start.core) (arrived events)) whole serial;
+        serial = subst (IsSerialHistory g (committed_in start.core) (arrived events)) whole serial;
         recovers = s.is ∙ ap (λ (x : State). Some x) s.left.state
-            ∙ ap (λ (ms : List Msg). Some (fold g (committed_in start.core) ms)) (found.2 ∙ ap loggable whole);
+            ∙ ap (λ (ms : List Msg). Some (state_after_all g (committed_in start.core) ms)) (found.2 ∙ ap recorded whole);
       }
 
   -- So does what a crash leaves since event k ended.
-  pub holds_logged : keeps → (k : ℕ) (c : List ℕ) → k ≤ length stages
-      → left_since new.medium (moment (device_after start.core.medium (take k stages))) c
-      → HoldsLog g (committed_in start.core) (ticketed start.core.next (admitted g taken)) (logged_messages w (take k events)) c
+  pub holds_logged : keeps → (k : ℕ) (c : List ℕ) → k ≤ length device_events
+      → left_since new.medium (moment_number (device_after start.core.medium (take k device_events))) c
+      → RecoversToHistory g (committed_in start.core) (ticketed start.core.next (admitted g consumed)) (logged_messages w (take k events)) c
   holds_logged kept k c le since =
-      subst (λ (es : List Entry). HoldsLog g (committed_in start.core) es (logged_messages w (take k events)) c) r.arrived_are
+      subst (λ (es : List Entry). RecoversToHistory g (committed_in start.core) es (logged_messages w (take k events)) c) r.arrived_are
       (holds_since k c (r.crash kept k c le since))
 
   -- And in the end all that was logged.
   pub holds_all : keeps → (c : List ℕ) → IsCrashImage new.medium c
-      → HoldsLog g (committed_in start.core) (ticketed start.core.next (admitted g taken)) (logged_messages w events) c
+      → RecoversToHistory g (committed_in start.core) (ticketed start.core.next (admitted g consumed)) (logged_messages w events) c
   holds_all kept c leaves =
-      let n = length stages in
-      let at_end : device_after start.core.medium (take n stages) ≡ new.medium =
-      ap (λ (ss : List Stage). device_after start.core.medium ss) (take_all n stages (omega arith)) ∙ r.device in
-      let since : left_since new.medium (moment (device_after start.core.medium (take n stages))) c =
-      subst (λ (m : Medium). left_since new.medium (moment m) c) (sym at_end) (counts_now new.medium (moment new.medium) c (omega arith) leaves) in
-      let long : length events ≤ n = omega (arith, length-map stages (λ (s : Stage). s.event)) in
-      subst (λ (es : List Event). HoldsLog g (committed_in start.core) (ticketed start.core.next (admitted g taken)) (logged_messages w es) c) (take_all n events long)
+      let n = length device_events in
+      let at_end : device_after start.core.medium (take n device_events) ≡ new.medium =
+      ap (λ (ss : List DeviceEvent). device_after start.core.medium ss) (take_all n device_events (omega arith)) ∙ r.device in
+      let since : left_since new.medium (moment_number (device_after start.core.medium (take n device_events))) c =
+      subst (λ (m : Medium). left_since new.medium (moment_number m) c) (sym at_end) (counts_now new.medium (moment_number new.medium) c (omega arith) leaves) in
+      let long : length events ≤ n = omega (arith, length-map device_events (λ (s : DeviceEvent). s.event)) in
+      subst (λ (es : List Event). RecoversToHistory g (committed_in start.core) (ticketed start.core.next (admitted g consumed)) (logged_messages w es) c) (take_all n events long)
       (holds_logged kept n c (omega arith) since)
 
 -- ---- the lines
@@ -100,7 +100,7 @@ module _ (g : Geometry) (replies : List (ℕ × Reply)) (log : List Replied) (wh
     (logged : (ticket : ℕ) (m : Msg) (reply : Reply) → IsIn (ticket, m) whole → Contains replies (ticket, reply) → Contains log (ticket, m, reply)) where
   one_kept : (n : ℕ) (o : Option Msg) (ls : List (List ℕ)) (line : Line)
       → ((e : Entry) → IsIn e (ticketed n (admitted_in g o ++ admitted g ls)) → IsIn e whole)
-      → IsKnown g replies n o line → is_completed line ≡ true → IsInLog g log n o (text line)
+      → IsKnown g replies n o line → has_answer line ≡ true → IsInHistory g log n o (answer_text line)
   one_kept n None ls NoMessage among k is = refl
   one_kept n None ls OutOfRange among k is = absurd k
   one_kept n None ls (Pending t) among k is = absurd k
@@ -114,7 +114,7 @@ module _ (g : Geometry) (replies : List (ℕ × Reply)) (log : List Replied) (wh
       inr (k.0, (reply, refl, logged n m reply its (subst (λ (t' : ℕ). Contains replies (t', reply)) k.1 k.2)))
 
   are_kept : (n : ℕ) (ls : List (List ℕ)) (sent_lines unsent : List Line) → ((e : Entry) → IsIn e (ticketed n (admitted g ls)) → IsIn e whole)
-      → AreKnown g replies n ls (sent_lines ++ unsent) → AllByRecursion (λ line. is_completed line ≡ true) sent_lines → AreInLog g log n ls (map text sent_lines)
+      → AreKnown g replies n ls (sent_lines ++ unsent) → AllByRecursion (λ line. has_answer line ≡ true) sent_lines → AreInHistory g log n ls (map answer_text sent_lines)
   are_kept n ls [] unsent among k all = tt
   are_kept n [] (line ∷ sent_lines) unsent among k all = absurd k
   are_kept n (l ∷ ls) (line ∷ sent_lines) unsent among k all =
@@ -135,15 +135,15 @@ said_of (a ∷ as') p is = ⊎_elim
 module _ (keeps : Type 0) (start : MachineView) (new : CoreView) (unsent : List Line) (input before written : Option (List ℕ))
     (idle : IsIdle (core_state_of start.core)) (h : HasServed keeps start new unsent input before written) where
   abbrev run_log : List Replied
-  run_log = logged_messages (machine_of start) (events_of h.stages)
+  run_log = logged_messages (machine_of start) (events_of h.device_events)
 
   -- A message of the input that was sent a reply by its ticket was logged with it.
-  was_logged : (ticket : ℕ) (m : Msg) (reply : Reply) → IsIn (ticket, m) (ticketed start.core.next (admitted start.core.geometry h.taken))
-      → Contains (answered (events_of h.stages)) (ticket, reply) → Contains run_log (ticket, m, reply)
+  was_logged : (ticket : ℕ) (m : Msg) (reply : Reply) → IsIn (ticket, m) (ticketed start.core.next (admitted start.core.geometry h.consumed))
+      → Contains (answered (events_of h.device_events)) (ticket, reply) → Contains run_log (ticket, m, reply)
   was_logged ticket m reply asks told =
       let g = start.core.geometry in
       let w = machine_of start in
-      let events = events_of h.stages in
+      let events = events_of h.device_events in
       let came = arrived events in
       let one = said_of (answered_messages w events) (ticket, reply)
       (subst (IsIn (ticket, reply)) (sym (run_replies g w events h.run.legal)) (in_contained (answered events) (ticket, reply) told)) in
@@ -155,10 +155,10 @@ module _ (keeps : Type 0) (start : MachineView) (new : CoreView) (unsent : List 
       (subst (IsIn (ticket, m)) (sym h.run.arrived_are) asks) refl) in
       contains_in run_log (ticket, m, reply)
       (subst (λ (l : List Replied). IsIn (ticket, m, reply) l) (sym (logged_begins g w events h.run.legal idle))
-      (in_left (ticket, m, reply) (answered_messages w events) (last w events).core.logged
+      (in_left (ticket, m, reply) (answered_messages w events) (end_state w events).core.logged
       (subst (λ (m' : Msg). IsIn (ticket, m', reply) (answered_messages w events)) same one.1)))
 
   -- Each line that was written is kept in the log of the run.
-  pub written_are_kept : AreInLog start.core.geometry run_log start.core.next h.taken (map text h.sent_lines)
-  written_are_kept = are_kept start.core.geometry (answered (events_of h.stages)) run_log
-      (ticketed start.core.next (admitted start.core.geometry h.taken)) was_logged start.core.next h.taken h.sent_lines unsent (λ e is. is) h.known h.are_completed
+  pub written_are_kept : AreInHistory start.core.geometry run_log start.core.next h.consumed (map answer_text h.sent_lines)
+  written_are_kept = are_kept start.core.geometry (answered (events_of h.device_events)) run_log
+      (ticketed start.core.next (admitted start.core.geometry h.consumed)) was_logged start.core.next h.consumed h.sent_lines unsent (λ e is. is) h.known h.have_answers

@@ -3,11 +3,11 @@ use Rattle.std.proofs.Common.{◌≡◌, ◌≢◌, ℕ, ◌-◌, true, false, L
 use Rattle.std.specs.Prelude.{Bool, if◌then◌else◌, is_some, nat_lt, MatchResult, OnErr, OnOk}
 use Rattle.std.proofs.lemmas.Bool.{true≢false}
 use Rattle.std.proofs.lemmas.Option.{none-some}
-use Rattle.legal_runs.specs.Events.{fewer, point_refusal}
+use Rattle.legal_runs.specs.Events.{pieces_after, point_refusal}
 use Rattle.legal_runs.specs.CoreState.{Entry, CoreState, held}
 use Rattle.legal_runs.specs.declared.outcomes.PointRefusal.{PointRefusal}
 use Rattle.legal_runs.specs.declared.outcomes.PointRefusal.TheVariants as points
-use Rattle.scheduler.specs.Calls.{IsPieceStep, IsPointStep}
+use Rattle.scheduler.specs.Calls.{IsPieceStep, IsCheckpointStep}
 use Rattle.serving.specs.Session.{BeginsOrWaits}
 use Rattle.serving.specs.declared.session.Halted.{Halted}
 
@@ -23,7 +23,7 @@ works_so true o e = absurd (none-some points.Failed (sym e))
 works_so false o e = refl
 
 -- A step is refused where the device fails, or for its reason.
-refused_so : (old new : CoreState) (why : Option PointRefusal) (made : Type 0) (refusal : PointRefusal) → IsPointStep old new why made (Err refusal)
+refused_so : (old new : CoreState) (why : Option PointRefusal) (made : Type 0) (refusal : PointRefusal) → IsCheckpointStep old new why made (Err refusal)
     → (why ≡ Some refusal → old.failed ≡ true) → new.failed ≡ true
 refused_so old new why made points.Device h failed = ap (λ (w : CoreState). w.failed) h.1
 refused_so old new why made points.Failed h failed = ap (λ (w : CoreState). w.failed) h.1 ∙ failed h.0
@@ -44,22 +44,22 @@ halts_so (Err e) (Err y) same output_works failed is h f = λ _. f
 
 -- ---- where a point is to begin and none is in progress
 
-module _ (old : CoreState) (left : old.left ≡ None) (new : CoreState) (made : Type 0) where
+module _ (old : CoreState) (pieces_left : old.pieces_left ≡ None) (new : CoreState) (made : Type 0) where
   abbrev if_held : Bool → Option PointRefusal
   if_held b = if b then Some points.Held else None
 
   abbrev rest : Option PointRefusal
-  rest = if is_some old.left then Some points.Running else if_held (nat_lt 0 (length (held old)))
+  rest = if is_some old.pieces_left then Some points.Running else if_held (nat_lt 0 (length (held old)))
 
   no_other : if_held (nat_lt 0 (length (held old))) ≡ rest
-  no_other = ap (λ (o : Option ℕ). if is_some o then Some points.Running else if_held (nat_lt 0 (length (held old)))) (sym left)
+  no_other = ap (λ (o : Option ℕ). if is_some o then Some points.Running else if_held (nat_lt 0 (length (held old)))) (sym pieces_left)
 
   module _ (none_held : held old ≡ []) where
     none_rests : None ≡ rest
     none_rests = ap (λ (l : List Entry). if_held (nat_lt 0 (length l))) (sym none_held) ∙ no_other
 
     -- Where none is held, only by the device.
-    pub point_fails : (r : Result (Unit {0}) PointRefusal) → IsPointStep old new (point_refusal old) made r → OnErr r (new.failed ≡ true)
+    pub point_fails : (r : Result (Unit {0}) PointRefusal) → IsCheckpointStep old new (point_refusal old) made r → OnErr r (new.failed ≡ true)
     point_fails (Ok x) h = tt
     point_fails (Err refusal) h = refused_so old new (point_refusal old) made refusal h
         (λ e. failed_so old.failed rest refusal e (λ d. absurd (none-some refusal (none_rests ∙ d))))
@@ -73,7 +73,7 @@ module _ (old : CoreState) (left : old.left ≡ None) (new : CoreState) (made : 
   held_alone false refusal e = absurd (none-some refusal e)
 
   -- Where it is refused for another reason than that one is held, it is by the device.
-  begins_or_fails : (refusal : PointRefusal) → refusal ≢ points.Held → IsPointStep old new (point_refusal old) made (Err refusal) → new.failed ≡ true
+  begins_or_fails : (refusal : PointRefusal) → refusal ≢ points.Held → IsCheckpointStep old new (point_refusal old) made (Err refusal) → new.failed ≡ true
   begins_or_fails refusal not_held h = refused_so old new (point_refusal old) made refusal h
       (λ e. failed_so old.failed rest refusal e (λ d. absurd (not_held (held_alone (nat_lt 0 (length (held old))) refusal (no_other ∙ d)))))
 
@@ -87,31 +87,31 @@ module _ (old : CoreState) (left : old.left ≡ None) (new : CoreState) (made : 
 
   -- So a session halts only where the device has failed, and else it has begun, where none is held.
   pub halts : {same : Type 0} (output_works : Type 0) (cut : Result (Unit {0}) PointRefusal) (result : Result (Unit {0}) Halted)
-      → IsPointStep old new (point_refusal old) made cut → BeginsOrWaits cut result → same → MatchResult result (λ _. same) (λ _. output_works → new.failed ≡ true)
+      → IsCheckpointStep old new (point_refusal old) made cut → BeginsOrWaits cut result → same → MatchResult result (λ _. same) (λ _. output_works → new.failed ≡ true)
   halts output_works cut (Ok x) h b s = s
   halts output_works (Ok x) (Err y) h b s = absurd b
   halts output_works (Err why) (Err y) h b s = λ _. begins_or_fails why b h
 
   pub begins : {begun : Type 0} → (made → begun) → (cut : Result (Unit {0}) PointRefusal) (result : Result (Unit {0}) Halted)
-      → IsPointStep old new (point_refusal old) made cut → BeginsOrWaits cut result → OnOk result (held new ≡ [] → begun)
+      → IsCheckpointStep old new (point_refusal old) made cut → BeginsOrWaits cut result → OnOk result (held new ≡ [] → begun)
   begins so cut (Err y) h b = tt
   begins so (Ok x) (Ok y) h b = λ _. so h.1
   begins so (Err why) (Ok y) h b = λ none_held.
-      let k = subst (λ (r : PointRefusal). IsPointStep old new (point_refusal old) made (Err r)) b h in
+      let k = subst (λ (r : PointRefusal). IsCheckpointStep old new (point_refusal old) made (Err r)) b h in
       absurd (none_waits (ap held (sym k.1) ∙ none_held) old.failed k.0)
 
 -- ---- a point at once
 
 pub point_works : (old new : CoreState) (room : ℕ) (r : Result (Unit {0}) PointRefusal)
-    → IsPointStep old new (point_refusal old) (new ≡ record old { room = room }) r → OnOk r (new.failed ≡ false)
+    → IsCheckpointStep old new (point_refusal old) (new ≡ record old { room = room }) r → OnOk r (new.failed ≡ false)
 point_works old new room (Ok x) h = ap (λ (w : CoreState). w.failed) h.1
-    ∙ works_so old.failed (if is_some old.left then Some points.Running else if nat_lt 0 (length (held old)) then Some points.Held else None) h.0
+    ∙ works_so old.failed (if is_some old.pieces_left then Some points.Running else if nat_lt 0 (length (held old)) then Some points.Held else None) h.0
 point_works old new room (Err why) h = tt
 
 -- ---- a piece
 
 -- one less is left
-pub piece_left : (old new : CoreState) (r : Result ℕ PointRefusal) (n : ℕ) → IsPieceStep old new r → old.left ≡ Some n
-    → OnOk r (new.left ≡ Some (n - 1))
-piece_left old new (Ok k) n h e = ap (λ (w : CoreState). w.left) h.2 ∙ ap Some (h.1 ∙ ap fewer e)
+pub piece_left : (old new : CoreState) (r : Result ℕ PointRefusal) (n : ℕ) → IsPieceStep old new r → old.pieces_left ≡ Some n
+    → OnOk r (new.pieces_left ≡ Some (n - 1))
+piece_left old new (Ok k) n h e = ap (λ (w : CoreState). w.pieces_left) h.2 ∙ ap Some (h.1 ∙ ap pieces_after e)
 piece_left old new (Err why) n h e = tt

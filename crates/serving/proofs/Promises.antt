@@ -12,7 +12,7 @@ use Rattle.serving.specs.Ends.{HasServed}
 use Rattle.serving.specs.Progress.{ServingProgress}
 use Rattle.serving.specs.Lines.{Line}
 use Rattle.reorder_buffer.specs.ReorderBuffer.{can_retire}
-use Rattle.serving.specs.Runs.{with_lent}
+use Rattle.serving.specs.Runs.{machine_with_jobs}
 use Rattle.serving.specs.Serve.{AreAll, HasRunWith}
 use Rattle.serving.specs.declared.server.ServeFault.TheVariants as faults
 use Rattle.serving.proofs.Served.{has_served}
@@ -20,12 +20,12 @@ use Rattle.serving.proofs.Starting.{starts}
 
 -- ---- the run
 
-all_taken : (input unread : Option (List ℕ)) (ended : Bool) (taken : List (List ℕ)) → TakesLines input unread ended taken → IsAtEnd unread → AreAll input taken
-all_taken None unread ended taken t at_end = tt
-all_taken (Some input) None ended taken t at_end = absurd (none-some t.0 t.1)
-all_taken (Some input) (Some bs) ended taken t at_end =
+all_taken : (input unread : Option (List ℕ)) (ended : Bool) (consumed : List (List ℕ)) → TakesLines input unread ended consumed → IsAtEnd unread → AreAll input consumed
+all_taken None unread ended consumed t at_end = tt
+all_taken (Some input) None ended consumed t at_end = absurd (none-some t.0 t.1)
+all_taken (Some input) (Some bs) ended consumed t at_end =
     let none : t.0 ≡ [] = sym (same_Some bs t.0 t.1) ∙ at_end in
-    t.2.to_come ∙ ap (λ l. taken ++ lines l) none ∙ append-nil taken
+    t.2.to_come ∙ ap (λ l. consumed ++ lines l) none ∙ append-nil consumed
 
 -- where the core at the end is as it always is
 module _ {keeps : Type 0} {start now : MachineView} (idle : IsIdle (core_state_of start.core)) {input unread : Option (List ℕ)} {ended : Bool}
@@ -35,7 +35,7 @@ module _ {keeps : Type 0} {start now : MachineView} (idle : IsIdle (core_state_o
   unfolding has_served
   runs_whole h at_end = record {
     served = has_served keeps start now idle no_doubt recovers h;
-    all = all_taken input unread ended h.taken h.takes at_end;
+    all = all_taken input unread ended h.consumed h.takes at_end;
   }
 
   pub runs_to_read : ServingProgress keeps start now [] input unread ended before written
@@ -53,19 +53,19 @@ module _ {keeps : Type 0} {start now : MachineView} (idle : IsIdle (core_state_o
   -- whatever was written since
   pub runs_to_write : {unsent : List Line} (torn : Option (List ℕ)) → ServingProgress keeps start now unsent input unread ended before written
       → HasRunWith keeps start now.core input before torn (Err faults.Write)
-  runs_to_write torn h = let s = has_served keeps start now idle no_doubt recovers h in (s.taken, s.stages, s.run)
+  runs_to_write torn h = let s = has_served keeps start now idle no_doubt recovers h in (s.consumed, s.device_events, s.run)
 
 -- ---- a server that was refused
 
 module _ (keeps : Type 0) (core : CoreView) (places : ℕ) (idle : IsIdle (core_state_of core))
     (no_doubt : core.failed ≡ false → core.doubt ≡ []) (recovers : keeps → RecoversNow core) (input before : Option (List ℕ)) where
-  not_run : HasServed keeps (with_lent core (replicate places None)) core [] input before before
+  not_run : HasServed keeps (machine_with_jobs core (replicate places None)) core [] input before before
   not_run =
-      let start = with_lent core (replicate places None) in
+      let start = machine_with_jobs core (replicate places None) in
       has_served keeps start start idle no_doubt recovers (starts keeps start input before)
 
-  pub no_workers_ran : HasRunWith keeps (with_lent core (replicate places None)) core input before before (Err faults.NoWorkers)
+  pub no_workers_ran : HasRunWith keeps (machine_with_jobs core (replicate places None)) core input before before (Err faults.NoWorkers)
   no_workers_ran = not_run
 
-  pub no_memory_ran : HasRunWith keeps (with_lent core (replicate places None)) core input before before (Err faults.OutOfMemory)
+  pub no_memory_ran : HasRunWith keeps (machine_with_jobs core (replicate places None)) core input before before (Err faults.OutOfMemory)
   no_memory_ran = not_run

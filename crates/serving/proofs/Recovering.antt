@@ -8,7 +8,7 @@ use Rattle.affinity.specs.declared.geometry.Geometry.{Geometry}
 use Rattle.affinity.specs.Path.{are_related}
 use Rattle.messages.specs.Grammar.{message_of}
 use Rattle.messages.specs.Lines.{lines}
-use Rattle.messages.specs.Messages.{is_in_range, place}
+use Rattle.messages.specs.Messages.{is_in_range, path_of}
 use Rattle.messages.specs.Replies.{reply_line}
 use Rattle.messages.specs.declared.Msg.{Msg}
 use Rattle.messages.specs.declared.Refusal.TheVariants.{Range}
@@ -16,9 +16,9 @@ use Rattle.messages.specs.declared.Reply.{Reply}
 use Rattle.messages.specs.declared.Reply.TheVariants.{Refused}
 use Rattle.meaning.specs.Order.{by_ticket, messages, serial_replies}
 use Rattle.meaning.specs.Output.{WritesOutput, answer_line, joined, output_lines, state_after_line, state_after_lines}
-use Rattle.meaning.specs.Serial.{fold, next_state, reply_to}
+use Rattle.meaning.specs.Serial.{state_after_all, next_state, reply_to}
 use Rattle.meaning.specs.State.{State}
-use Rattle.legal_runs.specs.Events.{loggable}
+use Rattle.legal_runs.specs.Events.{recorded}
 use Rattle.legal_runs.specs.Laws.{AreAscending, ticket_replies}
 use Rattle.legal_runs.specs.CoreState.{Entry, Replied, are_related_entries, entries}
 use Rattle.legal_runs.proofs.Elements.{in_contained}
@@ -26,7 +26,7 @@ use Rattle.legal_runs.proofs.SerialReplies.{IsIn, in_left}
 use Rattle.serving.specs.Ends.{AreFirst}
 use Rattle.serving.specs.Lines.{admitted, admitted_in, next_ticket, ticketed}
 use Rattle.serving.specs.Restart.{IsClosedPart, RecoversTo, BytesRecover, are_related_lines}
-use Rattle.serving.specs.Logged.{AreInLog, HoldsLog, IsInLog}
+use Rattle.serving.specs.Logged.{AreInHistory, RecoversToHistory, IsInHistory}
 use Rattle.serving.proofs.Serial.{out_of_range as refused_for_range}
 use Rattle.serving.proofs.SortedLogs.{HasNoGap, sorted_log}
 
@@ -65,7 +65,7 @@ pub record SpellsPart (g : Geometry) (es : List Entry) (ls : List (List ℕ)) : 
   closed : IsClosedPart g part ls
 
 leads : (g : Geometry) (x : State) (part : List (List ℕ)) (es : List Entry) → Spell part es
-    → fold g x (messages es) ≡ state_after_lines g x part
+    → state_after_all g x (messages es) ≡ state_after_lines g x part
 leads g x [] [] s = refl
 leads g x [] (e ∷ es) s = absurd s
 leads g x (line ∷ part) [] s = absurd s
@@ -90,7 +90,7 @@ not_in_range g m h = elim (is_in_range g m) as (λ b. (if b then m ∷ [] else [
 unrelated_none : (g : Geometry) (o : Option Msg) → admitted_in g o ≡ [] → (p : Option Msg) → are_related_lines g o p ≡ false
 unrelated_none g None h p = refl
 unrelated_none g (Some m) h None = refl
-unrelated_none g (Some m) h (Some n) = none_first (is_in_range g m) (is_in_range g n) (are_related (place g m) (place g n)) (not_in_range g m h)
+unrelated_none g (Some m) h (Some n) = none_first (is_in_range g m) (is_in_range g n) (are_related (path_of g m) (path_of g n)) (not_in_range g m h)
 
 none_related : (g : Geometry) (o : Option Msg) → admitted_in g o ≡ [] → (part : List (List ℕ))
     → AllByRecursion (λ other. are_related_lines g o (message_of other) ≡ false) part
@@ -106,7 +106,7 @@ unrelated_too g n m [] (e ∷ es) s h = absurd s
 unrelated_too g n m (line ∷ part) [] s h = absurd s
 unrelated_too g n m (line ∷ part) (e ∷ es) s h = (
   subst (λ o. are_related_lines g (Some m) o ≡ false) (sym s.0)
-      (none_last (is_in_range g m) (is_in_range g e.1) (are_related (place g m) (place g e.1)) h.0),
+      (none_last (is_in_range g m) (is_in_range g e.1) (are_related (path_of g m) (path_of g e.1)) h.0),
   unrelated_too g n m part es s.1 h.1,
 )
 
@@ -174,7 +174,7 @@ pub record AnswersFirst (g : Geometry) (x : State) (es : List Entry) (ls written
   pub answers : written ≡ output_lines g x first
   pub part : List (List ℕ)
   pub closed : IsClosedPart g part others
-  pub state : fold g x (messages es) ≡ state_after_lines g x (first ++ part)
+  pub state : state_after_all g x (messages es) ≡ state_after_lines g x (first ++ part)
 
 serial_from : (g : Geometry) (x : State) (n : ℕ) (es : List Entry) → AllByRecursion (λ e. n ≤ e.0) es → (p : ℕ × Reply)
     → IsIn p (serial_replies g x es) → n ≤ p.0
@@ -197,7 +197,7 @@ state_stays g x None h = refl
 state_stays g x (Some m) h = ap (λ (q : Reply × State). q.1) (refused_for_range g x m (not_in_range g m h))
 
 -- The line that is kept for a line is the serial server's, if its reply is.
-kept_line : (g : Geometry) (x : State) (log : List Replied) (n : ℕ) (o : Option Msg) (line : List ℕ) → IsInLog g log n o line
+kept_line : (g : Geometry) (x : State) (log : List Replied) (n : ℕ) (o : Option Msg) (line : List ℕ) → IsInHistory g log n o line
     → ((m : Msg) (reply : Reply) → o ≡ Some m → is_in_range g m ≡ true → IsIn (n, m, reply) log → reply ≡ reply_to g x m) → line ≡ answer_line g x o
 kept_line g x log n None line k same = k
 kept_line g x log n (Some m) line k same = ⊎_elim
@@ -207,7 +207,7 @@ kept_line g x log n (Some m) line k same = ⊎_elim
     has.1.1 ∙ ap reply_line (same m has.1.0 refl has.0 (in_contained log (n, m, has.1.0) has.1.2))) k
 
 -- What is kept for a line with a ticket is in the log.
-kept_reply : (g : Geometry) (log : List Replied) (n : ℕ) (m : Msg) (line : List ℕ) → is_in_range g m ≡ true → IsInLog g log n (Some m) line
+kept_reply : (g : Geometry) (log : List Replied) (n : ℕ) (m : Msg) (line : List ℕ) → is_in_range g m ≡ true → IsInHistory g log n (Some m) line
     → (reply : Reply) × IsIn (n, m, reply) log
 kept_reply g log n m line is k = ⊎_elim
     (λ (out : (is_in_range g m ≡ false) × (line ≡ reply_line (Refused Range))). absurd (true≢false (sym is ∙ out.0)))
@@ -247,7 +247,7 @@ module _ (g : Geometry) (log : List Replied) where
       record { first = []; others = ls; parts = refl; answers = refl; part = s.part; closed = s.closed; state = leads g x s.part es s.spell }
 
   one_more : {x : State} {es fs : List Entry} {line : List ℕ} {ls : List (List ℕ)} {w : List ℕ} {written : List (List ℕ)}
-      → w ≡ answer_line g x (message_of line) → fold g x (messages es) ≡ fold g (state_after_line g x (message_of line)) (messages fs)
+      → w ≡ answer_line g x (message_of line) → state_after_all g x (messages es) ≡ state_after_all g (state_after_line g x (message_of line)) (messages fs)
       → AnswersFirst g (state_after_line g x (message_of line)) fs ls written → AnswersFirst g x es (line ∷ ls) (w ∷ written)
   one_more {line} retires goes rest = record {
     first = line ∷ rest.first;
@@ -260,19 +260,19 @@ module _ (g : Geometry) (log : List Replied) where
   }
 
   module _ (x : State) (n : ℕ) (line : List ℕ) (ls : List (List ℕ)) (w : List ℕ) (written : List (List ℕ)) (es : List Entry)
-      (on : (y : State) (k : ℕ) (fs : List Entry) → HasNoGap g fs (ticketed k (admitted g ls)) → HaveSerialReplies g y k log fs → AreInLog g log k ls written
+      (on : (y : State) (k : ℕ) (fs : List Entry) → HasNoGap g fs (ticketed k (admitted g ls)) → HaveSerialReplies g y k log fs → AreInHistory g log k ls written
       → AnswersFirst g y fs ls written) where
     answers_none : admitted_in g (message_of line) ≡ [] → HasNoGap g es (ticketed n (admitted g ls)) → HaveSerialReplies g x n log es
-        → IsInLog g log n (message_of line) w → AreInLog g log n ls written → AnswersFirst g x es (line ∷ ls) (w ∷ written)
+        → IsInHistory g log n (message_of line) w → AreInHistory g log n ls written → AnswersFirst g x es (line ∷ ls) (w ∷ written)
     answers_none none h serial_all k rest =
         let stays = state_stays g x (message_of line) none in
         let retires = kept_line g x log n (message_of line) w k
         (λ m reply is in_range its. absurd (true≢false (sym in_range ∙ not_in_range g m (ap (admitted_in g) (sym is) ∙ none)))) in
-        one_more retires (ap (λ y. fold g y (messages es)) (sym stays))
+        one_more retires (ap (λ y. state_after_all g y (messages es)) (sym stays))
         (subst (λ y. AnswersFirst g y es ls written) (sym stays) (on x n es h serial_all rest))
 
     answers_one : (m : Msg) → message_of line ≡ Some m → is_in_range g m ≡ true → HasNoGap g es ((n, m) ∷ ticketed (n + 1) (admitted g ls))
-        → HaveSerialReplies g x n log es → IsInLog g log n (Some m) w → AreInLog g log (n + 1) ls written → AnswersFirst g x es (line ∷ ls) (w ∷ written)
+        → HaveSerialReplies g x n log es → IsInHistory g log n (Some m) w → AreInHistory g log (n + 1) ls written → AnswersFirst g x es (line ∷ ls) (w ∷ written)
     answers_one m is ranges h serial_all k rest =
         let its = kept_reply g log n m w ranges k in
         let late = all_from (n + 1) (n + 1) (admitted g ls) (omega arith) in
@@ -283,7 +283,7 @@ module _ (g : Geometry) (log : List Replied) where
         let retires = kept_line g x log n (Some m) w k
         (λ m' reply same in_range its. its_reply g x n m log j.0 serial_here greater m' reply its ∙ ap (reply_to g x) (some_is m m' same)) in
         one_more (retires ∙ ap (answer_line g x) (sym is))
-        (ap (λ l. fold g x (messages l)) j.1 ∙ ap (λ o. fold g (state_after_line g x o) (messages j.0)) (sym is))
+        (ap (λ l. state_after_all g x (messages l)) j.1 ∙ ap (λ o. state_after_all g (state_after_line g x o) (messages j.0)) (sym is))
         (subst (λ o. AnswersFirst g (state_after_line g x o) j.0 ls written) (sym is)
         (on (next_state g x m) (n + 1) j.0 j.2 (serial_on g x n m log j.0 serial_here) rest)))
         (λ (j : AllByRecursion (λ e. are_related_entries g (n, m) e ≡ false) es × HasNoGap g es (ticketed (n + 1) (admitted g ls))).
@@ -293,21 +293,21 @@ module _ (g : Geometry) (log : List Replied) where
         (serial_all n m its.0 its.1)) h
 
   answers_first : (x : State) (n : ℕ) (ls written : List (List ℕ)) (es : List Entry) → HasNoGap g es (ticketed n (admitted g ls))
-      → HaveSerialReplies g x n log es → AreInLog g log n ls written → AnswersFirst g x es ls written
+      → HaveSerialReplies g x n log es → AreInHistory g log n ls written → AnswersFirst g x es ls written
   answers_first x n ls [] es h serial_all k = none_answered x n ls es h
   answers_first x n [] (w ∷ written) es h serial_all k = absurd k
   answers_first x n (line ∷ ls) (w ∷ written) es h serial_all k =
       let on = λ (y : State) (i : ℕ) (fs : List Entry) (h : HasNoGap g fs (ticketed i (admitted g ls))) (t : HaveSerialReplies g y i log fs)
-      (k : AreInLog g log i ls written). answers_first y i ls written fs h t k in
+      (k : AreInHistory g log i ls written). answers_first y i ls written fs h t k in
       let o = message_of line in
       ⊎_elim
       (λ (none : admitted_in g o ≡ []).
       answers_none x n line ls w written es on none (subst (λ ms. HasNoGap g es (ticketed n (ms ++ admitted g ls))) none h) serial_all k.0
-      (subst (λ ms. AreInLog g log (next_ticket n ms) ls written) none k.1))
+      (subst (λ ms. AreInHistory g log (next_ticket n ms) ls written) none k.1))
       (λ (j : (m : Msg) × (o ≡ Some m) × (admitted_in g o ≡ m ∷ [])).
       answers_one x n line ls w written es on j.0 j.1 (ranges_too g j.0 (ap (admitted_in g) (sym j.1) ∙ j.2))
       (subst (λ ms. HasNoGap g es (ticketed n (ms ++ admitted g ls))) j.2 h) serial_all
-      (subst (λ o. IsInLog g log n o w) j.1 k.0) (subst (λ ms. AreInLog g log (next_ticket n ms) ls written) j.2 k.1))
+      (subst (λ o. IsInHistory g log n o w) j.1 k.0) (subst (λ ms. AreInHistory g log (next_ticket n ms) ls written) j.2 k.1))
       (takes_one g o)
 
 -- ---- what a log leads to
@@ -330,13 +330,13 @@ longer g part (line ∷ ls) rest h = ⊎_elim
     inr (k.0, longer g part ls rest k.1)) h
 
 -- Where the first lines of an input were consumed, and a log has what was written for the first of these, it leads where a restart may go on.
-recovers_to : {g : Geometry} {x : State} {input : List ℕ} {log : List Replied} {bytes : List ℕ} (n : ℕ) (taken written : List (List ℕ))
-    → AreFirst (Some input) taken → AreInLog g log n taken written → (h : HoldsLog g x (ticketed n (admitted g taken)) log bytes)
-    → RecoversTo g x (fold g x (loggable (log ++ h.more))) input (joined written)
-recovers_to {g} {x} {log} n taken written first kept h =
+recovers_to : {g : Geometry} {x : State} {input : List ℕ} {log : List Replied} {bytes : List ℕ} (n : ℕ) (consumed written : List (List ℕ))
+    → AreFirst (Some input) consumed → AreInHistory g log n consumed written → (h : RecoversToHistory g x (ticketed n (admitted g consumed)) log bytes)
+    → RecoversTo g x (state_after_all g x (recorded (log ++ h.more))) input (joined written)
+recovers_to {g} {x} {log} n consumed written first kept h =
     let whole = log ++ h.more in
-    let sorted = sorted_log g x (ticketed n (admitted g taken)) whole (ascending n (admitted g taken)) h.serial in
-    let a = answers_first g log x n taken written (by_ticket (entries whole)) sorted.no_gap
+    let sorted = sorted_log g x (ticketed n (admitted g consumed)) whole (ascending n (admitted g consumed)) h.serial in
+    let a = answers_first g log x n consumed written (by_ticket (entries whole)) sorted.no_gap
     (λ t m reply is. inr (sorted.tells (t, reply) (said_so whole t m reply (in_left (t, m, reply) log h.more is)))) kept in
     record {
       acknowledged = a.first;
@@ -350,18 +350,18 @@ recovers_to {g} {x} {log} n taken written first kept h =
 
 -- So it is where these bytes hold what was written.
 pub bytes_recover : {g : Geometry} {x : State} {input before written : Option (List ℕ)} {log : List Replied} {bytes : List ℕ} (n : ℕ)
-    (taken answers : List (List ℕ)) → AreFirst input taken → Appends before written (joined answers) → AreInLog g log n taken answers
-    → HoldsLog g x (ticketed n (admitted g taken)) log bytes → BytesRecover g x input before written bytes
-bytes_recover {g} {x} {input} {before} {written} {log} n taken answers first output kept h = record {
-  now = fold g x (loggable (log ++ h.more));
+    (consumed answers : List (List ℕ)) → AreFirst input consumed → Appends before written (joined answers) → AreInHistory g log n consumed answers
+    → RecoversToHistory g x (ticketed n (admitted g consumed)) log bytes → BytesRecover g x input before written bytes
+bytes_recover {g} {x} {input} {before} {written} {log} n consumed answers first output kept h = record {
+  now = state_after_all g x (recorded (log ++ h.more));
   holds_now = h.recovers;
   recovers = so input first;
 }
   where
-    so : (input : Option (List ℕ)) → AreFirst input taken
-        → WritesOutput input before written (RecoversTo g x (fold g x (loggable (log ++ h.more))))
+    so : (input : Option (List ℕ)) → AreFirst input consumed
+        → WritesOutput input before written (RecoversTo g x (state_after_all g x (recorded (log ++ h.more))))
     so None first = tt
-    so (Some all) first = (joined answers, output, recovers_to n taken answers first kept h)
+    so (Some all) first = (joined answers, output, recovers_to n consumed answers first kept h)
 
 -- where nothing was written, nothing of the input need be there
 pub none_written : (g : Geometry) (x : State) (input : List ℕ) → RecoversTo g x x input []

@@ -3,7 +3,7 @@ use Rattle.std.proofs.Common.{◌≡◌, ℕ, ◌<◌, zero, suc, true, false, L
 use Rattle.std.specs.Prelude.{option_map, slice_get, get_or}
 use Rattle.std.proofs.lemmas.Option.{slice_get-get_or, slice_get-map}
 use Rattle.std.proofs.lemmas.List.{get_or-set_same, length-map}
-use Rattle.legal_runs.specs.Events.{give_back, out_with}
+use Rattle.legal_runs.specs.Events.{give_back, find_in_flight}
 use Rattle.legal_runs.specs.CoreState.{Entry}
 use Rattle.legal_runs.specs.declared.outcomes.Outcome.TheVariants as outcomes
 use Rattle.legal_runs.specs.declared.outcomes.Step.TheVariants as steps
@@ -16,7 +16,7 @@ use Rattle.parcel.specs.Run.{JobView, IsJobRun}
 use Rattle.parcel.specs.declared.job.Done.{Done}
 use Rattle.scheduler.specs.Jobs.{IsResultOf}
 use Rattle.scheduler.specs.CoreView.{CoreView, RecoversNow, core_state_of}
-use Rattle.serving.specs.Runs.{Holds, IsInternal, RunsBetween, lent_hand, with_lent}
+use Rattle.serving.specs.Runs.{HandsHaveJobs, IsInternal, RunsBetween, lent_hand, machine_with_jobs}
 use Rattle.serving.proofs.Chain.{passes_on}
 use Rattle.serving.proofs.Segments.{step_passes}
 use Rattle.workers.specs.Rule.{lent_at}
@@ -47,7 +47,7 @@ set-length (y ∷ xs) (suc k) x = ap suc (set-length xs k x)
 -- ---- a result
 
 module _ (keeps : Type 0) (core : CoreView) (lent : List (Option JobView)) (none : core.failed ≡ false → core.doubt ≡ [])
-    (recovers : keeps → RecoversNow core) (h : Holds (with_lent core lent)) (k : ℕ) (within : k < length lent) (job : JobView) (done : Done)
+    (recovers : keeps → RecoversNow core) (h : HandsHaveJobs (machine_with_jobs core lent)) (k : ℕ) (within : k < length lent) (job : JobView) (done : Done)
     (is : lent_at lent k ≡ Some job) (run : IsJobRun job done) where
   abbrev hands : List Holding
   hands = map lent_hand lent
@@ -59,7 +59,7 @@ module _ (keeps : Type 0) (core : CoreView) (lent : List (Option JobView)) (none
   job_there = slice_get-map lent_hand lent k ∙ ap (option_map lent_hand) (read_at lent k None (Some job) within is)
 
   moved : IsMachineStep keeps (record { core = core; hands = hands }) (record { core = core; hands = ran }) (steps.Run k) outcomes.Ran
-      × Holds (record { core = core; hands = ran })
+      × HandsHaveJobs (record { core = core; hands = ran })
   moved = a_job keeps core hands none recovers h k (has.Job job) (has.Result done) true job_there (refl, (done, refl, run)) refl
 
   result_there : slice_get ran k ≡ Some (has.Result done)
@@ -73,7 +73,7 @@ module _ (keeps : Type 0) (core : CoreView) (lent : List (Option JobView)) (none
   came_back = was_result keeps core ran none recovers moved.1 k done result_there
 
   module _ (new : CoreView) (geometry : new.geometry ≡ core.geometry) (same : new.medium ≡ core.medium) (found : Entry × List Entry)
-      (one_out : out_with (core_state_of core) done.ticket ≡ Some found) (reply_pairs : found.0 ≡ (done.ticket, done.message))
+      (one_out : find_in_flight (core_state_of core) done.ticket ≡ Some found) (reply_pairs : found.0 ≡ (done.ticket, done.message))
       (state_after : core_state_of new ≡ give_back core.geometry (core_state_of core) found) where
     abbrev at : List Holding → CoreView → MachineView
     at l c = record { core = c; hands = l }
@@ -81,12 +81,12 @@ module _ (keeps : Type 0) (core : CoreView) (lent : List (Option JobView)) (none
     emptied : set ran k has.Empty ≡ map lent_hand (set lent k None)
     emptied = set-twice hands k (has.Result done) has.Empty ∙ sym (hands-set lent k None)
 
-    passes : RunsBetween keeps (at hands core) (at (set ran k has.Empty) new) [] []
-    passes = passes_on (step_passes moved.0)
+    segment : RunsBetween keeps (at hands core) (at (set ran k has.Empty) new) [] []
+    segment = passes_on (step_passes moved.0)
         (step_passes (back_step keeps core ran none recovers moved.1 k done result_there new geometry same found one_out reply_pairs state_after))
 
-    pub gives_back : IsInternal keeps (with_lent core lent) (with_lent new (set lent k None))
+    pub gives_back : IsInternal keeps (machine_with_jobs core lent) (machine_with_jobs new (set lent k None))
     gives_back = subst (λ (l : List Holding). IsInternal keeps (at hands core) (at l new)) emptied (record {
       holds = back_holds keeps core ran none recovers moved.1 k done result_there new geometry same found one_out reply_pairs state_after;
-      passes = passes;
+      segment = segment;
     })

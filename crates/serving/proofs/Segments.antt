@@ -4,8 +4,8 @@ use Rattle.std.specs.Prelude.{OnErr, drop, length, if◌then◌else◌}
 use Rattle.affinity.specs.declared.geometry.Geometry.{Geometry}
 use Rattle.legal_runs.proofs.Failures.{failure_lasts}
 use Rattle.legal_runs.specs.Events.{Event, MachineState, batch}
-use Rattle.legal_runs.specs.Laws.{moves_what_is_out}
-use Rattle.legal_runs.specs.Runs.{IsLegal, answers, arrives, last}
+use Rattle.legal_runs.specs.Laws.{dispatches_or_returns}
+use Rattle.legal_runs.specs.Runs.{IsLegal, answers, arrives, end_state}
 use Rattle.legal_runs.specs.CoreState.{Entry, CoreState}
 use Rattle.legal_runs.specs.declared.outcomes.CoreFault.{CoreFault}
 use Rattle.legal_runs.specs.declared.outcomes.CoreFault.TheVariants as faults
@@ -19,11 +19,11 @@ use Rattle.runs.specs.Machine.{MachineView, machine_of}
 use Rattle.runs.specs.Steps.{IsCoreStep, IsMachineStep}
 use Rattle.runs.specs.declared.hands.Holding.{Holding}
 use Rattle.messages.specs.declared.Reply.{Reply}
-use Rattle.scheduler.specs.Calls.{CountsFailure, IsCalled, IsLogStep, log_device_failed, log_outcome, point_device_failed, step_outcome}
+use Rattle.scheduler.specs.Calls.{CountsFailure, IsCallEvent, IsLogStep, log_device_failed, log_outcome, checkpoint_device_failed, step_outcome}
 use Rattle.scheduler.specs.CoreView.{CoreView, RecoversThroughout, core_state_of}
 use Rattle.serving.specs.Lines.{Line, admitted, ticketed}
 use Rattle.serving.specs.Progress.{ServingProgress}
-use Rattle.serving.specs.Runs.{Holds, IsInternal, RunsBetween}
+use Rattle.serving.specs.Runs.{HandsHaveJobs, IsInternal, RunsBetween}
 use Rattle.serving.proofs.Chain.{passes_on}
 
 counted : (b : Bool) (old new : ℕ) → CountsFailure b old new → new ≡ old + (0 + (if b then 1 else 0))
@@ -37,11 +37,11 @@ module _ {keeps : Type 0} {old new : MachineView} {step : Step} {outcome : Outco
   -- A step is a segment of a run.
   pub step_passes : RunsBetween keeps old new (arrives step outcome) (answers outcome)
   step_passes = record {
-    stages = record { event = event; medium = new.core.medium } ∷ [];
+    device_events = record { event = event; medium = new.core.medium } ∷ [];
     legal = (k.allowed, tt);
     ends = refl;
     geometry = k.geometry;
-    come_are = append-nil (arrives step outcome);
+    arrived_are = append-nil (arrives step outcome);
     reply_pairs_are = append-nil (answers outcome);
     device = refl;
     failures = counted k.device_failed old.core.medium.faults new.core.medium.faults k.failures;
@@ -53,17 +53,17 @@ pub quiet_goes_on : {keeps : Type 0} {start old new : MachineView} {unsent : Lis
     {before written : Option (List ℕ)} → RunsBetween keeps old new [] [] → ServingProgress keeps start old unsent input unread ended before written
     → ServingProgress keeps start new unsent input unread ended before written
 quiet_goes_on {keeps} {start} {new} p h =
-    let come = ticketed start.core.next (admitted start.core.geometry h.taken) in
+    let arriving = ticketed start.core.next (admitted start.core.geometry h.consumed) in
     let s = h.serving in
     record {
-      taken = h.taken;
+      consumed = h.consumed;
       sent_lines = h.sent_lines;
       takes = h.takes;
       serving = record {
         reply_pairs = s.reply_pairs;
-        passes = subst (λ (es : List Entry). RunsBetween keeps start new es s.reply_pairs) (append-nil come)
-            (subst (λ (l : List (ℕ × Reply)). RunsBetween keeps start new (come ++ []) l) (append-nil s.reply_pairs)
-            (passes_on s.passes p));
+        segment = subst (λ (es : List Entry). RunsBetween keeps start new es s.reply_pairs) (append-nil arriving)
+            (subst (λ (l : List (ℕ × Reply)). RunsBetween keeps start new (arriving ++ []) l) (append-nil s.reply_pairs)
+            (passes_on s.segment p));
         known = s.known;
         answered = s.answered;
       };
@@ -72,25 +72,25 @@ quiet_goes_on {keeps} {start} {new} p h =
 
 -- A failed device stays failed.
 run_fails : (g : Geometry) (old : MachineState) (events : List Event) → IsLegal g old events → old.core.failed ≡ true
-    → (last old events).core.failed ≡ true
+    → (end_state old events).core.failed ≡ true
 run_fails g old [] legal failed = failed
 run_fails g old (event ∷ events) legal failed = run_fails g event.state_after events legal.1 (failure_lasts g old event legal.0 failed).failed
 
-pub still_failed : {keeps : Type 0} {old new : MachineView} {come : List Entry} {reply_pairs : List (ℕ × Reply)} → RunsBetween keeps old new come reply_pairs
+pub still_failed : {keeps : Type 0} {old new : MachineView} {arriving : List Entry} {reply_pairs : List (ℕ × Reply)} → RunsBetween keeps old new arriving reply_pairs
     → old.core.failed ≡ true → new.core.failed ≡ true
 still_failed {old} p failed =
     ap (λ (w : MachineState). w.core.failed) (sym p.ends) ∙ run_fails old.core.geometry (machine_of old) _ p.legal failed
 
 -- A step of the core alone, in which nothing arrives or is answered, and nothing is dispatched or collected.
 pub core_is_quiet : {keeps : Type 0} {old new : CoreView} {hands : List Holding} (step : Step) (outcome : Outcome) → IsCoreStep keeps old new step outcome
-    → moves_what_is_out step ≡ false → arrives step outcome ≡ [] → answers outcome ≡ [] → Holds (record { core = old; hands = hands })
+    → dispatches_or_returns step ≡ false → arrives step outcome ≡ [] → answers outcome ≡ [] → HandsHaveJobs (record { core = old; hands = hands })
     → IsInternal keeps (record { core = old; hands = hands }) (record { core = new; hands = hands })
 core_is_quiet {keeps} {old} {new} {hands} step outcome k still none_come none_told h =
     let was : MachineView = record { core = old; hands = hands } in
     let now : MachineView = record { core = new; hands = hands } in
     record {
       holds = core_holds keeps old new hands step outcome h k still;
-      passes = subst (λ (es : List Entry). RunsBetween keeps was now es []) none_come
+      segment = subst (λ (es : List Entry). RunsBetween keeps was now es []) none_come
           (subst (λ (l : List (ℕ × Reply)). RunsBetween keeps was now (arrives step outcome) l) none_told
           (step_passes (core_step keeps old new hands step outcome h k)));
     }
@@ -129,8 +129,8 @@ no_answer_of_point made none (Err why) = refl
 
 module _ (keeps : Type 0) (old new : CoreView) (geometry : new.geometry ≡ old.geometry) where
   abbrev IsStepOf : Step → Outcome → Bool → Type 0
-  IsStepOf step outcome device_failed = IsCalled old.geometry (core_state_of old) (core_state_of new) step outcome device_failed → CountsFailure device_failed old.medium.faults new.medium.faults
-      → (hands : List Holding) → Holds (record { core = old; hands = hands })
+  IsStepOf step outcome device_failed = IsCallEvent old.geometry (core_state_of old) (core_state_of new) step outcome device_failed → CountsFailure device_failed old.medium.faults new.medium.faults
+      → (hands : List Holding) → HandsHaveJobs (record { core = old; hands = hands })
       → IsInternal keeps (record { core = old; hands = hands }) (record { core = new; hands = hands })
 
   pub log_is_quiet : (n : ℕ) (r : Result ℕ CoreFault) → (keeps → RecoversThroughout (batch (core_state_of old) n) old new)
@@ -139,22 +139,22 @@ module _ (keeps : Type 0) (old new : CoreView) (geometry : new.geometry ≡ old.
       (record { device_failed = log_device_failed r; called = called; geometry = geometry; failures = counts; any_moment = moments }) refl refl (no_answer_of_log r) h
 
   module _ (moments : keeps → RecoversThroughout [] old new) where
-    pub point_is_quiet : (r : Result (Unit {0}) PointRefusal) → IsStepOf steps.Point (step_outcome (λ _. outcomes.Pointed) r) (point_device_failed r)
+    pub point_is_quiet : (r : Result (Unit {0}) PointRefusal) → IsStepOf steps.Point (step_outcome (λ _. outcomes.Pointed) r) (checkpoint_device_failed r)
     point_is_quiet r called counts hands h = core_is_quiet steps.Point (step_outcome (λ _. outcomes.Pointed) r)
-        (record { device_failed = point_device_failed r; called = called; geometry = geometry; failures = counts; any_moment = moments }) refl refl
+        (record { device_failed = checkpoint_device_failed r; called = called; geometry = geometry; failures = counts; any_moment = moments }) refl refl
         (no_answer_of_point (λ _. outcomes.Pointed) (λ _. refl) r) h
 
-    pub cut_is_quiet : (r : Result (Unit {0}) PointRefusal) → IsStepOf steps.Cut (step_outcome (λ _. outcomes.Cut) r) (point_device_failed r)
+    pub cut_is_quiet : (r : Result (Unit {0}) PointRefusal) → IsStepOf steps.Cut (step_outcome (λ _. outcomes.Cut) r) (checkpoint_device_failed r)
     cut_is_quiet r called counts hands h = core_is_quiet steps.Cut (step_outcome (λ _. outcomes.Cut) r)
-        (record { device_failed = point_device_failed r; called = called; geometry = geometry; failures = counts; any_moment = moments }) refl refl
+        (record { device_failed = checkpoint_device_failed r; called = called; geometry = geometry; failures = counts; any_moment = moments }) refl refl
         (no_answer_of_point (λ _. outcomes.Cut) (λ _. refl) r) h
 
-    pub piece_is_quiet : (r : Result ℕ PointRefusal) → IsStepOf steps.Piece (step_outcome outcomes.Left r) (point_device_failed r)
+    pub piece_is_quiet : (r : Result ℕ PointRefusal) → IsStepOf steps.Piece (step_outcome outcomes.Left r) (checkpoint_device_failed r)
     piece_is_quiet r called counts hands h = core_is_quiet steps.Piece (step_outcome outcomes.Left r)
-        (record { device_failed = point_device_failed r; called = called; geometry = geometry; failures = counts; any_moment = moments }) refl refl
+        (record { device_failed = checkpoint_device_failed r; called = called; geometry = geometry; failures = counts; any_moment = moments }) refl refl
         (no_answer_of_point outcomes.Left (λ _. refl) r) h
 
-    pub flip_is_quiet : (r : Result (Unit {0}) PointRefusal) → IsStepOf steps.Flip (step_outcome (λ _. outcomes.Flipped) r) (point_device_failed r)
+    pub flip_is_quiet : (r : Result (Unit {0}) PointRefusal) → IsStepOf steps.Flip (step_outcome (λ _. outcomes.Flipped) r) (checkpoint_device_failed r)
     flip_is_quiet r called counts hands h = core_is_quiet steps.Flip (step_outcome (λ _. outcomes.Flipped) r)
-        (record { device_failed = point_device_failed r; called = called; geometry = geometry; failures = counts; any_moment = moments }) refl refl
+        (record { device_failed = checkpoint_device_failed r; called = called; geometry = geometry; failures = counts; any_moment = moments }) refl refl
         (no_answer_of_point (λ _. outcomes.Flipped) (λ _. refl) r) h

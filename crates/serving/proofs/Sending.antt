@@ -23,8 +23,8 @@ use Rattle.scheduler.specs.Calls.{IsGrantOf, IsGranted, IsNoGrant}
 use Rattle.scheduler.specs.CoreView.{CoreView, RecoversNow, core_state_of}
 use Rattle.scheduler.specs.declared.granted.Granted.{Granted}
 use Rattle.scheduler.specs.declared.granted.Granted.TheVariants as granted
-use Rattle.serving.specs.Lending.{DispatchesTo, Lends}
-use Rattle.serving.specs.Runs.{Holds, IsInternal, RunsBetween, lent_hand, with_lent}
+use Rattle.serving.specs.Lending.{DispatchesTo, OffersGranted}
+use Rattle.serving.specs.Runs.{HandsHaveJobs, IsInternal, RunsBetween, lent_hand, machine_with_jobs}
 use Rattle.serving.specs.declared.dispatch.Dispatched.{Dispatched}
 use Rattle.serving.proofs.Returning.{hands-set, set-length}
 use Rattle.serving.proofs.Segments.{step_passes}
@@ -64,7 +64,7 @@ offered o P Q none h = subst (λ (o : Option JobView). MatchOption o P Q) none h
 
 module _ (keeps : Type 0) (old new : CoreView) (lent : List (Option JobView)) (none : old.failed ≡ false → old.doubt ≡ [])
     (recovers : keeps → RecoversNow old) (geometry : new.geometry ≡ old.geometry) (same : new.medium ≡ old.medium)
-    (h : Holds (with_lent old lent)) (k : ℕ) (first : position is_none lent ≡ Some k) where
+    (h : HandsHaveJobs (machine_with_jobs old lent)) (k : ℕ) (first : position is_none lent ≡ Some k) where
   abbrev hands : List Holding
   hands = map lent_hand lent
 
@@ -72,53 +72,53 @@ module _ (keeps : Type 0) (old new : CoreView) (lent : List (Option JobView)) (n
   least = first_place lent ∙ first
 
   -- a step that answers nothing
-  quiet : (after : List Holding) (outcome : Outcome) → answers outcome ≡ [] → Holds (record { core = new; hands = after })
+  quiet : (after : List Holding) (outcome : Outcome) → answers outcome ≡ [] → HandsHaveJobs (record { core = new; hands = after })
       → IsMachineStep keeps (record { core = old; hands = hands }) (record { core = new; hands = after }) steps.Grant outcome
-      → IsInternal keeps (with_lent old lent) (record { core = new; hands = after })
+      → IsInternal keeps (machine_with_jobs old lent) (record { core = new; hands = after })
   quiet after outcome none_told holds step =
       let was : MachineView = record { core = old; hands = hands } in
       let now : MachineView = record { core = new; hands = after } in
       record {
         holds = holds;
-        passes = subst (λ (l : List (ℕ × Reply)). RunsBetween keeps was now [] l) none_told (step_passes step);
+        segment = subst (λ (l : List (ℕ × Reply)). RunsBetween keeps was now [] l) none_told (step_passes step);
       }
 
   goes_out : (job : JobView) → IsGrantOf old.geometry (core_state_of old) (core_state_of new) job
-      → IsInternal keeps (with_lent old lent) (with_lent new (set lent k (Some job)))
-  goes_out job g = subst (λ (l : List Holding). IsInternal keeps (with_lent old lent) (record { core = new; hands = l })) (sym (hands-set lent k (Some job)))
+      → IsInternal keeps (machine_with_jobs old lent) (machine_with_jobs new (set lent k (Some job)))
+  goes_out job g = subst (λ (l : List Holding). IsInternal keeps (machine_with_jobs old lent) (record { core = new; hands = l })) (sym (hands-set lent k (Some job)))
       (quiet (set hands k (has.Job job)) (outcomes.Granted k job.ticket) refl
       (grant_holds keeps old new hands none recovers geometry same k least job g h (position_within hands k least))
       (grant_step keeps old new hands none recovers geometry same k least job g))
 
   none_goes : (why : Outcome) → answers why ≡ [] → IsNoGrant old.geometry (core_state_of old) (core_state_of new) why
-      → IsInternal keeps (with_lent old lent) (with_lent new lent)
+      → IsInternal keeps (machine_with_jobs old lent) (machine_with_jobs new lent)
   none_goes why none_told g = quiet hands why none_told (still_holds keeps old new hands none recovers geometry same h g.same)
       (no_grant_step keeps old new hands none recovers geometry same k why least g)
 
-  none_goes_any_more : old.failed ≡ true → core_state_of new ≡ core_state_of old → IsInternal keeps (with_lent old lent) (with_lent new lent)
+  none_goes_any_more : old.failed ≡ true → core_state_of new ≡ core_state_of old → IsInternal keeps (machine_with_jobs old lent) (machine_with_jobs new lent)
   none_goes_any_more failed still = quiet hands outcomes.Failed refl (still_holds keeps old new hands none recovers geometry same h still)
       (failed_step keeps old new hands none recovers geometry same k least failed still)
 
   -- Whatever was granted, and lent if it is a job.
   pub sends : (r : Granted) (after : List (Option JobView)) (what : Dispatched) → IsGranted old.geometry (core_state_of old) (core_state_of new) r
-      → Lends k lent r after what → IsInternal keeps (with_lent old lent) (with_lent new after)
-  sends (granted.Job job) after what g l = subst (λ (x : List (Option JobView)). IsInternal keeps (with_lent old lent) (with_lent new x)) (sym l.1) (goes_out job g)
+      → OffersGranted k lent r after what → IsInternal keeps (machine_with_jobs old lent) (machine_with_jobs new after)
+  sends (granted.Job job) after what g l = subst (λ (x : List (Option JobView)). IsInternal keeps (machine_with_jobs old lent) (machine_with_jobs new x)) (sym l.1) (goes_out job g)
   sends granted.NoneEligible after what g l =
-      subst (λ (x : List (Option JobView)). IsInternal keeps (with_lent old lent) (with_lent new x)) (sym l.1) (none_goes outcomes.NoneEligible refl g)
+      subst (λ (x : List (Option JobView)). IsInternal keeps (machine_with_jobs old lent) (machine_with_jobs new x)) (sym l.1) (none_goes outcomes.NoneEligible refl g)
   sends granted.NoRoom after what g l =
-      subst (λ (x : List (Option JobView)). IsInternal keeps (with_lent old lent) (with_lent new x)) (sym l.1) (none_goes outcomes.NoRoom refl g)
+      subst (λ (x : List (Option JobView)). IsInternal keeps (machine_with_jobs old lent) (machine_with_jobs new x)) (sym l.1) (none_goes outcomes.NoRoom refl g)
   sends granted.Failed after what g l =
-      subst (λ (x : List (Option JobView)). IsInternal keeps (with_lent old lent) (with_lent new x)) (sym l.1) (none_goes_any_more g.0 g.1)
+      subst (λ (x : List (Option JobView)). IsInternal keeps (machine_with_jobs old lent) (machine_with_jobs new x)) (sym l.1) (none_goes_any_more g.0 g.1)
 
 -- what is lent then, and what is reported of it
 module _ (k : ℕ) (lent after : List (Option JobView)) (what : Dispatched) where
-  pub as_many : (r : Granted) → Lends k lent r after what → length after ≡ length lent
+  pub as_many : (r : Granted) → OffersGranted k lent r after what → length after ≡ length lent
   as_many (granted.Job job) l = ap (λ (x : List (Option JobView)). length x) l.1 ∙ set-length lent k (Some job)
   as_many granted.NoneEligible l = ap (λ (x : List (Option JobView)). length x) l.1
   as_many granted.NoRoom l = ap (λ (x : List (Option JobView)). length x) l.1
   as_many granted.Failed l = ap (λ (x : List (Option JobView)). length x) l.1
 
-  pub goes_to : (g : Geometry) (old new : CoreState) (r : Granted) → IsGranted g old new r → Lends k lent r after what → DispatchesTo g k old lent new after what
+  pub goes_to : (g : Geometry) (old new : CoreState) (r : Granted) → IsGranted g old new r → OffersGranted k lent r after what → DispatchesTo g k old lent new after what
   goes_to g old new (granted.Job job) is l = subst (DispatchesTo g k old lent new after) (sym l.0) (job, is, l.1)
   goes_to g old new granted.NoneEligible is l = subst (DispatchesTo g k old lent new after) (sym l.0) (is, l.1)
   goes_to g old new granted.NoRoom is l = subst (DispatchesTo g k old lent new after) (sym l.0) (is, l.1)

@@ -18,9 +18,9 @@ use Rattle.messages.specs.declared.Reply.TheVariants.{Refused}
 use Rattle.meaning.proofs.OutputLemmas.{take-output_lines}
 use Rattle.meaning.specs.Order.{messages, serial_replies}
 use Rattle.meaning.specs.Output.{answer_line, output_lines, state_after_line, state_after_lines}
-use Rattle.meaning.specs.Serial.{accepted_reply, effect, fold, next_state, outcome, passes, refusal, reply_to, step, tests}
+use Rattle.meaning.specs.Serial.{accepted_reply, effect, state_after_all, next_state, reply_and_state, passes, refusal, reply_to, step, checks}
 use Rattle.meaning.specs.State.{State}
-use Rattle.serving.specs.Lines.{Completed, AreKnown, IsKnown, Line, NoMessage, OutOfRange, Pending, admitted, admitted_in, is_completed, next_ticket, text, ticketed}
+use Rattle.serving.specs.Lines.{Completed, AreKnown, IsKnown, Line, NoMessage, OutOfRange, Pending, admitted, admitted_in, has_answer, next_ticket, answer_text, ticketed}
 
 -- ---- a message that is out of range
 
@@ -29,23 +29,23 @@ module _ (g : Geometry) (x : State) where
   fails_first m rest h = ap (λ (b : Bool). if not b then Some Range else find (λ test. not (passes g x m test)) rest) h
 
   refused : (m : Msg) → is_in_range g m ≡ false → refusal g x m ≡ Some Range
-  refused (MakeVol a v) h = fails_first (MakeVol a v) (drop 1 (tests (MakeVol a v))) h
-  refused (DropVol a v) h = fails_first (DropVol a v) (drop 1 (tests (DropVol a v))) h
-  refused (Create a v f) h = fails_first (Create a v f) (drop 1 (tests (Create a v f))) h
-  refused (Delete a v f) h = fails_first (Delete a v f) (drop 1 (tests (Delete a v f))) h
-  refused (Seal a v) h = fails_first (Seal a v) (drop 1 (tests (Seal a v))) h
-  refused (Unseal a v) h = fails_first (Unseal a v) (drop 1 (tests (Unseal a v))) h
-  refused (Write a v f b content) h = fails_first (Write a v f b content) (drop 1 (tests (Write a v f b content))) h
-  refused (Punch a v f b) h = fails_first (Punch a v f b) (drop 1 (tests (Punch a v f b))) h
-  refused (Read a v f b) h = fails_first (Read a v f b) (drop 1 (tests (Read a v f b))) h
-  refused (ListFiles a v) h = fails_first (ListFiles a v) (drop 1 (tests (ListFiles a v))) h
-  refused (AskUsage a v) h = fails_first (AskUsage a v) (drop 1 (tests (AskUsage a v))) h
+  refused (MakeVol a v) h = fails_first (MakeVol a v) (drop 1 (checks (MakeVol a v))) h
+  refused (DropVol a v) h = fails_first (DropVol a v) (drop 1 (checks (DropVol a v))) h
+  refused (Create a v f) h = fails_first (Create a v f) (drop 1 (checks (Create a v f))) h
+  refused (Delete a v f) h = fails_first (Delete a v f) (drop 1 (checks (Delete a v f))) h
+  refused (Seal a v) h = fails_first (Seal a v) (drop 1 (checks (Seal a v))) h
+  refused (Unseal a v) h = fails_first (Unseal a v) (drop 1 (checks (Unseal a v))) h
+  refused (Write a v f b content) h = fails_first (Write a v f b content) (drop 1 (checks (Write a v f b content))) h
+  refused (Punch a v f b) h = fails_first (Punch a v f b) (drop 1 (checks (Punch a v f b))) h
+  refused (Read a v f b) h = fails_first (Read a v f b) (drop 1 (checks (Read a v f b))) h
+  refused (ListFiles a v) h = fails_first (ListFiles a v) (drop 1 (checks (ListFiles a v))) h
+  refused (AskUsage a v) h = fails_first (AskUsage a v) (drop 1 (checks (AskUsage a v))) h
   refused AskSummary h = absurd (true≢false h)
-  refused (SetLabel a v bytes) h = fails_first (SetLabel a v bytes) (drop 1 (tests (SetLabel a v bytes))) h
-  refused (AskLabel a v) h = fails_first (AskLabel a v) (drop 1 (tests (AskLabel a v))) h
+  refused (SetLabel a v bytes) h = fails_first (SetLabel a v bytes) (drop 1 (checks (SetLabel a v bytes))) h
+  refused (AskLabel a v) h = fails_first (AskLabel a v) (drop 1 (checks (AskLabel a v))) h
 
   pub out_of_range : (m : Msg) → is_in_range g m ≡ false → step g x m ≡ (Refused Range, x)
-  out_of_range m h = ap (λ (why : Option Refusal). outcome why (accepted_reply g x m) (effect x m) x) (refused m h)
+  out_of_range m h = ap (λ (why : Option Refusal). reply_and_state why (accepted_reply g x m) (effect x m) x) (refused m h)
 
 -- ---- the tickets
 
@@ -53,22 +53,22 @@ pub messages-ticketed : (n : ℕ) (ms : List Msg) → messages (ticketed n ms) �
 messages-ticketed n [] = refl
 messages-ticketed n (m ∷ ms) = ap (λ l. m ∷ l) (messages-ticketed (n + 1) ms)
 
-told_later : (g : Geometry) (x : State) (n : ℕ) (ms : List Msg) (p : ℕ × Reply) → IsIn p (serial_replies g x (ticketed n ms)) → n ≤ p.0
-told_later g x n [] p is = absurd is
-told_later g x n (m ∷ ms) p is = ⊎_elim
+ticket_later : (g : Geometry) (x : State) (n : ℕ) (ms : List Msg) (p : ℕ × Reply) → IsIn p (serial_replies g x (ticketed n ms)) → n ≤ p.0
+ticket_later g x n [] p is = absurd is
+ticket_later g x n (m ∷ ms) p is = ⊎_elim
     (λ (e : p ≡ (n, reply_to g x m)). let same : p.0 ≡ n = ap (λ (q : ℕ × Reply). q.0) e in omega (arith, same))
-    (λ later. let from = told_later g (next_state g x m) (n + 1) ms p later in omega (arith, from)) is
+    (λ later. let from = ticket_later g (next_state g x m) (n + 1) ms p later in omega (arith, from)) is
 
 pub next_from : (n : ℕ) (ms : List Msg) → n ≤ next_ticket n ms
 next_from n [] = omega arith
 next_from n (m ∷ ms) = let from = next_from (n + 1) ms in omega (arith, from)
 
-pub told_earlier : (g : Geometry) (x : State) (n : ℕ) (ms : List Msg) (p : ℕ × Reply) → IsIn p (serial_replies g x (ticketed n ms)) → p.0 < next_ticket n ms
-told_earlier g x n [] p is = absurd is
-told_earlier g x n (m ∷ ms) p is = ⊎_elim
+pub ticket_earlier : (g : Geometry) (x : State) (n : ℕ) (ms : List Msg) (p : ℕ × Reply) → IsIn p (serial_replies g x (ticketed n ms)) → p.0 < next_ticket n ms
+ticket_earlier g x n [] p is = absurd is
+ticket_earlier g x n (m ∷ ms) p is = ⊎_elim
     (λ (e : p ≡ (n, reply_to g x m)).
     let same : p.0 ≡ n = ap (λ (q : ℕ × Reply). q.0) e in let from = next_from (n + 1) ms in omega (arith, same, from))
-    (λ later. told_earlier g (next_state g x m) (n + 1) ms p later) is
+    (λ later. ticket_earlier g (next_state g x m) (n + 1) ms p later) is
 
 pub admitted-append : (g : Geometry) (ls ms : List (List ℕ)) → admitted g (ls ++ ms) ≡ admitted g ls ++ admitted g ms
 admitted-append g [] ms = refl
@@ -84,7 +84,7 @@ module _ (g : Geometry) (replies : List (ℕ × Reply)) where
 
   -- A line that is completed is answered as the serial server answers it, and the replies after it go on.
   record IsServedBy (x : State) (n : ℕ) (ms : List Msg) (o : Option Msg) (known : Line) : Type 0 where
-    retires : text known ≡ answer_line g x o
+    retires : answer_text known ≡ answer_line g x o
     tells : HaveSerialReplies (state_after_line g x o) (next_ticket n (admitted_in g o)) ms
 
   in_range : (m : Msg) → is_in_range g m ≡ true → admitted_in g (Some m) ≡ m ∷ []
@@ -105,11 +105,11 @@ module _ (g : Geometry) (replies : List (ℕ × Reply)) where
   its_reply x n ms m reply h is = ⊎_elim
       (λ (lt : n < n). absurd (omega (arith, lt)))
       (λ here. ⊎_elim (λ (e : (n, reply) ≡ (n, reply_to g x m)). ap (λ (q : ℕ × Reply). q.1) e)
-      (λ later. let from : n + 1 ≤ n = told_later g (next_state g x m) (n + 1) ms (n, reply) later in absurd (omega (arith, from))) here)
+      (λ later. let from : n + 1 ≤ n = ticket_later g (next_state g x m) (n + 1) ms (n, reply) later in absurd (omega (arith, from))) here)
       (h (n, reply) is)
 
   served_line : (x : State) (n : ℕ) (ms : List Msg) (o : Option Msg) (known : Line) → HaveSerialReplies x n (admitted_in g o ++ ms)
-      → IsKnown g replies n o known → is_completed known ≡ true → IsServedBy x n ms o known
+      → IsKnown g replies n o known → has_answer known ≡ true → IsServedBy x n ms o known
   served_line x n ms None NoMessage h k done = record { retires = refl; tells = h }
   served_line x n ms None OutOfRange h k done = absurd k
   served_line x n ms None (Pending ticket) h k done = absurd k
@@ -136,8 +136,8 @@ module _ (g : Geometry) (replies : List (ℕ × Reply)) where
   -- The lines that are completed are the first lines of the serial server.
   module _ (more : List (List ℕ)) (unsent : List Line) where
     pub sent_lines_are_serial : (x : State) (n : ℕ) (ls : List (List ℕ)) (sent_lines : List Line) → HaveSerialReplies x n (admitted g ls)
-        → AreKnown g replies n ls (sent_lines ++ unsent) → AllByRecursion (λ line. is_completed line ≡ true) sent_lines
-        → map text sent_lines ≡ take (length sent_lines) (output_lines g x (ls ++ more))
+        → AreKnown g replies n ls (sent_lines ++ unsent) → AllByRecursion (λ line. has_answer line ≡ true) sent_lines
+        → map answer_text sent_lines ≡ take (length sent_lines) (output_lines g x (ls ++ more))
     sent_lines_are_serial x n ls [] h k done = refl
     sent_lines_are_serial x n [] (known ∷ sent_lines) h k done = absurd k
     sent_lines_are_serial x n (l ∷ ls) (known ∷ sent_lines) h k done =
@@ -153,10 +153,10 @@ module _ (g : Geometry) (replies : List (ℕ × Reply)) where
   as_many n (l ∷ ls) (known ∷ lines) k = ap suc (as_many (next_ticket n (admitted_in g (message_of l))) ls lines k.1)
 
   -- Where none is left, they are all.
-  pub all_said : (x : State) (n : ℕ) (ls : List (List ℕ)) (sent_lines : List Line) → HaveSerialReplies x n (admitted g ls)
-      → AreKnown g replies n ls (sent_lines ++ []) → AllByRecursion (λ line. is_completed line ≡ true) sent_lines
-      → map text sent_lines ≡ output_lines g x ls
-  all_said x n ls sent_lines h k done =
+  pub all_lines_answered : (x : State) (n : ℕ) (ls : List (List ℕ)) (sent_lines : List Line) → HaveSerialReplies x n (admitted g ls)
+      → AreKnown g replies n ls (sent_lines ++ []) → AllByRecursion (λ line. has_answer line ≡ true) sent_lines
+      → map answer_text sent_lines ≡ output_lines g x ls
+  all_lines_answered x n ls sent_lines h k done =
       sent_lines_are_serial [] [] x n ls sent_lines h k done
       ∙ (λ i. take (many i) (output_lines g x (ls ++ [])))
       ∙ take-output_lines g x ls []
@@ -166,14 +166,14 @@ module _ (g : Geometry) (replies : List (ℕ × Reply)) where
 
 -- ---- the state
 
-asked_leads : (g : Geometry) (x : State) (o : Option Msg) (ms : List Msg) → fold g x (admitted_in g o ++ ms) ≡ fold g (state_after_line g x o) ms
+asked_leads : (g : Geometry) (x : State) (o : Option Msg) (ms : List Msg) → state_after_all g x (admitted_in g o ++ ms) ≡ state_after_all g (state_after_line g x o) ms
 asked_leads g x None ms = refl
 asked_leads g x (Some m) ms = elim (is_in_range g m) as
-    (λ b. is_in_range g m ≡ b → fold g x ((if b then m ∷ [] else []) ++ ms) ≡ fold g (next_state g x m) ms) [
+    (λ b. is_in_range g m ≡ b → state_after_all g x ((if b then m ∷ [] else []) ++ ms) ≡ state_after_all g (next_state g x m) ms) [
       | true ↦ λ e. refl
-      | false ↦ λ e. ap (λ (q : Reply × State). fold g q.1 ms) (sym (out_of_range g x m e))
+      | false ↦ λ e. ap (λ (q : Reply × State). state_after_all g q.1 ms) (sym (out_of_range g x m e))
     ] refl
 
-pub asked_leads_there : (g : Geometry) (x : State) (ls : List (List ℕ)) → fold g x (admitted g ls) ≡ state_after_lines g x ls
+pub asked_leads_there : (g : Geometry) (x : State) (ls : List (List ℕ)) → state_after_all g x (admitted g ls) ≡ state_after_lines g x ls
 asked_leads_there g x [] = refl
 asked_leads_there g x (l ∷ ls) = asked_leads g x (message_of l) (admitted g ls) ∙ asked_leads_there g (state_after_line g x (message_of l)) ls

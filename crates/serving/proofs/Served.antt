@@ -21,19 +21,19 @@ use Rattle.messages.specs.declared.Reply.{Reply}
 use Rattle.meaning.specs.Order.{by_ticket, messages, serial_replies}
 use Rattle.meaning.specs.Output.{AnswersWholeLines, joined, output_lines, state_after_lines, with_newlines}
 use Rattle.meaning.specs.Progress.{AreTaken, TakesLines}
-use Rattle.meaning.specs.Serial.{fold}
+use Rattle.meaning.specs.Serial.{state_after_all}
 use Rattle.meaning.specs.State.{State}
 use Rattle.scheduler.specs.CoreView.{RecoversNow, core_state_of}
 use Rattle.serving.specs.Ends.{AreFirst, AreServed, EndsWith, HasServed, IsQuiesced, committed_in}
 use Rattle.serving.specs.Progress.{ServingProgress, IsServing}
 use Rattle.serving.specs.Session.{IsReadEnd}
-use Rattle.serving.specs.Lines.{AreKnown, Line, admitted, next_ticket, text, ticketed}
+use Rattle.serving.specs.Lines.{AreKnown, Line, admitted, next_ticket, answer_text, ticketed}
 use Rattle.runs.specs.Machine.{MachineView, machine_of}
-use Rattle.runs.specs.Stages.{events_of}
+use Rattle.runs.specs.DeviceEvents.{events_of}
 use Rattle.serving.specs.declared.server.ServeFault.TheVariants as faults
 use Rattle.serving.specs.declared.session.ReadEnd.TheVariants as ends_of_reading
 use Rattle.serving.proofs.Inside.{idle_again}
-use Rattle.serving.proofs.Serial.{HaveSerialReplies, all_said, asked_leads_there, messages-ticketed, next_from, sent_lines_are_serial, told_earlier}
+use Rattle.serving.proofs.Serial.{HaveSerialReplies, all_lines_answered, asked_leads_there, messages-ticketed, next_from, sent_lines_are_serial, ticket_earlier}
 
 module _ (keeps : Type 0) (start now : MachineView) (idle : IsIdle (core_state_of start.core)) where
   abbrev g : Geometry
@@ -47,39 +47,39 @@ module _ (keeps : Type 0) (start now : MachineView) (idle : IsIdle (core_state_o
 
   -- ---- of a run
 
-  module _ {taken : List (List ℕ)} {sent_lines unsent : List Line} (s : IsServing keeps start now taken sent_lines unsent) where
-    by_line : by_ticket (arrived (events_of s.passes.stages)) ≡ ticketed start.core.next (admitted g taken)
-    by_line = arrived_by_ticket g (machine_of start) (events_of s.passes.stages) s.passes.legal ∙ s.passes.come_are
+  module _ {consumed : List (List ℕ)} {sent_lines unsent : List Line} (s : IsServing keeps start now consumed sent_lines unsent) where
+    by_line : by_ticket (arrived (events_of s.segment.device_events)) ≡ ticketed start.core.next (admitted g consumed)
+    by_line = arrived_by_ticket g (machine_of start) (events_of s.segment.device_events) s.segment.legal ∙ s.segment.arrived_are
 
-    all_told : HaveSerialReplies g s.reply_pairs x start.core.next (admitted g taken)
-    all_told p is = inr (subst (λ (es : List Entry). IsIn p (serial_replies g x es)) by_line
-        (answered_by_ticket g (machine_of start) (events_of s.passes.stages) s.passes.legal sound idle p
-        (subst (IsIn p) (sym s.passes.reply_pairs_are) is)))
+    serial_pairs : HaveSerialReplies g s.reply_pairs x start.core.next (admitted g consumed)
+    serial_pairs p is = inr (subst (λ (es : List Entry). IsIn p (serial_replies g x es)) by_line
+        (answered_by_ticket g (machine_of start) (events_of s.segment.device_events) s.segment.legal sound idle p
+        (subst (IsIn p) (sym s.segment.reply_pairs_are) is)))
 
     -- Each that was answered has a ticket before the next.
-    pub told_before : (p : ℕ × Reply) → IsIn p s.reply_pairs → p.0 < next_ticket start.core.next (admitted g taken)
-    told_before p is = ⊎_elim
-        (λ (lt : p.0 < start.core.next). let from = next_from start.core.next (admitted g taken) in omega (arith, lt, from))
-        (λ here. told_earlier g x start.core.next (admitted g taken) p here)
-        (all_told p is)
+    pub ticket_before : (p : ℕ × Reply) → IsIn p s.reply_pairs → p.0 < next_ticket start.core.next (admitted g consumed)
+    ticket_before p is = ⊎_elim
+        (λ (lt : p.0 < start.core.next). let from = next_from start.core.next (admitted g consumed) in omega (arith, lt, from))
+        (λ here. ticket_earlier g x start.core.next (admitted g consumed) p here)
+        (serial_pairs p is)
 
-    leads : IsIdle (core_state_of now.core) → committed_in now.core ≡ state_after_lines g x taken
+    leads : IsIdle (core_state_of now.core) → committed_in now.core ≡ state_after_lines g x consumed
     leads ends =
-        let e = s.passes.ends in
+        let e = s.segment.ends in
         ap (λ (w : MachineState). w.core.committed) (sym e)
-        ∙ committed_by_ticket g (machine_of start) (events_of s.passes.stages) s.passes.legal sound idle (subst (λ (w : MachineState). IsIdle w.core) (sym e) ends)
-        ∙ ap (λ (es : List Entry). fold g x (messages es)) by_line
-        ∙ ap (fold g x) (messages-ticketed start.core.next (admitted g taken))
-        ∙ asked_leads_there g x taken
+        ∙ committed_by_ticket g (machine_of start) (events_of s.segment.device_events) s.segment.legal sound idle (subst (λ (w : MachineState). IsIdle w.core) (sym e) ends)
+        ∙ ap (λ (es : List Entry). state_after_all g x (messages es)) by_line
+        ∙ ap (state_after_all g x) (messages-ticketed start.core.next (admitted g consumed))
+        ∙ asked_leads_there g x consumed
 
-    begins : (more : List (List ℕ)) → map text sent_lines ≡ take (length sent_lines) (output_lines g x (taken ++ more))
-    begins more = sent_lines_are_serial g s.reply_pairs more unsent x start.core.next taken sent_lines all_told s.known s.answered
+    begins : (more : List (List ℕ)) → map answer_text sent_lines ≡ take (length sent_lines) (output_lines g x (consumed ++ more))
+    begins more = sent_lines_are_serial g s.reply_pairs more unsent x start.core.next consumed sent_lines serial_pairs s.known s.answered
 
   -- all that was consumed is answered
-  served : {taken : List (List ℕ)} {sent_lines : List Line} → IsServing keeps start now taken sent_lines [] → IsIdle (core_state_of now.core)
-      → AreServed g x (committed_in now.core) taken (joined (map text sent_lines))
-  served {taken} {sent_lines} s ends =
-      record { output = ap joined (all_said g s.reply_pairs x start.core.next taken sent_lines (all_told s) s.known s.answered); state = leads s ends }
+  served : {consumed : List (List ℕ)} {sent_lines : List Line} → IsServing keeps start now consumed sent_lines [] → IsIdle (core_state_of now.core)
+      → AreServed g x (committed_in now.core) consumed (joined (map answer_text sent_lines))
+  served {consumed} {sent_lines} s ends =
+      record { output = ap joined (all_lines_answered g s.reply_pairs x start.core.next consumed sent_lines (serial_pairs s) s.known s.answered); state = leads s ends }
 
   -- ---- the ends
 
@@ -91,14 +91,14 @@ module _ (keeps : Type 0) (start now : MachineView) (idle : IsIdle (core_state_o
       let ends = idle_again idle h in
       let rest = h.takes.0 in
       let none : rest ≡ [] = sym (same_Some bs rest h.takes.1) ∙ at_end in
-      let all : lines input ≡ h.taken = h.takes.2.to_come ∙ ap (λ l. h.taken ++ lines l) none ∙ append-nil h.taken in (
+      let all : lines input ≡ h.consumed = h.takes.2.to_come ∙ ap (λ l. h.consumed ++ lines l) none ∙ append-nil h.consumed in (
         ends,
         works,
         at_end,
         (
-          joined (map text h.sent_lines),
+          joined (map answer_text h.sent_lines),
           h.output,
-          subst (λ (ls : List (List ℕ)). AreServed g x (committed_in now.core) ls (joined (map text h.sent_lines))) (sym all) (served h.serving ends),
+          subst (λ (ls : List (List ℕ)). AreServed g x (committed_in now.core) ls (joined (map answer_text h.sent_lines))) (sym all) (served h.serving ends),
         ),
       )
 
@@ -108,14 +108,14 @@ module _ (keeps : Type 0) (start now : MachineView) (idle : IsIdle (core_state_o
   ends_at_read {input = Some input} {unread = None} remaining h works lost = absurd (none-some h.takes.0 h.takes.1)
   ends_at_read {input = Some input} {unread = Some bs} remaining h works lost =
       let ends = idle_again idle h in
-      let t : AreTaken input h.takes.0 false h.taken = h.takes.2 in
-      let parts : input ≡ with_newlines h.taken ++ lost.got ++ lost.rest =
+      let t : AreTaken input h.takes.0 false h.consumed = h.takes.2 in
+      let parts : input ≡ with_newlines h.consumed ++ lost.got ++ lost.rest =
       ⊎_elim (λ e. absurd (true≢false (sym e)))
-      (λ whole. whole ∙ ap (λ z. with_newlines h.taken ++ z) (sym (same_Some bs h.takes.0 h.takes.1) ∙ lost.parts)
-      ∙ sym (append_assoc (with_newlines h.taken) lost.got lost.rest)) t.whole in
+      (λ whole. whole ∙ ap (λ z. with_newlines h.consumed ++ z) (sym (same_Some bs h.takes.0 h.takes.1) ∙ lost.parts)
+      ∙ sym (append_assoc (with_newlines h.consumed) lost.got lost.rest)) t.whole in
       let k = served h.serving ends in
-      let output : AnswersWholeLines g x remaining input (joined (map text h.sent_lines)) = record {
-        whole = h.taken;
+      let output : AnswersWholeLines g x remaining input (joined (map answer_text h.sent_lines)) = record {
+        whole = h.consumed;
         begun = lost.got;
         rest = lost.rest;
         parts = parts;
@@ -124,7 +124,7 @@ module _ (keeps : Type 0) (start now : MachineView) (idle : IsIdle (core_state_o
         no_line = recursion_from_All (λ b. b ≢ 10) lost.got lost.within_line;
         answered = k.output;
       } in
-      (ends, works, (joined (map text h.sent_lines), h.output, record { output = output; state = k.state }))
+      (ends, works, (joined (map answer_text h.sent_lines), h.output, record { output = output; state = k.state }))
 
   pub ends_exhausted : {input unread before written : Option (List ℕ)} {ended : Bool} (remaining : Option (List ℕ))
       → ServingProgress keeps start now [] input unread ended before written → now.core.failed ≡ false
@@ -136,17 +136,17 @@ module _ (keeps : Type 0) (start now : MachineView) (idle : IsIdle (core_state_o
       let line = why.1.0 in
       let found = why.1.2.1 in
       let same = same_Some bs h.takes.0 h.takes.1 in
-      let parts : lines input ≡ h.taken ++ line ∷ lines (behind_first_line bs) =
-      h.takes.2.to_come ∙ ap (λ z. h.taken ++ lines z) (sym same) ∙ ap (λ z. h.taken ++ z) (lines-first bs found.more)
-      ∙ ap (λ z. h.taken ++ z ∷ lines (behind_first_line bs)) (sym found.line_is) in (
+      let parts : lines input ≡ h.consumed ++ line ∷ lines (behind_first_line bs) =
+      h.takes.2.to_come ∙ ap (λ z. h.consumed ++ lines z) (sym same) ∙ ap (λ z. h.consumed ++ z) (lines-first bs found.more)
+      ∙ ap (λ z. h.consumed ++ z ∷ lines (behind_first_line bs)) (sym found.line_is) in (
         ends,
         works,
         why.0,
         (
-          joined (map text h.sent_lines),
+          joined (map answer_text h.sent_lines),
           h.output,
           record {
-            before = h.taken;
+            before = h.consumed;
             line = line;
             after = lines (behind_first_line bs);
             parts = parts;
@@ -165,27 +165,27 @@ module _ (keeps : Type 0) (start now : MachineView) (idle : IsIdle (core_state_o
   ends_at_device {input = Some input} h failed wound_up =
       let all = begins h.serving (lines h.takes.0)
       ∙ ap (λ ls. take (length h.sent_lines) (output_lines g x ls)) (sym h.takes.2.to_come) in
-      (failed, wound_up, (joined (map text h.sent_lines), h.output, (length h.sent_lines, ap joined all)))
+      (failed, wound_up, (joined (map answer_text h.sent_lines), h.output, (length h.sent_lines, ap joined all)))
 
-  pub first_taken : (input unread : Option (List ℕ)) (ended : Bool) (taken : List (List ℕ)) → TakesLines input unread ended taken → AreFirst input taken
-  first_taken None unread ended taken t = tt
-  first_taken (Some input) unread ended taken t = (lines t.0, t.2.to_come)
+  pub first_taken : (input unread : Option (List ℕ)) (ended : Bool) (consumed : List (List ℕ)) → TakesLines input unread ended consumed → AreFirst input consumed
+  first_taken None unread ended consumed t = tt
+  first_taken (Some input) unread ended consumed t = (lines t.0, t.2.to_come)
 
   unfoldable pub has_served : {unsent : List Line} {input unread : Option (List ℕ)} {ended : Bool} {before written : Option (List ℕ)}
       → (now.core.failed ≡ false → now.core.doubt ≡ []) → (keeps → RecoversNow now.core)
       → ServingProgress keeps start now unsent input unread ended before written → HasServed keeps start now.core unsent input before written
   has_served {unsent} {input} {unread} {ended} none recovers h =
-      let p = h.serving.passes in
+      let p = h.serving.segment in
       record {
-        taken = h.taken;
-        stages = p.stages;
+        consumed = h.consumed;
+        device_events = p.device_events;
         run = record {
-          first = first_taken input unread ended h.taken h.takes;
+          first = first_taken input unread ended h.consumed h.takes;
           legal = p.legal;
           hands = now.hands;
           ends = p.ends;
           geometry = p.geometry;
-          arrived_are = p.come_are;
+          arrived_are = p.arrived_are;
           device = p.device;
           failures = p.failures;
           any_moment = p.any_moment;
@@ -193,7 +193,7 @@ module _ (keeps : Type 0) (start now : MachineView) (idle : IsIdle (core_state_o
               (record { legal = p.legal; safe = p.any_moment kept; ends = p.ends; geometry = p.geometry; device = p.device }) sound none (recovers kept);
         };
         sent_lines = h.sent_lines;
-        known = subst (λ (l : List (ℕ × Reply)). AreKnown g l start.core.next h.taken (h.sent_lines ++ unsent)) (sym p.reply_pairs_are) h.serving.known;
-        are_completed = h.serving.answered;
+        known = subst (λ (l : List (ℕ × Reply)). AreKnown g l start.core.next h.consumed (h.sent_lines ++ unsent)) (sym p.reply_pairs_are) h.serving.known;
+        have_answers = h.serving.answered;
         output = h.output;
       }

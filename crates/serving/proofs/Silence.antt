@@ -10,7 +10,7 @@ use Rattle.legal_runs.specs.Events.{MachineState}
 use Rattle.legal_runs.specs.Runs.{answered, arrived}
 use Rattle.legal_runs.specs.CoreState.{Entry}
 use Rattle.runs.specs.Machine.{machine_of}
-use Rattle.runs.specs.Stages.{events_of}
+use Rattle.runs.specs.DeviceEvents.{events_of}
 use Rattle.messages.specs.Grammar.{message_of}
 use Rattle.messages.specs.Replies.{no_message, reply_line}
 use Rattle.messages.specs.declared.Msg.{Msg}
@@ -20,8 +20,8 @@ use Rattle.messages.specs.declared.Reply.TheVariants.{Done, Refused}
 use Rattle.meaning.specs.Order.{messages}
 use Rattle.meaning.specs.Output.{joined}
 use Rattle.scheduler.specs.CoreView.{CoreView, core_state_of}
-use Rattle.serving.specs.Lines.{Completed, AreCompleted, AreKnown, IsKnown, Line, NoMessage, OutOfRange, Pending, admitted_in, next_ticket, text}
-use Rattle.serving.specs.Runs.{inside}
+use Rattle.serving.specs.Lines.{Completed, HaveAnswers, AreKnown, IsKnown, Line, NoMessage, OutOfRange, Pending, admitted_in, next_ticket, answer_text}
+use Rattle.serving.specs.Runs.{unanswered}
 use Rattle.serving.specs.Output.{HasNoReply, MaySendFrom, MaySend, Start, SendsNoReply, start_machine}
 use Rattle.serving.proofs.Counting.{run_counts}
 use Rattle.serving.proofs.Inside.{idle_inside}
@@ -33,14 +33,14 @@ next_counts : (n : ℕ) (ms : List Msg) → next_ticket n ms ≡ n + length ms
 next_counts n [] = omega arith
 next_counts n (m ∷ ms) = let k = next_counts (n + 1) ms in omega (arith, k)
 
-one_silent : (g : Geometry) (n : ℕ) (o : Option Msg) (line : Line) → IsKnown g [] n o line → AreCompleted (line ∷ []) → HasNoReply line
+one_silent : (g : Geometry) (n : ℕ) (o : Option Msg) (line : Line) → IsKnown g [] n o line → HaveAnswers (line ∷ []) → HasNoReply line
 one_silent g n o NoMessage k a = tt
 one_silent g n o OutOfRange k a = tt
 one_silent g n o (Pending t) k a = absurd (true≢false (sym a.0))
 one_silent g n None (Completed t reply) k a = absurd k
 one_silent g n (Some m) (Completed t reply) k a = absurd (in_contained [] (t, reply) k.2)
 
-all_silent : (g : Geometry) (n : ℕ) (ls : List (List ℕ)) (sent_lines next rest : List Line) → AreKnown g [] n ls (sent_lines ++ (next ++ rest)) → AreCompleted next
+all_silent : (g : Geometry) (n : ℕ) (ls : List (List ℕ)) (sent_lines next rest : List Line) → AreKnown g [] n ls (sent_lines ++ (next ++ rest)) → HaveAnswers next
     → AllByRecursion HasNoReply next
 all_silent g n ls [] [] rest k a = tt
 all_silent g n [] [] (line ∷ next) rest k a = absurd k
@@ -56,15 +56,15 @@ no_items [] none = λ i. []
 no_items (x ∷ xs) none = absurd (omega (arith, none))
 
 module _ (keeps : Type 0) (s : Start) (sent : Option (List ℕ)) (now : CoreView) (bytes : List ℕ) (m : MaySendFrom keeps s sent now bytes)
-    (all_inside : inside (core_state_of now) + s.core.next ≡ now.next) where
-  none_answered : answered (events_of m.served.stages) ≡ []
+    (all_inside : unanswered (core_state_of now) + s.core.next ≡ now.next) where
+  none_answered : answered (events_of m.served.device_events) ≡ []
   none_answered =
       let r = m.served.run in
-      let events = events_of m.served.stages in
+      let events = events_of m.served.device_events in
       let g = s.core.geometry in
       let first = idle_inside (core_state_of s.core) m.idle in
       let count = run_counts g (machine_of (start_machine s)) events r.legal in
-      let at_end = ap (λ (w : MachineState). inside w.core) r.ends in
+      let at_end = ap (λ (w : MachineState). unanswered w.core) r.ends in
       let next_at_end = ap (λ (w : MachineState). w.core.next) r.ends in
       let next = run_next g (machine_of (start_machine s)) events r.legal in
       let tickets = next_counts s.core.next (messages (arrived events)) in
@@ -72,31 +72,31 @@ module _ (keeps : Type 0) (s : Start) (sent : Option (List ℕ)) (now : CoreView
       no_items (answered events) (omega (arith, all_inside, first, count, at_end, next_at_end, next, tickets, many))
 
   pub is_silent : AllByRecursion HasNoReply m.next
-  is_silent = all_silent s.core.geometry s.core.next m.served.taken m.served.sent_lines m.next m.rest
-      (subst (λ (l : List (ℕ × Reply)). AreKnown s.core.geometry l s.core.next m.served.taken (m.served.sent_lines ++ (m.next ++ m.rest))) none_answered m.served.known)
-      m.are_completed
+  is_silent = all_silent s.core.geometry s.core.next m.served.consumed m.served.sent_lines m.next m.rest
+      (subst (λ (l : List (ℕ × Reply)). AreKnown s.core.geometry l s.core.next m.served.consumed (m.served.sent_lines ++ (m.next ++ m.rest))) none_answered m.served.known)
+      m.have_answers
 
 -- Each such line reports that it has none.
-say_none : (ls : List Line) → AllByRecursion HasNoReply ls → AllByRecursion (λ line. (line ≡ no_message) ⊎ (line ≡ reply_line (Refused Range))) (map text ls)
+say_none : (ls : List Line) → AllByRecursion HasNoReply ls → AllByRecursion (λ line. (line ≡ no_message) ⊎ (line ≡ reply_line (Refused Range))) (map answer_text ls)
 say_none [] all = tt
 say_none (NoMessage ∷ ls) all = (inl refl, say_none ls all.1)
 say_none (OutOfRange ∷ ls) all = (inr refl, say_none ls all.1)
 say_none (Pending t ∷ ls) all = absurd all.0
 say_none (Completed t reply ∷ ls) all = absurd all.0
 
-pub no_reply : (keeps : Type 0) (s : Start) (sent : Option (List ℕ)) (now : CoreView) (bytes : List ℕ) → inside (core_state_of now) + s.core.next ≡ now.next
+pub no_reply : (keeps : Type 0) (s : Start) (sent : Option (List ℕ)) (now : CoreView) (bytes : List ℕ) → unanswered (core_state_of now) + s.core.next ≡ now.next
     → MaySend keeps (Some s) sent now bytes → SendsNoReply bytes
-no_reply keeps s sent now bytes all_inside m = (map text m.next, m.bytes_are, say_none m.next (is_silent keeps s sent now bytes m all_inside))
+no_reply keeps s sent now bytes all_inside m = (map answer_text m.next, m.bytes_are, say_none m.next (is_silent keeps s sent now bytes m all_inside))
 
 -- No such line reports that a message was carried out.
-not_done : (ls : List Line) → AllByRecursion HasNoReply ls → reply_line Done ≡ joined (map text ls) → ⊥
+not_done : (ls : List Line) → AllByRecursion HasNoReply ls → reply_line Done ≡ joined (map answer_text ls) → ⊥
 not_done [] all is = let h = ap (λ (l : List ℕ). length l) is in absurd (omega (arith, h))
 not_done (NoMessage ∷ ls) all is = let h = ap (λ (l : List ℕ). slice_index_or l 0 0) is in absurd (omega (arith, h))
 not_done (OutOfRange ∷ ls) all is = let h = ap (λ (l : List ℕ). slice_index_or l 0 0) is in absurd (omega (arith, h))
 not_done (Pending t ∷ ls) all is = absurd all.0
 not_done (Completed t reply ∷ ls) all is = absurd all.0
 
-pub nothing_done : (keeps : Type 0) (s : Start) (sent : Option (List ℕ)) (now : CoreView) → inside (core_state_of now) + s.core.next ≡ now.next
+pub nothing_done : (keeps : Type 0) (s : Start) (sent : Option (List ℕ)) (now : CoreView) → unanswered (core_state_of now) + s.core.next ≡ now.next
     → MaySend keeps (Some s) sent now (reply_line Done) → ⊥
 nothing_done keeps s sent now all_inside m =
     not_done m.next (is_silent keeps s sent now (reply_line Done) m all_inside) m.bytes_are

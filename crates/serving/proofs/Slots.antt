@@ -6,13 +6,13 @@ use Rattle.affinity.specs.declared.geometry.Geometry.{Geometry}
 use Rattle.legal_runs.proofs.Moves.{Answers, Arrives, Backs, Grants, Logs, Move, Passed, Stays, moves}
 use Rattle.legal_runs.specs.Events.{Event, MachineState, arrive}
 use Rattle.legal_runs.specs.Laws.{IsIdle}
-use Rattle.legal_runs.specs.Runs.{IsLegal, last}
+use Rattle.legal_runs.specs.Runs.{IsLegal, end_state}
 use Rattle.legal_runs.specs.CoreState.{Entry, CoreState}
 use Rattle.legal_runs.specs.declared.outcomes.ArriveRefusal.TheVariants as arrivals
 use Rattle.legal_runs.specs.declared.outcomes.Outcome.{Outcome}
 use Rattle.legal_runs.specs.declared.outcomes.Outcome.TheVariants as outcomes
 use Rattle.runs.specs.Machine.{MachineView, machine_of}
-use Rattle.runs.specs.Stages.{events_of}
+use Rattle.runs.specs.DeviceEvents.{events_of}
 use Rattle.messages.specs.Messages.{is_in_range}
 use Rattle.messages.specs.declared.Msg.{Msg}
 use Rattle.messages.specs.declared.Reply.{Reply}
@@ -21,14 +21,14 @@ use Rattle.serving.proofs.Counting.{run_counts}
 use Rattle.serving.proofs.Inside.{few_inside}
 use Rattle.serving.specs.Progress.{ServingProgress}
 use Rattle.serving.specs.Lines.{Line}
-use Rattle.serving.specs.Runs.{RunsBetween, inside}
+use Rattle.serving.specs.Runs.{RunsBetween, unanswered}
 
-pub passes_count : {keeps : Type 0} {old new : MachineView} {come : List Entry} {reply_pairs : List (ℕ × Reply)} → RunsBetween keeps old new come reply_pairs
-    → inside (core_state_of new.core) + length reply_pairs ≡ inside (core_state_of old.core) + length come
+pub passes_count : {keeps : Type 0} {old new : MachineView} {arriving : List Entry} {reply_pairs : List (ℕ × Reply)} → RunsBetween keeps old new arriving reply_pairs
+    → unanswered (core_state_of new.core) + length reply_pairs ≡ unanswered (core_state_of old.core) + length arriving
 passes_count {old} {new} p =
-    let run = run_counts old.core.geometry (machine_of old) (events_of p.stages) p.legal in
-    let ends : inside (last (machine_of old) (events_of p.stages)).core ≡ inside (core_state_of new.core) = ap (λ (w : MachineState). inside w.core) p.ends in
-    let came = ap length p.come_are in
+    let run = run_counts old.core.geometry (machine_of old) (events_of p.device_events) p.legal in
+    let ends : unanswered (end_state (machine_of old) (events_of p.device_events)).core ≡ unanswered (core_state_of new.core) = ap (λ (w : MachineState). unanswered w.core) p.ends in
+    let came = ap length p.arrived_are in
     let tells = ap length p.reply_pairs_are in
     omega (arith, run, ends, came, tells)
 
@@ -42,15 +42,15 @@ move_slots g old new p (Backs ticket found one_out is e) = ap (λ (w : CoreState
 move_slots g old new p (Logs n is e) = ap (λ (w : CoreState). w.slots) is
 move_slots g old new p (Answers a rest front is e) = ap (λ (w : CoreState). w.slots) is
 
-run_slots : (g : Geometry) (old : MachineState) (events : List Event) → IsLegal g old events → (last old events).core.slots ≡ old.core.slots
+run_slots : (g : Geometry) (old : MachineState) (events : List Event) → IsLegal g old events → (end_state old events).core.slots ≡ old.core.slots
 run_slots g old [] legal = refl
 run_slots g old (event ∷ events) legal =
     run_slots g event.state_after events legal.1 ∙ move_slots g old.core event.state_after.core _ (moves g old event legal.0)
 
-pub passes_slots : {keeps : Type 0} {old new : MachineView} {come : List Entry} {reply_pairs : List (ℕ × Reply)} → RunsBetween keeps old new come reply_pairs
+pub passes_slots : {keeps : Type 0} {old new : MachineView} {arriving : List Entry} {reply_pairs : List (ℕ × Reply)} → RunsBetween keeps old new arriving reply_pairs
     → new.core.slots ≡ old.core.slots
 passes_slots {old} p =
-    ap (λ (w : MachineState). w.core.slots) (sym p.ends) ∙ run_slots old.core.geometry (machine_of old) (events_of p.stages) p.legal
+    ap (λ (w : MachineState). w.core.slots) (sym p.ends) ∙ run_slots old.core.geometry (machine_of old) (events_of p.device_events) p.legal
 
 -- ---- a slot for the next
 
@@ -58,10 +58,10 @@ abbrev outcome_of : Outcome × CoreState → Outcome
 outcome_of x = x.0
 
 -- A message that finds fewer inside than fit in isn't refused for want of a slot.
-isnt_full : (g : Geometry) (w : CoreState) (m : Msg) → inside w < w.slots → (arrive g w m).0 ≢ outcomes.ArriveRefused arrivals.Full
-isnt_full g w m few = of w.failed (not (is_in_range g m)) (w.next == 2 ^ 64 - 1) (nat_le w.slots (inside w)) (λ e. leb-true w.slots (inside w) e)
+isnt_full : (g : Geometry) (w : CoreState) (m : Msg) → unanswered w < w.slots → (arrive g w m).0 ≢ outcomes.ArriveRefused arrivals.Full
+isnt_full g w m few = of w.failed (not (is_in_range g m)) (w.next == 2 ^ 64 - 1) (nat_le w.slots (unanswered w)) (λ e. leb-true w.slots (unanswered w) e)
   where
-    of : (a b c d : Bool) → (d ≡ true → w.slots ≤ inside w) → outcome_of (if a then (outcomes.ArriveRefused arrivals.Failed, w)
+    of : (a b c d : Bool) → (d ≡ true → w.slots ≤ unanswered w) → outcome_of (if a then (outcomes.ArriveRefused arrivals.Failed, w)
         else if b then (outcomes.ArriveRefused arrivals.Range, w) else if c then (outcomes.ArriveRefused arrivals.Exhausted, w)
         else if d then (outcomes.ArriveRefused arrivals.Full, w)
         else (outcomes.Ticket w.next, record w { waiting = w.waiting ++ (w.next, m) ∷ []; next = w.next + 1 }))
@@ -78,5 +78,5 @@ pub finds_a_slot : {keeps : Type 0} {start now : MachineView} {unsent : List Lin
     → length unsent < start.core.slots → (arrive now.core.geometry (core_state_of now.core) m).0 ≢ outcomes.ArriveRefused arrivals.Full
 finds_a_slot {now} m idle h few =
     let most = few_inside idle h in
-    let same = passes_slots h.serving.passes in
+    let same = passes_slots h.serving.segment in
     isnt_full now.core.geometry (core_state_of now.core) m (omega (arith, most, same, few))

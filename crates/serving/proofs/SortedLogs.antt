@@ -1,4 +1,4 @@
--- A serial log in order of tickets: the first of the messages that arrived, without a gap among related ones.
+-- A serial history in order of tickets: some of the messages that arrived; where one is left out, so is each later one related to it.
 use Rattle.std.proofs.Common.{◌≡◌, ◌⊎◌, ℕ, ◌<◌, ◌≤◌, Bool, true, false, List, [], ◌∷◌, ◌++◌, refl, ap, sym, ◌∙◌, subst, map, inl, inr, ⊎_elim, arith}
 use Rattle.std.specs.Prelude.{◌==◌, nat_lt, if◌then◌else◌, IsPermutation, filter, cond}
 use Rattle.std.specs.List.{AllByRecursion, Contains, IsDistinct}
@@ -10,13 +10,13 @@ use Rattle.std.proofs.lemmas.Map.Keys.{IsDistinct-IsPermutation}
 use Rattle.affinity.specs.declared.geometry.Geometry.{Geometry}
 use Rattle.messages.specs.declared.Reply.{Reply}
 use Rattle.meaning.specs.Laws.{AreInOrder}
-use Rattle.meaning.specs.Order.{by_ticket, messages, put, serial_replies, IsBefore, KeepsOrder}
-use Rattle.meaning.specs.Serial.{fold, is_loggable, next_state, reply_to}
+use Rattle.meaning.specs.Order.{by_ticket, messages, put, serial_replies, InOrderIfRelated, KeepsOrder}
+use Rattle.meaning.specs.Serial.{state_after_all, is_recorded, next_state, reply_to}
 use Rattle.meaning.specs.State.{State}
-use Rattle.meaning.proofs.ByTicket.{all-by_ticket, fold-by_ticket, in_order-by_ticket, permutation-by_ticket, serial_replies-by_ticket}
+use Rattle.meaning.proofs.ByTicket.{all-by_ticket, state_after_all-by_ticket, in_order-by_ticket, permutation-by_ticket, serial_replies-by_ticket}
 use Rattle.meaning.proofs.Unchanged.{unlogged_changes_nothing}
-use Rattle.legal_runs.specs.Events.{loggable}
-use Rattle.legal_runs.specs.Laws.{AreAscending, IsSerialLog, ticket_replies}
+use Rattle.legal_runs.specs.Events.{recorded}
+use Rattle.legal_runs.specs.Laws.{AreAscending, IsSerialHistory, ticket_replies}
 use Rattle.legal_runs.specs.CoreState.{Entry, Replied, are_related_entries, entries}
 use Rattle.legal_runs.proofs.Apart.{apart_turned}
 use Rattle.legal_runs.proofs.Elements.{holds_of, in_contained}
@@ -25,7 +25,7 @@ use Rattle.legal_runs.proofs.SerialReplies.{IsIn}
 
 -- ---- some of a list, in their order
 
--- These are some of them, and what is left out passes.
+-- These are some of them, in order, and `Out` holds of each that is left out.
 abbrev pub AreAmong : (Entry → Type 0) → List Entry → List Entry → Type 0
 AreAmong Out es [] = es ≡ []
 AreAmong Out es (a ∷ all) = ((rest : List Entry) × (es ≡ a ∷ rest) × AreAmong Out rest all) ⊎ (Out a × AreAmong Out es all)
@@ -66,7 +66,7 @@ put_among Out e es (a ∷ all) h among = ⊎_elim
       | false ↦ λ late. inr (k.0, put_among Out e es all h.1 k.1)
     ] refl) among
 
--- Sorted, they are among all, sorted.
+-- `es` sorted is among `es ++ rest` sorted, if `Out` holds of all of `rest`.
 pub sorted_among : (Out : Entry → Type 0) (es rest : List Entry) → AllByRecursion Out (by_ticket rest)
     → AreAmong Out (by_ticket es) (by_ticket (es ++ rest))
 sorted_among Out [] rest out = none_among Out (by_ticket rest) out
@@ -81,21 +81,21 @@ HasNoGap g es [] = es ≡ []
 HasNoGap g es (a ∷ all) = ((rest : List Entry) × (es ≡ a ∷ rest) × HasNoGap g rest all)
     ⊎ (AllByRecursion (λ e. are_related_entries g a e ≡ false) es × HasNoGap g es all)
 
-late_unrelated : (g : Geometry) (a e : Entry) → a.0 ≤ e.0 → IsBefore g e a → are_related_entries g a e ≡ false
+late_unrelated : (g : Geometry) (a e : Entry) → a.0 ≤ e.0 → InOrderIfRelated g e a → are_related_entries g a e ≡ false
 late_unrelated g a e le h = apart_turned g e a (false_from_ne_true _ (λ r. omega (arith, le, h r)))
 
--- so it is where each of them is before those that are left out, if they are related
+-- there is no gap if each that is kept comes before each related one that is left out
 pub no_gap : (g : Geometry) (Out : Entry → Type 0) (es all : List Entry) → AreInOrder all → AreAmong Out es all
-    → ((d : Entry) → Out d → AllByRecursion (λ e. IsBefore g e d) es) → HasNoGap g es all
+    → ((d : Entry) → Out d → AllByRecursion (λ e. InOrderIfRelated g e d) es) → HasNoGap g es all
 no_gap g Out es [] h among before = among
 no_gap g Out es (a ∷ all) h among before = ⊎_elim
     (λ (k : (rest : List Entry) × (es ≡ a ∷ rest) × AreAmong Out rest all).
-    inl (k.0, k.1, no_gap g Out k.0 all h.1 k.2 (λ d out. (subst (AllByRecursion (λ e. IsBefore g e d)) k.1 (before d out)).1)))
+    inl (k.0, k.1, no_gap g Out k.0 all h.1 k.2 (λ d out. (subst (AllByRecursion (λ e. InOrderIfRelated g e d)) k.1 (before d out)).1)))
     (λ (k : Out a × AreAmong Out es all).
     inr (unrelated es (all_among (λ e. a.0 ≤ e.0) Out es all h.0 k.1) (before a k.0), no_gap g Out es all h.1 k.1 before))
     among
   where
-    unrelated : (es : List Entry) → AllByRecursion (λ e. a.0 ≤ e.0) es → AllByRecursion (λ e. IsBefore g e a) es
+    unrelated : (es : List Entry) → AllByRecursion (λ e. a.0 ≤ e.0) es → AllByRecursion (λ e. InOrderIfRelated g e a) es
         → AllByRecursion (λ e. are_related_entries g a e ≡ false) es
     unrelated [] le h = tt
     unrelated (e ∷ es) le h = (late_unrelated g a e le.0 h.0, unrelated es le.1 h.1)
@@ -157,7 +157,7 @@ permuted_in : (es ds : List Entry) → IsPermutation es ds → (e : Entry) → I
 permuted_in es ds same e is = in_contained es e
     (holds_of (Contains es) ds (all_permuted (Contains es) es ds same (recursion_from_All (Contains es) es (All-contains_itself es))) e is)
 
--- Messages whose tickets ascend are what any order of them is when it is sorted.
+-- A list with ascending tickets is what sorting any permutation of it gives.
 pub sorted_again : (es ds : List Entry) → AreAscending es → IsPermutation es ds → by_ticket ds ≡ es
 sorted_again es ds h same =
     let sorted = IsPermutation-trans es ds (by_ticket ds) same (permutation-by_ticket ds) in
@@ -166,36 +166,36 @@ sorted_again es ds h same =
     (IsDistinct-IsPermutation one_ticket (λ e d. same_turned e.0 d.0) es (by_ticket ds) sorted (distinct_ascending es h)))
     h (permuted_in es (by_ticket ds) sorted) (permuted_in (by_ticket ds) es (IsPermutation-sym es (by_ticket ds) sorted))
 
--- ---- a serial log
+-- ---- a serial history
 
 both_parts : {A : Type 0} (a b : A) (as' bs : List A) → a ∷ as' ≡ b ∷ bs → (a ≡ b) × (as' ≡ bs)
 both_parts a b as' bs h = (cc, cc)
 
--- What a log appends to the journal leads where all of it leads.
+-- The recorded changes of a history lead to the same state as all its messages.
 pub log_leads : (g : Geometry) (x : State) (log : List Replied) → ticket_replies log ≡ serial_replies g x (entries log)
-    → fold g x (loggable log) ≡ fold g x (messages (entries log))
+    → state_after_all g x (recorded log) ≡ state_after_all g x (messages (entries log))
 log_leads g x [] h = refl
 log_leads g x (a ∷ log) h =
     let parts = both_parts (a.0, a.2) (a.0, reply_to g x a.1) (ticket_replies log) (serial_replies g (next_state g x a.1) (entries log)) h in
     let reply : a.2 ≡ reply_to g x a.1 = ap (λ p. p.1) parts.0 in
     let rest = log_leads g (next_state g x a.1) log parts.1 in
-    elim (is_loggable a.1 a.2) as
-    (λ b. is_loggable a.1 a.2 ≡ b → fold g x (map
-    (λ (a : Replied). a.1) (cond b (a ∷ filter (λ a. is_loggable a.1 a.2) log) (filter (λ a. is_loggable a.1 a.2) log)))
-    ≡ fold g (next_state g x a.1) (messages (entries log))) [
+    elim (is_recorded a.1 a.2) as
+    (λ b. is_recorded a.1 a.2 ≡ b → state_after_all g x (map
+    (λ (a : Replied). a.1) (cond b (a ∷ filter (λ a. is_recorded a.1 a.2) log) (filter (λ a. is_recorded a.1 a.2) log)))
+    ≡ state_after_all g (next_state g x a.1) (messages (entries log))) [
       | true ↦ λ e. rest
-      | false ↦ λ e. ap (λ y. fold g y (loggable log)) (sym (unlogged_changes_nothing g x a.1 (ap (is_loggable a.1) (sym reply) ∙ e))) ∙ rest
+      | false ↦ λ e. ap (λ y. state_after_all g y (recorded log)) (sym (unlogged_changes_nothing g x a.1 (ap (is_recorded a.1) (sym reply) ∙ e))) ∙ rest
     ] refl
 
--- A serial log in the order of its tickets: of all that arrived some, without a gap. They lead where the log leads, and each is given
--- what the log has for it.
+-- A serial history in the order of its tickets: some of all that arrived, without a gap. They lead to the state to which the
+-- recorded changes lead, and each has the reply that the history has for it.
 pub record IsSortedLog (g : Geometry) (x : State) (arrivals : List Entry) (log : List Replied) (sorted : List Entry) : Type 0 where
   pub no_gap : HasNoGap g sorted arrivals
-  pub state : fold g x (loggable log) ≡ fold g x (messages sorted)
+  pub state : state_after_all g x (recorded log) ≡ state_after_all g x (messages sorted)
   pub tells : (p : ℕ × Reply) → IsIn p (ticket_replies log) → IsIn p (serial_replies g x sorted)
 
 pub sorted_log : (g : Geometry) (x : State) (arrivals : List Entry) (log : List Replied) → AreAscending arrivals
-    → IsSerialLog g x arrivals log → IsSortedLog g x arrivals log (by_ticket (entries log))
+    → IsSerialHistory g x arrivals log → IsSortedLog g x arrivals log (by_ticket (entries log))
 sorted_log g x arrivals log ascending h =
     let es = entries log in
     let order = keeps_front es h.rest h.by_ticket in
@@ -204,33 +204,33 @@ sorted_log g x arrivals log ascending h =
       no_gap = subst (HasNoGap g (by_ticket es)) all
           (no_gap g before (by_ticket es) (by_ticket (es ++ h.rest)) (in_order-by_ticket (es ++ h.rest))
           (sorted_among before es h.rest (all-by_ticket before h.rest (crossed es h.rest h.by_ticket)))
-          (λ d out. all-by_ticket (λ e. IsBefore g e d) es out));
-      state = log_leads g x log h.in_order ∙ sym (fold-by_ticket g x es order);
+          (λ d out. all-by_ticket (λ e. InOrderIfRelated g e d) es out));
+      state = log_leads g x log h.in_order ∙ sym (state_after_all-by_ticket g x es order);
       tells = λ p is. subst (IsIn p) (sym (serial_replies-by_ticket g x es order))
           (sorted_in (serial_replies g x es) p (subst (IsIn p) h.in_order is));
     }
   where
     before : Entry → Type 0
-    before d = AllByRecursion (λ e. IsBefore g e d) (entries log)
+    before d = AllByRecursion (λ e. InOrderIfRelated g e d) (entries log)
 
     keeps_front : (es rest : List Entry) → KeepsOrder g (es ++ rest) → KeepsOrder g es
     keeps_front [] rest h = tt
-    keeps_front (e ∷ es) rest h = (all_front (IsBefore g e) es rest h.0, keeps_front es rest h.1)
+    keeps_front (e ∷ es) rest h = (all_front (InOrderIfRelated g e) es rest h.0, keeps_front es rest h.1)
 
     -- each of the first is before each of the others
-    across : (es rest : List Entry) → KeepsOrder g (es ++ rest) → AllByRecursion (λ e. AllByRecursion (IsBefore g e) rest) es
+    across : (es rest : List Entry) → KeepsOrder g (es ++ rest) → AllByRecursion (λ e. AllByRecursion (InOrderIfRelated g e) rest) es
     across [] rest h = tt
-    across (e ∷ es) rest h = (all_back (IsBefore g e) es rest h.0, across es rest h.1)
+    across (e ∷ es) rest h = (all_back (InOrderIfRelated g e) es rest h.0, across es rest h.1)
 
-    turned : (es rest : List Entry) → AllByRecursion (λ e. AllByRecursion (IsBefore g e) rest) es
-        → AllByRecursion (λ d. AllByRecursion (λ e. IsBefore g e d) es) rest
+    turned : (es rest : List Entry) → AllByRecursion (λ e. AllByRecursion (InOrderIfRelated g e) rest) es
+        → AllByRecursion (λ d. AllByRecursion (λ e. InOrderIfRelated g e d) es) rest
     turned es [] h = tt
     turned es (d ∷ rest) h = (
-      all_weaker (λ e. AllByRecursion (IsBefore g e) (d ∷ rest)) (λ e. IsBefore g e d) (λ e k. k.0) es h,
-      turned es rest (all_weaker (λ e. AllByRecursion (IsBefore g e) (d ∷ rest)) (λ e. AllByRecursion (IsBefore g e) rest) (λ e k. k.1) es h),
+      all_weaker (λ e. AllByRecursion (InOrderIfRelated g e) (d ∷ rest)) (λ e. InOrderIfRelated g e d) (λ e k. k.0) es h,
+      turned es rest (all_weaker (λ e. AllByRecursion (InOrderIfRelated g e) (d ∷ rest)) (λ e. AllByRecursion (InOrderIfRelated g e) rest) (λ e k. k.1) es h),
     )
 
-    crossed : (es rest : List Entry) → KeepsOrder g (es ++ rest) → AllByRecursion (λ d. AllByRecursion (λ e. IsBefore g e d) es) rest
+    crossed : (es rest : List Entry) → KeepsOrder g (es ++ rest) → AllByRecursion (λ d. AllByRecursion (λ e. InOrderIfRelated g e d) es) rest
     crossed es rest h = turned es rest (across es rest h)
 
     any_in : (ps qs : List (ℕ × Reply)) → IsPermutation qs ps → (p : ℕ × Reply) → IsIn p ps → IsIn p qs

@@ -8,7 +8,7 @@ use Rattle.runs.specs.declared.hands.Holding.TheVariants as has
 use Rattle.meaning.specs.Progress.{TakesLines}
 use Rattle.scheduler.specs.CoreView.{CoreView, core_state_of}
 use Rattle.serving.specs.Progress.{ServingProgress}
-use Rattle.serving.specs.Runs.{Holds, RunsBetween, lent_hand, with_lent}
+use Rattle.serving.specs.Runs.{HandsHaveJobs, RunsBetween, lent_hand, machine_with_jobs}
 
 -- ---- nothing is lent
 
@@ -30,11 +30,11 @@ adds_none (Some bytes) = sym (append-nil bytes)
 module _ (keeps : Type 0) (start : MachineView) where
   pub stays : RunsBetween keeps start start [] []
   stays = record {
-    stages = [];
+    device_events = [];
     legal = tt;
     ends = refl;
     geometry = refl;
-    come_are = refl;
+    arrived_are = refl;
     reply_pairs_are = refl;
     device = refl;
     failures = sym (add-zero start.core.medium.faults);
@@ -43,10 +43,10 @@ module _ (keeps : Type 0) (start : MachineView) where
 
   pub starts : (input before : Option (List ℕ)) → ServingProgress keeps start start [] input input false before before
   starts input before = record {
-    taken = [];
+    consumed = [];
     sent_lines = [];
     takes = takes_none input;
-    serving = record { reply_pairs = []; passes = stays; known = tt; answered = tt };
+    serving = record { reply_pairs = []; segment = stays; known = tt; answered = tt };
     output = adds_none before;
   }
 
@@ -55,7 +55,7 @@ module _ (keeps : Type 0) (start : MachineView) where
 none_in_hand : (n i ticket : ℕ) → ticket_in (hand_at (map lent_hand (replicate n None)) i) ≡ Some ticket → ⊥
 none_in_hand n i ticket at = none-some (ticket) (sym (ap ticket_in (all_empty n i)) ∙ at)
 
-pub holds_at_start : (core : CoreView) (n : ℕ) → IsSoundCoreState core.geometry (core_state_of core) → Holds (with_lent core (replicate n None))
+pub holds_at_start : (core : CoreView) (n : ℕ) → IsSoundCoreState core.geometry (core_state_of core) → HandsHaveJobs (machine_with_jobs core (replicate n None))
 holds_at_start core n sound = record {
   sound = sound;
   each = λ i. subst (IsHandOf core.geometry (core_state_of core)) (sym (all_empty n i)) tt;

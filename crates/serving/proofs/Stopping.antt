@@ -75,6 +75,6 @@ stops_at_refusal {why = arrivals.Range} unread remaining drained line is found r
 stops_at_refusal {why = arrivals.Full} unread remaining drained line is found r fits = absurd (fits r.refused)
 stops_at_refusal {old} {m} {why = arrivals.Exhausted} unread remaining drained line is found r fits =
     let so = exhausted_so old.core.geometry (core_state_of old.core) m r.refused in
-    (quiet_ticket r.quiet.passes ∙ so.1, (line, m, found, is, so.0))
+    (quiet_ticket r.quiet.segment ∙ so.1, (line, m, found, is, so.0))
 stops_at_refusal {old} {m} {why = arrivals.Failed} unread remaining drained line is found r fits =
-    still_failed r.quiet.passes (failed_so old.core.geometry (core_state_of old.core) m r.refused)
+    still_failed r.quiet.segment (failed_so old.core.geometry (core_state_of old.core) m r.refused)

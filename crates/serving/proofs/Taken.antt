@@ -10,7 +10,7 @@ use Rattle.runs.proofs.Events.{arrive_step}
 use Rattle.runs.specs.Machine.{MachineView}
 use Rattle.runs.specs.declared.hands.Holding.{Holding}
 use Rattle.messages.specs.Grammar.{message_of}
-use Rattle.messages.specs.FirstLine.{GivesLine, IsAtEndOf, IsClosed, PassesLine}
+use Rattle.messages.specs.FirstLine.{GivesLine, IsAtEndOf, HasWholeFirstLine, PassesLine}
 use Rattle.messages.specs.declared.Msg.{Msg}
 use Rattle.meaning.proofs.Taking.{takes_line, takes_long_line}
 use Rattle.scheduler.specs.Calls.{ArrivesByLine, arrive_outcome}
@@ -18,18 +18,18 @@ use Rattle.scheduler.specs.CoreView.{CoreView, RecoversNow, core_state_of}
 use Rattle.serving.specs.Progress.{ServingProgress}
 use Rattle.serving.specs.Lines.{Line, NoMessage, OutOfRange, Pending}
 use Rattle.serving.specs.Reads.{IsRefusedLine, IsTaken}
-use Rattle.serving.specs.Runs.{Holds, IsInternal}
+use Rattle.serving.specs.Runs.{HandsHaveJobs, IsInternal}
 use Rattle.serving.proofs.Arriving.{ArrivesSo, arrives_so, serves_taken, ticket_is_next}
 use Rattle.serving.proofs.Starting.{stays}
 
 -- A line that is no message takes no ticket.
-pub takes_none : (keeps : Type 0) (m : MachineView) → Holds m → IsTaken keeps m m None NoMessage
-takes_none keeps m h = record { holds = h; passes = stays keeps m; is_known = tt }
+pub takes_none : (keeps : Type 0) (m : MachineView) → HandsHaveJobs m → IsTaken keeps m m None NoMessage
+takes_none keeps m h = record { holds = h; segment = stays keeps m; is_known = tt }
 
 -- ---- a line that has come to the core
 
 module _ (keeps : Type 0) (old new : CoreView) (none : old.failed ≡ false → old.doubt ≡ []) (recovers : keeps → RecoversNow old)
-    (geometry : new.geometry ≡ old.geometry) (same : new.medium ≡ old.medium) (hands : List Holding) (h : Holds (record { core = old; hands = hands })) where
+    (geometry : new.geometry ≡ old.geometry) (same : new.medium ≡ old.medium) (hands : List Holding) (h : HandsHaveJobs (record { core = old; hands = hands })) where
   abbrev was : MachineView
   was = record { core = old; hands = hands }
 
@@ -67,21 +67,21 @@ next_of_line old new None ticket e = absurd (let other : ◌≡◌ {A = Result (
 next_of_line old new (Some m) ticket e = ticket_is_next old.geometry (core_state_of old) (core_state_of new) m ticket e
 
 -- Where nothing happens, nothing arrives or is answered.
-pub still : (keeps : Type 0) (m : MachineView) → Holds m → IsInternal keeps m m
-still keeps m h = record { holds = h; passes = stays keeps m }
+pub still : (keeps : Type 0) (m : MachineView) → HandsHaveJobs m → IsInternal keeps m m
+still keeps m h = record { holds = h; segment = stays keeps m }
 
 -- ---- the next line
 
 module _ {keeps : Type 0} {start old new : MachineView} {unsent : List Line} {known : Line} {input unread now_unread : Option (List ℕ)} {ended now_ended : Bool}
-    {before written : Option (List ℕ)} (idle : IsIdle (core_state_of start.core)) (going : ended ≡ false) (closes : IsClosed unread now_ended) where
+    {before written : Option (List ℕ)} (idle : IsIdle (core_state_of start.core)) (going : ended ≡ false) (closes : HasWholeFirstLine unread now_ended) where
   -- It was given.
   pub line_goes_on : (line : List ℕ) → IsTaken keeps old new (message_of line) known → IfSome unread (λ bs. GivesLine line bs now_unread)
       → ServingProgress keeps start old unsent input unread ended before written
       → ServingProgress keeps start new (unsent ++ known ∷ []) input now_unread now_ended before written
   line_goes_on line t found h = record {
-    taken = h.taken ++ line ∷ [];
+    consumed = h.consumed ++ line ∷ [];
     sent_lines = h.sent_lines;
-    takes = takes_line input h.taken h.takes going (record { given = found; closed = closes });
+    takes = takes_line input h.consumed h.takes going (record { given = found; closed = closes });
     serving = serves_taken line idle t h.serving;
     output = h.output;
   }
@@ -93,7 +93,7 @@ module _ {keeps : Type 0} {start old new : MachineView} {unsent : List Line} {kn
   long_line_goes_on t found h =
       let l = takes_long_line unread h.takes going found closes in
       record {
-        taken = h.taken ++ l.line ∷ [];
+        consumed = h.consumed ++ l.line ∷ [];
         sent_lines = h.sent_lines;
         takes = l.takes;
         serving = serves_taken l.line idle (subst (λ (o : Option Msg). IsTaken keeps old new o known) (sym l.no_message) t) h.serving;

@@ -3,10 +3,10 @@ use Rattle.std.proofs.Common.{◌≡◌, ℕ, ◌+◌, List, [], ◌∷◌, ◌+
 use Rattle.affinity.specs.declared.geometry.Geometry.{Geometry}
 use Rattle.legal_runs.proofs.Moves.{Answers, Arrives, Backs, Grants, Logs, Move, Passed, Stays, moves}
 use Rattle.legal_runs.specs.Events.{Event, MachineState}
-use Rattle.legal_runs.specs.Runs.{IsLegal, arrived, arrives, last}
+use Rattle.legal_runs.specs.Runs.{IsLegal, arrived, arrives, end_state}
 use Rattle.legal_runs.specs.CoreState.{Entry, CoreState}
 use Rattle.runs.specs.Machine.{MachineView, machine_of}
-use Rattle.runs.specs.Stages.{events_of}
+use Rattle.runs.specs.DeviceEvents.{events_of}
 use Rattle.messages.specs.declared.Msg.{Msg}
 use Rattle.messages.specs.declared.Reply.{Reply}
 use Rattle.meaning.specs.Order.{messages}
@@ -39,7 +39,7 @@ move_next g old new p (Logs n is e) = quiet_next old new p (ap (λ p. p.come) e)
 move_next g old new p (Answers a rest front is e) = quiet_next old new p (ap (λ p. p.come) e) (ap (λ w. w.next) is)
 
 pub run_next : (g : Geometry) (old : MachineState) (events : List Event) → IsLegal g old events
-    → (last old events).core.next ≡ next_ticket old.core.next (messages (arrived events))
+    → (end_state old events).core.next ≡ next_ticket old.core.next (messages (arrived events))
 run_next g old [] legal = refl
 run_next g old (event ∷ events) legal =
     let come = arrives event.step event.outcome in
@@ -52,5 +52,5 @@ run_next g old (event ∷ events) legal =
 pub quiet_ticket : {keeps : Type 0} {old new : MachineView} {reply_pairs : List (ℕ × Reply)} → RunsBetween keeps old new [] reply_pairs
     → new.core.next ≡ old.core.next
 quiet_ticket {old} p =
-    ap (λ (w : MachineState). w.core.next) (sym p.ends) ∙ run_next old.core.geometry (machine_of old) (events_of p.stages) p.legal
-    ∙ ap (λ (es : List Entry). next_ticket old.core.next (messages es)) p.come_are
+    ap (λ (w : MachineState). w.core.next) (sym p.ends) ∙ run_next old.core.geometry (machine_of old) (events_of p.device_events) p.legal
+    ∙ ap (λ (es : List Entry). next_ticket old.core.next (messages es)) p.arrived_are

@@ -3,11 +3,11 @@ use Rattle.std.specs.Prelude.{◌≡◌, ◌≤◌, ◌+◌, ◌-◌, ◌^◌, �
 use Rattle.std.specs.Io.KnownBytes.{Appends, IsAtEnd}
 use Rattle.std.specs.List.{AllByRecursion}
 use Rattle.affinity.specs.declared.geometry.Geometry.{Geometry}
-use Rattle.disk.specs.Moments.{left_since, moment}
+use Rattle.disk.specs.Moments.{left_since, moment_number}
 use Rattle.legal_runs.specs.Laws.{IsIdle}
-use Rattle.legal_runs.specs.Runs.{IsLegal, answered, arrived, last}
+use Rattle.legal_runs.specs.Runs.{IsLegal, answered, arrived, end_state}
 use Rattle.runs.specs.Machine.{MachineView, machine_of}
-use Rattle.runs.specs.Stages.{AreSafe, Stage, RecoversForRun, device_after, events_of}
+use Rattle.runs.specs.DeviceEvents.{AreSafe, DeviceEvent, RecoversForRun, device_after, events_of}
 use Rattle.runs.specs.declared.hands.Holding.{Holding}
 use Rattle.messages.specs.Grammar.{message_of}
 use Rattle.messages.specs.Lines.{lines}
@@ -16,7 +16,7 @@ use Rattle.messages.specs.declared.Msg.{Msg}
 use Rattle.meaning.specs.Output.{AnswersWholeLines, IsBeginning, WritesOutput, joined, output_lines, state_after_lines}
 use Rattle.meaning.specs.State.{State}
 use Rattle.scheduler.specs.CoreView.{CoreView, core_state_of}
-use Rattle.serving.specs.Lines.{AreKnown, Line, admitted, is_completed, text, ticketed}
+use Rattle.serving.specs.Lines.{AreKnown, Line, admitted, has_answer, answer_text, ticketed}
 use Rattle.serving.specs.declared.server.ServeFault.{ServeFault}
 use Rattle.serving.specs.declared.server.ServeFault.TheVariants as faults
 
@@ -27,12 +27,13 @@ pub record AreServed (g : Geometry) (start now : State) (ls : List (List ℕ)) (
   pub output : written ≡ joined (output_lines g start ls)
   pub state : now ≡ state_after_lines g start ls
 
--- The same for just the whole lines of what was consumed of the input.
+-- Exactly the whole lines of what was consumed of the input were answered as by the serial server, which is in state `now` after them.
 pub record ServesWholeLines (g : Geometry) (start now : State) (remaining : Option (List ℕ)) (input written : List ℕ) : Type 0 where
   pub output : AnswersWholeLines g start remaining input written
   pub state : now ≡ state_after_lines g start output.whole
 
--- The same for just the lines before one whose message is in range.
+-- Exactly the lines before one whose message is in range were answered as by the serial server;
+-- `now` is the serial server's state after them.
 pub record ServesLinesBefore (g : Geometry) (start now : State) (input written : List ℕ) : Type 0 where
   pub before : List (List ℕ)
   pub line : List ℕ
@@ -47,43 +48,45 @@ pub record ServesLinesBefore (g : Geometry) (start now : State) (input written :
 
 -- the lines are the first of the input, where it is known
 abbrev pub AreFirst : Option (List ℕ) → List (List ℕ) → Type 0
-AreFirst None taken = Unit {0}
-AreFirst (Some input) taken = (more : List (List ℕ)) × (lines input ≡ taken ++ more)
+AreFirst None consumed = Unit {0}
+AreFirst (Some input) consumed = (more : List (List ℕ)) × (lines input ≡ consumed ++ more)
 
--- A legal run leads from the start to the core at the end. `stages` are its events, each with the device as it left it. Its tickets go,
--- in order, to the messages in range among the first lines of the input.
+-- A legal run leads from the start to the core at the end. `device_events` are its events, each with the device as it left it. Its tickets
+-- go, in order, to the messages in range among the first lines of the input.
 pub record HasRunLines (keeps : Type 0) (start : MachineView) (new : CoreView)
-    (input : Option (List ℕ)) (taken : List (List ℕ)) (stages : List Stage) : Type 0 where
-  pub first : AreFirst input taken
-  pub legal : IsLegal start.core.geometry (machine_of start) (events_of stages)
+    (input : Option (List ℕ)) (consumed : List (List ℕ)) (device_events : List DeviceEvent) : Type 0 where
+  pub first : AreFirst input consumed
+  pub legal : IsLegal start.core.geometry (machine_of start) (events_of device_events)
   pub hands : List Holding
-  pub ends : last (machine_of start) (events_of stages) ≡ machine_of (record { core = new; hands = hands })
+  pub ends : end_state (machine_of start) (events_of device_events) ≡ machine_of (record { core = new; hands = hands })
   pub geometry : new.geometry ≡ start.core.geometry
-  pub arrived_are : arrived (events_of stages) ≡ ticketed start.core.next (admitted start.core.geometry taken)
-  pub device : device_after start.core.medium stages ≡ new.medium
+  pub arrived_are : arrived (events_of device_events) ≡ ticketed start.core.next (admitted start.core.geometry consumed)
+  pub device : device_after start.core.medium device_events ≡ new.medium
   -- the device failed as often as the events say
-  pub failures : new.medium.faults ≡ start.core.medium.faults + count_by (λ e. e.device_failed) (events_of stages)
+  pub failures : new.medium.faults ≡ start.core.medium.faults + count_by (λ e. e.device_failed) (events_of device_events)
   -- what a crash leaves at each moment of each event
-  pub any_moment : keeps → AreSafe start.core.geometry (machine_of start) start.core.medium stages
-  -- For every k: a crash at any moment since event k ended leaves a device that recovers to a state which the run may leave.
-  pub crash : keeps → (k : ℕ) (c : List ℕ) → k ≤ length stages
-      → left_since new.medium (moment (device_after start.core.medium (take k stages))) c
-      → RecoversForRun start.core.geometry (machine_of start) (events_of stages) k c
+  pub any_moment : keeps → AreSafe start.core.geometry (machine_of start) start.core.medium device_events
+  -- For every k: a crash at any moment since event number k ended leaves a device that recovers to a state which the run may leave.
+  pub crash : keeps → (k : ℕ) (c : List ℕ) → k ≤ length device_events
+      → left_since new.medium (moment_number (device_after start.core.medium (take k device_events))) c
+      → RecoversForRun start.core.geometry (machine_of start) (events_of device_events) k c
 
--- Such a run led to the output: each reply there is to a line that is no message or is out of range, or to a message that the run
--- answered. `unsent` are the lines that were read and have no reply in the output.
+-- A legal run (`HasRunLines`) led to the output: each reply there is to a line that is no message or is out of range, or to a message
+-- that the run answered. `unsent` are the lines that were read and have no reply in the output. `known`: each consumed line is as its
+-- `Line` says, with its ticket, and with the reply that the run gave it, if it did.
 pub record HasServed (keeps : Type 0) (start : MachineView) (new : CoreView) (unsent : List Line)
     (input before written : Option (List ℕ)) : Type 0 where
-  pub taken : List (List ℕ)
-  pub stages : List Stage
-  pub run : HasRunLines keeps start new input taken stages
+  pub consumed : List (List ℕ)
+  pub device_events : List DeviceEvent
+  pub run : HasRunLines keeps start new input consumed device_events
   pub sent_lines : List Line
-  pub known : AreKnown start.core.geometry (answered (events_of stages)) start.core.next taken (sent_lines ++ unsent)
-  pub are_completed : AllByRecursion (λ line. is_completed line ≡ true) sent_lines
-  pub output : Appends before written (joined (map text sent_lines))
+  pub known : AreKnown start.core.geometry (answered (events_of device_events)) start.core.next consumed (sent_lines ++ unsent)
+  pub have_answers : AllByRecursion (λ line. has_answer line ≡ true) sent_lines
+  pub output : Appends before written (joined (map answer_text sent_lines))
 
 -- ---- what each result promises of the core before and after, of the input and what remains of it, and of what was written
 
+-- the state that a core has committed
 abbrev pub committed_in : CoreView → State
 committed_in core = (core_state_of core).committed
 
@@ -92,9 +95,9 @@ pub record IsQuiesced (core : CoreView) : Type 0 where
   pub none_in_flight : core.in_flight ≡ []
   pub none_logged : core.logged ≡ []
 
--- Where each line that was read is answered, nothing waits or is held, and the device works. Where the device or the output has failed,
--- the core is quiesced; and where the output alone has, each message that ran is logged. Without workers or memory nothing has changed,
--- been read or been written.
+-- At `Ok`, `Read` and `Exhausted` (no ticket left) each line that was read is answered, nothing waits or is held, and the device works.
+-- Where the device or the output has failed, the core is quiesced; and where the output alone has, each message that ran is logged.
+-- Without workers or memory nothing has changed, been read or been written.
 abbrev pub EndsWith : CoreView → CoreView → Option (List ℕ) → Option (List ℕ) → Option (List ℕ)
     → Option (List ℕ) → Result (Unit {0}) ServeFault → Type 0
 EndsWith old new input remaining before written (Ok _) = IsIdle (core_state_of new) × (new.failed ≡ false) × IsAtEnd remaining

@@ -7,7 +7,7 @@ use Rattle.messages.specs.declared.Msg.{Msg}
 use Rattle.messages.specs.declared.Reply.{Reply}
 use Rattle.messages.specs.Grammar.{message_of}
 use Rattle.messages.specs.Messages.{is_in_range}
-pub use Rattle.reorder_buffer.specs.ReorderBuffer.{AreCompleted, complete_one, is_completed, text}
+pub use Rattle.reorder_buffer.specs.ReorderBuffer.{HaveAnswers, complete_one, has_answer, answer_text}
 pub use Rattle.reorder_buffer.specs.declared.reorder_buffer.Line.{Line}
 pub use Rattle.reorder_buffer.specs.declared.reorder_buffer.Line.TheVariants.{NoMessage, OutOfRange, Pending, Completed}
 
@@ -18,16 +18,17 @@ abbrev pub admitted_in : Geometry → Option Msg → List Msg
 admitted_in g None = []
 admitted_in g (Some m) = if is_in_range g m then m ∷ [] else []
 
+-- the messages of all lines that take a ticket, in order
 abbrev pub admitted : Geometry → List (List ℕ) → List Msg
 admitted g [] = []
 admitted g (line ∷ ls) = admitted_in g (message_of line) ++ admitted g ls
 
--- with the tickets from n on
+-- each message with its ticket: the first one's is n, and each further one's the next
 abbrev pub ticketed : ℕ → List Msg → List Entry
 ticketed n [] = []
 ticketed n (m ∷ ms) = (n, m) ∷ ticketed (n + 1) ms
 
--- the ticket after theirs
+-- the ticket after those of the messages, the first of which has ticket n
 abbrev pub next_ticket : ℕ → List Msg → ℕ
 next_ticket n [] = n
 next_ticket n (m ∷ ms) = next_ticket (n + 1) ms
@@ -38,8 +39,8 @@ next_ticket n (m ∷ ms) = next_ticket (n + 1) ms
 abbrev pub NoneIsTo : List (ℕ × Reply) → ℕ → Type 0
 NoneIsTo replies ticket = (reply : Reply) → Contains replies (ticket, reply) → ⊥
 
--- This is known of the line of a message, or of none. Its ticket is n, if it takes one, and the reply to it is among these; or, where the
--- line is not completed, none of them is to it.
+-- `Line` states rightly what is known of a line with this message, or with none. If the message takes a ticket, that is n; if its answer is
+-- known, it is among `replies`; if the line is pending, none of them is to its ticket.
 abbrev pub IsKnown : Geometry → List (ℕ × Reply) → ℕ → Option Msg → Line → Type 0
 IsKnown g replies n None NoMessage = Unit {0}
 IsKnown g replies n (Some m) OutOfRange = is_in_range g m ≡ false
@@ -47,7 +48,7 @@ IsKnown g replies n (Some m) (Pending ticket) = (is_in_range g m ≡ true) × (t
 IsKnown g replies n (Some m) (Completed ticket reply) = (is_in_range g m ≡ true) × (ticket ≡ n) × Contains replies (ticket, reply)
 IsKnown g replies n _ _ = ⊥
 
--- This is known of the lines. The first of them that takes a ticket takes n, and each further one the next.
+-- `IsKnown` holds of each of the lines. The first of them that takes a ticket takes n, and each further one the next.
 abbrev pub AreKnown : Geometry → List (ℕ × Reply) → ℕ → List (List ℕ) → List Line → Type 0
 AreKnown g replies n [] [] = Unit {0}
 AreKnown g replies n (line ∷ ls) (known ∷ rest) =

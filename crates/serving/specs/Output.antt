@@ -13,9 +13,9 @@ use Rattle.messages.specs.declared.Reply.TheVariants.{Refused}
 use Rattle.meaning.specs.Output.{joined}
 use Rattle.scheduler.specs.CoreView.{CoreView, core_state_of}
 use Rattle.serving.specs.Ends.{AreFirst, HasServed, committed_in}
-use Rattle.serving.specs.Lines.{Completed, AreCompleted, Line, Pending, admitted, text, ticketed}
-use Rattle.serving.specs.Runs.{with_lent}
-use Rattle.serving.specs.Logged.{AreInLog, HoldsLog}
+use Rattle.serving.specs.Lines.{Completed, HaveAnswers, Line, Pending, admitted, answer_text, ticketed}
+use Rattle.serving.specs.Runs.{machine_with_jobs}
+use Rattle.serving.specs.Logged.{AreInHistory, RecoversToHistory}
 
 -- where the call of a server begins: its core, how many jobs may be lent at once, its input, and what was sent before
 pub record Start : Type 0 where
@@ -24,21 +24,22 @@ pub record Start : Type 0 where
   pub input : Option (List ℕ)
   pub before : Option (List ℕ)
 
--- the core, of which nothing is lent
+-- the machine at the start: the core, with no job lent at any place
 abbrev pub start_machine : Start → MachineView
-start_machine s = with_lent s.core (replicate s.places None)
+start_machine s = machine_with_jobs s.core (replicate s.places None)
 
--- What was sent since the start is on a device of these bytes. It is lines for the first lines of the input; each that took a ticket is
--- in a log with that reply; and the bytes recover to where the log leads from the state at the start, perhaps with more of the messages
--- that arrived. They are not refused.
+-- A device of these bytes holds what was sent since the start: a line for each of the first lines of the input. Each message of them that
+-- took a ticket is in a history, with the reply that was sent. The bytes recover to the state to which the changes of that history lead
+-- from the one at the start, perhaps with more of the messages that arrived; and they are not refused.
 pub record HoldsSent (s : Start) (sent : Option (List ℕ)) (bytes : List ℕ) : Type 0 where
-  pub taken : List (List ℕ)
-  pub first : AreFirst s.input taken
+  pub consumed : List (List ℕ)
+  pub first : AreFirst s.input consumed
   pub lines : List (List ℕ)
   pub output : Appends s.before sent (joined lines)
-  pub log : List Replied
-  pub kept : AreInLog s.core.geometry log s.core.next taken lines
-  pub holds : HoldsLog s.core.geometry (committed_in s.core) (ticketed s.core.next (admitted s.core.geometry taken)) log bytes
+  pub history : List Replied
+  pub kept : AreInHistory s.core.geometry history s.core.next consumed lines
+  pub holds : RecoversToHistory s.core.geometry (committed_in s.core) (ticketed s.core.next (admitted s.core.geometry consumed)) history
+      bytes
   pub header : HasHeader s.core.geometry bytes
   pub not_refused : refused s.core.geometry bytes ≡ None
 
@@ -52,8 +53,8 @@ pub record MaySendFrom (keeps : Type 0) (s : Start) (sent : Option (List ℕ)) (
   pub next : List Line
   pub rest : List Line
   pub served : HasServed keeps (start_machine s) now (next ++ rest) s.input s.before sent
-  pub are_completed : AreCompleted next
-  pub bytes_are : bytes ≡ joined (map text next)
+  pub have_answers : HaveAnswers next
+  pub bytes_are : bytes ≡ joined (map answer_text next)
 
 -- Before a call has begun there is no start, and nothing may be sent.
 abbrev pub MaySend : Type 0 → Option Start → Option (List ℕ) → CoreView → List ℕ → Type 0
@@ -65,7 +66,7 @@ abbrev pub SendsNoReply : List ℕ → Type 0
 SendsNoReply bytes = (ls : List (List ℕ)) × (bytes ≡ joined ls)
     × AllByRecursion (λ line. (line ≡ no_message) ⊎ (line ≡ reply_line (Refused Range))) ls
 
--- a line that is completed without a reply to a message: it is none, or one that is out of range
+-- a line that is answered without a reply to a message: it is none, or one that is out of range
 abbrev pub HasNoReply : Line → Type 0
 HasNoReply (Pending ticket) = ⊥
 HasNoReply (Completed ticket reply) = ⊥

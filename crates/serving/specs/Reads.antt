@@ -8,23 +8,23 @@ use Rattle.runs.specs.Machine.{MachineView}
 use Rattle.messages.specs.declared.Msg.{Msg}
 use Rattle.scheduler.specs.CoreView.{core_state_of}
 use Rattle.serving.specs.Lines.{IsKnown, Line, admitted_in, ticketed}
-use Rattle.serving.specs.Runs.{Holds, IsInternal, RunsBetween}
+use Rattle.serving.specs.Runs.{HandsHaveJobs, IsInternal, RunsBetween}
 use Rattle.serving.specs.declared.session.ReadEnd.{ReadEnd}
 use Rattle.serving.specs.declared.session.ReadEnd.TheVariants as ends_of_reading
 
 -- A line of this message, or of none, is consumed: the message arrives, if it takes a ticket, and this is known of the line.
 pub record IsTaken (keeps : Type 0) (old new : MachineView) (m : Option Msg) (known : Line) : Type 0 where
-  pub holds : Holds new
-  pub passes : RunsBetween keeps old new (ticketed old.core.next (admitted_in old.core.geometry m)) []
+  pub holds : HandsHaveJobs new
+  pub segment : RunsBetween keeps old new (ticketed old.core.next (admitted_in old.core.geometry m)) []
   pub is_known : IsKnown old.core.geometry [] old.core.next m known
 
--- The message is refused for this reason. That it is out of range is none: it is known of its line.
+-- The core refuses the message for this reason, which isn't that it is out of range: a line out of range is consumed.
 pub record IsRefusedLine (keeps : Type 0) (old new : MachineView) (m : Msg) (why : ArriveRefusal) : Type 0 where
   pub quiet : IsInternal keeps old new
   pub refused : (arrive old.core.geometry (core_state_of old.core) m).0 ≡ ArriveRefused why
   pub not_range : why ≢ arrivals.Range
 
--- why no more is read where a message is refused so
+-- why no more is read, by the reason for which the core refused a message
 abbrev pub read_end_of : ArriveRefusal → ReadEnd
 read_end_of arrivals.Exhausted = ends_of_reading.TicketsExhausted
 read_end_of _ = ends_of_reading.DeviceFailed
@@ -33,6 +33,6 @@ read_end_of _ = ends_of_reading.DeviceFailed
 -- is read, and the reorder buffer is the same.
 abbrev pub TakesLine : Type 0 → MachineView → List Line → MachineView → List Line → Option Msg → Result (Unit {0}) ReadEnd → Type 0
 TakesLine keeps old lines new new_lines m (Ok _) = (known : Line) × IsTaken keeps old new m known × (new_lines ≡ lines ++ known ∷ [])
-TakesLine keeps old lines new new_lines m (Err stop) =
-    (refused : Msg) × (why : ArriveRefusal) × (m ≡ Some refused) × IsRefusedLine keeps old new refused why × (stop ≡ read_end_of why)
+TakesLine keeps old lines new new_lines m (Err read_end) =
+    (refused : Msg) × (why : ArriveRefusal) × (m ≡ Some refused) × IsRefusedLine keeps old new refused why × (read_end ≡ read_end_of why)
     × (new_lines ≡ lines)

@@ -6,14 +6,14 @@ use Rattle.affinity.specs.declared.geometry.Geometry.{Geometry}
 use Rattle.checkpoint.specs.Recovery.{recovered_state}
 use Rattle.messages.specs.Grammar.{message_of}
 use Rattle.messages.specs.Lines.{lines}
-use Rattle.messages.specs.Messages.{is_in_range, place}
+use Rattle.messages.specs.Messages.{is_in_range, path_of}
 use Rattle.messages.specs.declared.Msg.{Msg}
 use Rattle.meaning.specs.Output.{WritesOutput, joined, output_lines, state_after_lines}
 use Rattle.meaning.specs.State.{State}
 
 -- Two lines are related if the messages that they encode are in range, at related places.
 abbrev pub are_related_lines : Geometry → Option Msg → Option Msg → Bool
-are_related_lines g (Some m) (Some n) = is_in_range g m && is_in_range g n && are_related (place g m) (place g n)
+are_related_lines g (Some m) (Some n) = is_in_range g m && is_in_range g n && are_related (path_of g m) (path_of g n)
 are_related_lines g _ _ = false
 
 -- The part has some of the lines, in their order. Where a line is left out, so is each related one after it.
@@ -33,8 +33,9 @@ pub record RecoversTo (g : Geometry) (start now : State) (input written : List �
   pub closed : IsClosedPart g part unacknowledged
   pub state : now ≡ state_after_lines g start (acknowledged ++ part)
 
--- These bytes recover to a state. Where the input is known, `RecoversTo` holds of that state, for a server that began in `start`.
-pub record BytesRecover (g : Geometry) (start : State) (input before written : Option (List ℕ)) (bytes : List ℕ) : Type 0 where
+-- These bytes recover to a state. Where the input is known, `RecoversTo` holds of that state, for a server that began in `start`, and of
+-- what was added to the output: `before` and `after` are what it held before and after the run.
+pub record BytesRecover (g : Geometry) (start : State) (input before after : Option (List ℕ)) (bytes : List ℕ) : Type 0 where
   pub now : State
   pub holds_now : recovered_state g bytes ≡ Some now
-  pub recovers : WritesOutput input before written (RecoversTo g start now)
+  pub recovers : WritesOutput input before after (RecoversTo g start now)

@@ -1,10 +1,10 @@
 -- Statement for operators: A segment of a server's run: its machine, which is the core with what is lent, before and after, and what a
 -- crash meanwhile may leave.
 use Rattle.std.specs.Prelude.{◌≡◌, ◌+◌, ℕ, List, [], map, length, count_by, Option, Some, None}
-use Rattle.legal_runs.specs.Runs.{IsLegal, answered, arrived, last}
+use Rattle.legal_runs.specs.Runs.{IsLegal, answered, arrived, end_state}
 use Rattle.legal_runs.specs.CoreState.{Entry, CoreState, held}
 use Rattle.runs.specs.Machine.{MachineView, HoldsJobs, machine_of}
-use Rattle.runs.specs.Stages.{AreSafe, Stage, device_after, events_of}
+use Rattle.runs.specs.DeviceEvents.{AreSafe, DeviceEvent, device_after, events_of}
 use Rattle.runs.specs.declared.hands.Holding.{Holding}
 use Rattle.runs.specs.declared.hands.Holding.TheVariants as has
 use Rattle.messages.specs.declared.Reply.{Reply}
@@ -18,37 +18,38 @@ abbrev pub lent_hand : Option JobView → Holding
 lent_hand None = has.Empty
 lent_hand (Some job) = has.Job job
 
-abbrev pub with_lent : CoreView → List (Option JobView) → MachineView
-with_lent core lent = record { core = core; hands = map lent_hand lent }
+-- the machine of this core and the jobs lent at the places: each place is a hand
+abbrev pub machine_with_jobs : CoreView → List (Option JobView) → MachineView
+machine_with_jobs core lent = record { core = core; hands = map lent_hand lent }
 
 -- ---- a segment of a run
 
--- how many messages wait or are held
-abbrev pub inside : CoreState → ℕ
-inside w = length w.waiting + length (held w)
+-- how many messages the core has: they wait or are held
+abbrev pub unanswered : CoreState → ℕ
+unanswered w = length w.waiting + length (held w)
 
 -- From one machine to the other there is a legal run, in which these messages arrive and these are answered: its events, each with
 -- the device as it left it.
-pub record RunsBetween (keeps : Type 0) (old new : MachineView) (come : List Entry) (reply_pairs : List (ℕ × Reply)) : Type 0 where
-  pub stages : List Stage
-  pub legal : IsLegal old.core.geometry (machine_of old) (events_of stages)
-  pub ends : last (machine_of old) (events_of stages) ≡ machine_of new
+pub record RunsBetween (keeps : Type 0) (old new : MachineView) (arriving : List Entry) (reply_pairs : List (ℕ × Reply)) : Type 0 where
+  pub device_events : List DeviceEvent
+  pub legal : IsLegal old.core.geometry (machine_of old) (events_of device_events)
+  pub ends : end_state (machine_of old) (events_of device_events) ≡ machine_of new
   pub geometry : new.core.geometry ≡ old.core.geometry
-  pub come_are : arrived (events_of stages) ≡ come
-  pub reply_pairs_are : answered (events_of stages) ≡ reply_pairs
-  pub device : device_after old.core.medium stages ≡ new.core.medium
+  pub arrived_are : arrived (events_of device_events) ≡ arriving
+  pub reply_pairs_are : answered (events_of device_events) ≡ reply_pairs
+  pub device : device_after old.core.medium device_events ≡ new.core.medium
   -- the device failed as often as the events say
-  pub failures : new.core.medium.faults ≡ old.core.medium.faults + count_by (λ e. e.device_failed) (events_of stages)
+  pub failures : new.core.medium.faults ≡ old.core.medium.faults + count_by (λ e. e.device_failed) (events_of device_events)
   -- what a crash leaves at each crash point of each event
-  pub any_moment : keeps → AreSafe old.core.geometry (machine_of old) old.core.medium stages
+  pub any_moment : keeps → AreSafe old.core.geometry (machine_of old) old.core.medium device_events
 
 -- ---- what the hands have
 
 -- Each hand that isn't empty has the job of a message in flight, or its result; each message in one hand.
-abbrev pub Holds : MachineView → Type 0
-Holds m = HoldsJobs m.core.geometry (core_state_of m.core) m.hands
+abbrev pub HandsHaveJobs : MachineView → Type 0
+HandsHaveJobs m = HoldsJobs m.core.geometry (core_state_of m.core) m.hands
 
--- A segment of a run in which no message arrives and none is answered, and at whose end the hands have what they should.
+-- A segment of a run in which no message arrives and none is answered; at its end `HandsHaveJobs` is true.
 pub record IsInternal (keeps : Type 0) (old new : MachineView) : Type 0 where
-  pub holds : Holds new
-  pub passes : RunsBetween keeps old new [] []
+  pub holds : HandsHaveJobs new
+  pub segment : RunsBetween keeps old new [] []

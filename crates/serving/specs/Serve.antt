@@ -1,14 +1,14 @@
 -- Statement for operators: What a server promises of its whole call, by its result.
 use Rattle.std.specs.Prelude.{◌≡◌, ◌≢◌, ℕ, false, List, [], Option, Some, None, Result, Ok, Err, OnOk, replicate}
 use Rattle.runs.specs.Machine.{MachineView}
-use Rattle.runs.specs.Stages.{Stage}
+use Rattle.runs.specs.DeviceEvents.{DeviceEvent}
 use Rattle.messages.specs.Lines.{lines}
 use Rattle.device_map.specs.Layout.{layout_of}
 use Rattle.oplog.specs.Recovery.{in_force, named_area}
 use Rattle.scheduler.specs.CoreView.{CoreView}
 use Rattle.serving.specs.Ends.{EndsWith, HasRunLines, HasServed}
 use Rattle.serving.specs.Lines.{Line}
-use Rattle.serving.specs.Runs.{with_lent}
+use Rattle.serving.specs.Runs.{machine_with_jobs}
 use Rattle.reorder_buffer.specs.ReorderBuffer.{can_retire}
 use Rattle.serving.specs.declared.server.ServeError.{ServeError}
 use Rattle.serving.specs.declared.server.ServeFault.{ServeFault}
@@ -16,23 +16,23 @@ use Rattle.serving.specs.declared.server.ServeFault.TheVariants as faults
 
 -- the lines are all of the input, where it is known
 abbrev pub AreAll : Option (List ℕ) → List (List ℕ) → Type 0
-AreAll None taken = Unit {0}
-AreAll (Some input) taken = lines input ≡ taken
+AreAll None consumed = Unit {0}
+AreAll (Some input) consumed = lines input ≡ consumed
 
 -- A run led to what was written, and each line of the input is answered in the output.
 pub record HasServedAll (keeps : Type 0) (start : MachineView) (new : CoreView) (input before written : Option (List ℕ)) : Type 0 where
   pub served : HasServed keeps start new [] input before written
-  pub all : AreAll input served.taken
+  pub all : AreAll input served.consumed
 
 -- A run led to what was written. Each line that was consumed is answered in the output, but for the last ones where the device
--- failed, the first of which is not completed. Where the output failed it is unknown what was written.
+-- failed: the first of these has no reply yet. Where the output failed it is unknown what was written.
 abbrev pub HasRunWith : Type 0 → MachineView → CoreView → Option (List ℕ) → Option (List ℕ) → Option (List ℕ)
     → Result (Unit {0}) ServeFault → Type 0
 HasRunWith keeps start new input before written (Ok _) = HasServedAll keeps start new input before written
 HasRunWith keeps start new input before written (Err faults.Device) =
     (unsent : List Line) × HasServed keeps start new unsent input before written × (can_retire unsent ≡ false)
 HasRunWith keeps start new input before written (Err faults.Write) =
-    (taken : List (List ℕ)) × (stages : List Stage) × HasRunLines keeps start new input taken stages
+    (consumed : List (List ℕ)) × (device_events : List DeviceEvent) × HasRunLines keeps start new input consumed device_events
 HasRunWith keeps start new input before written (Err _) = HasServed keeps start new [] input before written
 
 -- It ends with `NoWorkers` exactly where there are none.
@@ -57,9 +57,9 @@ handed_back (Err e) = (e.core, Err e.fault)
 -- What a server promises of its whole call, from the core that it was given to what it hands back.
 pub record ServePromise (keeps : Type 0) (workers : ℕ) (old : CoreView) (back : CoreView × Result (Unit {0}) ServeFault)
     (input remaining before written : Option (List ℕ)) : Type 0 where
-  -- a run led to what was written, with a place for each worker
-  pub run : HasRunWith keeps (with_lent old (replicate workers None)) back.0 input before written back.1
-  -- core, input and output are as this end says
+  -- a run led to what was written, from the given core with an empty hand for each worker
+  pub run : HasRunWith keeps (machine_with_jobs old (replicate workers None)) back.0 input before written back.1
+  -- core, input and output are as `EndsWith` says for this result
   pub ends : EndsWith old back.0 input remaining before written back.1
   pub no_workers : FailsWithoutWorkers workers back.1
   -- at the end of the input no record is in force

@@ -17,31 +17,33 @@ use std::io::Read;
 pub(crate) struct CheckpointTrigger {
     /// After how many records one is due; 0: only where the log has no room.
     every: u64,
-    /// How many records were logged since the last one began.
-    since: u64,
+    /// Of the messages answered since the last checkpoint began: how many have a record in the log.
+    logged_since: u64,
 }
 
 impl CheckpointTrigger {
     /// One in which nothing was logged yet.
     pub(crate) fn new(every: u64) -> CheckpointTrigger {
-        CheckpointTrigger { every, since: 0 }
-    }
-
-    /// Counts a message with this reply, if it changed something, and so was logged.
-    pub(crate) fn count(&mut self, reply: &Reply) {
-        if matches!(reply, Reply::Done) {
-            self.since = self.since.saturating_add(1);
+        CheckpointTrigger {
+            every,
+            logged_since: 0,
         }
     }
 
-    /// Takes the core's answer to `cut`: a checkpoint has begun; or (`Held`) one will, once no message is in progress; else the device has
-    /// failed.
+    /// Counts a message with this reply, if it was a change that was carried out: it has a record in the log.
+    pub(crate) fn count(&mut self, reply: &Reply) {
+        if matches!(reply, Reply::Done) {
+            self.logged_since = self.logged_since.saturating_add(1);
+        }
+    }
+
+    /// Takes the result of `cut`: a checkpoint has begun; or (`Held`) one will, once no message is in progress; else the device has failed.
     fn note_cut(&mut self, cut: Result<(), PointRefusal>) -> Result<(), Halted>
         ensures { BeginsOrWaits cut result }
     {
         match cut {
             Ok(()) => {
-                self.since = 0;
+                self.logged_since = 0;
                 Ok(())
             }
             Err(PointRefusal::Held) => Ok(()),
@@ -49,26 +51,27 @@ impl CheckpointTrigger {
         }
     }
 
-    /// Whether a checkpoint is due by the record count. None is while one is in progress (`left` is its number of unwritten pieces).
-    pub(crate) fn is_due(&self, left: Option<usize>) -> bool {
-        left.is_none() && self.every != 0 && self.since >= self.every
+    /// Whether a checkpoint is due by the record count. None is while one is in progress (`pieces_left` is its number of unwritten pieces).
+    pub(crate) fn is_due(&self, pieces_left: Option<usize>) -> bool {
+        pieces_left.is_none() && self.every != 0 && self.logged_since >= self.every
     }
 }
 
 impl<'c, R: Read, D: Disk, L: ReplySink<D>> Session<'c, R, D, L> {
-    /// Takes the checkpoint in progress a step on, if there is one: to its next piece or, where all are written, to its end. Whether there
-    /// was one.
+    /// Takes the checkpoint in progress a step on, if there is one: to its next piece or, where all are written, to its end. Returns
+    /// whether there was one.
     pub(crate) fn advance_checkpoint(&mut self) -> Result<bool, Halted>
-        ensures moves { IsSessionStep self.old self.new result }
+        ensures session_step { IsSessionStep self.old self.new result }
         ensures same { (self.new.reorder_buffer ≡ self.old.reorder_buffer) × (self.new.reply_buffer ≡ self.old.reply_buffer)
             × (self.new.core.logged ≡ self.old.core.logged) }
-        ensures step { IfOk result (λ moved. MatchBool moved (steps_left self.new.core.left + 1 ≡ steps_left self.old.core.left)
-            (self.new.core.left ≡ None)) }
+        ensures step { IfOk result
+            (λ moved. MatchBool moved (steps_left self.new.core.pieces_left + 1 ≡ steps_left self.old.core.pieces_left)
+            (self.new.core.pieces_left ≡ None)) }
     {
-        let Some(left) = self.core.left() else {
+        let Some(pieces_left) = self.core.pieces_left() else {
             return Ok(false);
         };
-        if left == 0 {
+        if pieces_left == 0 {
             return match self.core.flip() {
                 Ok(()) => Ok(true),
                 Err(_) => Err(Halted),
@@ -80,25 +83,25 @@ impl<'c, R: Read, D: Disk, L: ReplySink<D>> Session<'c, R, D, L> {
         }
     }
 
-    /// Begins a checkpoint, where none is in progress: it begins unless a message is held.
+    /// Begins a checkpoint if no message is held, else does nothing. No checkpoint may be in progress.
     pub(crate) fn begin_checkpoint(&mut self) -> Result<(), Halted>
-        requires none { self.old.core.left ≡ None }
-        ensures moves { IsSessionStep self.old self.new result }
-        ensures begun { OnOk result (held (core_state_of self.new.core) ≡ [] → (n : ℕ) × (self.new.core.left ≡ Some n)) }
+        requires none { self.old.core.pieces_left ≡ None }
+        ensures session_step { IsSessionStep self.old self.new result }
+        ensures begun { OnOk result (held (core_state_of self.new.core) ≡ [] → (n : ℕ) × (self.new.core.pieces_left ≡ Some n)) }
     {
         let cut = self.core.cut();
         self.trigger.note_cut(cut)
     }
 
     /// Where no job is in flight and no message may be dispatched or read: takes the checkpoint in progress a step on, or begins one where
-    /// it is due or a message lacks only room in the log. Whether it did either.
-    pub(crate) fn step_checkpoint(&mut self, lacks_room: bool) -> Result<bool, Halted>
-        ensures moves { IsSessionStep self.old self.new result }
+    /// it is due or a message lacks only room in the log. Returns whether it did either.
+    pub(crate) fn advance_or_begin_checkpoint(&mut self, lacks_room: bool) -> Result<bool, Halted>
+        ensures session_step { IsSessionStep self.old self.new result }
     {
         if self.advance_checkpoint()? {
             return Ok(true);
         }
-        if lacks_room || self.trigger.is_due(self.core.left()) {
+        if lacks_room || self.trigger.is_due(self.core.pieces_left()) {
             self.begin_checkpoint()?;
             return Ok(true);
         }

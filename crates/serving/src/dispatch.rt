@@ -3,8 +3,8 @@
 
 ghost use Rattle.std.specs.Prelude.{◌≡◌, ◌<◌, ◌≤◌, ◌-◌, ◌↔◌, IsTrue, OnErr, OnOk, Some, [], None, false, is_none, length, position, true};
 ghost use Rattle.scheduler.specs.CoreView.{core_state_of};
-ghost use Rattle.serving.specs.Lending.{DispatchesTo, IsEndOfDispatch, NoneInFlight, Lends};
-ghost use Rattle.serving.specs.Session.{KeepsStopAndOutputFailed, IsSessionStep};
+ghost use Rattle.serving.specs.Lending.{DispatchesTo, IsEndOfDispatch, NoneInFlight, OffersGranted};
+ghost use Rattle.serving.specs.Session.{KeepsReadEndAndOutputFailed, IsSessionStep};
 
 use crate::gated_runtime::GatedRuntime;
 use crate::output::ReplySink;
@@ -21,9 +21,9 @@ use workers::{Bench, DispatchSeat};
 /// their gates.
 const BATCH: usize = 64;
 
-/// After how many polls of all places in succession without a result the batch is logged as it is. They take about ten times as long as a
-/// thread takes to wake up. The count begins anew with each result, so a reply may wait for that many polls before each further result of
-/// its batch.
+/// So many polls of all places in a row without a result end the batch: it is logged as it is. They take about ten times as long as a
+/// thread takes to wake up. The count begins anew with each result, so a reply may wait for up to that many polls for each later result
+/// of its batch.
 const MAX_POLLS: usize = 16384;
 
 /// The thread yields the processor once in this many polls.
@@ -103,7 +103,7 @@ fn offer_granted(
     requires place { k < bench.now.slots }
     requires first { position is_none dispatch_seat.old.lent ≡ Some k }
     ensures bench { dispatch_seat.new.bench ≡ dispatch_seat.old.bench }
-    ensures lends { Lends k dispatch_seat.old.lent granted dispatch_seat.new.lent result }
+    ensures lends { OffersGranted k dispatch_seat.old.lent granted dispatch_seat.new.lent result }
 {
     match granted {
         Granted::Job(job) => match bench.offer(dispatch_seat, k, job) {
@@ -129,9 +129,9 @@ impl<'c, R: Read, D: Disk, L: ReplySink<D>> Session<'c, R, D, L> {
     /// Dispatches the eligible message with the least ticket to place k, the first free one.
     fn dispatch_to(&mut self, k: usize) -> Dispatched
         requires first { position is_none self.old.dispatch_seat.lent ≡ Some k }
-        ensures as_before { KeepsStopAndOutputFailed self.old self.new }
+        ensures as_before { KeepsReadEndAndOutputFailed self.old self.new }
         ensures geometry { self.new.core.geometry ≡ self.old.core.geometry }
-        ensures goes { DispatchesTo self.old.core.geometry k (core_state_of self.old.core) self.old.dispatch_seat.lent
+        ensures dispatches { DispatchesTo self.old.core.geometry k (core_state_of self.old.core) self.old.dispatch_seat.lent
             (core_state_of self.new.core) self.new.dispatch_seat.lent result }
     {
         self.core.know_recovery();
@@ -142,7 +142,7 @@ impl<'c, R: Read, D: Disk, L: ReplySink<D>> Session<'c, R, D, L> {
     /// Dispatches eligible messages, the one with the least ticket first, until no place is free or no further one can be dispatched.
     /// Returns why it ended: `Dispatched::Job` means that no place is free.
     fn dispatch_all(&mut self) -> Dispatched
-        ensures as_before { KeepsStopAndOutputFailed self.old self.new }
+        ensures as_before { KeepsReadEndAndOutputFailed self.old self.new }
         ensures ended { IsEndOfDispatch self.new.core.geometry (core_state_of self.new.core) self.new.dispatch_seat.lent result }
     {
         while let Some(k) = self.dispatch_seat.first_free() {
@@ -157,15 +157,16 @@ impl<'c, R: Read, D: Disk, L: ReplySink<D>> Session<'c, R, D, L> {
     /// Dispatches messages, unless a checkpoint is due by the record count. Returns whether it ended because no message was eligible and
     /// some message lacked only room in the log. Where the device has failed, none is dispatched: the next call of `log` reports that.
     fn dispatch_ready(&mut self) -> bool
-        ensures as_before { KeepsStopAndOutputFailed self.old self.new }
+        ensures as_before { KeepsReadEndAndOutputFailed self.old self.new }
     {
-        !self.trigger.is_due(self.core.left()) && matches!(self.dispatch_all(), Dispatched::NoRoom)
+        !self.trigger.is_due(self.core.pieces_left())
+            && matches!(self.dispatch_all(), Dispatched::NoRoom)
     }
 
     /// Collects the result of the job at place k, if it was delivered. Returns whether the job changed something.
     fn collect_one(&mut self, k: usize) -> Option<bool>
         requires place { k < length self.old.dispatch_seat.lent }
-        ensures as_before { KeepsStopAndOutputFailed self.old self.new }
+        ensures as_before { KeepsReadEndAndOutputFailed self.old self.new }
         ensures places { length self.new.dispatch_seat.lent ≡ length self.old.dispatch_seat.lent }
         ensures failed { self.new.core.failed ≡ self.old.core.failed }
     {
@@ -180,7 +181,7 @@ impl<'c, R: Read, D: Disk, L: ReplySink<D>> Session<'c, R, D, L> {
 
     /// Polls each place once, and collects the results that were delivered, until the batch is full. Returns whether there was one.
     fn collect_delivered(&mut self, batch: &mut Batch) -> bool
-        ensures as_before { KeepsStopAndOutputFailed self.old self.new }
+        ensures as_before { KeepsReadEndAndOutputFailed self.old self.new }
         ensures failed { self.new.core.failed ≡ self.old.core.failed }
         ensures budget { batch.new.budget ≤ batch.old.budget }
         ensures less { IsTrue result → batch.new.budget < batch.old.budget }
@@ -199,7 +200,7 @@ impl<'c, R: Read, D: Disk, L: ReplySink<D>> Session<'c, R, D, L> {
 
     /// Waits for the jobs in flight, and collects their results. Then no job is in flight.
     pub(crate) fn drain_workers<W: GatedRuntime>(&mut self, rt: &W)
-        ensures as_before { KeepsStopAndOutputFailed self.old self.new }
+        ensures as_before { KeepsReadEndAndOutputFailed self.old self.new }
         ensures failed { self.new.core.failed ≡ self.old.core.failed }
         ensures none_in_flight { NoneInFlight self.new.dispatch_seat.lent }
     {
@@ -217,7 +218,7 @@ impl<'c, R: Read, D: Disk, L: ReplySink<D>> Session<'c, R, D, L> {
     /// Dispatches messages and collects results, until the batch is ready to log (`is_ready_to_log`), no job is in flight any more, or
     /// `MAX_POLLS` polls in succession found no result. After a poll that found some, it dispatches more messages. It never blocks.
     fn dispatch_and_collect(&mut self) -> Batch
-        ensures as_before { KeepsStopAndOutputFailed self.old self.new }
+        ensures as_before { KeepsReadEndAndOutputFailed self.old self.new }
     {
         let lacks_room = self.dispatch_ready();
         let mut batch = Batch::new(lacks_room);
@@ -236,10 +237,10 @@ impl<'c, R: Read, D: Disk, L: ReplySink<D>> Session<'c, R, D, L> {
 
     /// Logs all that ran, by one call of `log`. Where nothing ran, it only reports whether the device has failed.
     pub(crate) fn log_what_ran(&mut self) -> Result<usize, Halted>
-        ensures moves { IsSessionStep self.old self.new result }
+        ensures session_step { IsSessionStep self.old self.new result }
         ensures same { (self.new.reorder_buffer ≡ self.old.reorder_buffer) × (self.new.reply_buffer ≡ self.old.reply_buffer)
             × (self.new.dispatch_seat ≡ self.old.dispatch_seat) }
-        ensures left { self.new.core.left ≡ self.old.core.left }
+        ensures pieces_left { self.new.core.pieces_left ≡ self.old.core.pieces_left }
         ensures works { OnOk result ((self.old.core.failed ≡ false) × (self.new.core.failed ≡ false)) }
         ensures logged { OnOk result (self.new.core.ran ≡ []) }
         ensures failed { OnErr result (self.new.core.failed ≡ true) }
@@ -251,7 +252,7 @@ impl<'c, R: Read, D: Disk, L: ReplySink<D>> Session<'c, R, D, L> {
     /// Logs what ran in one go, answers it, and retires the lines that are next in order. A checkpoint in progress goes on by one step
     /// after each answer.
     fn log_and_reply<W: GatedRuntime>(&mut self, rt: &W) -> Result<(), Halted>
-        ensures moves { IsSessionStep self.old self.new result }
+        ensures session_step { IsSessionStep self.old self.new result }
     {
         self.log_what_ran()?;
         while self.answer_first(rt) {
@@ -272,13 +273,13 @@ impl<'c, R: Read, D: Disk, L: ReplySink<D>> Session<'c, R, D, L> {
     }
 
     /// Where nothing was read or collected, or the session has caught up: sends the answers that wait. If a buffered line may then be read,
-    /// it returns. Else, if a job is in flight, it waits for a result; if none is, it calls `step_checkpoint`.
+    /// it returns. Else, if a job is in flight, it waits for a result; if none is, it calls `advance_or_begin_checkpoint`.
     fn flush_or_wait<W: GatedRuntime>(
         &mut self,
         rt: &W,
         lacks_room: bool,
     ) -> Result<Activity, Halted>
-        ensures moves { IsSessionStep self.old self.new result }
+        ensures session_step { IsSessionStep self.old self.new result }
     {
         self.flush_replies()?;
         if self.can_read() {
@@ -288,7 +289,7 @@ impl<'c, R: Read, D: Disk, L: ReplySink<D>> Session<'c, R, D, L> {
             self.bench.wait(rt, &mut self.dispatch_seat);
             return Ok(Activity::Busy);
         }
-        let stepped = self.step_checkpoint(lacks_room)?;
+        let stepped = self.advance_or_begin_checkpoint(lacks_room)?;
         Ok(if stepped {
             Activity::Busy
         } else {
@@ -298,7 +299,7 @@ impl<'c, R: Read, D: Disk, L: ReplySink<D>> Session<'c, R, D, L> {
 
     /// Whether reading goes on, each line that was read is retired, and none is buffered: the client may wait for what is to be sent.
     fn has_caught_up(&self) -> bool {
-        self.stop.is_none() && self.reorder_buffer.len() == 0 && !self.line_reader.holds_line()
+        self.read_end.is_none() && self.reorder_buffer.len() == 0 && !self.line_reader.holds_line()
     }
 
     /// One iteration. If lines were just read or results came, it returns without waiting, unless the session has caught up
@@ -308,7 +309,7 @@ impl<'c, R: Read, D: Disk, L: ReplySink<D>> Session<'c, R, D, L> {
         rt: &W,
         read: Activity,
     ) -> Result<Activity, Halted>
-        ensures moves { IsSessionStep self.old self.new result }
+        ensures session_step { IsSessionStep self.old self.new result }
     {
         let batch = self.dispatch_and_collect();
         self.log_and_reply(rt)?;

@@ -17,10 +17,10 @@ use std::sync::Wait;
 use workers::{DispatcherTask, Gate};
 
 /// What a server reports where no more was read for this reason; nothing, if there is none.
-fn reported_for(stop: Option<ReadEnd>) -> Result<(), ServeFault>
-    ensures { IfSome stop (λ why. result ≡ end_of why) }
+fn reported_for(read_end: Option<ReadEnd>) -> Result<(), ServeFault>
+    ensures { IfSome read_end (λ why. result ≡ end_of why) }
 {
-    match stop {
+    match read_end {
         Some(ReadEnd::EndOfInput) | None => Ok(()),
         Some(ReadEnd::ReadFailed) => Err(ServeFault::Read),
         Some(ReadEnd::TicketsExhausted) => Err(ServeFault::Exhausted),
@@ -31,7 +31,7 @@ fn reported_for(stop: Option<ReadEnd>) -> Result<(), ServeFault>
 impl<'c, R: Read, D: Disk, L: ReplySink<D>> Session<'c, R, D, L> {
     /// Ends where something has failed: jobs in flight are waited for and their results collected. What ran is logged, unless the
     /// device has failed; all that is logged is answered; and the lines next in order are still written, unless the output has
-    /// failed. Why the server ends then.
+    /// failed. Gives why the server ends.
     fn end_early<W: GatedRuntime>(&mut self, rt: &W) -> ServeFault
         requires halted { HasHalted self.old }
         ensures { EndsBy self.new (Err result) }
@@ -47,30 +47,32 @@ impl<'c, R: Read, D: Disk, L: ReplySink<D>> Session<'c, R, D, L> {
 
     /// Why the loop ends, once no more is read, each line that was read is retired, and no checkpoint is in progress.
     fn ended(&self) -> Option<ReadEnd>
-        ensures { IfSome result (λ stop. (self.now.stop ≡ Some stop) × (self.now.reorder_buffer.lines ≡ []) × (self.now.core.left ≡ None)) }
+        ensures { IfSome result
+            (λ read_end. (self.now.read_end ≡ Some read_end) × (self.now.reorder_buffer.lines ≡ []) × (self.now.core.pieces_left ≡ None)) }
     {
-        if self.reorder_buffer.len() == 0 && self.core.left().is_none() {
-            self.stop
+        if self.reorder_buffer.len() == 0 && self.core.pieces_left().is_none() {
+            self.read_end
         } else {
             None
         }
     }
 
-    /// Sends all that waits, and at the end of the input makes the last checkpoint: nothing waits or is held then, and the log is empty
-    /// after it. It halts where the device has failed.
-    fn finish(&mut self, stop: ReadEnd) -> Result<(), Halted>
+    /// Sends the answers in the reply buffer, and at the end of the input makes the last checkpoint: no message is in the core then, and
+    /// the log is empty after it. It halts where the device or the output has failed.
+    fn finish(&mut self, read_end: ReadEnd) -> Result<(), Halted>
         requires all_retired { self.old.reorder_buffer.lines ≡ [] }
-        requires none { self.old.core.left ≡ None }
-        ensures moves { IsSessionStep self.old self.new result }
+        requires none { self.old.core.pieces_left ≡ None }
+        ensures session_step { IsSessionStep self.old self.new result }
         ensures all { OnOk result ((self.new.reorder_buffer.lines ≡ []) × (self.new.reply_buffer ≡ []) × (self.new.output_failed ≡ false)) }
         ensures works { OnOk result (self.new.core.failed ≡ false) }
-        ensures emptied { OnOk result (stop ≡ ends_of_reading.EndOfInput → D.keeps → HasEmptyLog self.new.core) }
+        ensures emptied { OnOk result (read_end ≡ ends_of_reading.EndOfInput → D.keeps → HasEmptyLog self.new.core) }
     {
         if self.core.failed() {
             return Err(Halted);
         }
         self.flush_replies()?;
-        match stop {
+        // `DeviceFailed` doesn't come here: the test above has halted.
+        match read_end {
             ReadEnd::EndOfInput => or_halt(self.core.point()),
             ReadEnd::ReadFailed | ReadEnd::TicketsExhausted | ReadEnd::DeviceFailed => Ok(()),
         }
@@ -78,14 +80,14 @@ impl<'c, R: Read, D: Disk, L: ReplySink<D>> Session<'c, R, D, L> {
 
     /// Reads lines and answers them, until no more is read and the reply to each line that was read is sent.
     fn serve_lines<W: GatedRuntime>(&mut self, rt: &W) -> Result<(), Halted>
-        ensures served { MatchResult result (λ _. (stop : ReadEnd) × HasFinished D.keeps self.new stop) (λ _. HasHalted self.new) }
+        ensures served { MatchResult result (λ _. (read_end : ReadEnd) × HasFinished D.keeps self.new read_end) (λ _. HasHalted self.new) }
     {
         let mut last = Activity::Busy;
         for _ in rt.forever() {
             let read = self.read_more(last);
             let ended = self.ended();
-            if let Some(stop) = ended {
-                return self.finish(stop);
+            if let Some(read_end) = ended {
+                return self.finish(read_end);
             }
             last = self.advance(rt, read)?;
         }
@@ -109,7 +111,7 @@ impl<'c, R: Read, D: Disk, L: ReplySink<D>> DispatcherTask<Result<(), ServeFault
     fn run_task<T: Wait, G: Gate>(&mut self, rt: &T, gate: &G) -> Result<(), ServeFault> {
         let rt = &(rt, gate);
         match self.serve_lines(rt) {
-            Ok(()) => reported_for(self.stop),
+            Ok(()) => reported_for(self.read_end),
             Err(_) => Err(self.end_early(rt)),
         }
     }

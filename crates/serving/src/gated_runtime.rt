@@ -3,7 +3,7 @@
 use std::sync::Wait;
 use workers::Gate;
 
-/// A runtime with the gate that is notified of the jobs.
+/// A runtime, and the gate that is notified of each answered message.
 pub(crate) trait GatedRuntime: Wait {
     /// The message of this ticket was just answered.
     fn answered(&self, ticket: u64);

@@ -1,4 +1,4 @@
-//! Lines that are read: each is in the reorder buffer then, and its message in the core.
+//! Reading: takes each line into the reorder buffer, and its message into the core.
 
 ghost use Rattle.std.specs.Prelude.{◌≡◌, ◌<◌, ◌↔◌, ◌+◌, ◌++◌, List, [], ◌∷◌, IsTrue, None, OnErr, is_none, length};
 ghost use Rattle.messages.specs.Grammar.{message_of};
@@ -6,7 +6,7 @@ ghost use Rattle.runs.specs.declared.hands.Holding.{Holding};
 ghost use Rattle.serving.specs.Lines.{Pending};
 ghost use Rattle.serving.specs.Reads.{TakesLine};
 ghost use Rattle.reorder_buffer.specs.ReorderBuffer.{AreConsecutive, with_tickets};
-ghost use Rattle.serving.specs.Runs.{Holds};
+ghost use Rattle.serving.specs.Runs.{HandsHaveJobs};
 
 use crate::output::ReplySink;
 use crate::session::{Activity, ReadEnd, Session};
@@ -19,7 +19,7 @@ use std::io::Read;
 
 /// Takes the line of these bytes into the reorder buffer, and its message, if it is one in range, into the core; one out of range takes no
 /// ticket. `Err` is why no more is read: the core refuses the message for another reason, and the line isn't taken in. Where the reorder
-/// buffer has a place for the line, the core has a slot for its message.
+/// buffer has room for the line, the core has a slot for its message.
 fn take<D: Disk>(
     core: &mut Core<D>,
     reorder_buffer: &mut ReorderBuffer,
@@ -27,7 +27,7 @@ fn take<D: Disk>(
 ) -> Result<(), ReadEnd>
     requires room { length reorder_buffer.old.lines < reorder_buffer.old.slots }
     requires order { AreConsecutive (with_tickets reorder_buffer.old.lines ++ Pending core.old.next ∷ []) }
-    ensures takes { (hands : List Holding) → Holds (record { core = core.old; hands = hands })
+    ensures takes { (hands : List Holding) → HandsHaveJobs (record { core = core.old; hands = hands })
         → TakesLine D.keeps (record { core = core.old; hands = hands }) reorder_buffer.old.lines
         (record { core = core.new; hands = hands }) reorder_buffer.new.lines (message_of line.now) result }
     ensures slots { reorder_buffer.new.slots ≡ reorder_buffer.old.slots }
@@ -48,26 +48,26 @@ fn take<D: Disk>(
             Ok(())
         }
         Err(ArriveRefusal::Exhausted) => Err(ReadEnd::TicketsExhausted),
-        // The core has a slot wherever the reorder buffer has a place, so this is never the case.
+        // The core has a slot wherever the reorder buffer has room, so this is never the case.
         Err(ArriveRefusal::Full) => Err(ReadEnd::DeviceFailed),
         Err(ArriveRefusal::Failed) => Err(ReadEnd::DeviceFailed),
     }
 }
 
 /// Whether a further line may be read: reading has not ended, and fewer lines are outstanding than there are slots.
-fn may_read(stop: Option<ReadEnd>, outstanding: usize, slots: usize) -> bool
-    ensures { IsTrue result ↔ ((stop ≡ None) × (outstanding < slots)) }
+fn may_read(read_end: Option<ReadEnd>, outstanding: usize, slots: usize) -> bool
+    ensures { IsTrue result ↔ ((read_end ≡ None) × (outstanding < slots)) }
 {
-    stop.is_none() && outstanding < slots
+    read_end.is_none() && outstanding < slots
 }
 
 impl<'c, R: Read, D: Disk, L: ReplySink<D>> Session<'c, R, D, L> {
-    /// Reads the next line, if there is one, and takes it in: whether it did. Else no more is read, and `stop` says why. It is called while
-    /// fewer lines are outstanding than there are slots.
+    /// Reads the next line, if there is one, and takes it in. Returns whether it did: if not, no more is read, and `read_end` says why. It
+    /// is called while fewer lines are outstanding than there are slots.
     fn read_next(&mut self) -> bool
-        requires reads { self.old.stop ≡ None }
+        requires reads { self.old.read_end ≡ None }
         requires room { self.old.outstanding < self.old.reorder_buffer.slots }
-        ensures reads { result ≡ is_none self.new.stop }
+        ensures reads { result ≡ is_none self.new.read_end }
         ensures output_failed { self.new.output_failed ≡ self.old.output_failed }
         ensures slots { self.new.reorder_buffer.slots ≡ self.old.reorder_buffer.slots }
         ensures longer { IsTrue result → length self.new.reorder_buffer.lines ≡ length self.old.reorder_buffer.lines + 1 }
@@ -75,7 +75,7 @@ impl<'c, R: Read, D: Disk, L: ReplySink<D>> Session<'c, R, D, L> {
     {
         prove!(self.outstanding < self.reorder_buffer.slots());
         if self.line_reader.is_drained() {
-            self.stop = Some(ReadEnd::EndOfInput);
+            self.read_end = Some(ReadEnd::EndOfInput);
             return false;
         }
         match self.line_reader.next_line() {
@@ -88,8 +88,8 @@ impl<'c, R: Read, D: Disk, L: ReplySink<D>> Session<'c, R, D, L> {
                     self.outstanding += 1;
                     true
                 }
-                Err(stop) => {
-                    self.stop = Some(stop);
+                Err(read_end) => {
+                    self.read_end = Some(read_end);
                     false
                 }
             },
@@ -99,11 +99,11 @@ impl<'c, R: Read, D: Disk, L: ReplySink<D>> Session<'c, R, D, L> {
                 true
             }
             Ok(Found::End) => {
-                self.stop = Some(ReadEnd::EndOfInput);
+                self.read_end = Some(ReadEnd::EndOfInput);
                 false
             }
             Err(_) => {
-                self.stop = Some(ReadEnd::ReadFailed);
+                self.read_end = Some(ReadEnd::ReadFailed);
                 false
             }
         }
@@ -111,18 +111,18 @@ impl<'c, R: Read, D: Disk, L: ReplySink<D>> Session<'c, R, D, L> {
 
     /// Whether a line in the input buffer may be read.
     pub(crate) fn can_read(&self) -> bool {
-        may_read(self.stop, self.outstanding, self.reorder_buffer.slots())
+        may_read(self.read_end, self.outstanding, self.reorder_buffer.slots())
             && self.line_reader.holds_line()
     }
 
-    /// Reads the lines in the input buffer, while fewer lines are outstanding than there are slots. Where all else was idle, the next line
-    /// is read first, even if none is buffered: others may come with it, and a change is logged with theirs, not by itself. None is read
-    /// once reading has ended.
+    /// Reads the lines in the input buffer, while fewer lines are outstanding than there are slots. If `last`, what the loop did before, is
+    /// `Idle`, one line is read even if none is buffered, which may wait: lines that come with it are read too, so that their changes are
+    /// logged together. None is read once reading has ended.
     pub(crate) fn read_more(&mut self, last: Activity) -> Activity
         ensures output_failed { self.new.output_failed ≡ self.old.output_failed }
     {
         let mut read = Activity::Idle;
-        while may_read(self.stop, self.outstanding, self.reorder_buffer.slots())
+        while may_read(self.read_end, self.outstanding, self.reorder_buffer.slots())
             && (matches!((last, read), (Activity::Idle, Activity::Idle))
                 || self.line_reader.holds_line())
             && self.read_next()

@@ -6,7 +6,7 @@ ghost use Rattle.std.specs.Io.KnownBytes.{Appends, IsAtEnd};
 ghost use Rattle.std.specs.List.{AllByRecursion, Contains};
 ghost use Rattle.affinity.specs.declared.geometry.Geometry.{Geometry};
 ghost use Rattle.disk.specs.Device.{IsCrashImage};
-ghost use Rattle.disk.specs.Moments.{left_since, moment};
+ghost use Rattle.disk.specs.Moments.{left_since, moment_number};
 ghost use Rattle.legal_runs.specs.Events.{arrive};
 ghost use Rattle.legal_runs.specs.Laws.{IsIdle};
 ghost use Rattle.legal_runs.specs.Runs.{logged_messages};
@@ -22,104 +22,111 @@ ghost use Rattle.messages.specs.declared.Reply.{Reply};
 ghost use Rattle.messages.specs.declared.Reply.TheVariants.{Done};
 ghost use Rattle.meaning.specs.Order.{serial_replies};
 ghost use Rattle.meaning.specs.Output.{output_lines, state_after_lines};
-ghost use Rattle.meaning.specs.Serial.{fold};
+ghost use Rattle.meaning.specs.Serial.{state_after_all};
 ghost use Rattle.meaning.specs.State.{State};
 ghost use Rattle.scheduler.specs.CoreView.{CoreView, RecoversNow, core_state_of};
 ghost use Rattle.serving.specs.Ends.{EndsWith, HasRunLines, HasServed, IsQuiesced, committed_in};
 ghost use Rattle.serving.specs.Progress.{ServingProgress};
 ghost use Rattle.serving.specs.Restart.{BytesRecover};
-ghost use Rattle.serving.specs.Logged.{AreInLog, HoldsLog};
+ghost use Rattle.serving.specs.Logged.{AreInHistory, RecoversToHistory};
 ghost use Rattle.serving.specs.Output.{HoldsSent, MaySend, Start, SendsNoReply};
-ghost use Rattle.serving.specs.Lines.{AreKnown, Line, admitted, is_completed, text, ticketed};
+ghost use Rattle.serving.specs.Lines.{AreKnown, Line, admitted, has_answer, answer_text, ticketed};
 ghost use Rattle.runs.specs.Machine.{MachineView, machine_of};
-ghost use Rattle.runs.specs.Stages.{Stage, device_after, events_of};
-ghost use Rattle.serving.specs.Runs.{RunsBetween, inside};
+ghost use Rattle.runs.specs.DeviceEvents.{DeviceEvent, device_after, events_of};
+ghost use Rattle.serving.specs.Runs.{RunsBetween, unanswered};
 ghost use Rattle.serving.specs.declared.server.ServeFault.TheVariants as faults;
 
 use disk::Disk;
 
-/// Lines whose messages got the serial server's replies by ticket are answered as the serial server answers them,
-/// as far as they are completed; and their messages lead where the lines lead there.
+/// If each reply is the one that the serial server gives to the message with its ticket, and each `Line` states rightly what is known of
+/// its line (`AreKnown`), then the lines that have an answer are answered as by the serial server. The messages of lines lead to the
+/// state to which the lines lead it.
 pub fn known_lines_are_serial()
     ensures output { (g : Geometry) (x : State) (n : ℕ) (ls : List (List ℕ)) (replies : List (ℕ × Reply)) (sent_lines unsent : List Line)
         → ((reply : ℕ × Reply) → Contains replies reply → Contains (serial_replies g x (ticketed n (admitted g ls))) reply)
-        → AreKnown g replies n ls (sent_lines ++ unsent) → AllByRecursion (λ line. is_completed line ≡ true) sent_lines
-        → map text sent_lines ≡ take (length sent_lines) (output_lines g x ls) }
-    ensures state { (g : Geometry) (x : State) (ls : List (List ℕ)) → fold g x (admitted g ls) ≡ state_after_lines g x ls }
+        → AreKnown g replies n ls (sent_lines ++ unsent) → AllByRecursion (λ line. has_answer line ≡ true) sent_lines
+        → map answer_text sent_lines ≡ take (length sent_lines) (output_lines g x ls) }
+    ensures state { (g : Geometry) (x : State) (ls : List (List ℕ)) → state_after_all g x (admitted g ls) ≡ state_after_lines g x ls }
 {}
 
 /// A segment of a run that goes on where another ended makes one segment with it.
 pub fn segments_join<D: Disk>()
-    ensures { (old mid new : MachineView) (come more : List Entry) (replies others : List (ℕ × Reply))
-        → RunsBetween D.keeps old mid come replies
-        → RunsBetween D.keeps mid new more others → RunsBetween D.keeps old new (come ++ more) (replies ++ others) }
+    ensures { (old mid new : MachineView) (arriving more : List Entry) (replies others : List (ℕ × Reply))
+        → RunsBetween D.keeps old mid arriving replies
+        → RunsBetween D.keeps mid new more others → RunsBetween D.keeps old new (arriving ++ more) (replies ++ others) }
 {}
 
-/// How many messages wait or are held grows by the arrivals, less the answered ones, and always as many fit in. So a
+/// How many messages wait or are held grows by the arrivals, less the answered ones, and the number of slots stays the same. So a
 /// message isn't refused for want of a slot while fewer lines are read and not answered in the output than there are slots.
-pub fn what_is_inside_is_what_arrived_less_what_was_answered<D: Disk>()
-    ensures count { (old new : MachineView) (come : List Entry) (replies : List (ℕ × Reply)) → RunsBetween D.keeps old new come replies
-        → inside (core_state_of new.core) + length replies ≡ inside (core_state_of old.core) + length come }
-    ensures slots { (old new : MachineView) (come : List Entry) (replies : List (ℕ × Reply)) → RunsBetween D.keeps old new come replies
+pub fn unanswered_are_arrived_less_answered<D: Disk>()
+    ensures count { (old new : MachineView) (arriving : List Entry) (replies : List (ℕ × Reply))
+        → RunsBetween D.keeps old new arriving replies
+        → unanswered (core_state_of new.core) + length replies ≡ unanswered (core_state_of old.core) + length arriving }
+    ensures slots { (old new : MachineView) (arriving : List Entry) (replies : List (ℕ × Reply))
+        → RunsBetween D.keeps old new arriving replies
         → new.core.slots ≡ old.core.slots }
-    ensures a_slot { (start now : MachineView) (unsent : List Line) (input unread : Option (List ℕ)) (ended : Bool)
+    ensures a_slot { (start now : MachineView) (unsent : List Line) (input unread : Option (List ℕ)) (drained : Bool)
         (before written : Option (List ℕ)) (m : Msg) → IsIdle (core_state_of start.core)
-        → ServingProgress D.keeps start now unsent input unread ended before written → length unsent < start.core.slots
+        → ServingProgress D.keeps start now unsent input unread drained before written → length unsent < start.core.slots
         → (arrive now.core.geometry (core_state_of now.core) m).0 ≢ outcomes.ArriveRefused arrivals.Full }
 {}
 
 /// No more messages wait or are held than there are lines that were read and are not answered in the output.
-pub fn each_message_inside_has_its_line<D: Disk>()
-    ensures { (start now : MachineView) (unsent : List Line) (input unread : Option (List ℕ)) (ended : Bool)
+pub fn each_unanswered_message_has_its_line<D: Disk>()
+    ensures { (start now : MachineView) (unsent : List Line) (input unread : Option (List ℕ)) (drained : Bool)
         (before written : Option (List ℕ)) → IsIdle (core_state_of start.core)
-        → ServingProgress D.keeps start now unsent input unread ended before written → inside (core_state_of now.core) ≤ length unsent }
+        → ServingProgress D.keeps start now unsent input unread drained before written
+        → unanswered (core_state_of now.core) ≤ length unsent }
 {}
 
-/// A server that began with nothing in it has written what the serial server writes, however many messages ran at once: all of it where it
-/// has come to the end, the answers to the whole lines that were read where a read failed, those to the lines before one that found no
-/// ticket, and at every moment a prefix of it in whole lines. Where each line that was read is answered, nothing waits or is held, and
-/// it has committed what the serial server reaches. For each line that was written there is a legal run.
+/// A server that began with nothing in it has written what the serial server writes, however many messages ran at once: at the end of the
+/// input all of it; where a read failed, the answers to the whole lines that were read; where no ticket was left, those to the lines
+/// before; and at every moment a prefix of it in whole lines. Where each line that was read is answered, nothing waits or is held, and
+/// it has committed what the serial server reaches. One legal run led to all that was written.
 pub fn serving_ends_as_the_serial_server<D: Disk>()
-    ensures end_of_input { (start now : MachineView) (input unread : Option (List ℕ)) (ended : Bool) (before written : Option (List ℕ))
-        → IsIdle (core_state_of start.core) → ServingProgress D.keeps start now [] input unread ended before written
+    ensures end_of_input { (start now : MachineView) (input unread : Option (List ℕ)) (drained : Bool) (before written : Option (List ℕ))
+        → IsIdle (core_state_of start.core) → ServingProgress D.keeps start now [] input unread drained before written
         → now.core.failed ≡ false → IsAtEnd unread → EndsWith start.core now.core input unread before written (Ok tt) }
     ensures read { (start now : MachineView) (input unread remaining before written : Option (List ℕ)) → IsIdle (core_state_of start.core)
         → ServingProgress D.keeps start now [] input unread false before written → now.core.failed ≡ false
         → IfSome unread (λ bs. LosesFront bs remaining) → EndsWith start.core now.core input remaining before written (Err faults.Read) }
-    ensures exhausted { (start now : MachineView) (input unread remaining : Option (List ℕ)) (ended : Bool)
+    ensures exhausted { (start now : MachineView) (input unread remaining : Option (List ℕ)) (drained : Bool)
         (before written : Option (List ℕ)) (line : List ℕ) (m : Msg) → IsIdle (core_state_of start.core)
-        → ServingProgress D.keeps start now [] input unread ended before written → now.core.failed ≡ false → now.core.next ≡ 2 ^ 64 - 1
+        → ServingProgress D.keeps start now [] input unread drained before written → now.core.failed ≡ false → now.core.next ≡ 2 ^ 64 - 1
         → IfSome unread (λ bs. GivesLine line bs remaining) → message_of line ≡ Some m → is_in_range start.core.geometry m ≡ true
         → EndsWith start.core now.core input remaining before written (Err faults.Exhausted) }
-    ensures device { (start now : MachineView) (unsent : List Line) (input unread : Option (List ℕ)) (ended : Bool)
+    ensures device { (start now : MachineView) (unsent : List Line) (input unread : Option (List ℕ)) (drained : Bool)
         (before written : Option (List ℕ)) → IsIdle (core_state_of start.core)
-        → ServingProgress D.keeps start now unsent input unread ended before written → now.core.failed ≡ true → IsQuiesced now.core
+        → ServingProgress D.keeps start now unsent input unread drained before written → now.core.failed ≡ true → IsQuiesced now.core
         → EndsWith start.core now.core input unread before written (Err faults.Device) }
-    ensures run { (start now : MachineView) (unsent : List Line) (input unread : Option (List ℕ)) (ended : Bool)
+    ensures run { (start now : MachineView) (unsent : List Line) (input unread : Option (List ℕ)) (drained : Bool)
         (before written : Option (List ℕ)) → IsIdle (core_state_of start.core)
-        → ServingProgress D.keeps start now unsent input unread ended before written → (now.core.failed ≡ false → now.core.doubt ≡ [])
+        → ServingProgress D.keeps start now unsent input unread drained before written → (now.core.failed ≡ false → now.core.doubt ≡ [])
         → (D.keeps → RecoversNow now.core) → HasServed D.keeps start now.core unsent input before written }
 {}
 
 /// Where `doubt` was empty in the beginning, the device holds what was answered. Each line that was written for a message with a
-/// ticket is of a message logged in its run, with that ticket and that reply. A crash at any moment since event k ended
-/// leaves what recovers to where all that was logged by then leads, perhaps with more of the messages that arrived; and so, when the
-/// server has ended, for all that was logged in the run.
+/// ticket is of a message logged in its run, with that ticket and that reply. After a crash at any moment since event number k
+/// ended, the device recovers to the state after all that was logged by then, perhaps with more of the messages that arrived. After a
+/// crash when the server has ended, the same of all that was logged in the run.
 pub fn what_was_sent_is_on_the_device<D: Disk>()
-    ensures logged { (start : MachineView) (new : CoreView) (input : Option (List ℕ)) (taken : List (List ℕ)) (stages : List Stage)
-        → IsIdle (core_state_of start.core) → start.core.doubt ≡ [] → HasRunLines D.keeps start new input taken stages → D.keeps
-        → (k : ℕ) (c : List ℕ) → k ≤ length stages → left_since new.medium (moment (device_after start.core.medium (take k stages))) c
-        → HoldsLog start.core.geometry (committed_in start.core) (ticketed start.core.next (admitted start.core.geometry taken))
-        (logged_messages (machine_of start) (take k (events_of stages))) c }
-    ensures at_end { (start : MachineView) (new : CoreView) (input : Option (List ℕ)) (taken : List (List ℕ)) (stages : List Stage)
-        → IsIdle (core_state_of start.core) → start.core.doubt ≡ [] → HasRunLines D.keeps start new input taken stages → D.keeps
+    ensures logged { (start : MachineView) (new : CoreView) (input : Option (List ℕ)) (consumed : List (List ℕ))
+        (device_events : List DeviceEvent)
+        → IsIdle (core_state_of start.core) → start.core.doubt ≡ [] → HasRunLines D.keeps start new input consumed device_events → D.keeps
+        → (k : ℕ) (c : List ℕ) → k ≤ length device_events
+        → left_since new.medium (moment_number (device_after start.core.medium (take k device_events))) c
+        → RecoversToHistory start.core.geometry (committed_in start.core) (ticketed start.core.next (admitted start.core.geometry consumed))
+        (logged_messages (machine_of start) (take k (events_of device_events))) c }
+    ensures at_end { (start : MachineView) (new : CoreView) (input : Option (List ℕ)) (consumed : List (List ℕ))
+        (device_events : List DeviceEvent)
+        → IsIdle (core_state_of start.core) → start.core.doubt ≡ [] → HasRunLines D.keeps start new input consumed device_events → D.keeps
         → (c : List ℕ) → IsCrashImage new.medium c
-        → HoldsLog start.core.geometry (committed_in start.core) (ticketed start.core.next (admitted start.core.geometry taken))
-        (logged_messages (machine_of start) (events_of stages)) c }
+        → RecoversToHistory start.core.geometry (committed_in start.core) (ticketed start.core.next (admitted start.core.geometry consumed))
+        (logged_messages (machine_of start) (events_of device_events)) c }
     ensures sent { (start : MachineView) (new : CoreView) (unsent : List Line) (input before written : Option (List ℕ))
         → IsIdle (core_state_of start.core) → (h : HasServed D.keeps start new unsent input before written)
-        → AreInLog start.core.geometry (logged_messages (machine_of start) (events_of h.stages)) start.core.next h.taken
-        (map text h.sent_lines) }
+        → AreInHistory start.core.geometry (logged_messages (machine_of start) (events_of h.device_events)) start.core.next h.consumed
+        (map answer_text h.sent_lines) }
 {}
 
 /// What may be sent is on the device: once it is sent, whatever a crash leaves of the device, as it was then, holds all that was sent.
@@ -129,7 +136,7 @@ pub fn what_may_be_sent_is_on_the_device<D: Disk>()
 {}
 
 /// What may be sent is recovered: once it is sent, whatever a crash leaves of the device, as it was then, recovers to a state with each
-/// line that was sent, and with a closed part of the lines after them.
+/// line that was sent, and with some of the lines after them: where one is left out, so is each later one related to it.
 pub fn what_may_be_sent_is_recovered<D: Disk>()
     ensures { (s : Start) (sent later : Option (List ℕ)) (now : CoreView) (bytes : List ℕ) → MaySend D.keeps (Some s) sent now bytes
         → D.keeps → Appends sent later bytes → (c : List ℕ) → IsCrashImage now.medium c
@@ -137,11 +144,11 @@ pub fn what_may_be_sent_is_recovered<D: Disk>()
 {}
 
 /// Nothing may be sent too early: as long as each message that has arrived is still inside, waiting or held, no call may send a reply,
-/// among whatever other lines: it sends lines for what is no message or out of range. So none reports that a message was carried out.
+/// alone or among other lines: it sends lines for what is no message or out of range. So none reports that a message was carried out.
 pub fn nothing_is_sent_before_it_is_answered<D: Disk>()
     ensures none { (s : Start) (sent : Option (List ℕ)) (now : CoreView) (bytes : List ℕ)
-        → inside (core_state_of now) + s.core.next ≡ now.next
+        → unanswered (core_state_of now) + s.core.next ≡ now.next
         → MaySend D.keeps (Some s) sent now bytes → SendsNoReply bytes }
-    ensures done { (s : Start) (sent : Option (List ℕ)) (now : CoreView) → inside (core_state_of now) + s.core.next ≡ now.next
+    ensures done { (s : Start) (sent : Option (List ℕ)) (now : CoreView) → unanswered (core_state_of now) + s.core.next ≡ now.next
         → MaySend D.keeps (Some s) sent now (reply_line Done) → ⊥ }
 {}

@@ -4,7 +4,7 @@ ghost use Rattle.std.specs.Prelude.{◌≡◌, ◌+◌, [], false, length, true,
 ghost use Rattle.message.specs.Waiting.{FitsReply};
 ghost use Rattle.scheduler.specs.CoreView.{core_state_of};
 ghost use Rattle.reorder_buffer.specs.ReorderBuffer.{can_retire};
-ghost use Rattle.serving.specs.Session.{KeepsStopAndOutputFailed, IsSessionStep};
+ghost use Rattle.serving.specs.Session.{KeepsReadEndAndOutputFailed, IsSessionStep};
 
 use crate::gated_runtime::GatedRuntime;
 use crate::session::{Halted, Session};
@@ -37,10 +37,10 @@ pub trait ReplySink<D: Disk> {
 }
 
 impl<'c, R: Read, D: Disk, L: ReplySink<D>> Session<'c, R, D, L> {
-    /// Answers the message that was logged first, if there is one: its line in the reorder buffer is completed then. Whether there was one.
-    /// If it changed something, it counts towards the next checkpoint, saturating.
+    /// Answers the message that was logged first, if there is one: its line in the reorder buffer is completed then. Returns whether there
+    /// was one. A change that was carried out counts towards the next checkpoint, saturating.
     pub(crate) fn answer_first<W: GatedRuntime>(&mut self, rt: &W) -> bool
-        ensures as_before { KeepsStopAndOutputFailed self.old self.new }
+        ensures as_before { KeepsReadEndAndOutputFailed self.old self.new }
         ensures dispatch_seat { self.new.dispatch_seat ≡ self.old.dispatch_seat }
         ensures state_after { core_state_of self.new.core ≡ record (core_state_of self.old.core) { logged = self.new.core.logged } }
         ensures fewer { IsTrue result → length self.new.core.logged + 1 ≡ length self.old.core.logged }
@@ -57,9 +57,9 @@ impl<'c, R: Read, D: Disk, L: ReplySink<D>> Session<'c, R, D, L> {
         true
     }
 
-    /// Sends all that waits, unless something could not be sent before.
+    /// Sends the answers in the reply buffer, unless something could not be sent before.
     pub(crate) fn flush_replies(&mut self) -> Result<(), Halted>
-        ensures moves { IsSessionStep self.old self.new result }
+        ensures session_step { IsSessionStep self.old self.new result }
         ensures same { (self.new.core ≡ self.old.core) × (self.new.reorder_buffer ≡ self.old.reorder_buffer)
             × (self.new.dispatch_seat ≡ self.old.dispatch_seat) }
         ensures none_waits { OnOk result (self.new.reply_buffer ≡ []) }
@@ -85,9 +85,9 @@ impl<'c, R: Read, D: Disk, L: ReplySink<D>> Session<'c, R, D, L> {
         }
     }
 
-    /// Sends all that waits if the longest answer has no room after it.
+    /// Sends the answers in the reply buffer if there is no room after them for the longest one.
     fn flush_if_full(&mut self) -> Result<(), Halted>
-        ensures moves { IsSessionStep self.old self.new result }
+        ensures session_step { IsSessionStep self.old self.new result }
         ensures same { (self.new.core ≡ self.old.core) × (self.new.reorder_buffer ≡ self.old.reorder_buffer)
             × (self.new.dispatch_seat ≡ self.old.dispatch_seat) }
         ensures room { OnOk result (FitsReply self.new.reply_buffer) }
@@ -99,9 +99,9 @@ impl<'c, R: Read, D: Disk, L: ReplySink<D>> Session<'c, R, D, L> {
         }
     }
 
-    /// Retires the oldest line of the reorder buffer, if it is completed: whether it is. Its answer waits to be sent then.
+    /// Retires the oldest line of the reorder buffer into the reply buffer, if its answer is known. Returns whether it did.
     fn retire_first(&mut self) -> Result<bool, Halted>
-        ensures moves { IsSessionStep self.old self.new result }
+        ensures session_step { IsSessionStep self.old self.new result }
         ensures same { (self.new.core ≡ self.old.core) × (self.new.dispatch_seat ≡ self.old.dispatch_seat) }
         ensures fewer { IfOk result (λ it. IsTrue it → length self.new.reorder_buffer.lines + 1 ≡ length self.old.reorder_buffer.lines) }
         ensures last { IfOk result (λ it. IsFalse it → can_retire self.new.reorder_buffer.lines ≡ false) }
@@ -111,9 +111,9 @@ impl<'c, R: Read, D: Disk, L: ReplySink<D>> Session<'c, R, D, L> {
         Ok(retired)
     }
 
-    /// Retires the lines at the front of the reorder buffer, up to the first that is not completed.
+    /// Retires the lines at the front of the reorder buffer, up to the first whose answer isn't known yet.
     pub(crate) fn retire_ready(&mut self) -> Result<(), Halted>
-        ensures moves { IsSessionStep self.old self.new result }
+        ensures session_step { IsSessionStep self.old self.new result }
         ensures same { (self.new.core ≡ self.old.core) × (self.new.dispatch_seat ≡ self.old.dispatch_seat) }
         ensures last { OnOk result (can_retire self.new.reorder_buffer.lines ≡ false) }
     {
@@ -121,9 +121,9 @@ impl<'c, R: Read, D: Disk, L: ReplySink<D>> Session<'c, R, D, L> {
         Ok(())
     }
 
-    /// Answers all that is logged, and sends the lines that are next in order.
+    /// Answers all messages that are logged, and sends the lines that are next in order.
     pub(crate) fn answer_and_flush<W: GatedRuntime>(&mut self, rt: &W) -> Result<(), Halted>
-        ensures moves { IsSessionStep self.old self.new result }
+        ensures session_step { IsSessionStep self.old self.new result }
         ensures dispatch_seat { self.new.dispatch_seat ≡ self.old.dispatch_seat }
         ensures state_after { core_state_of self.new.core ≡ record (core_state_of self.old.core) { logged = [] } }
         ensures none_waits { OnOk result (self.new.reply_buffer ≡ []) }

@@ -20,8 +20,8 @@ use std::sync::Wait;
 use std::thread::Threads;
 use workers::{Bench, DispatchSeat, Gate, WorkSeat, know_returned};
 
-/// How many bytes are read at a time: some 240 lines with a full block. A line is read only if it is in this buffer already or nothing else
-/// can be done, so no more lines are outstanding than this buffer holds.
+/// How many bytes are read at a time: some 240 lines with a full block. It is filled again only when it has no whole line and no line is
+/// outstanding. So it also limits how many lines are outstanding, however many slots there are.
 const READ_SIZE: usize = 262_144;
 
 /// Why a server ended before the end of its input.
@@ -105,7 +105,8 @@ fn hand_back<D: Disk>(
     Err(ServeError { core, fault })
 }
 
-// Serves the lines of a reader that is borrowed. It hands back the reader and the sink, too.
+// Serves the lines of a reader that is borrowed, and hands back the reader and the sink, too. `N` names that loan (see
+// `message::LentReader`): a caller passes `Brand`, and its proof chooses the name.
 fn serve_borrowed<
     'a,
     'c,
@@ -116,7 +117,7 @@ fn serve_borrowed<
     G: Gate + Sync,
     N: Loan,
 >(
-    with: (&'c T, &'c G),
+    runtime: (&'c T, &'c G),
     core: Core<D>,
     reader: &'a mut R,
     sink: L,
@@ -146,13 +147,13 @@ fn serve_borrowed<
         reply_buffer,
         trigger,
         line_reader: LineReader::new(LentReader { reader, of }, input),
-        stop: None,
+        read_end: None,
         outstanding: 0,
         sink,
         output_failed: false,
         bench: &bench,
     };
-    let ended = bench.with_workers(with.0, with.1, seats, &mut session);
+    let ended = bench.with_workers(runtime.0, runtime.1, seats, &mut session);
     let Session {
         core,
         dispatch_seat: _,
@@ -160,7 +161,7 @@ fn serve_borrowed<
         reply_buffer: _,
         trigger: _,
         line_reader,
-        stop: _,
+        read_end: _,
         outstanding: _,
         sink,
         output_failed: _,
@@ -218,20 +219,21 @@ pub fn serve_to<T: Threads + Wait + Sync, R: Read, L: ReplySink<D>, D: Disk + Dr
     (ended, sink)
 }
 
-/// Where the call of a server for a writer began, and the loan of the writer.
+/// What a call that serves a writer began with (a `Start`: core, places, input, output), and the name by which proofs know its borrow of
+/// the writer.
 trait Beginning {
     ghost use Rattle.std.specs.Prelude.{Option};
     ghost use Rattle.std.specs.Borrow.{GName};
     ghost use Rattle.serving.specs.Output.{Start};
 
-    /// The start, once the call has begun.
+    /// What it began with; `None` before the call.
     ghost start: { Option Start };
 
     /// The loan of the writer.
     ghost name: { GName };
 }
 
-// For the one call in `serve`: its proof (`proofs/server/serve/Invariants.antt`) gives the start and the loan in place of these.
+// For the one call in `serve`: its proof (`proofs/server/serve/Invariants.antt`) chooses the start and the loan, and these are stand-ins.
 impl Beginning for Brand {
     ghost use Rattle.std.specs.Prelude.{None};
 

@@ -29,9 +29,9 @@ pub(crate) enum ReadEnd {
 /// What a part of the loop has done.
 #[derive(Clone, Copy)]
 pub(crate) enum Activity {
-    /// Something, or more may be done without waiting.
+    /// It did something, or more can be done without waiting.
     Busy,
-    /// Nothing. Where all of the loop is idle, it may wait for input.
+    /// It did nothing. Where all parts of the loop are idle, it may wait for input.
     Idle,
 }
 
@@ -39,7 +39,7 @@ pub(crate) enum Activity {
 #[derive(Clone, Copy)]
 pub(crate) struct Halted;
 
-/// What the core has answered, where a refusal means that the device has failed.
+/// The result of a call of the core, with `Halted` for any error: there an error means that the device has failed.
 pub(crate) fn or_halt<T, E: Copy>(answer: Result<T, E>) -> Result<T, Halted>
     ensures { MatchResult answer (λ x. result ≡ Ok x) (λ _. OnOk result ⊥) }
 {
@@ -64,7 +64,7 @@ pub(crate) struct Session<'c, R: Read, D: Disk, L: ReplySink<D>> {
     /// The input.
     pub(crate) line_reader: LineReader<R>,
     /// Why no more of it is read, once that is so.
-    pub(crate) stop: Option<ReadEnd>,
+    pub(crate) read_end: Option<ReadEnd>,
     /// How many lines are outstanding: read, and not answered in the output. They are in the reorder buffer, or their answers wait.
     pub(crate) outstanding: usize,
     /// Where it sends the lines.
@@ -90,7 +90,7 @@ impl<'c, R: Read, D: Disk, L: ReplySink<D>> Model for Session<'c, R, D, L> {
       sent = L.sent s.sink;
       outstanding = s.outstanding;
       output_failed = s.output_failed;
-      stop = s.stop;
+      read_end = s.read_end;
       unread = unread R.remaining s.line_reader;
       drained = is_drained s.line_reader;
       ended = has_ended s.line_reader;
@@ -105,7 +105,7 @@ impl<'c, R: Read, D: Disk, L: ReplySink<D>> Model for Session<'c, R, D, L> {
       sent = L.sent s.sink;
       outstanding = s.outstanding;
       output_failed = s.output_failed;
-      stop = s.stop;
+      read_end = s.read_end;
       unread = unread R.remaining s.line_reader;
       drained = is_drained s.line_reader;
       ended = has_ended s.line_reader;

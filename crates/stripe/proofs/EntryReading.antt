@@ -7,7 +7,7 @@ use Rattle.std.proofs.lemmas.Grind.{flat_map-append}
 use Rattle.std.proofs.lemmas.List.{take_all, take_at, drop_at, drop-drop, take-append-drop, length-take-le, length-drop}
 use Rattle.std.proofs.Math.Seq.{take-add}
 use Rattle.affinity.specs.declared.geometry.Geometry.{Geometry}
-use Rattle.stripe.specs.Entries.{entry_bytes, stripe_bytes, entry_in, entries_in, can_stand, IsStripePiece}
+use Rattle.stripe.specs.Entries.{entry_bytes, stripe_bytes, entry_in, entries_in, fits_stripe, IsStripePiece}
 use Rattle.stripe.specs.Index.{IsNextEntry}
 use Rattle.stripe.specs.Stripe.{BlockEntry, ComesBefore, IsAscending}
 use Rattle.stripe.proofs.EntryOrder.{ascending-append}
@@ -83,7 +83,7 @@ row_at bytes n = take 520 (drop (n * 520) bytes)
 pub record HasRead (g : Geometry) (files s : ℕ) (bytes : List ℕ) (es : List BlockEntry) (n : ℕ) : Type 0 where
   pub front : take (n * 520) bytes ≡ flat_map entry_bytes es
   pub ascending : IsAscending es
-  pub fit : AllByRecursion (λ e. can_stand g files s e.file e.block ≡ true) es
+  pub fit : AllByRecursion (λ e. fits_stripe g files s e.file e.block ≡ true) es
   pub rest : es ++ entries_in (g.quota - n) (drop (n * 520) bytes) ≡ entries_in g.quota bytes
 
 module _ (g : Geometry) (files s : ℕ) (bytes : List ℕ) (long : length bytes ≡ g.quota * 520) where
@@ -102,7 +102,7 @@ module _ (g : Geometry) (files s : ℕ) (bytes : List ℕ) (long : length bytes 
         record {
           spelled = whole ∙ sym (append-nil (flat_map entry_bytes es)) ∙ sym (ap (λ (k : ℕ). flat_map entry_bytes es ++ replicate k 0) full) ∙ ap (stripe_bytes g.quota) same;
           ascending = subst IsAscending same has.ascending;
-          fit = subst (AllByRecursion (λ e. can_stand g files s e.file e.block ≡ true)) same has.fit;
+          fit = subst (AllByRecursion (λ e. fits_stripe g files s e.file e.block ≡ true)) same has.fit;
         },
         same,
       )
@@ -127,7 +127,7 @@ module _ (g : Geometry) (files s : ℕ) (bytes : List ℕ) (long : length bytes 
           record {
             spelled = whole ∙ ap (stripe_bytes g.quota) same;
             ascending = subst IsAscending same has.ascending;
-            fit = subst (AllByRecursion (λ e. can_stand g files s e.file e.block ≡ true)) same has.fit;
+            fit = subst (AllByRecursion (λ e. fits_stripe g files s e.file e.block ≡ true)) same has.fit;
           },
           same,
         )
@@ -162,7 +162,7 @@ module _ (g : Geometry) (files s : ℕ) (bytes : List ℕ) (long : length bytes 
           front = ap (λ (k : ℕ). take k bytes) place ∙ take-add (n * 520) 520 bytes ∙ (λ i. has.front i ++ next.spelled i)
               ∙ ap (λ (l : List ℕ). flat_map entry_bytes es ++ l) (sym (append-nil (entry_bytes e))) ∙ sym (flat_map-append entry_bytes es (e ∷ []));
           ascending = ascending-append es (e ∷ []) has.ascending (tt, tt) (all_one e es next.behind);
-          fit = all_push (λ e. can_stand g files s e.file e.block ≡ true) es e has.fit next.fits;
+          fit = all_push (λ e. fits_stripe g files s e.file e.block ≡ true) es e has.fit next.fits;
           rest = append_assoc es (e ∷ []) (entries_in (g.quota - suc n) (drop (suc n * 520) bytes)) ∙ marked on;
         }
 
@@ -173,14 +173,14 @@ module _ (g : Geometry) (files s : ℕ) (bytes : List ℕ) (long : length bytes 
         let all : entries_in g.quota bytes ≡ es ++ e ∷ others = sym (marked on) in
         let back : List ℕ = replicate (g.quota * 520 - length (flat_map entry_bytes (es ++ e ∷ others))) 0 in
         let spelled : bytes ≡ flat_map entry_bytes (es ++ e ∷ others) ++ back = is.spelled ∙ ap (stripe_bytes g.quota) all in
-        let parted : bytes ≡ flat_map entry_bytes es ++ (entry_bytes e ++ (flat_map entry_bytes others ++ back)) =
+        let partitioned : bytes ≡ flat_map entry_bytes es ++ (entry_bytes e ++ (flat_map entry_bytes others ++ back)) =
         spelled ∙ ap (λ (l : List ℕ). l ++ back) (flat_map-append entry_bytes es (e ∷ others)) ∙ append_assoc (flat_map entry_bytes es) (entry_bytes e ++ flat_map entry_bytes others) back
         ∙ ap (λ (l : List ℕ). flat_map entry_bytes es ++ l) (append_assoc (entry_bytes e) (flat_map entry_bytes others) back) in
         let row_long : length (row_at bytes n) ≡ 520 = length-take-le 520 (drop (n * 520) bytes) (omega (arith, length-drop (n * 520) bytes, long, few)) in
         record {
-          spelled = ap (λ (l : List ℕ). take 520 (drop (n * 520) l)) parted
+          spelled = ap (λ (l : List ℕ). take 520 (drop (n * 520) l)) partitioned
               ∙ ap (take 520) (drop_at (flat_map entry_bytes es) (entry_bytes e ++ (flat_map entry_bytes others ++ back)) (n * 520) (length-front es n (omega (arith, few)) has))
               ∙ take_at (entry_bytes e) (flat_map entry_bytes others ++ back) 520 (length-entry_in (row_at bytes n) row_long);
-          fits = (all_back (λ e. can_stand g files s e.file e.block ≡ true) es (e ∷ others) (subst (AllByRecursion (λ e. can_stand g files s e.file e.block ≡ true)) all is.fit)).0;
+          fits = (all_back (λ e. fits_stripe g files s e.file e.block ≡ true) es (e ∷ others) (subst (AllByRecursion (λ e. fits_stripe g files s e.file e.block ≡ true)) all is.fit)).0;
           behind = ascending_before es others e (subst IsAscending all is.ascending);
         }

@@ -4,11 +4,11 @@ use Rattle.std.proofs.lemmas.Bool.Decides.{eqb_tells, leb_tells}
 use Rattle.std.specs.List.{AllByRecursion, concat}
 use Rattle.std.specs.List.Sorted.{IsPartitionedBy, IsPartitionPoint}
 use Rattle.messages.specs.declared.Block.{Block}
-use Rattle.arena.specs.Lists.{times, without}
-use Rattle.arena.proofs.Parts.{times-tail, value-same, value-other, held-within, held-not_free, parted-restore}
+use Rattle.arena.specs.Lists.{count_of, without}
+use Rattle.arena.proofs.Parts.{count_of-tail, value-same, value-other, held-within, held-not_free, partitioned-restore}
 use Rattle.std.proofs.lemmas.List.{length-replicate, length-set, take-map, drop-map, map-append}
-use Rattle.arena.proofs.Times.{length-numbers, times-append, times-cons_same, times-cons_is, times-cons_other}
-use Rattle.arena.specs.ArenaView.{ArenaView, value_at, holds_value, IsParted, with_value, slot_from, put_answer, put_into, after_put, after_take, empty_arena}
+use Rattle.arena.proofs.Counts.{length-numbers, count_of-append, count_of-cons_same, count_of-cons_is, count_of-cons_other}
+use Rattle.arena.specs.ArenaView.{ArenaView, value_at, holds_value, IsPartitioned, with_value, slot_from, put_answer, put_into, after_put, after_take, empty_arena}
 use Rattle.stripe.specs.declared.blocks.IndexEntry.{IndexEntry}
 use Rattle.stripe.specs.Stripe.{BlockEntry, StripePart, content_at, ComesBefore, IsAscending}
 use Rattle.stripe.specs.Index.{no_block, entry_at, entries_of, slots_of, IsStored, no_entry, PrecedesEntry, IsSplit, IsAt, IsGap, rewritten}
@@ -61,17 +61,17 @@ all-index values P [] n d within all = absurd (omega arith)
 all-index values P (p ∷ index) zero d within all = all.0
 all-index values P (p ∷ index) (suc n) d within all = all-index values P index n d (omega arith) all.1
 
-pub is_before-parted : (values : List (Option Block)) (index : List IndexEntry) (f b : ℕ) → IsAscending (entries_of values index)
+pub is_before-partitioned : (values : List (Option Block)) (index : List IndexEntry) (f b : ℕ) → IsAscending (entries_of values index)
     → IsPartitionedBy (λ p. is_before p f b) index
-is_before-parted values [] f b up i j d order within passes = absurd (omega arith)
-is_before-parted values (p ∷ index) f b up zero zero d order within passes = passes
-is_before-parted values (p ∷ index) f b up zero (suc j) d order within passes =
+is_before-partitioned values [] f b up i j d order within passes = absurd (omega arith)
+is_before-partitioned values (p ∷ index) f b up zero zero d order within passes = passes
+is_before-partitioned values (p ∷ index) f b up zero (suc j) d order within passes =
     let q = slice_index_or index j d in
     is_before-from p f b
     (before-before p.file p.block q.file q.block f b (all-index values (ComesBefore (entry_at values p)) index j d (omega arith) up.0) (is_before-true q f b passes))
-is_before-parted values (p ∷ index) f b up (suc i) zero d order within passes = absurd (omega arith)
-is_before-parted values (p ∷ index) f b up (suc i) (suc j) d order within passes =
-    is_before-parted values index f b up.1 i j d (omega arith) (omega arith) passes
+is_before-partitioned values (p ∷ index) f b up (suc i) zero d order within passes = absurd (omega arith)
+is_before-partitioned values (p ∷ index) f b up (suc i) (suc j) d order within passes =
+    is_before-partitioned values index f b up.1 i j d (omega arith) (omega arith) passes
 
 before-from : (values : List (Option Block)) (index : List IndexEntry) (f b n : ℕ)
     → ((k : ℕ) (d : IndexEntry) → k < n → k < length index → is_before (slice_index_or index k d) f b ≡ true)
@@ -99,9 +99,9 @@ pub length-entries : (values : List (Option Block)) (index : List IndexEntry) �
 length-entries values [] = refl
 length-entries values (p ∷ index) = ap (λ n. suc n) (length-entries values index)
 
-pub length-stored : (row : ArenaView Block) (index : List IndexEntry) → IsStored row index → length (entries_of row.values index) ≤ 64
-length-stored row index stored =
-    let same = length-entries row.values index in let count = stored.free in let small = stored.small in omega arith
+pub length-stored : (arena : ArenaView Block) (index : List IndexEntry) → IsStored arena index → length (entries_of arena.values index) ≤ 64
+length-stored arena index stored =
+    let same = length-entries arena.values index in let count = stored.free in let small = stored.small in omega arith
 
 pub split-from_point : (values : List (Option Block)) (index : List IndexEntry) (f b n : ℕ) → n ≤ length index
     → IsPartitionPoint (λ p. is_before p f b ≡ true) (λ p. is_before p f b ≡ false) index n → IsSplit (entries_of values index) f b n
@@ -113,37 +113,37 @@ split-from_point values index f b n within point = record {
 
 -- ---- the entry at an index
 
-pub place-entry : (values : List (Option Block)) (index : List IndexEntry) (n : ℕ) (p : IndexEntry) → n < length (entries_of values index)
+pub index_entry-entry : (values : List (Option Block)) (index : List IndexEntry) (n : ℕ) (p : IndexEntry) → n < length (entries_of values index)
     → p ≡ slice_index_or index n p → slice_index_or (entries_of values index) n no_entry ≡ entry_at values p
-place-entry values [] n p within here = absurd (omega arith)
-place-entry values (q ∷ index) zero p within here = ap (entry_at values) (sym here)
-place-entry values (q ∷ index) (suc n) p within here = place-entry values index n p (omega arith) here
+index_entry-entry values [] n p within here = absurd (omega arith)
+index_entry-entry values (q ∷ index) zero p within here = ap (entry_at values) (sym here)
+index_entry-entry values (q ∷ index) (suc n) p within here = index_entry-entry values index n p (omega arith) here
 
-times-place : (index : List IndexEntry) (n : ℕ) (p : IndexEntry) → n < length index → p ≡ slice_index_or index n p → 0 < times p.slot (slots_of index)
-times-place [] n p within here = absurd (omega arith)
-times-place (q ∷ index) zero p within here =
-    let more = times-cons_is p.slot q.slot (slots_of index) (ap (λ (r : IndexEntry). r.slot) (sym here)) in omega arith
-times-place (q ∷ index) (suc n) p within here =
-    let more = times-tail p.slot q.slot (slots_of index) in
-    let rest = times-place index n p (omega arith) here in
+count_of-place : (index : List IndexEntry) (n : ℕ) (p : IndexEntry) → n < length index → p ≡ slice_index_or index n p → 0 < count_of p.slot (slots_of index)
+count_of-place [] n p within here = absurd (omega arith)
+count_of-place (q ∷ index) zero p within here =
+    let more = count_of-cons_is p.slot q.slot (slots_of index) (ap (λ (r : IndexEntry). r.slot) (sym here)) in omega arith
+count_of-place (q ∷ index) (suc n) p within here =
+    let more = count_of-tail p.slot q.slot (slots_of index) in
+    let rest = count_of-place index n p (omega arith) here in
     omega arith
 
 unwrapped : (o : Option Block) (d : Block) → is_some o ≡ true → o ≡ Some (unwrap_or o d)
 unwrapped None d there = absurd (cc)
 unwrapped (Some x) d there = refl
 
-pub held-content : (row : ArenaView Block) (index : List IndexEntry) (n : ℕ) (p : IndexEntry) → IsStored row index → n < length index → p ≡ slice_index_or index n p
-    → value_at row p.slot ≡ Some (entry_at row.values p).content
-held-content row index n p stored within here =
-    unwrapped (value_at row p.slot) no_block (stored.hold p.slot (times-place index n p within here))
+pub held-content : (arena : ArenaView Block) (index : List IndexEntry) (n : ℕ) (p : IndexEntry) → IsStored arena index → n < length index → p ≡ slice_index_or index n p
+    → value_at arena p.slot ≡ Some (entry_at arena.values p).content
+held-content arena index n p stored within here =
+    unwrapped (value_at arena p.slot) no_block (stored.hold p.slot (count_of-place index n p within here))
 
-pub found-value : {row : ArenaView Block} {index : List IndexEntry} {es : List BlockEntry} {f b n : ℕ} {p : IndexEntry} → IsStored row index
-    → entries_of row.values index ≡ es → IsAt es f b n → p ≡ slice_index_or index n p → value_at row p.slot ≡ content_at es f b
-found-value {row} {index} {es} {f} {b} {n} {p} stored same at here =
-    let within : n < length (entries_of row.values index) = rw (← same) at at.within in
+pub found-value : {arena : ArenaView Block} {index : List IndexEntry} {es : List BlockEntry} {f b n : ℕ} {p : IndexEntry} → IsStored arena index
+    → entries_of arena.values index ≡ es → IsAt es f b n → p ≡ slice_index_or index n p → value_at arena p.slot ≡ content_at es f b
+found-value {arena} {index} {es} {f} {b} {n} {p} stored same at here =
+    let within : n < length (entries_of arena.values index) = rw (← same) at at.within in
     let up : IsAscending es = rw same at stored.ascending in
-    let there : slice_index_or es n no_entry ≡ entry_at row.values p = rw (← same) (place-entry row.values index n p within here) in
-    held-content row index n p stored (let long = length-entries row.values index in omega arith) here
+    let there : slice_index_or es n no_entry ≡ entry_at arena.values p = rw (← same) (index_entry-entry arena.values index n p within here) in
+    held-content arena index n p stored (let long = length-entries arena.values index in omega arith) here
     ∙ ap (λ (e : BlockEntry). Some e.content) (sym there)
     ∙ sym (content-at es f b n up at)
 
@@ -166,76 +166,76 @@ entry-other values q slot w other =
 both_same : (d e : BlockEntry) (ds es : List BlockEntry) → d ≡ e → ds ≡ es → d ∷ ds ≡ e ∷ es
 both_same d e ds es head tail = cc
 
-entries-other : (values : List (Option Block)) (slot : ℕ) (w : Option Block) (index : List IndexEntry) → times slot (slots_of index) ≡ 0
+entries-other : (values : List (Option Block)) (slot : ℕ) (w : Option Block) (index : List IndexEntry) → count_of slot (slots_of index) ≡ 0
     → entries_of (slice_set values slot w) index ≡ entries_of values index
 entries-other values slot w [] none = refl
 entries-other values slot w (q ∷ index) none = elim (eqb_tells q.slot slot) [
-  | inl e ↦ absurd (let more = times-cons_is slot q.slot (slots_of index) e.1 in omega arith)
+  | inl e ↦ absurd (let more = count_of-cons_is slot q.slot (slots_of index) e.1 in omega arith)
   | inr n ↦ both_same _ _ _ _ (entry-other values q slot w n.1)
-      (entries-other values slot w index (let same = times-cons_other slot q.slot (slots_of index) n.1 in omega arith))
+      (entries-other values slot w index (let same = count_of-cons_other slot q.slot (slots_of index) n.1 in omega arith))
 ]
 
 pub entries-written : (values : List (Option Block)) (index : List IndexEntry) (n : ℕ) {p : IndexEntry} (content : Block)
-    → ((i : ℕ) → times i (slots_of index) ≤ 1) → n < length index → p ≡ slice_index_or index n p → p.slot < length values
+    → ((i : ℕ) → count_of i (slots_of index) ≤ 1) → n < length index → p ≡ slice_index_or index n p → p.slot < length values
     → entries_of (slice_set values p.slot (Some content)) index ≡ rewritten (entries_of values index) n content
 entries-written values [] n content once within here fits = absurd (omega arith)
 entries-written values (q ∷ index) zero {p} content once within here fits =
     let same : q.slot ≡ p.slot = ap (λ (r : IndexEntry). r.slot) (sym here) in
     both_same _ _ _ _ (entry-written values q p.slot content same fits)
     (entries-other values p.slot (Some content) index
-    (let more = times-cons_is p.slot q.slot (slots_of index) same in let most = once p.slot in omega arith))
+    (let more = count_of-cons_is p.slot q.slot (slots_of index) same in let most = once p.slot in omega arith))
 entries-written values (q ∷ index) (suc n) {p} content once within here fits =
-    let later = times-place index n p (omega arith) here in
+    let later = count_of-place index n p (omega arith) here in
     both_same _ _ _ _
     (entry-other values q p.slot (Some content)
-    (λ same. absurd (let more = times-cons_is p.slot q.slot (slots_of index) same in let most = once p.slot in omega arith)))
-    (entries-written values index n content (λ i. let tail = times-tail i q.slot (slots_of index) in let most = once i in omega arith) (omega arith) here fits)
+    (λ same. absurd (let more = count_of-cons_is p.slot q.slot (slots_of index) same in let most = once p.slot in omega arith)))
+    (entries-written values index n content (λ i. let tail = count_of-tail i q.slot (slots_of index) in let most = once i in omega arith) (omega arith) here fits)
 
-pub stored-written : (row : ArenaView Block) (index : List IndexEntry) (n : ℕ) (p : IndexEntry) (content : Block) → IsStored row index → n < length index
-    → p ≡ slice_index_or index n p → IsStored (with_value row p.slot content) index
-stored-written row index n p content stored within here =
-    let held = stored.hold p.slot (times-place index n p within here) in
-    let fits = held-within row.values p.slot held in
-    let long = length-set row.values p.slot (Some content) in
+pub stored-written : (arena : ArenaView Block) (index : List IndexEntry) (n : ℕ) (p : IndexEntry) (content : Block) → IsStored arena index → n < length index
+    → p ≡ slice_index_or index n p → IsStored (with_value arena p.slot content) index
+stored-written arena index n p content stored within here =
+    let held = stored.hold p.slot (count_of-place index n p within here) in
+    let fits = held-within arena.values p.slot held in
+    let long = length-set arena.values p.slot (Some content) in
     record {
-      ascending = rw (entries-written row.values index n content stored.once within here fits)
-          (ascending-rewritten (entries_of row.values index) n content (let same = length-entries row.values index in omega arith) stored.ascending);
-      parted = parted-restore row p.slot content stored.parted fits (held-not_free row stored.parted p.slot held);
+      ascending = rw (entries-written arena.values index n content stored.once within here fits)
+          (ascending-rewritten (entries_of arena.values index) n content (let same = length-entries arena.values index in omega arith) stored.ascending);
+      partitioned = partitioned-restore arena p.slot content stored.partitioned fits (held-not_free arena stored.partitioned p.slot held);
       once = stored.once;
       hold = λ i some. elim (eqb_tells i p.slot) [
-        | inl e ↦ rw e.1 (ap is_some (value-same row.values p.slot (Some content) fits))
-        | inr o ↦ ap is_some (value-other row.values p.slot i (Some content) o.1) ∙ stored.hold i some
+        | inl e ↦ rw e.1 (ap is_some (value-same arena.values p.slot (Some content) fits))
+        | inr o ↦ ap is_some (value-other arena.values p.slot i (Some content) o.1) ∙ stored.hold i some
       ];
       free = rw long stored.free;
       small = rw long stored.small;
     }
 
 -- the slot of a place is there
-pub slot-within : (row : ArenaView Block) (index : List IndexEntry) (n : ℕ) (p : IndexEntry) → IsStored row index → n < length index
-    → p ≡ slice_index_or index n p → p.slot < length row.values
-slot-within row index n p stored within here = held-within row.values p.slot (stored.hold p.slot (times-place index n p within here))
+pub slot-within : (arena : ArenaView Block) (index : List IndexEntry) (n : ℕ) (p : IndexEntry) → IsStored arena index → n < length index
+    → p ≡ slice_index_or index n p → p.slot < length arena.values
+slot-within arena index n p stored within here = held-within arena.values p.slot (stored.hold p.slot (count_of-place index n p within here))
 
 -- ---- a block is made
 
-under_times : (i x : ℕ) (xs ys : List ℕ) → times i xs ≡ times i ys → times i (x ∷ xs) ≡ times i (x ∷ ys)
+under_times : (i x : ℕ) (xs ys : List ℕ) → count_of i xs ≡ count_of i ys → count_of i (x ∷ xs) ≡ count_of i (x ∷ ys)
 under_times i x xs ys same = elim (eqb_tells x i) [ inl e ↦ rw e.0 (ap (λ n. suc n) same) | inr n ↦ rw n.0 same ]
 
-times-swapped : (i x y : ℕ) (xs : List ℕ) → times i (x ∷ y ∷ xs) ≡ times i (y ∷ x ∷ xs)
-times-swapped i x y xs = elim (eqb_tells x i) [
+count_of-swapped : (i x y : ℕ) (xs : List ℕ) → count_of i (x ∷ y ∷ xs) ≡ count_of i (y ∷ x ∷ xs)
+count_of-swapped i x y xs = elim (eqb_tells x i) [
   | inl e ↦ elim (eqb_tells y i) [ inl d ↦ rw (e.0, d.0) refl | inr n ↦ rw (e.0, n.0) refl ]
   | inr n ↦ elim (eqb_tells y i) [ inl d ↦ rw (n.0, d.0) refl | inr m ↦ rw (n.0, m.0) refl ]
 ]
 
-times-inserted : (i : ℕ) (index : List IndexEntry) (n : ℕ) (p : IndexEntry)
-    → times i (slots_of (take n index ++ p ∷ drop n index)) ≡ times i (p.slot ∷ slots_of index)
-times-inserted i index zero p = refl
-times-inserted i [] (suc n) p = refl
-times-inserted i (q ∷ index) (suc n) p =
-    let rest = times-inserted i index n p in
-    let rows = times-swapped i q.slot p.slot (slots_of index) in
+count_of-inserted : (i : ℕ) (index : List IndexEntry) (n : ℕ) (p : IndexEntry)
+    → count_of i (slots_of (take n index ++ p ∷ drop n index)) ≡ count_of i (p.slot ∷ slots_of index)
+count_of-inserted i index zero p = refl
+count_of-inserted i [] (suc n) p = refl
+count_of-inserted i (q ∷ index) (suc n) p =
+    let rest = count_of-inserted i index n p in
+    let rows = count_of-swapped i q.slot p.slot (slots_of index) in
     under_times i q.slot (slots_of (take n index ++ p ∷ drop n index)) (p.slot ∷ slots_of index) rest ∙ rows
 
-entries-inserted : (values : List (Option Block)) (index : List IndexEntry) (n : ℕ) (p : IndexEntry) (content : Block) → times p.slot (slots_of index) ≡ 0
+entries-inserted : (values : List (Option Block)) (index : List IndexEntry) (n : ℕ) (p : IndexEntry) (content : Block) → count_of p.slot (slots_of index) ≡ 0
     → p.slot < length values
     → entries_of (slice_set values p.slot (Some content)) (take n index ++ p ∷ drop n index)
     ≡ take n (entries_of values index) ++ record { file = p.file; block = p.block; content = content } ∷ drop n (entries_of values index)
@@ -243,9 +243,9 @@ entries-inserted values index zero p content none fits =
     both_same _ _ _ _ (entry-written values p p.slot content refl fits) (entries-other values p.slot (Some content) index none)
 entries-inserted values [] (suc n) p content none fits = both_same _ _ _ _ (entry-written values p p.slot content refl fits) refl
 entries-inserted values (q ∷ index) (suc n) p content none fits = elim (eqb_tells q.slot p.slot) [
-  | inl e ↦ absurd (let more = times-cons_is p.slot q.slot (slots_of index) e.1 in omega arith)
+  | inl e ↦ absurd (let more = count_of-cons_is p.slot q.slot (slots_of index) e.1 in omega arith)
   | inr o ↦ both_same _ _ _ _ (entry-other values q p.slot (Some content) o.1)
-      (entries-inserted values index n p content (let same = times-cons_other p.slot q.slot (slots_of index) o.1 in omega arith) fits)
+      (entries-inserted values index n p content (let same = count_of-cons_other p.slot q.slot (slots_of index) o.1 in omega arith) fits)
 ]
 
 length-index_inserted : (index : List IndexEntry) (n : ℕ) (p : IndexEntry) → length (take n index ++ p ∷ drop n index) ≡ suc (length index)
@@ -254,9 +254,9 @@ length-index_inserted [] (suc n) p = refl
 length-index_inserted (q ∷ index) (suc n) p = ap (λ k. suc k) (length-index_inserted index n p)
 
 -- a free slot holds nothing, so no place has it
-unclaimed : (row : ArenaView Block) (index : List IndexEntry) (i : ℕ) → IsStored row index → 0 < times i row.free → times i (slots_of index) ≡ 0
-unclaimed row index i stored some = elim (leb_tells 1 (times i (slots_of index))) [
-  | inl e ↦ absurd (let held = stored.hold i e.1 in let empty = stored.parted.free_empty i some in let lost : false ≡ true = sym (ap is_some empty) ∙ held in cc)
+unclaimed : (arena : ArenaView Block) (index : List IndexEntry) (i : ℕ) → IsStored arena index → 0 < count_of i arena.free → count_of i (slots_of index) ≡ 0
+unclaimed arena index i stored some = elim (leb_tells 1 (count_of i (slots_of index))) [
+  | inl e ↦ absurd (let held = stored.hold i e.1 in let empty = stored.partitioned.free_empty i some in let lost : false ≡ true = sym (ap is_some empty) ∙ held in cc)
   | inr n ↦ omega arith
 ]
 
@@ -264,57 +264,57 @@ first-free : (free : List ℕ) (slot : ℕ) (content : Block) → slot_from free
 first-free [] slot content answer = absurd (cc)
 first-free (i ∷ rest) slot content answer = (rest, let same : i ≡ slot = cc in rw same refl)
 
-after_put-is : (row : ArenaView Block) (slot : ℕ) (content : Block) (rest : List ℕ) → row.free ≡ slot ∷ rest
-    → after_put row content ≡ record row { values = slice_set row.values slot (Some content); free = rest }
-after_put-is row slot content rest first = ap (λ (xs : List ℕ). put_into row xs content) first
+after_put-is : (arena : ArenaView Block) (slot : ℕ) (content : Block) (rest : List ℕ) → arena.free ≡ slot ∷ rest
+    → after_put arena content ≡ record arena { values = slice_set arena.values slot (Some content); free = rest }
+after_put-is arena slot content rest first = ap (λ (xs : List ℕ). put_into arena xs content) first
 
-module _ (row : ArenaView Block) (index : List IndexEntry) (slot : ℕ) (content : Block) (stored : IsStored row index) (answer : put_answer row content ≡ Ok slot) where
-  slot-some : 0 < times slot row.free
+module _ (arena : ArenaView Block) (index : List IndexEntry) (slot : ℕ) (content : Block) (stored : IsStored arena index) (answer : put_answer arena content ≡ Ok slot) where
+  slot-some : 0 < count_of slot arena.free
   slot-some =
-      let first = first-free row.free slot content answer in
-      rw first.1 (let more = times-cons_same slot first.0 in omega arith)
+      let first = first-free arena.free slot content answer in
+      rw first.1 (let more = count_of-cons_same slot first.0 in omega arith)
 
-  slot-fits : slot < length row.values
-  slot-fits = stored.parted.within slot (let all = times-append slot row.free (concat row.chains) in let some = slot-some in omega arith)
+  slot-fits : slot < length arena.values
+  slot-fits = stored.partitioned.within slot (let all = count_of-append slot arena.free (concat arena.chains) in let some = slot-some in omega arith)
 
   pub slot-small : slot < 64
   slot-small = let fits = slot-fits in let small = stored.small in omega arith
 
-  pub length-put : length (after_put row content).values ≡ length row.values
+  pub length-put : length (after_put arena content).values ≡ length arena.values
   length-put =
-      let first = first-free row.free slot content answer in
-      rw (after_put-is row slot content first.0 first.1) (length-set row.values slot (Some content))
+      let first = first-free arena.free slot content answer in
+      rw (after_put-is arena slot content first.0 first.1) (length-set arena.values slot (Some content))
 
   module _ (n f b : ℕ) where
-    pub entries-put : entries_of (after_put row content).values (take n index ++ record { file = f; block = b; slot = slot } ∷ drop n index)
-        ≡ take n (entries_of row.values index) ++ record { file = f; block = b; content = content } ∷ drop n (entries_of row.values index)
+    pub entries-put : entries_of (after_put arena content).values (take n index ++ record { file = f; block = b; slot = slot } ∷ drop n index)
+        ≡ take n (entries_of arena.values index) ++ record { file = f; block = b; content = content } ∷ drop n (entries_of arena.values index)
     entries-put =
-        let first = first-free row.free slot content answer in
-        rw (after_put-is row slot content first.0 first.1)
-        (entries-inserted row.values index n (record { file = f; block = b; slot = slot }) content (unclaimed row index slot stored slot-some) slot-fits)
+        let first = first-free arena.free slot content answer in
+        rw (after_put-is arena slot content first.0 first.1)
+        (entries-inserted arena.values index n (record { file = f; block = b; slot = slot }) content (unclaimed arena index slot stored slot-some) slot-fits)
 
-    pub stored-put : IsGap (entries_of row.values index) f b n → IsParted (after_put row content)
-        → IsStored (after_put row content) (take n index ++ record { file = f; block = b; slot = slot } ∷ drop n index)
-    stored-put gap parted =
-        let first = first-free row.free slot content answer in
-        let is = after_put-is row slot content first.0 first.1 in
-        let none = unclaimed row index slot stored slot-some in
-        let more = λ (i : ℕ). times-inserted i index n (record { file = f; block = b; slot = slot }) in
-        let long = length-set row.values slot (Some content) in
+    pub stored-put : IsGap (entries_of arena.values index) f b n → IsPartitioned (after_put arena content)
+        → IsStored (after_put arena content) (take n index ++ record { file = f; block = b; slot = slot } ∷ drop n index)
+    stored-put gap partitioned =
+        let first = first-free arena.free slot content answer in
+        let is = after_put-is arena slot content first.0 first.1 in
+        let none = unclaimed arena index slot stored slot-some in
+        let more = λ (i : ℕ). count_of-inserted i index n (record { file = f; block = b; slot = slot }) in
+        let long = length-set arena.values slot (Some content) in
         record {
-          ascending = rw entries-put (ascending-inserted (entries_of row.values index) n (record { file = f; block = b; content = content })
+          ascending = rw entries-put (ascending-inserted (entries_of arena.values index) n (record { file = f; block = b; content = content })
               gap.before gap.behind stored.ascending);
-          parted = parted;
+          partitioned = partitioned;
           once = λ i. elim (eqb_tells slot i) [
-            | inl e ↦ (let one = times-cons_is i slot (slots_of index) e.1 in
-                let absent : times i (slots_of index) ≡ 0 = rw e.1 at none in
+            | inl e ↦ (let one = count_of-cons_is i slot (slots_of index) e.1 in
+                let absent : count_of i (slots_of index) ≡ 0 = rw e.1 at none in
                 let all = more i in omega arith)
-            | inr o ↦ (let same = times-cons_other i slot (slots_of index) o.1 in let all = more i in let most = stored.once i in omega arith)
+            | inr o ↦ (let same = count_of-cons_other i slot (slots_of index) o.1 in let all = more i in let most = stored.once i in omega arith)
           ];
           hold = λ i some. rw is (elim (eqb_tells i slot) [
-            | inl e ↦ rw e.1 (ap is_some (value-same row.values slot (Some content) slot-fits))
-            | inr o ↦ ap is_some (value-other row.values slot i (Some content) o.1)
-                ∙ stored.hold i (let same = times-cons_other i slot (slots_of index) (λ e. o.1 (sym e)) in let all = more i in omega arith)
+            | inl e ↦ rw e.1 (ap is_some (value-same arena.values slot (Some content) slot-fits))
+            | inr o ↦ ap is_some (value-other arena.values slot i (Some content) o.1)
+                ∙ stored.hold i (let same = count_of-cons_other i slot (slots_of index) (λ e. o.1 (sym e)) in let all = more i in omega arith)
           ]);
           free = rw is (
               let fewer = ap length first.1 in
@@ -329,84 +329,84 @@ module _ (row : ArenaView Block) (index : List IndexEntry) (slot : ℕ) (content
 
 -- the slots of n places of a run were taken
 pub record IsTaken (before now : ArenaView Block) (run : List IndexEntry) (count : ℕ) : Type 0 where
-  pub parted : IsParted now
+  pub partitioned : IsPartitioned now
   pub free : length now.free ≡ length before.free + count
   pub long : length now.values ≡ length before.values
-  pub others : (i : ℕ) → times i (slots_of (take count run)) ≡ 0 → value_at now i ≡ value_at before i
+  pub others : (i : ℕ) → count_of i (slots_of (take count run)) ≡ 0 → value_at now i ≡ value_at before i
 
-pub taken-none : (row : ArenaView Block) (run : List IndexEntry) → IsParted row → IsTaken row row run 0
-taken-none row run parted = record { parted = parted; free = omega arith; long = refl; others = λ i none. refl }
+pub taken-none : (arena : ArenaView Block) (run : List IndexEntry) → IsPartitioned arena → IsTaken arena arena run 0
+taken-none arena run partitioned = record { partitioned = partitioned; free = omega arith; long = refl; others = λ i none. refl }
 
-times-taken : (i : ℕ) (run : List IndexEntry) (k : ℕ) → times i (slots_of (take k run)) ≤ times i (slots_of run)
-times-taken i run zero = omega arith
-times-taken i [] (suc k) = omega arith
-times-taken i (q ∷ run) (suc k) =
-    let rest = times-taken i run k in
+count_of-taken : (i : ℕ) (run : List IndexEntry) (k : ℕ) → count_of i (slots_of (take k run)) ≤ count_of i (slots_of run)
+count_of-taken i run zero = omega arith
+count_of-taken i [] (suc k) = omega arith
+count_of-taken i (q ∷ run) (suc k) =
+    let rest = count_of-taken i run k in
     elim (eqb_tells q.slot i) [
-      | inl e ↦ omega (arith, times-cons_is i q.slot (slots_of run) e.1, times-cons_is i q.slot (slots_of (take k run)) e.1)
-      | inr n ↦ omega (arith, times-cons_other i q.slot (slots_of run) n.1, times-cons_other i q.slot (slots_of (take k run)) n.1)
+      | inl e ↦ omega (arith, count_of-cons_is i q.slot (slots_of run) e.1, count_of-cons_is i q.slot (slots_of (take k run)) e.1)
+      | inr n ↦ omega (arith, count_of-cons_other i q.slot (slots_of run) n.1, count_of-cons_other i q.slot (slots_of (take k run)) n.1)
     ]
 
-times-next : (i : ℕ) (run : List IndexEntry) (k : ℕ) (p : IndexEntry) → k < length run → p ≡ slice_index_or run k p
-    → times i (slots_of (take (suc k) run)) ≡ times i (p.slot ∷ slots_of (take k run))
-times-next i [] k p within here = absurd (omega arith)
-times-next i (q ∷ run) zero p within here = ap (λ (r : IndexEntry). times i (r.slot ∷ [])) (sym here)
-times-next i (q ∷ run) (suc k) p within here =
-    under_times i q.slot (slots_of (take (suc k) run)) (p.slot ∷ slots_of (take k run)) (times-next i run k p (omega arith) here)
-    ∙ times-swapped i q.slot p.slot (slots_of (take k run))
+count_of-next : (i : ℕ) (run : List IndexEntry) (k : ℕ) (p : IndexEntry) → k < length run → p ≡ slice_index_or run k p
+    → count_of i (slots_of (take (suc k) run)) ≡ count_of i (p.slot ∷ slots_of (take k run))
+count_of-next i [] k p within here = absurd (omega arith)
+count_of-next i (q ∷ run) zero p within here = ap (λ (r : IndexEntry). count_of i (r.slot ∷ [])) (sym here)
+count_of-next i (q ∷ run) (suc k) p within here =
+    under_times i q.slot (slots_of (take (suc k) run)) (p.slot ∷ slots_of (take k run)) (count_of-next i run k p (omega arith) here)
+    ∙ count_of-swapped i q.slot p.slot (slots_of (take k run))
 
-after_take-is : (row : ArenaView Block) (i : ℕ) → holds_value row i ≡ true
-    → after_take row i ≡ record { values = slice_set row.values i None; free = i ∷ row.free; chains = map (without i) row.chains }
-after_take-is row i held = rw held refl
+after_take-is : (arena : ArenaView Block) (i : ℕ) → holds_value arena i ≡ true
+    → after_take arena i ≡ record { values = slice_set arena.values i None; free = i ∷ arena.free; chains = map (without i) arena.chains }
+after_take-is arena i held = rw held refl
 
-pub taken-more : {before now : ArenaView Block} {run : List IndexEntry} {k : ℕ} {p : IndexEntry} → IsTaken before now run k → ((i : ℕ) → times i (slots_of run) ≤ 1)
-    → ((i : ℕ) → 0 < times i (slots_of run) → holds_value before i ≡ true) → k < length run → p ≡ slice_index_or run k p
-    → IsParted (after_take now p.slot) → IsTaken before (after_take now p.slot) run (k + 1)
-taken-more {before} {now} {run} {k} {p} taken once hold within here parted =
-    let next = λ (i : ℕ). times-next i run k p within here in
-    let one = times-cons_same p.slot (slots_of (take k run)) in
-    let fresh : times p.slot (slots_of (take k run)) ≡ 0 =
-    (let all = times-taken p.slot run (suc k) in let most = once p.slot in let step = next p.slot in omega arith) in
+pub taken-more : {before now : ArenaView Block} {run : List IndexEntry} {k : ℕ} {p : IndexEntry} → IsTaken before now run k → ((i : ℕ) → count_of i (slots_of run) ≤ 1)
+    → ((i : ℕ) → 0 < count_of i (slots_of run) → holds_value before i ≡ true) → k < length run → p ≡ slice_index_or run k p
+    → IsPartitioned (after_take now p.slot) → IsTaken before (after_take now p.slot) run (k + 1)
+taken-more {before} {now} {run} {k} {p} taken once hold within here partitioned =
+    let next = λ (i : ℕ). count_of-next i run k p within here in
+    let one = count_of-cons_same p.slot (slots_of (take k run)) in
+    let fresh : count_of p.slot (slots_of (take k run)) ≡ 0 =
+    (let all = count_of-taken p.slot run (suc k) in let most = once p.slot in let step = next p.slot in omega arith) in
     let held : holds_value now p.slot ≡ true =
     ap is_some (taken.others p.slot fresh)
-    ∙ hold p.slot (let all = times-taken p.slot run (suc k) in let step = next p.slot in omega arith) in
+    ∙ hold p.slot (let all = count_of-taken p.slot run (suc k) in let step = next p.slot in omega arith) in
     let is = after_take-is now p.slot held in
     record {
-      parted = parted;
+      partitioned = partitioned;
       free = rw is (let count = taken.free in omega arith);
       long = rw is (length-set now.values p.slot None ∙ taken.long);
       others = λ i none.
-          let none_yet : times i (p.slot ∷ slots_of (take k run)) ≡ 0 = sym (next i) ∙ rw add-one at none in
+          let none_yet : count_of i (p.slot ∷ slots_of (take k run)) ≡ 0 = sym (next i) ∙ rw add-one at none in
           elim (eqb_tells p.slot i) [
-            | inl e ↦ absurd (let some = times-cons_is i p.slot (slots_of (take k run)) e.1 in omega arith)
+            | inl e ↦ absurd (let some = count_of-cons_is i p.slot (slots_of (take k run)) e.1 in omega arith)
             | inr o ↦ rw is (value-other now.values p.slot i None (λ e. o.1 (sym e))
-                ∙ taken.others i (let same = times-cons_other i p.slot (slots_of (take k run)) o.1 in omega arith))
+                ∙ taken.others i (let same = count_of-cons_other i p.slot (slots_of (take k run)) o.1 in omega arith))
           ];
     }
 
-times-split : (i : ℕ) (index : List IndexEntry) (m : ℕ) → times i (slots_of index) ≡ times i (slots_of (drop m index)) + times i (slots_of (take m index))
-times-split i index zero = omega arith
-times-split i [] (suc m) = omega arith
-times-split i (q ∷ index) (suc m) =
-    let rest = times-split i index m in
+count_of-split : (i : ℕ) (index : List IndexEntry) (m : ℕ) → count_of i (slots_of index) ≡ count_of i (slots_of (drop m index)) + count_of i (slots_of (take m index))
+count_of-split i index zero = omega arith
+count_of-split i [] (suc m) = omega arith
+count_of-split i (q ∷ index) (suc m) =
+    let rest = count_of-split i index m in
     elim (eqb_tells q.slot i) [
-      | inl e ↦ omega (arith, times-cons_is i q.slot (slots_of index) e.1, times-cons_is i q.slot (slots_of (take m index)) e.1)
-      | inr n ↦ omega (arith, times-cons_other i q.slot (slots_of index) n.1, times-cons_other i q.slot (slots_of (take m index)) n.1)
+      | inl e ↦ omega (arith, count_of-cons_is i q.slot (slots_of index) e.1, count_of-cons_is i q.slot (slots_of (take m index)) e.1)
+      | inr n ↦ omega (arith, count_of-cons_other i q.slot (slots_of index) n.1, count_of-cons_other i q.slot (slots_of (take m index)) n.1)
     ]
 
-pub times-cut : (i : ℕ) (index : List IndexEntry) (from m end : ℕ) → end ≡ from + m
-    → times i (slots_of index) ≡ times i (slots_of (take from index ++ drop end index)) + times i (slots_of (take m (drop from index)))
-times-cut i index zero m end sum = let same : end ≡ m = omega arith in rw same (times-split i index m)
-times-cut i [] (suc from) zero zero sum = absurd (omega arith)
-times-cut i [] (suc from) (suc m) zero sum = absurd (omega arith)
-times-cut i [] (suc from) zero (suc end) sum = omega arith
-times-cut i [] (suc from) (suc m) (suc end) sum = omega arith
-times-cut i (q ∷ index) (suc from) m zero sum = absurd (omega arith)
-times-cut i (q ∷ index) (suc from) m (suc end) sum =
-    let rest = times-cut i index from m end (omega arith) in
+pub count_of-cut : (i : ℕ) (index : List IndexEntry) (from m end : ℕ) → end ≡ from + m
+    → count_of i (slots_of index) ≡ count_of i (slots_of (take from index ++ drop end index)) + count_of i (slots_of (take m (drop from index)))
+count_of-cut i index zero m end sum = let same : end ≡ m = omega arith in rw same (count_of-split i index m)
+count_of-cut i [] (suc from) zero zero sum = absurd (omega arith)
+count_of-cut i [] (suc from) (suc m) zero sum = absurd (omega arith)
+count_of-cut i [] (suc from) zero (suc end) sum = omega arith
+count_of-cut i [] (suc from) (suc m) (suc end) sum = omega arith
+count_of-cut i (q ∷ index) (suc from) m zero sum = absurd (omega arith)
+count_of-cut i (q ∷ index) (suc from) m (suc end) sum =
+    let rest = count_of-cut i index from m end (omega arith) in
     elim (eqb_tells q.slot i) [
-      | inl e ↦ omega (arith, times-cons_is i q.slot (slots_of index) e.1, times-cons_is i q.slot (slots_of (take from index ++ drop end index)) e.1)
-      | inr n ↦ omega (arith, times-cons_other i q.slot (slots_of index) n.1, times-cons_other i q.slot (slots_of (take from index ++ drop end index)) n.1)
+      | inl e ↦ omega (arith, count_of-cons_is i q.slot (slots_of index) e.1, count_of-cons_is i q.slot (slots_of (take from index ++ drop end index)) e.1)
+      | inr n ↦ omega (arith, count_of-cons_other i q.slot (slots_of index) n.1, count_of-cons_other i q.slot (slots_of (take from index ++ drop end index)) n.1)
     ]
 
 length-cut : (index : List IndexEntry) (from m end : ℕ) → end ≡ from + m → end ≤ length index → length (take from index ++ drop end index) + m ≡ length index
@@ -416,27 +416,27 @@ length-cut (q ∷ index) (suc from) m zero sum within = absurd (omega arith)
 length-cut (q ∷ index) (suc from) m (suc end) sum within = let rest = length-cut index from m end (omega arith) (omega arith) in omega arith
 
 entries-same : (values others : List (Option Block)) (index : List IndexEntry)
-    → ((i : ℕ) → 0 < times i (slots_of index) → slice_index_or values i None ≡ slice_index_or others i None)
+    → ((i : ℕ) → 0 < count_of i (slots_of index) → slice_index_or values i None ≡ slice_index_or others i None)
     → entries_of values index ≡ entries_of others index
 entries-same values others [] same = refl
 entries-same values others (q ∷ index) same =
     both_same _ _ _ _
     (ap (λ (o : Option Block). record { file = q.file; block = q.block; content = unwrap_or o no_block })
-    (same q.slot (let some = times-cons_same q.slot (slots_of index) in omega arith)))
-    (entries-same values others index (λ i some. same i (let more = times-tail i q.slot (slots_of index) in omega arith)))
+    (same q.slot (let some = count_of-cons_same q.slot (slots_of index) in omega arith)))
+    (entries-same values others index (λ i some. same i (let more = count_of-tail i q.slot (slots_of index) in omega arith)))
 
 module _ (before now : ArenaView Block) (index : List IndexEntry) (from m end : ℕ) (stored : IsStored before index) (sum : end ≡ from + m) (within : end ≤ length index)
     (taken : IsTaken before now (take m (drop from index)) m) where
   left : List IndexEntry
   left = take from index ++ drop end index
 
-  value-left : (i : ℕ) → 0 < times i (slots_of left) → value_at now i ≡ value_at before i
+  value-left : (i : ℕ) → 0 < count_of i (slots_of left) → value_at now i ≡ value_at before i
   unfolding left
   value-left i some =
       taken.others i (
-      let parts = times-cut i index from m end sum in
+      let parts = count_of-cut i index from m end sum in
       let most = stored.once i in
-      let few = times-taken i (take m (drop from index)) m in
+      let few = count_of-taken i (take m (drop from index)) m in
       omega arith
       )
 
@@ -451,9 +451,9 @@ module _ (before now : ArenaView Block) (index : List IndexEntry) (from m end : 
   unfolding left
   stored-cut = record {
     ascending = rw entries-cut (ascending-removed (entries_of before.values index) from end (omega arith) stored.ascending);
-    parted = taken.parted;
-    once = λ i. let parts = times-cut i index from m end sum in let most = stored.once i in omega arith;
-    hold = λ i some. ap is_some (value-left i some) ∙ stored.hold i (let parts = times-cut i index from m end sum in omega arith);
+    partitioned = taken.partitioned;
+    once = λ i. let parts = count_of-cut i index from m end sum in let most = stored.once i in omega arith;
+    hold = λ i some. ap is_some (value-left i some) ∙ stored.hold i (let parts = count_of-cut i index from m end sum in omega arith);
     free = let fewer = length-cut index from m end sum within in let count = stored.free in let long = taken.long in let free = taken.free in omega arith;
     small = let long = taken.long in let small = stored.small in omega arith;
   }
@@ -472,23 +472,23 @@ run_of index from end = take (end - from) (drop from index)
 -- the next place of the run between two indices
 pub taken-next : {before now : ArenaView Block} {index : List IndexEntry} (from end : ℕ) {k : ℕ} (d : IndexEntry) → IsStored before index → from ≤ end
     → IsTaken before now (run_of index from end) k → k < length (run_of index from end)
-    → IsParted (after_take now (slice_index_or (run_of index from end) k d).slot)
+    → IsPartitioned (after_take now (slice_index_or (run_of index from end) k d).slot)
     → IsTaken before (after_take now (slice_index_or (run_of index from end) k d).slot) (run_of index from end) (k + 1)
-taken-next {index = index} from end {k} d stored order taken low parted =
-    let parts = λ (i : ℕ). times-cut i index from (end - from) end (omega arith) in
+taken-next {index = index} from end {k} d stored order taken low partitioned =
+    let parts = λ (i : ℕ). count_of-cut i index from (end - from) end (omega arith) in
     taken-more taken
     (λ i. let sum = parts i in let most = stored.once i in omega arith)
     (λ i some. stored.hold i (let sum = parts i in omega arith))
-    low (place-read (run_of index from end) k d low) parted
+    low (place-read (run_of index from end) k d low) partitioned
 
 -- ---- the start
 
-pub stored-empty : (quota chains : ℕ) → quota ≤ 64 → IsParted {T = Block} (empty_arena quota chains) → IsStored (empty_arena quota chains) []
-stored-empty quota chains small parted =
+pub stored-empty : (quota chains : ℕ) → quota ≤ 64 → IsPartitioned {T = Block} (empty_arena quota chains) → IsStored (empty_arena quota chains) []
+stored-empty quota chains small partitioned =
     let long = length-replicate {A = Option Block} quota None in
     record {
       ascending = tt;
-      parted = parted;
+      partitioned = partitioned;
       once = λ i. omega arith;
       hold = λ i some. absurd (omega arith);
       free = let count = length-numbers 0 quota in omega arith;

@@ -1,7 +1,7 @@
 -- Format for operators: The blocks of a stripe as bytes: entries of 520 bytes each.
 use Rattle.std.specs.Prelude.{◌≡◌, ℕ, Bool, true, ◌&&◌, nat_lt, zero, suc, ◌*◌, ◌-◌, ◌==◌, List, [], ◌∷◌, ◌++◌, length, take, drop, get_or, replicate, if◌then◌else◌}
 use Rattle.std.specs.List.{flat_map, AllByRecursion}
-use Rattle.affinity.specs.Geometry.{group}
+use Rattle.affinity.specs.Geometry.{stripe_of}
 use Rattle.affinity.specs.declared.geometry.Geometry.{Geometry}
 use Rattle.byteorder.specs.Endian.{little_bytes, little_number}
 use Rattle.messages.specs.Replies.{has_file}
@@ -11,11 +11,11 @@ use Rattle.stripe.specs.Stripe.{BlockEntry, IsAscending}
 abbrev pub entry_bytes : BlockEntry → List ℕ
 entry_bytes e = 1 ∷ e.file ∷ [] ++ little_bytes 2 e.block ++ 0 ∷ 0 ∷ 0 ∷ 0 ∷ [] ++ e.content.0
 
--- entries one after the other, and zeros after them where there could be more
+-- a stripe's piece: its entries one after the other, and zeros after them up to the size of `quota` entries
 abbrev pub stripe_bytes : ℕ → List BlockEntry → List ℕ
 stripe_bytes quota es = flat_map entry_bytes es ++ replicate (quota * 520 - length (flat_map entry_bytes es)) 0
 
--- what 520 bytes decode to, where they are an entry
+-- the entry that 520 bytes decode to
 abbrev pub entry_in : List ℕ → BlockEntry
 entry_in row = record { file = get_or row 1 0; block = little_number 2 (drop 2 row); content = record { 0 = drop 8 row } }
 
@@ -27,11 +27,11 @@ entries_in (suc n) bytes = if get_or bytes 0 0 == 1 then entry_in (take 520 byte
 -- ---- pieces
 
 -- An entry can be in stripe s of a volume with these files: its file is one of them, its block is in range and lies in that stripe.
-abbrev pub can_stand : Geometry → ℕ → ℕ → ℕ → ℕ → Bool
-can_stand g files s f b = has_file files f && nat_lt b g.blocks && (group g f b == s)
+abbrev pub fits_stripe : Geometry → ℕ → ℕ → ℕ → ℕ → Bool
+fits_stripe g files s f b = has_file files f && nat_lt b g.blocks && (stripe_of g f b == s)
 
--- The bytes are a piece of that stripe: they spell the entries that they begin with, which ascend and fit.
+-- The bytes are a piece of stripe s: they spell the entries that they begin with, which ascend and can be in that stripe.
 pub record IsStripePiece (g : Geometry) (files s : ℕ) (bytes : List ℕ) : Type 0 where
   pub spelled : bytes ≡ stripe_bytes g.quota (entries_in g.quota bytes)
   pub ascending : IsAscending (entries_in g.quota bytes)
-  pub fit : AllByRecursion (λ e. can_stand g files s e.file e.block ≡ true) (entries_in g.quota bytes)
+  pub fit : AllByRecursion (λ e. fits_stripe g files s e.file e.block ≡ true) (entries_in g.quota bytes)

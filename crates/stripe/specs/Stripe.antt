@@ -9,7 +9,7 @@ pub record BlockEntry : Type 0 where
   pub block : ℕ
   pub content : Block
 
--- the blocks of a stripe, and how many it may have
+-- what contracts see of a `StripeParcel`: how many blocks it may have, and its blocks
 pub record StripePart : Type 0 where
   pub quota : ℕ
   pub entries : List BlockEntry
@@ -19,7 +19,7 @@ abbrev pub content_at : List BlockEntry → ℕ → ℕ → Option Block
 content_at [] f b = None
 content_at (e ∷ es) f b = if (f == e.file) && (b == e.block) then Some e.content else content_at es f b
 
--- the blocks of a file come in their order, and the files in theirs
+-- entry d comes before entry e: its file has the lower number, or the files are the same and its block has
 abbrev pub ComesBefore : BlockEntry → BlockEntry → Type 0
 ComesBefore d e = (d.file < e.file) ⊎ ((d.file ≡ e.file) × (d.block < e.block))
 
@@ -33,7 +33,7 @@ pub record StripeRule (p : StripePart) : Type 0 where
   pub ascending : IsAscending p.entries
   pub within : length p.entries ≤ p.quota
 
--- The quota stays, and each block holds this.
-pub record NowHolds (old new : StripePart) (wanted : ℕ → ℕ → Option Block) : Type 0 where
+-- What a call made of a stripe: the quota stays, and block b of file f holds `wanted f b` (`None` where it isn't there).
+pub record HoldsContent (old new : StripePart) (wanted : ℕ → ℕ → Option Block) : Type 0 where
   pub quota : new.quota ≡ old.quota
   pub content : (f b : ℕ) → content_at new.entries f b ≡ wanted f b

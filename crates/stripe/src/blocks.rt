@@ -1,7 +1,7 @@
 //! A stripe: an array of buffers, and an index of which block lies in which of them.
 ghost use Rattle.std.specs.Prelude.{◌≡◌, ◌<◌, ◌≤◌, ◌&&◌, ◌||◌, ◌==◌, true, is_some, length, nat_lt, [], Some, None, IfOk, MatchResult, option_copied, if◌then◌else◌, insert, vec_capacity};
 ghost use Rattle.std.specs.List.{remove_range};
-ghost use Rattle.stripe.specs.Stripe.{StripePart, StripeRule, NowHolds, content_at};
+ghost use Rattle.stripe.specs.Stripe.{StripePart, StripeRule, HoldsContent, content_at};
 ghost use Rattle.stripe.specs.Index.{entries_of, IsStored, IsSplit, IsAt, IsGap, rewritten};
 
 use arena::Arena;
@@ -66,7 +66,7 @@ impl StripeParcel {
     /// Puts content into a block that is there, or makes the block. There has to be room for it.
     pub fn set(&mut self, f: u16, b: u16, content: &Block)
         requires room { (is_some (content_at self.old.entries f b) || nat_lt (length self.old.entries) self.old.quota) ≡ true }
-        ensures holds { NowHolds self.old self.new
+        ensures holds { HoldsContent self.old self.new
             (λ i j. if (f == i) && (b == j) then Some content.now else content_at self.old.entries i j) }
         ensures kept { StripeRule self.new }
     {
@@ -78,22 +78,22 @@ impl StripeParcel {
 
     /// Removes a block, if it is there.
     pub fn clear(&mut self, f: u16, b: u16)
-        ensures holds { NowHolds self.old self.new (λ i j. if (f == i) && (b == j) then None else content_at self.old.entries i j) }
+        ensures holds { HoldsContent self.old self.new (λ i j. if (f == i) && (b == j) then None else content_at self.old.entries i j) }
         ensures kept { StripeRule self.new }
     {
         if let Ok(n) = self.find(f, b) {
-            self.cut(n, n + 1);
+            self.remove_blocks(n, n + 1);
         }
     }
 
     /// Removes the blocks of a file.
     pub fn drop_file(&mut self, f: u16)
-        ensures holds { NowHolds self.old self.new (λ i j. if f == i then None else content_at self.old.entries i j) }
+        ensures holds { HoldsContent self.old self.new (λ i j. if f == i then None else content_at self.old.entries i j) }
         ensures kept { StripeRule self.new }
     {
         let first = self.split(usize::from(f), 0);
         let end = self.split(usize::from(f) + 1, 0);
-        self.cut(first, end);
+        self.remove_blocks(first, end);
     }
 
     /// Removes all blocks.
@@ -101,7 +101,7 @@ impl StripeParcel {
         ensures { self.new ≡ record { quota = self.old.quota; entries = [] } }
     {
         let end = self.len();
-        self.cut(0, end);
+        self.remove_blocks(0, end);
     }
 
     // How many blocks come before block `b` of file `f`.
@@ -110,9 +110,9 @@ impl StripeParcel {
         ensures most { length self.now.entries ≤ 64 }
         ensures kept { StripeRule self.now }
     {
-        self.index.partition_point(|place| {
-            let file = usize::from(place.file);
-            file < f || file == f && usize::from(place.block) < b
+        self.index.partition_point(|index_entry| {
+            let file = usize::from(index_entry.file);
+            file < f || file == f && usize::from(index_entry.block) < b
         })
     }
 
@@ -124,7 +124,7 @@ impl StripeParcel {
     {
         let n = self.split(usize::from(f), usize::from(b));
         match self.index.get(n) {
-            Some(place) if place.file == f && place.block == b => Ok(n),
+            Some(index_entry) if index_entry.file == f && index_entry.block == b => Ok(n),
             _ => Err(n),
         }
     }
@@ -152,24 +152,24 @@ impl StripeParcel {
         let Ok(slot) = self.blocks.put(*content) else {
             unreachable!()
         };
-        let place = IndexEntry {
+        let index_entry = IndexEntry {
             file: f,
             block: b,
             slot: slot as u16,
         };
-        let Ok(()) = self.index.insert(n, place) else {
+        let Ok(()) = self.index.insert(n, index_entry) else {
             unreachable!()
         };
     }
 
     // Removes the blocks from one index up to another.
-    fn cut(&mut self, from: usize, end: usize)
+    fn remove_blocks(&mut self, from: usize, end: usize)
         requires order { from ≤ end }
         requires within { end ≤ length self.old.entries }
         ensures { self.new ≡ record self.old { entries = remove_range self.old.entries from end } }
     {
-        for place in &self.index[from..end] {
-            self.blocks.take(usize::from(place.slot));
+        for index_entry in &self.index[from..end] {
+            self.blocks.take(usize::from(index_entry.slot));
         }
         self.index.drain(from..end);
     }

@@ -6,21 +6,21 @@ mod streams;
 use commands::{command, report_unreadable_arguments};
 use std::process::ExitCode;
 use std::{env, io};
-use streams::take_stream_numbers;
+use streams::reserve_standard_descriptors;
 
 /// The arguments that the program was called with, its own name first.
-fn called_with(rt: &HostRuntime) -> io::Result<Vec<String>> {
-    let words = env::args(rt)?.collect(rt.alloc())?;
-    Ok(words)
+fn program_arguments(rt: &HostRuntime) -> io::Result<Vec<String>> {
+    let arguments = env::args(rt)?.collect(rt.alloc())?;
+    Ok(arguments)
 }
 
 fn main(rt: HostRuntime) -> ExitCode {
-    let _kept_to_the_end = take_stream_numbers(&rt);
-    let status = match called_with(&rt) {
-        Ok(words) => command(
+    let _kept_to_the_end = reserve_standard_descriptors(&rt);
+    let status = match program_arguments(&rt) {
+        Ok(arguments) => command(
             &rt,
             rt.alloc(),
-            words.as_slice(),
+            arguments.as_slice(),
             &mut rt.stdin(),
             &mut rt.stdout(),
             &mut rt.stderr(),

@@ -8,22 +8,22 @@ use Rattle.atomic_table.specs.Table.{Step, step, Act, keeps, takes, gives, Valid
 use Rattle.atomic_table.proofs.Lists.{at_set, at_longer, at_snoc, set_else, set_again, exchanged}
 use Rattle.parcel.specs.Run.{JobView, IsJobRun}
 use Rattle.parcel.specs.declared.job.Done.{Done}
-use Rattle.workers.specs.Rule.{Board, Home, LentRow, lent_at, word_of, PlaceState, is_empty, is_offered, is_claimed, is_delivered, BenchRule}
-use Rattle.workers.specs.Steps.{Sat, Readies, Offers, Claims, Delivers, Collects, OfPlace}
+use Rattle.workers.specs.Rule.{BenchTable, SlotState, LentJobs, lent_at, word_of, PlaceState, is_empty, is_offered, is_claimed, is_delivered, BenchRule}
+use Rattle.workers.specs.Steps.{SeatState, TakesSlot, Offers, Claims, Delivers, Collects, OfPlace}
 use Rattle.workers.specs.Seats.{idle}
 use Rattle.workers.specs.declared.job_cell.CellContent.{CellContent}
 use Rattle.workers.specs.declared.job_cell.CellContent.TheVariants.{Offered, Delivered}
-use Rattle.workers.specs.declared.seats.View.{View}
-use Rattle.workers.specs.declared.seats.View.TheVariants.{Dispatcher, Idle, Claimed}
+use Rattle.workers.specs.declared.seats.SeatRole.{SeatRole}
+use Rattle.workers.specs.declared.seats.SeatRole.TheVariants.{Dispatcher, Idle, Claimed}
 use Rattle.workers.proofs.Rows.{set_at, there}
 
 -- The kinds of view are distinct.
-dispatch_seat_is_no_claim : (r k : ℕ) (l : LentRow) (job : JobView) → Dispatcher r l ≡ Claimed k job → ⊥
+dispatch_seat_is_no_claim : (r k : ℕ) (l : LentJobs) (job : JobView) → Dispatcher r l ≡ Claimed k job → ⊥
 dispatch_seat_is_no_claim r k l job e = cc
 
 -- a worker's view, which isn't that of the dispatcher
-abbrev pub IsWorker : View → Type 0
-IsWorker v = (r : ℕ) (l : LentRow) → v ≡ Dispatcher r l → ⊥
+abbrev pub IsWorker : SeatRole → Type 0
+IsWorker v = (r : ℕ) (l : LentJobs) → v ≡ Dispatcher r l → ⊥
 
 idle_is_worker : IsWorker Idle
 idle_is_worker r l e = cc
@@ -37,43 +37,43 @@ idle_is_no_claim k job e = cc
 one_claimed : (k i : ℕ) (job other : JobView) → Claimed k job ≡ Claimed i other → (k ≡ i) × (job ≡ other)
 one_claimed k i job other e = ((cc), (cc))
 
-one_dispatch_seat : (r q : ℕ) (l m : LentRow) → Dispatcher r l ≡ Dispatcher q m → (r ≡ q) × (l ≡ m)
+one_dispatch_seat : (r q : ℕ) (l m : LentJobs) → Dispatcher r l ≡ Dispatcher q m → (r ≡ q) × (l ≡ m)
 one_dispatch_seat r q l m e = ((cc), (cc))
 
 one_job : (a b : JobView) → Some a ≡ Some b → a ≡ b
 one_job a b e = cc
 
--- The state of a place is as before where its word, what is lent and whether it was readied are as before.
-stands_still : {r q k word word' : ℕ} {o o' : Option JobView} {home : Home} → PlaceState r k word o home
-    → (k < q → k < r) → (q ≤ k → r ≤ k) → word' ≡ word → o' ≡ o → PlaceState q k word' o' home
+-- The state of a place is as before where its word, what is lent and whether its slot was taken are as before.
+stands_still : {r q k word word' : ℕ} {o o' : Option JobView} {slot : SlotState} → PlaceState r k word o slot
+    → (k < q → k < r) → (q ≤ k → r ≤ k) → word' ≡ word → o' ≡ o → PlaceState q k word' o' slot
 stands_still (is_empty w l before after) less more ew eo = is_empty (ew ∙ w) (eo ∙ l) (λ h. before (less h)) (λ h. after (more h))
 stands_still (is_offered job w l at) less more ew eo = is_offered job (ew ∙ w) (eo ∙ l) at
 stands_still (is_claimed job w l at) less more ew eo = is_claimed job (ew ∙ w) (eo ∙ l) at
 stands_still (is_delivered job done w l at run) less more ew eo = is_delivered job done (ew ∙ w) (eo ∙ l) at run
 
 -- the dispatcher's seat knows what the rule says
-the_dispatch_seat : (s : Board) (h : BenchRule s) (id r : ℕ) (l : LentRow) → get_elem? s.views id ≡ some (Dispatcher r l) → (id ≡ h.dispatch_seat) × (r ≡ h.resting) × (l ≡ h.lent)
+the_dispatch_seat : (s : BenchTable) (h : BenchRule s) (id r : ℕ) (l : LentJobs) → get_elem? s.views id ≡ some (Dispatcher r l) → (id ≡ h.dispatch_seat) × (r ≡ h.untaken) × (l ≡ h.lent)
 the_dispatch_seat s h id r l me = let same = h.no_other id r l me in
-    let e = one_dispatch_seat r h.resting l h.lent (some-injective _ _ (sym me ∙ (ap (λ i. get_elem? s.views i) same ∙ h.dispatcher))) in
+    let e = one_dispatch_seat r h.untaken l h.lent (some-injective _ _ (sym me ∙ (ap (λ i. get_elem? s.views i) same ∙ h.dispatcher))) in
     (same, e.0, e.1)
 
 -- The dispatcher changes place k, which nobody has claimed.
-pub dispatch_seat_moves : {s : Board} (h : BenchRule s) (id k : ℕ) {n r q : ℕ} {o : Option JobView} {l : LentRow} {home : Home}
+pub dispatch_seat_moves : {s : BenchTable} (h : BenchRule s) (id k : ℕ) {n r q : ℕ} {o : Option JobView} {l : LentJobs} {slot : SlotState}
     → get_elem? s.views id ≡ some (Dispatcher r l) → k < length s.homes
     → ((seat : ℕ) (job : JobView) → get_elem? s.views seat ≡ some (Claimed k job) → ⊥)
     → ((i : ℕ) → i ≢ k → ((i < q → i < r) × (q ≤ i → r ≤ i)))
-    → PlaceState q k n o home
-    → BenchRule record { words = set s.words (k + 6) n; homes = set s.homes k home; views = set s.views id (Dispatcher q (set l k o)) }
-dispatch_seat_moves {s} h id k {n} {r} {q} {o} {l} {home} me near free readied stands =
+    → PlaceState q k n o slot
+    → BenchRule record { words = set s.words (k + 6) n; homes = set s.homes k slot; views = set s.views id (Dispatcher q (set l k o)) }
+dispatch_seat_moves {s} h id k {n} {r} {q} {o} {l} {slot} me near free slot_taken stands =
     let d = the_dispatch_seat s h id r l me in
-    let row : length l ≡ length s.homes = ap length d.2 ∙ h.row in
+    let lent_length : length l ≡ length s.homes = ap length d.2 ∙ h.lent_length in
     let wide : k + 6 < length s.words = let w = h.words in omega arith in
     record {
       dispatch_seat = id;
-      resting = q;
+      untaken = q;
       lent = set l k o;
-      words = length-set s.words (k + 6) n ∙ (h.words ∙ ap word_of (sym (length-set s.homes k home)));
-      row = length-set l k o ∙ (row ∙ sym (length-set s.homes k home));
+      words = length-set s.words (k + 6) n ∙ (h.words ∙ ap word_of (sym (length-set s.homes k slot)));
+      lent_length = length-set l k o ∙ (lent_length ∙ sym (length-set s.homes k slot));
       dispatcher = set_at s.views id (Dispatcher r l) (Dispatcher q (set l k o)) me;
       no_other = λ seat p m at. ⊎_elim (λ t. t.0) (λ t. h.no_other seat p m t.1 ∙ sym d.0) (at_set s.views id seat (Dispatcher q (set l k o)) (Dispatcher p m) at);
       claims = λ seat i job at. ⊎_elim
@@ -93,27 +93,27 @@ dispatch_seat_moves {s} h id k {n} {r} {q} {o} {l} {home} me near free readied s
           (subst (λ y. PlaceState q k (get_or (set s.words (k + 6) n) (k + 6) 0) (lent_at (set l k o) k) y) t.1
           (stands_still stands (λ a. a) (λ a. a) (get_or-set_same s.words (k + 6) n 0 wide) (get_or-set_same l k o None (omega arith)))))
           (λ t. let apart = t.0 in stands_still (h.places i x t.1)
-          (λ a. let b = (readied i apart).0 a in let e = d.1 in omega arith) (λ a. let b = (readied i apart).1 a in let e = d.1 in omega arith)
+          (λ a. let b = (slot_taken i apart).0 a in let e = d.1 in omega arith) (λ a. let b = (slot_taken i apart).1 a in let e = d.1 in omega arith)
           (get_or-set_other s.words (k + 6) (i + 6) n 0 (λ e. apart (omega arith))) (get_or-set_other l k i o None apart ∙ ap (λ y. lent_at y i) d.2))
-          (at_set s.homes k i home x at);
+          (at_set s.homes k i slot x at);
     }
 
 -- A worker changes place k, which no other has claimed. Afterwards it has no claim but one of k.
-pub worker_moves : {s : Board} (h : BenchRule s) (id : ℕ) {k n : ℕ} {v w : View} {home : Home}
+pub worker_moves : {s : BenchTable} (h : BenchRule s) (id : ℕ) {k n : ℕ} {v w : SeatRole} {slot : SlotState}
     → get_elem? s.views id ≡ some v → k < length s.homes → IsWorker v × IsWorker w
     → ((seat : ℕ) (job : JobView) → seat ≢ id → get_elem? s.views seat ≡ some (Claimed k job) → ⊥)
     → ((i : ℕ) (job : JobView) → w ≡ Claimed i job → (i ≡ k) × (n ≡ 2) × (lent_at h.lent k ≡ Some job))
-    → PlaceState h.resting k n (lent_at h.lent k) home
-    → BenchRule record { words = set s.words (k + 6) n; homes = set s.homes k home; views = set s.views id w }
-worker_moves {s} h id {k} {n} {v} {w} {home} me near workers free mine stands =
+    → PlaceState h.untaken k n (lent_at h.lent k) slot
+    → BenchRule record { words = set s.words (k + 6) n; homes = set s.homes k slot; views = set s.views id w }
+worker_moves {s} h id {k} {n} {v} {w} {slot} me near workers free mine stands =
     let wide : k + 6 < length s.words = let e = h.words in omega arith in
-    let not_dispatch_seat : h.dispatch_seat ≢ id = λ e. workers.0 h.resting h.lent (some-injective _ _ (sym me ∙ (ap (λ i. get_elem? s.views i) (sym e) ∙ h.dispatcher))) in
+    let not_dispatch_seat : h.dispatch_seat ≢ id = λ e. workers.0 h.untaken h.lent (some-injective _ _ (sym me ∙ (ap (λ i. get_elem? s.views i) (sym e) ∙ h.dispatcher))) in
     record {
       dispatch_seat = h.dispatch_seat;
-      resting = h.resting;
+      untaken = h.untaken;
       lent = h.lent;
-      words = length-set s.words (k + 6) n ∙ (h.words ∙ ap word_of (sym (length-set s.homes k home)));
-      row = h.row ∙ sym (length-set s.homes k home);
+      words = length-set s.words (k + 6) n ∙ (h.words ∙ ap word_of (sym (length-set s.homes k slot)));
+      lent_length = h.lent_length ∙ sym (length-set s.homes k slot);
       dispatcher = set_else s.views id h.dispatch_seat w not_dispatch_seat ∙ h.dispatcher;
       no_other = λ seat p m at. ⊎_elim (λ t. absurd (workers.1 p m t.1)) (λ t. h.no_other seat p m t.1) (at_set s.views id seat w (Dispatcher p m) at);
       claims = λ seat i job at. ⊎_elim
@@ -133,24 +133,24 @@ worker_moves {s} h id {k} {n} {v} {w} {home} me near workers free mine stands =
           (at_set s.views id other w (Claimed i job') at'))
           (at_set s.views id seat w (Claimed i job) at);
       places = λ i x at. ⊎_elim
-          (λ t. subst (λ j. PlaceState h.resting j (get_or (set s.words (k + 6) n) (j + 6) 0) (lent_at h.lent j) x) (sym t.0)
-          (subst (λ y. PlaceState h.resting k (get_or (set s.words (k + 6) n) (k + 6) 0) (lent_at h.lent k) y) t.1
+          (λ t. subst (λ j. PlaceState h.untaken j (get_or (set s.words (k + 6) n) (j + 6) 0) (lent_at h.lent j) x) (sym t.0)
+          (subst (λ y. PlaceState h.untaken k (get_or (set s.words (k + 6) n) (k + 6) 0) (lent_at h.lent k) y) t.1
           (stands_still stands (λ a. a) (λ a. a) (get_or-set_same s.words (k + 6) n 0 wide) refl)))
           (λ t. let apart = t.0 in stands_still (h.places i x t.1) (λ a. a) (λ a. a)
           (get_or-set_other s.words (k + 6) (i + 6) n 0 (λ e. apart (omega arith))) refl)
-          (at_set s.homes k i home x at);
+          (at_set s.homes k i slot x at);
     }
 
 -- A step that leaves each place's word as it is keeps the rule.
-aside : (s : Board) (h : BenchRule s) (id : ℕ) (v : View) (ws : List ℕ) → get_elem? s.views id ≡ some v
+aside : (s : BenchTable) (h : BenchRule s) (id : ℕ) (v : SeatRole) (ws : List ℕ) → get_elem? s.views id ≡ some v
     → length ws ≡ length s.words → ((k : ℕ) → get_or ws (k + 6) 0 ≡ get_or s.words (k + 6) 0)
     → BenchRule record { words = ws; homes = s.homes; views = set s.views id v }
 aside s h id v ws me long same = subst (λ vs. BenchRule record { words = ws; homes = s.homes; views = vs }) (sym (set_again s.views id v me)) record {
   dispatch_seat = h.dispatch_seat;
-  resting = h.resting;
+  untaken = h.untaken;
   lent = h.lent;
   words = long ∙ h.words;
-  row = h.row;
+  lent_length = h.lent_length;
   dispatcher = h.dispatcher;
   no_other = h.no_other;
   claims = λ seat k job at. let c = h.claims seat k job at in (same k ∙ c.0, c.1);
@@ -159,24 +159,24 @@ aside s h id v ws me long same = subst (λ vs. BenchRule record { words = ws; ho
 }
 
 -- an event count is signaled, or the bench is stopped
-pub offer_count : (slots id : ℕ) (me : Sat) (i : ℕ) (f : ℕ → ℕ) → i < 6 → Allows BenchRule slots id me i f (λ n w. w ≡ me)
-offer_count slots id me i f low s h long at fits =
+pub bookkeeping_keeps : (slots id : ℕ) (me : SeatState) (i : ℕ) (f : ℕ → ℕ) → i < 6 → Allows BenchRule slots id me i f (λ n w. w ≡ me)
+bookkeeping_keeps slots id me i f low s h long at fits =
     (me.0, keeps, tt, aside s h id me.0 _ at (length-set s.words i _) (λ k. get_or-set_other s.words i (k + 6) _ 0 (λ e. omega arith)), refl)
 
 -- a try that found another number than it looked for
-fails : (s : Board) (h : BenchRule s) (id i : ℕ) (v : View) → get_elem? s.views id ≡ some v → BenchRule (stepped s i (get_or s.words i 0) id [] v keeps)
+fails : (s : BenchTable) (h : BenchRule s) (id i : ℕ) (v : SeatRole) → get_elem? s.views id ≡ some v → BenchRule (stepped s i (get_or s.words i 0) id [] v keeps)
 fails s h id i v me = aside s h id v _ me (length-set s.words i _) (λ k. ap (λ ws. get_or ws (k + 6) 0) (set-get_or s.words i 0))
 
 -- the state of a place whose word is 0, 1 or 3
-at_offered : {r k word : ℕ} {o : Option JobView} {home : Home} → PlaceState r k word o home → word ≡ 1
-    → (job : JobView) × (o ≡ Some job) × (home ≡ some (Some (Offered job)))
+at_offered : {r k word : ℕ} {o : Option JobView} {slot : SlotState} → PlaceState r k word o slot → word ≡ 1
+    → (job : JobView) × (o ≡ Some job) × (slot ≡ some (Some (Offered job)))
 at_offered (is_empty w l b a) e = absurd (omega arith)
 at_offered (is_offered job w l at) e = (job, l, at)
 at_offered (is_claimed job w l at) e = absurd (omega arith)
 at_offered (is_delivered job done w l at run) e = absurd (omega arith)
 
-at_answered : {r k word : ℕ} {o : Option JobView} {home : Home} → PlaceState r k word o home → word ≡ 3
-    → (job : JobView) × (done : Done) × (o ≡ Some job) × (home ≡ some (Some (Delivered done))) × IsJobRun job done
+at_answered : {r k word : ℕ} {o : Option JobView} {slot : SlotState} → PlaceState r k word o slot → word ≡ 3
+    → (job : JobView) × (done : Done) × (o ≡ Some job) × (slot ≡ some (Some (Delivered done))) × IsJobRun job done
 at_answered (is_empty w l b a) e = absurd (omega arith)
 at_answered (is_offered job w l at) e = absurd (omega arith)
 at_answered (is_claimed job w l at) e = absurd (omega arith)
@@ -186,27 +186,27 @@ none_is_no_job : {o : Option JobView} {job : JobView} → o ≡ None → o ≡ S
 none_is_no_job e f = cc
 
 -- where nothing is lent
-at_empty : {r k word : ℕ} {o : Option JobView} {home : Home} → PlaceState r k word o home → o ≡ None
-    → (word ≡ 0) × (k < r → home ≡ some (None))
+at_empty : {r k word : ℕ} {o : Option JobView} {slot : SlotState} → PlaceState r k word o slot → o ≡ None
+    → (word ≡ 0) × (k < r → slot ≡ some (None))
 at_empty (is_empty w l b a) e = (w, b)
 at_empty (is_offered job w l at) e = absurd (none_is_no_job e l)
 at_empty (is_claimed job w l at) e = absurd (none_is_no_job e l)
 at_empty (is_delivered job done w l at run) e = absurd (none_is_no_job e l)
 
 -- nobody has claimed a place whose word isn't 2
-unclaimed : {s : Board} (h : BenchRule s) {k n : ℕ} → get_or s.words (k + 6) 0 ≡ n → n ≢ 2 → (seat : ℕ) (job : JobView) → get_elem? s.views seat ≡ some (Claimed k job) → ⊥
+unclaimed : {s : BenchTable} (h : BenchRule s) {k n : ℕ} → get_or s.words (k + 6) 0 ≡ n → n ≢ 2 → (seat : ℕ) (job : JobView) → get_elem? s.views seat ≡ some (Claimed k job) → ⊥
 unclaimed h {k} e ne seat job at = ne (sym e ∙ (h.claims seat k job at).0)
 
 -- what a step on the word of place k gives for that place, its kind gives
-of_place : (told : ℕ → Sat → ℕ → Sat → Type 0) {slots : ℕ} (id k : ℕ) (me : Sat) (f : ℕ → ℕ) (st : Step (Option CellContent)) → st.word ≡ k + 6
-    → Allows BenchRule slots id me (k + 6) f (λ n w. told k me n w) → Allows BenchRule slots id me (k + 6) f (λ n w. OfPlace told st me n w)
-of_place told id k me f st here allowed s h long at fits =
+of_place : (relation : ℕ → SeatState → ℕ → SeatState → Type 0) {slots : ℕ} (id k : ℕ) (me : SeatState) (f : ℕ → ℕ) (st : Step (Option CellContent)) → st.word ≡ k + 6
+    → Allows BenchRule slots id me (k + 6) f (λ n w. relation k me n w) → Allows BenchRule slots id me (k + 6) f (λ n w. OfPlace relation st me n w)
+of_place relation id k me f st here allowed s h long at fits =
     let a = allowed s h long at fits in
-    (a.0, a.1, a.2, a.3, λ i e. let same : k ≡ i = omega arith in subst (λ j. told j me (get_or s.words (k + 6) 0) (a.0, carried_after me.1 a.1)) same a.4)
+    (a.0, a.1, a.2, a.3, λ i e. let same : k ≡ i = omega arith in subst (λ j. relation j me (get_or s.words (k + 6) 0) (a.0, carried_after me.1 a.1)) same a.4)
 
-readies_at : (slots id k : ℕ) (lent : LentRow) (held : List (ℕ × Option CellContent)) → k < slots → lent_at lent k ≡ None
-    → Allows BenchRule slots id (Dispatcher (k + 1) lent, held) (k + 6) (λ _. 0) (λ n w. Readies k (Dispatcher (k + 1) lent, held) w)
-readies_at slots id k lent held near empty s h long at fits =
+takes_slot_at : (slots id k : ℕ) (lent : LentJobs) (held : List (ℕ × Option CellContent)) → k < slots → lent_at lent k ≡ None
+    → Allows BenchRule slots id (Dispatcher (k + 1) lent, held) (k + 6) (λ _. 0) (λ n w. TakesSlot k (Dispatcher (k + 1) lent, held) w)
+takes_slot_at slots id k lent held near empty s h long at fits =
     let d = the_dispatch_seat s h id (k + 1) lent at in let t = there s.homes k (omega arith) in
     let e = at_empty (h.places k t.0 t.1) (ap (λ l. lent_at l k) (sym d.2) ∙ empty) in
     let same : set lent k None ≡ lent = ap (set lent k) (sym empty) ∙ set-get_or lent k None in (
@@ -220,12 +220,12 @@ readies_at slots id k lent held near empty s h long at fits =
       refl,
     )
 
-pub readies : {slots : ℕ} (id : ℕ) {k : ℕ} {me : Sat} {lent : LentRow} {held : List (ℕ × Option CellContent)} → me ≡ (Dispatcher (k + 1) lent, held) → k < slots → lent_at lent k ≡ None
-    → Allows BenchRule slots id me (k + 6) (λ _. 0) (λ n w. OfPlace {F = Option CellContent} (λ i m _. Readies i m) (step slots (k + 6) 0 0 none) me 0 w)
-readies {slots} id {k} {me} {lent} {held} is near empty = of_place (λ i m _. Readies i m) id k me (λ _. 0) (step slots (k + 6) 0 0 none) refl
-    (subst (λ m. Allows BenchRule slots id m (k + 6) (λ _. 0) (λ n w. Readies k m w)) (sym is) (readies_at slots id k lent held near empty))
+pub takes_slot : {slots : ℕ} (id : ℕ) {k : ℕ} {me : SeatState} {lent : LentJobs} {held : List (ℕ × Option CellContent)} → me ≡ (Dispatcher (k + 1) lent, held) → k < slots → lent_at lent k ≡ None
+    → Allows BenchRule slots id me (k + 6) (λ _. 0) (λ n w. OfPlace {F = Option CellContent} (λ i m _. TakesSlot i m) (step slots (k + 6) 0 0 none) me 0 w)
+takes_slot {slots} id {k} {me} {lent} {held} is near empty = of_place (λ i m _. TakesSlot i m) id k me (λ _. 0) (step slots (k + 6) 0 0 none) refl
+    (subst (λ m. Allows BenchRule slots id m (k + 6) (λ _. 0) (λ n w. TakesSlot k m w)) (sym is) (takes_slot_at slots id k lent held near empty))
 
-offers_at : (slots id k : ℕ) (lent : LentRow) (job : JobView) (held : List (ℕ × Option CellContent)) → k < slots → lent_at lent k ≡ None
+offers_at : (slots id k : ℕ) (lent : LentJobs) (job : JobView) (held : List (ℕ × Option CellContent)) → k < slots → lent_at lent k ≡ None
     → Allows BenchRule slots id (Dispatcher 0 lent, (k, Some (Offered job)) ∷ held) (k + 6) (λ _. 1) (λ n w. Offers k (Dispatcher 0 lent, (k, Some (Offered job)) ∷ held) w)
 offers_at slots id k lent job held near empty s h long at fits =
     let d = the_dispatch_seat s h id 0 lent at in let t = there s.homes k (omega arith) in
@@ -238,7 +238,7 @@ offers_at slots id k lent job held near empty s h long at fits =
       refl,
     )
 
-pub offers : {slots : ℕ} (id : ℕ) {k : ℕ} {me : Sat} {lent : LentRow} {job : JobView} {held : List (ℕ × Option CellContent)}
+pub offers : {slots : ℕ} (id : ℕ) {k : ℕ} {me : SeatState} {lent : LentJobs} {job : JobView} {held : List (ℕ × Option CellContent)}
     → me ≡ (Dispatcher 0 lent, (k, Some (Offered job)) ∷ held) → k < slots → lent_at lent k ≡ None
     → Allows BenchRule slots id me (k + 6) (λ _. 1) (λ n w. OfPlace {F = Option CellContent} (λ i m _. Offers i m) (step slots (k + 6) 1 0 none) me 1 w)
 offers {slots} id {k} {me} {lent} {job} {held} is near empty = of_place (λ i m _. Offers i m) id k me (λ _. 1) (step slots (k + 6) 1 0 none) refl
@@ -247,7 +247,7 @@ offers {slots} id {k} {me} {lent} {job} {held} is near empty = of_place (λ i m 
 claims_at : (slots id k : ℕ) → k < slots → Allows BenchRule slots id idle (k + 6) (λ n. either (eqb n 1) 2 n) (λ n w. Claims k idle n w)
 claims_at slots id k near s h long at fits =
     let n = get_or s.words (k + 6) 0 in let t = there s.homes k (omega arith) in
-    let F : ℕ → Type 0 = λ m. (w : View) × (a : Act (Option CellContent)) × Valid s.homes [] a × BenchRule (stepped s (k + 6) m id [] w a) × Claims k idle n (w, carried_after [] a) in
+    let F : ℕ → Type 0 = λ m. (w : SeatRole) × (a : Act (Option CellContent)) × Valid s.homes [] a × BenchRule (stepped s (k + 6) m id [] w a) × Claims k idle n (w, carried_after [] a) in
     exchanged n 1 2 F
     (λ e. let o = at_offered (h.places k t.0 t.1) e in (
       Claimed k o.0,
@@ -259,7 +259,7 @@ claims_at slots id k near s h long at fits =
     ))
     (λ ne. (Idle, keeps, tt, fails s h id (k + 6) Idle at, ((λ e. absurd (ne e)), (λ _. refl))))
 
-pub claims : {slots : ℕ} (id : ℕ) {k : ℕ} {me : Sat} → me ≡ idle → k < slots
+pub claims : {slots : ℕ} (id : ℕ) {k : ℕ} {me : SeatState} → me ≡ idle → k < slots
     → Allows BenchRule slots id me (k + 6) (λ n. either (eqb n 1) 2 n) (λ n w. OfPlace {F = Option CellContent} Claims (step slots (k + 6) 1 2 none) me n w)
 claims {slots} id {k} {me} is near = of_place Claims id k me (λ n. either (eqb n 1) 2 n) (step slots (k + 6) 1 2 none) refl
     (subst (λ m. Allows BenchRule slots id m (k + 6) (λ n. either (eqb n 1) 2 n) (λ n w. Claims k m n w)) (sym is) (claims_at slots id k near))
@@ -276,16 +276,16 @@ delivers_at slots id k job done near run s h long at fits =
       refl,
     )
 
-pub delivers : {slots : ℕ} (id : ℕ) {k : ℕ} {me : Sat} {job : JobView} {done : Done} → me ≡ (Claimed k job, (k, Some (Delivered done)) ∷ []) → k < slots → IsJobRun job done
+pub delivers : {slots : ℕ} (id : ℕ) {k : ℕ} {me : SeatState} {job : JobView} {done : Done} → me ≡ (Claimed k job, (k, Some (Delivered done)) ∷ []) → k < slots → IsJobRun job done
     → Allows BenchRule slots id me (k + 6) (λ _. 3) (λ n w. OfPlace {F = Option CellContent} (λ _ m _. Delivers m) (step slots (k + 6) 3 0 none) me 3 w)
 delivers {slots} id {k} {me} {job} {done} is near run = of_place (λ _ m _. Delivers m) id k me (λ _. 3) (step slots (k + 6) 3 0 none) refl
     (subst (λ m. Allows BenchRule slots id m (k + 6) (λ _. 3) (λ n w. Delivers m w)) (sym is) (delivers_at slots id k job done near run))
 
-collects_at : (slots id k : ℕ) (lent : LentRow) (held : List (ℕ × Option CellContent)) → k < slots
+collects_at : (slots id k : ℕ) (lent : LentJobs) (held : List (ℕ × Option CellContent)) → k < slots
     → Allows BenchRule slots id (Dispatcher 0 lent, held) (k + 6) (λ n. either (eqb n 3) 0 n) (λ n w. Collects k (Dispatcher 0 lent, held) n w)
 collects_at slots id k lent held near s h long at fits =
     let n = get_or s.words (k + 6) 0 in let t = there s.homes k (omega arith) in let d = the_dispatch_seat s h id 0 lent at in
-    let F : ℕ → Type 0 = λ m. (w : View) × (a : Act (Option CellContent)) × Valid s.homes held a × BenchRule (stepped s (k + 6) m id held w a)
+    let F : ℕ → Type 0 = λ m. (w : SeatRole) × (a : Act (Option CellContent)) × Valid s.homes held a × BenchRule (stepped s (k + 6) m id held w a)
     × Collects k (Dispatcher 0 lent, held) n (w, carried_after held a) in
     exchanged n 3 0 F
     (λ e. let o = at_answered (h.places k t.0 t.1) e in (
@@ -298,19 +298,19 @@ collects_at slots id k lent held near s h long at fits =
     ))
     (λ ne. (Dispatcher 0 lent, keeps, tt, fails s h id (k + 6) (Dispatcher 0 lent) at, ((λ e. absurd (ne e)), (λ _. refl))))
 
-pub collects : {slots : ℕ} (id : ℕ) {k : ℕ} {me : Sat} {lent : LentRow} {held : List (ℕ × Option CellContent)} → me ≡ (Dispatcher 0 lent, held) → k < slots
+pub collects : {slots : ℕ} (id : ℕ) {k : ℕ} {me : SeatState} {lent : LentJobs} {held : List (ℕ × Option CellContent)} → me ≡ (Dispatcher 0 lent, held) → k < slots
     → Allows BenchRule slots id me (k + 6) (λ n. either (eqb n 3) 0 n) (λ n w. OfPlace {F = Option CellContent} Collects (step slots (k + 6) 3 0 none) me n w)
 collects {slots} id {k} {me} {lent} {held} is near = of_place Collects id k me (λ n. either (eqb n 3) 0 n) (step slots (k + 6) 3 0 none) refl
     (subst (λ m. Allows BenchRule slots id m (k + 6) (λ n. either (eqb n 3) 0 n) (λ n w. Collects k m n w)) (sym is) (collects_at slots id k lent held near))
 
 -- A worker's seat is split off.
-pub splits : (id : ℕ) (v : View) → Splits BenchRule id v v Idle
+pub splits : (id : ℕ) (v : SeatRole) → Splits BenchRule id v v Idle
 splits id v s h me = subst (λ vs. BenchRule record { words = s.words; homes = s.homes; views = vs ++ Idle ∷ [] }) (sym (set_again s.views id v me)) record {
   dispatch_seat = h.dispatch_seat;
-  resting = h.resting;
+  untaken = h.untaken;
   lent = h.lent;
   words = h.words;
-  row = h.row;
+  lent_length = h.lent_length;
   dispatcher = at_longer s.views (Idle ∷ []) h.dispatch_seat _ h.dispatcher;
   no_other = λ seat r l at. ⊎_elim (λ t. h.no_other seat r l t) (λ t. absurd (idle_is_worker r l t)) (at_snoc s.views Idle (Dispatcher r l) seat at);
   claims = λ seat k job at. ⊎_elim (λ t. h.claims seat k job t) (λ t. absurd (idle_is_no_claim k job t)) (at_snoc s.views Idle (Claimed k job) seat at);
@@ -320,15 +320,15 @@ splits id v s h me = subst (λ vs. BenchRule record { words = s.words; homes = s
   places = h.places;
 }
 
--- The table at the start: all words 0, all slots at home and empty, and one seat.
-only_one : (v w : View) (i : ℕ) → get_elem? (v ∷ []) i ≡ some w → (i ≡ 0) × (v ≡ w)
+-- The table at the start: all words 0, all slots in the table and empty, and one seat.
+only_one : (v w : SeatRole) (i : ℕ) → get_elem? (v ∷ []) i ≡ some w → (i ≡ 0) × (v ≡ w)
 only_one v w zero e = (refl, some-injective v w e)
 only_one v w (suc i) e = absurd (some-ne-none w (sym e))
 
-at_vacant : (n k : ℕ) (home : Home) → get_elem? (map some (replicate {A = Option CellContent} n None)) k ≡ some home → (home ≡ some None) × (k < n)
-at_vacant zero k home e = absurd (some-ne-none home (sym e))
-at_vacant (suc n) zero home e = (sym (some-injective _ home e), omega arith)
-at_vacant (suc n) (suc k) home e = let t = at_vacant n k home e in (t.0, omega arith)
+at_vacant : (n k : ℕ) (slot : SlotState) → get_elem? (map some (replicate {A = Option CellContent} n None)) k ≡ some slot → (slot ≡ some None) × (k < n)
+at_vacant zero k slot e = absurd (some-ne-none slot (sym e))
+at_vacant (suc n) zero slot e = (sym (some-injective _ slot e), omega arith)
+at_vacant (suc n) (suc k) slot e = let t = at_vacant n k slot e in (t.0, omega arith)
 
 abbrev zeros : ℕ → List ℕ
 zeros n = replicate n 0
@@ -347,15 +347,15 @@ opens n ws long zeros =
     let slots = vacant_length n in
     record {
       dispatch_seat = 0;
-      resting = n;
+      untaken = n;
       lent = replicate n None;
       words = long ∙ ap word_of (sym slots);
-      row = length-replicate n None ∙ sym slots;
+      lent_length = length-replicate n None ∙ sym slots;
       dispatcher = refl;
       no_other = λ seat r l at. (only_one (Dispatcher n (replicate n None)) (Dispatcher r l) seat at).0;
       claims = λ seat k job at. absurd (dispatch_seat_is_no_claim n k (replicate n None) job (only_one (Dispatcher n (replicate n None)) (Claimed k job) seat at).1);
       one_claim = λ seat other k job job' at at'. absurd (dispatch_seat_is_no_claim n k (replicate n None) job (only_one (Dispatcher n (replicate n None)) (Claimed k job) seat at).1);
-      places = λ k home at. let t = at_vacant n k home at in
+      places = λ k slot at. let t = at_vacant n k slot at in
           is_empty (zeros (k + 6)) (get_or-replicate n k None None t.1) (λ _. t.0) (λ more. absurd (let less = t.1 in omega arith));
     }
 

@@ -5,12 +5,12 @@ use Rattle.atomic_table.specs.Table.{rest}
 use Rattle.atomic_table.specs.Seated.{TableId}
 use Rattle.parcel.specs.Run.{JobView}
 use Rattle.parcel.specs.declared.job.Done.{Done}
-use Rattle.workers.specs.Rule.{LentRow, lent_at}
-use Rattle.workers.specs.Steps.{Sat, Offers, job_on}
-use Rattle.workers.specs.Seats.{IsBench, IsDispatchSeat, lent_of, spare, spare_from}
+use Rattle.workers.specs.Rule.{LentJobs, lent_at}
+use Rattle.workers.specs.Steps.{SeatState, Offers, job_on}
+use Rattle.workers.specs.Seats.{IsBench, IsDispatchSeat, lent_of, empty_slots, empty_slots_from}
 use Rattle.workers.specs.declared.job_cell.CellContent.{CellContent}
 use Rattle.workers.specs.declared.job_cell.CellContent.TheVariants.{Offered, Delivered}
-use Rattle.workers.specs.declared.seats.View.TheVariants.{Dispatcher, Claimed}
+use Rattle.workers.specs.declared.seats.SeatRole.TheVariants.{Dispatcher, Claimed}
 use Rattle.workers.proofs.Turning.{others, spare_from_start, spare_from_end, spare_from_empty, lent_rest, back_rest}
 
 -- a list that begins with x
@@ -24,66 +24,69 @@ first_of (x ∷ xs) = x.1
 pub same_head : {xs r s : List (ℕ × Option CellContent)} {k : ℕ} {x y : Option CellContent} → xs ≡ (k, x) ∷ r → xs ≡ (k, y) ∷ s → x ≡ y
 same_head e f = ap first_of (sym e ∙ f)
 
-pub starts : {m : Sat} (ls : LentRow) → m ≡ (Dispatcher 0 ls, spare 0 ls) → m.1 ≡ spare_from 0 ls
-starts ls e = ap (λ (n : Sat). n.1) e ∙ sym (spare_from_start ls)
+pub starts : {m : SeatState} (ls : LentJobs) → m ≡ (Dispatcher 0 ls, empty_slots 0 ls) → m.1 ≡ empty_slots_from 0 ls
+starts ls e = ap (λ (n : SeatState). n.1) e ∙ sym (spare_from_start ls)
 
 -- rotated to place k
-pub turned_to : {m n : Sat} {ls : LentRow} {xs ys : List (ℕ × Option CellContent)} → m ≡ (Dispatcher 0 ls, xs) → n ≡ (m.0, ys) → n ≡ (Dispatcher 0 ls, ys)
+pub turned_to : {m n : SeatState} {ls : LentJobs} {xs ys : List (ℕ × Option CellContent)} → m ≡ (Dispatcher 0 ls, xs) → n ≡ (m.0, ys) → n ≡ (Dispatcher 0 ls, ys)
 turned_to {ys = ys} e f = f ∙ λ i. ((e i).0, ys)
 
 -- with a job in the slot of place k
-pub filled : {k : ℕ} {ls : LentRow} {x : Option CellContent} {m n : Sat} → m ≡ (Dispatcher 0 ls, spare_from k ls) → n ≡ (m.0, (k, x) ∷ rest m.1) → k < length ls → lent_at ls k ≡ None
+pub filled : {k : ℕ} {ls : LentJobs} {x : Option CellContent} {m n : SeatState} → m ≡ (Dispatcher 0 ls, empty_slots_from k ls) → n ≡ (m.0, (k, x) ∷ rest m.1) → k < length ls → lent_at ls k ≡ None
     → n ≡ (Dispatcher 0 ls, (k, x) ∷ others k ls)
-filled {k} {ls} {x} e f near empty = f ∙ (ap (λ (y : Sat). (y.0, (k, x) ∷ rest y.1)) e ∙ λ i. (Dispatcher 0 ls, (k, x) ∷ rest (spare_from_empty k ls near empty i)))
+filled {k} {ls} {x} e f near empty = f ∙ (ap (λ (y : SeatState). (y.0, (k, x) ∷ rest y.1)) e ∙ λ i. (Dispatcher 0 ls, (k, x) ∷ rest (spare_from_empty k ls near empty i)))
 
-pub lends : {k : ℕ} {ls : LentRow} {job : JobView} {m n : Sat} → m ≡ (Dispatcher 0 ls, (k, Some (Offered job)) ∷ others k ls) → Offers k m n → k < length ls
-    → n ≡ (Dispatcher 0 (set ls k (Some job)), spare_from (k + 1) (set ls k (Some job)))
-lends {k} {ls} {job} e f near = f ∙ (ap (λ (y : Sat). (Dispatcher 0 (set (lent_of y.0) k (job_on y.1)), rest y.1)) e ∙ λ i. (Dispatcher 0 (set ls k (Some job)), lent_rest k ls job near i))
+pub lends : {k : ℕ} {ls : LentJobs} {job : JobView} {m n : SeatState} → m ≡ (Dispatcher 0 ls, (k, Some (Offered job)) ∷ others k ls) → Offers k m n → k < length ls
+    → n ≡ (Dispatcher 0 (set ls k (Some job)), empty_slots_from (k + 1) (set ls k (Some job)))
+lends {k} {ls} {job} e f near = f ∙ (ap (λ (y : SeatState). (Dispatcher 0 (set (lent_of y.0) k (job_on y.1)), rest y.1)) e ∙ λ i. (Dispatcher 0 (set ls k (Some job)), lent_rest k ls job near i))
 
 -- the result was taken out of the slot of place k
-pub comes_back : {k : ℕ} (ls : LentRow) {job : JobView} {done : Done} {m n : Sat} → m ≡ (Dispatcher 0 (set ls k None), (k, Some (Delivered done)) ∷ spare_from k ls) → n ≡ (m.0, (k, None) ∷ rest m.1)
-    → k < length ls → lent_at ls k ≡ Some job → n ≡ (Dispatcher 0 (set ls k None), spare_from k (set ls k None))
-comes_back {k} ls {job} e f near is = f ∙ (ap (λ (y : Sat). (y.0, (k, None) ∷ rest y.1)) e ∙ λ i. (Dispatcher 0 (set ls k None), back_rest k ls job near is i))
+pub comes_back : {k : ℕ} (ls : LentJobs) {job : JobView} {done : Done} {m n : SeatState} → m ≡ (Dispatcher 0 (set ls k None), (k, Some (Delivered done)) ∷ empty_slots_from k ls) → n
+    ≡ (m.0, (k, None) ∷ rest m.1)
+    → k < length ls → lent_at ls k ≡ Some job → n ≡ (Dispatcher 0 (set ls k None), empty_slots_from k (set ls k None))
+comes_back {k} ls {job} e f near is = f ∙ (ap (λ (y : SeatState). (y.0, (k, None) ∷ rest y.1)) e ∙ λ i. (Dispatcher 0 (set ls k None), back_rest k ls job near is i))
 
-pub held_at : (j : ℕ) {m : Sat} {ls : LentRow} → m ≡ (Dispatcher 0 ls, spare_from j ls) → m.1 ≡ spare_from j (lent_of m.0)
-held_at j e = ap (λ (n : Sat). n.1) e ∙ sym (ap (λ (n : Sat). spare_from j (lent_of n.0)) e)
+pub held_at : (j : ℕ) {m : SeatState} {ls : LentJobs} → m ≡ (Dispatcher 0 ls, empty_slots_from j ls) → m.1 ≡ empty_slots_from j (lent_of m.0)
+held_at j e = ap (λ (n : SeatState). n.1) e ∙ sym (ap (λ (n : SeatState). empty_slots_from j (lent_of n.0)) e)
 
-pub flags_of : {fs : List Bool} {m : Sat} {ls : LentRow} {xs : List (ℕ × Option CellContent)} → fs ≡ map is_some ls → m ≡ (Dispatcher 0 ls, xs) → fs ≡ map is_some (lent_of m.0)
-flags_of e f = e ∙ sym (ap (λ (n : Sat). map is_some (lent_of n.0)) f)
+pub flags_of : {fs : List Bool} {m : SeatState} {ls : LentJobs} {xs : List (ℕ × Option CellContent)} → fs ≡ map is_some ls → m ≡ (Dispatcher 0 ls, xs) → fs ≡ map is_some (lent_of m.0)
+flags_of e f = e ∙ sym (ap (λ (n : SeatState). map is_some (lent_of n.0)) f)
 
-pub flag_set : (fs : List Bool) (k : ℕ) (ls : LentRow) (o : Option JobView) → fs ≡ map is_some ls → set fs k (is_some o) ≡ map is_some (set ls k o)
+pub flag_set : (fs : List Bool) (k : ℕ) (ls : LentJobs) (o : Option JobView) → fs ≡ map is_some ls → set fs k (is_some o) ≡ map is_some (set ls k o)
 flag_set fs k ls o e = ap (λ gs. set gs k (is_some o)) e ∙ sym (map-set is_some ls k o)
 
 -- rotated to the end
-pub settles : (j : ℕ) {n : ℕ} {ls : LentRow} {m w : Sat} → m ≡ (Dispatcher 0 ls, spare_from j ls) → w ≡ (m.0, spare_from n (lent_of m.0)) → n ≡ length ls → w ≡ (Dispatcher 0 ls, spare 0 ls)
-settles j {n} {ls} e f long = f ∙ (ap (λ (y : Sat). (y.0, spare_from n (lent_of y.0))) e ∙ λ i. (Dispatcher 0 ls, spare_from_end n ls long i))
+pub settles : (j : ℕ) {n : ℕ} {ls : LentJobs} {m w : SeatState} → m ≡ (Dispatcher 0 ls, empty_slots_from j ls) → w ≡ (m.0, empty_slots_from n (lent_of m.0)) → n ≡ length ls → w
+    ≡ (Dispatcher 0 ls, empty_slots 0 ls)
+settles j {n} {ls} e f long = f ∙ (ap (λ (y : SeatState). (y.0, empty_slots_from n (lent_of y.0))) e ∙ λ i. (Dispatcher 0 ls, spare_from_end n ls long i))
 
-pub dispatch_seat_of : {z : TableId} {m : Sat} {fs : List Bool} {ls : LentRow} → IsBench z → m ≡ (Dispatcher 0 ls, spare 0 ls) → fs ≡ map is_some ls → length fs ≡ z.slots → IsDispatchSeat z m fs
+pub dispatch_seat_of : {z : TableId} {m : SeatState} {fs : List Bool} {ls : LentJobs} → IsBench z → m ≡ (Dispatcher 0 ls, empty_slots 0 ls) → fs ≡ map is_some ls → length fs ≡ z.slots
+    → IsDispatchSeat z m fs
 dispatch_seat_of bench e f long = record {
   bench = bench;
-  seat = e ∙ sym (ap (λ (y : Sat). (Dispatcher 0 (lent_of y.0), spare 0 (lent_of y.0))) e);
+  seat = e ∙ sym (ap (λ (y : SeatState). (Dispatcher 0 (lent_of y.0), empty_slots 0 (lent_of y.0))) e);
   flagged = flags_of f e;
   places = long;
 }
 
-mapped_length : (ls : LentRow) → length (map is_some ls) ≡ length ls
+mapped_length : (ls : LentJobs) → length (map is_some ls) ≡ length ls
 mapped_length [] = refl
 mapped_length (x ∷ xs) = ap suc (mapped_length xs)
 
 -- as many flags as places
-pub counted : (fs : List Bool) (ls : LentRow) → fs ≡ map is_some ls → length fs ≡ length ls
+pub counted : (fs : List Bool) (ls : LentJobs) → fs ≡ map is_some ls → length fs ≡ length ls
 counted fs ls e = ap length e ∙ mapped_length ls
 
-pub within : {z : TableId} {m : Sat} {fs : List Bool} (k : ℕ) → IsDispatchSeat z m fs → k < z.slots → k < length (lent_of m.0)
+pub within : {z : TableId} {m : SeatState} {fs : List Bool} (k : ℕ) → IsDispatchSeat z m fs → k < z.slots → k < length (lent_of m.0)
 within {m = m} {fs = fs} k d h = let e = counted fs (lent_of m.0) d.flagged in let p = d.places in omega arith
 
 -- The result of place k was taken: it is that of the job that was lent there, whose slot the seat has again.
-pub taken : {k : ℕ} {ls : LentRow} {job : JobView} {done : Done} {m n w : Sat} → m ≡ (Dispatcher 0 ls, spare_from k ls) → lent_at (lent_of m.0) k ≡ Some job
+pub taken : {k : ℕ} {ls : LentJobs} {job : JobView} {done : Done} {m n w : SeatState} → m ≡ (Dispatcher 0 ls, empty_slots_from k ls) → lent_at (lent_of m.0) k ≡ Some job
     → n ≡ (Dispatcher 0 (set (lent_of m.0) k None), (k, Some (Delivered done)) ∷ m.1) → w ≡ (n.0, (k, None) ∷ rest n.1) → k < length ls
-    → (lent_at ls k ≡ Some job) × (w ≡ (Dispatcher 0 (set ls k None), spare_from k (set ls k None)))
+    → (lent_at ls k ≡ Some job) × (w ≡ (Dispatcher 0 (set ls k None), empty_slots_from k (set ls k None)))
 taken {k} {ls} {job} {done} e is f g near =
-    let here : lent_at ls k ≡ Some job = sym (ap (λ (y : Sat). lent_at (lent_of y.0) k) e) ∙ is in
-    (here, comes_back ls (f ∙ ap (λ (y : Sat). (Dispatcher 0 (set (lent_of y.0) k None), (k, Some (Delivered done)) ∷ y.1)) e) g near here)
+    let here : lent_at ls k ≡ Some job = sym (ap (λ (y : SeatState). lent_at (lent_of y.0) k) e) ∙ is in
+    (here, comes_back ls (f ∙ ap (λ (y : SeatState). (Dispatcher 0 (set (lent_of y.0) k None), (k, Some (Delivered done)) ∷ y.1)) e) g near here)
 
 pub one_result : (a b : Done) → Some (Delivered a) ≡ Some (Delivered b) → a ≡ b
 one_result a b e = cc
@@ -92,9 +95,9 @@ pub one_job : (a b : JobView) → Some (Offered a) ≡ Some (Offered b) → a �
 one_job a b e = cc
 
 -- a worker puts the result into the slot from which it took the job
-pub answered : {k : ℕ} {job : JobView} {x y z : Option CellContent} {m n w : Sat} → m ≡ (Claimed k job, (k, x) ∷ []) → n ≡ (m.0, (k, y) ∷ rest m.1)
+pub answered : {k : ℕ} {job : JobView} {x y z : Option CellContent} {m n w : SeatState} → m ≡ (Claimed k job, (k, x) ∷ []) → n ≡ (m.0, (k, y) ∷ rest m.1)
     → w ≡ (n.0, (k, z) ∷ rest n.1) → w ≡ (Claimed k job, (k, z) ∷ [])
-answered {k} {y = y} {z = z} e f g = g ∙ ap (λ (u : Sat). (u.0, (k, z) ∷ rest u.1)) (f ∙ ap (λ (u : Sat). (u.0, (k, y) ∷ rest u.1)) e)
+answered {k} {y = y} {z = z} e f g = g ∙ ap (λ (u : SeatState). (u.0, (k, z) ∷ rest u.1)) (f ∙ ap (λ (u : SeatState). (u.0, (k, y) ∷ rest u.1)) e)
 
 pub no_flags : (n : ℕ) → replicate n false ≡ map is_some (replicate {A = Option JobView} n None)
 no_flags zero = refl

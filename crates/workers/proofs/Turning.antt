@@ -3,67 +3,67 @@ use Rattle.std.proofs.Common.{◌≡◌, ℕ, zero, suc, ◌+◌, ◌<◌, Bool,
 use Rattle.std.proofs.lemmas.List.{take-set, drop-set-lt, get_or-set_same, length-set}
 use Rattle.atomic_table.specs.Table.{turned}
 use Rattle.parcel.specs.Run.{JobView}
-use Rattle.workers.specs.Rule.{LentRow, lent_at}
-use Rattle.workers.specs.Seats.{spare, spare_from}
+use Rattle.workers.specs.Rule.{LentJobs, lent_at}
+use Rattle.workers.specs.Seats.{empty_slots, empty_slots_from}
 use Rattle.workers.specs.declared.job_cell.CellContent.{CellContent}
 
 append_none : (xs : List (ℕ × Option CellContent)) → xs ++ [] ≡ xs
 append_none [] = refl
 append_none (x ∷ xs) = ap (λ ys. x ∷ ys) (append_none xs)
 
-drop_all : (ls : LentRow) → drop (length ls) ls ≡ []
+drop_all : (ls : LentJobs) → drop (length ls) ls ≡ []
 drop_all [] = refl
 drop_all (x ∷ xs) = drop_all xs
 
-take_all : (ls : LentRow) → take (length ls) ls ≡ ls
+take_all : (ls : LentJobs) → take (length ls) ls ≡ ls
 take_all [] = refl
 take_all (x ∷ xs) = ap (λ ys. x ∷ ys) (take_all xs)
 
-pub spare_from_start : (ls : LentRow) → spare_from 0 ls ≡ spare 0 ls
-spare_from_start ls = append_none (spare 0 ls)
+pub spare_from_start : (ls : LentJobs) → empty_slots_from 0 ls ≡ empty_slots 0 ls
+spare_from_start ls = append_none (empty_slots 0 ls)
 
-pub spare_from_end : (n : ℕ) (ls : LentRow) → n ≡ length ls → spare_from n ls ≡ spare 0 ls
-spare_from_end n ls e = ap (λ m. spare_from m ls) e ∙ λ i. spare (length ls) (drop_all ls i) ++ spare 0 (take_all ls i)
+pub spare_from_end : (n : ℕ) (ls : LentJobs) → n ≡ length ls → empty_slots_from n ls ≡ empty_slots 0 ls
+spare_from_end n ls e = ap (λ m. empty_slots_from m ls) e ∙ λ i. empty_slots (length ls) (drop_all ls i) ++ empty_slots 0 (take_all ls i)
 
-spare_one : (i : ℕ) (o : Option JobView) (ls : LentRow) → o ≡ None → spare i (o ∷ ls) ≡ (i, None) ∷ spare (suc i) ls
-spare_one i o ls e = ap (λ x. spare i (x ∷ ls)) e
+spare_one : (i : ℕ) (o : Option JobView) (ls : LentJobs) → o ≡ None → empty_slots i (o ∷ ls) ≡ (i, None) ∷ empty_slots (suc i) ls
+spare_one i o ls e = ap (λ x. empty_slots i (x ∷ ls)) e
 
-spare_none : (i : ℕ) (o : Option JobView) (ls : LentRow) (job : JobView) → o ≡ Some job → spare i (o ∷ ls) ≡ spare (suc i) ls
-spare_none i o ls job e = ap (λ x. spare i (x ∷ ls)) e
+spare_none : (i : ℕ) (o : Option JobView) (ls : LentJobs) (job : JobView) → o ≡ Some job → empty_slots i (o ∷ ls) ≡ empty_slots (suc i) ls
+spare_none i o ls job e = ap (λ x. empty_slots i (x ∷ ls)) e
 
 -- the first k + 1 places are the first k and place k
-spare_take : (i k : ℕ) (ls : LentRow) → k < length ls → spare i (take (suc k) ls) ≡ spare i (take k ls) ++ spare (i + k) (get_or ls k None ∷ [])
+spare_take : (i k : ℕ) (ls : LentJobs) → k < length ls → empty_slots i (take (suc k) ls) ≡ empty_slots i (take k ls) ++ empty_slots (i + k) (get_or ls k None ∷ [])
 spare_take i k [] h = absurd (omega arith)
-spare_take i zero (x ∷ xs) h = let e : i ≡ i + 0 = omega arith in ap (λ m. spare m (x ∷ [])) e
+spare_take i zero (x ∷ xs) h = let e : i ≡ i + 0 = omega arith in ap (λ m. empty_slots m (x ∷ [])) e
 spare_take i (suc k) (None ∷ xs) h = let e : suc i + k ≡ i + suc k = omega arith in
-    ap (λ ys. (i, None) ∷ ys) (spare_take (suc i) k xs (omega arith) ∙ ap (λ m. spare (suc i) (take k xs) ++ spare m (get_or xs k None ∷ [])) e)
+    ap (λ ys. (i, None) ∷ ys) (spare_take (suc i) k xs (omega arith) ∙ ap (λ m. empty_slots (suc i) (take k xs) ++ empty_slots m (get_or xs k None ∷ [])) e)
 spare_take i (suc k) (Some job ∷ xs) h = let e : suc i + k ≡ i + suc k = omega arith in
-    spare_take (suc i) k xs (omega arith) ∙ ap (λ m. spare (suc i) (take k xs) ++ spare m (get_or xs k None ∷ [])) e
+    spare_take (suc i) k xs (omega arith) ∙ ap (λ m. empty_slots (suc i) (take k xs) ++ empty_slots m (get_or xs k None ∷ [])) e
 
-spare_before : (k : ℕ) (ls : LentRow) → k < length ls → spare 0 (take (suc k) ls) ≡ spare 0 (take k ls) ++ spare k (get_or ls k None ∷ [])
-spare_before k ls h = let e : 0 + k ≡ k = omega arith in spare_take 0 k ls h ∙ ap (λ m. spare 0 (take k ls) ++ spare m (get_or ls k None ∷ [])) e
+spare_before : (k : ℕ) (ls : LentJobs) → k < length ls → empty_slots 0 (take (suc k) ls) ≡ empty_slots 0 (take k ls) ++ empty_slots k (get_or ls k None ∷ [])
+spare_before k ls h = let e : 0 + k ≡ k = omega arith in spare_take 0 k ls h ∙ ap (λ m. empty_slots 0 (take k ls) ++ empty_slots m (get_or ls k None ∷ [])) e
 
 -- the slots of all other places where nothing is lent, from the next place on
-abbrev pub others : ℕ → LentRow → List (ℕ × Option CellContent)
-others k ls = spare (suc k) (drop (suc k) ls) ++ spare 0 (take k ls)
+abbrev pub others : ℕ → LentJobs → List (ℕ × Option CellContent)
+others k ls = empty_slots (suc k) (drop (suc k) ls) ++ empty_slots 0 (take k ls)
 
 -- the list begins with the slot of a place where nothing is lent
-pub spare_from_empty : (k : ℕ) (ls : LentRow) → k < length ls → lent_at ls k ≡ None → spare_from k ls ≡ (k, None) ∷ (spare (suc k) (drop (suc k) ls) ++ spare 0 (take k ls))
-spare_from_empty k ls h e = ap (λ ys. ys ++ spare 0 (take k ls)) (ap (spare k) (drop-cons ls k None h) ∙ spare_one k _ _ e)
+pub spare_from_empty : (k : ℕ) (ls : LentJobs) → k < length ls → lent_at ls k ≡ None → empty_slots_from k ls ≡ (k, None) ∷ (empty_slots (suc k) (drop (suc k) ls) ++ empty_slots 0 (take k ls))
+spare_from_empty k ls h e = ap (λ ys. ys ++ empty_slots 0 (take k ls)) (ap (empty_slots k) (drop-cons ls k None h) ∙ spare_one k _ _ e)
 
-spare_from_lent : (k : ℕ) (ls : LentRow) (job : JobView) → k < length ls → lent_at ls k ≡ Some job → spare_from k ls ≡ spare (suc k) (drop (suc k) ls) ++ spare 0 (take k ls)
-spare_from_lent k ls job h e = ap (λ ys. ys ++ spare 0 (take k ls)) (ap (spare k) (drop-cons ls k None h) ∙ spare_none k _ _ job e)
+spare_from_lent : (k : ℕ) (ls : LentJobs) (job : JobView) → k < length ls → lent_at ls k ≡ Some job → empty_slots_from k ls ≡ empty_slots (suc k) (drop (suc k) ls) ++ empty_slots 0 (take k ls)
+spare_from_lent k ls job h e = ap (λ ys. ys ++ empty_slots 0 (take k ls)) (ap (empty_slots k) (drop-cons ls k None h) ∙ spare_none k _ _ job e)
 
-pub turns : (k : ℕ) (ls : LentRow) → k < length ls → lent_at ls k ≡ None → turned (spare_from k ls) ≡ spare_from (k + 1) ls
+pub turns : (k : ℕ) (ls : LentJobs) → k < length ls → lent_at ls k ≡ None → turned (empty_slots_from k ls) ≡ empty_slots_from (k + 1) ls
 turns k ls h e = let one : suc k ≡ k + 1 = omega arith in
-    ap turned (spare_from_empty k ls h e) ∙ (append_assoc (spare (suc k) (drop (suc k) ls)) (spare 0 (take k ls)) ((k, None) ∷ [])
-    ∙ (ap (λ ys. spare (suc k) (drop (suc k) ls) ++ ys) (sym (spare_before k ls h ∙ ap (λ o. spare 0 (take k ls) ++ spare k (o ∷ [])) e)) ∙ ap (λ m. spare_from m ls) one))
+    ap turned (spare_from_empty k ls h e) ∙ (append_assoc (empty_slots (suc k) (drop (suc k) ls)) (empty_slots 0 (take k ls)) ((k, None) ∷ [])
+    ∙ (ap (λ ys. empty_slots (suc k) (drop (suc k) ls) ++ ys) (sym (spare_before k ls h ∙ ap (λ o. empty_slots 0 (take k ls) ++ empty_slots k (o ∷ [])) e)) ∙ ap (λ m. empty_slots_from m ls) one))
 
-passes_job : (k : ℕ) (ls : LentRow) (job : JobView) → k < length ls → lent_at ls k ≡ Some job → spare_from k ls ≡ spare_from (k + 1) ls
+passes_job : (k : ℕ) (ls : LentJobs) (job : JobView) → k < length ls → lent_at ls k ≡ Some job → empty_slots_from k ls ≡ empty_slots_from (k + 1) ls
 passes_job k ls job h e = let one : suc k ≡ k + 1 = omega arith in
-    spare_from_lent k ls job h e ∙ (ap (λ ys. spare (suc k) (drop (suc k) ls) ++ ys)
-    (sym (spare_before k ls h ∙ (ap (λ o. spare 0 (take k ls) ++ spare k (o ∷ [])) e ∙ append_none (spare 0 (take k ls)))))
-    ∙ ap (λ m. spare_from m ls) one)
+    spare_from_lent k ls job h e ∙ (ap (λ ys. empty_slots (suc k) (drop (suc k) ls) ++ ys)
+    (sym (spare_before k ls h ∙ (ap (λ o. empty_slots 0 (take k ls) ++ empty_slots k (o ∷ [])) e ∙ append_none (empty_slots 0 (take k ls)))))
+    ∙ ap (λ m. empty_slots_from m ls) one)
 
 is_job : (o : Option JobView) → is_some o ≡ true → (job : JobView) × (o ≡ Some job)
 is_job None e = absurd (cc)
@@ -73,31 +73,32 @@ is_nothing : (o : Option JobView) → is_some o ≡ false → o ≡ None
 is_nothing None e = refl
 is_nothing (Some job) e = absurd (cc)
 
-mapped : (ls : LentRow) (k : ℕ) → get_or (map is_some ls) k false ≡ is_some (lent_at ls k)
+mapped : (ls : LentJobs) (k : ℕ) → get_or (map is_some ls) k false ≡ is_some (lent_at ls k)
 mapped [] k = refl
 mapped (x ∷ xs) zero = refl
 mapped (x ∷ xs) (suc k) = mapped xs k
 
-pub passes : (k : ℕ) (ls : LentRow) (flag : Bool) → k < length ls → flag ≡ is_some (lent_at ls k) → flag ≡ true → spare_from k ls ≡ spare_from (k + 1) ls
+pub passes : (k : ℕ) (ls : LentJobs) (flag : Bool) → k < length ls → flag ≡ is_some (lent_at ls k) → flag ≡ true → empty_slots_from k ls ≡ empty_slots_from (k + 1) ls
 passes k ls flag h e on = let t = is_job (lent_at ls k) (sym e ∙ on) in passes_job k ls t.0 h t.1
 
-pub turns_empty : (k : ℕ) (ls : LentRow) (flag : Bool) → k < length ls → flag ≡ is_some (lent_at ls k) → flag ≡ false → turned (spare_from k ls) ≡ spare_from (k + 1) ls
+pub turns_empty : (k : ℕ) (ls : LentJobs) (flag : Bool) → k < length ls → flag ≡ is_some (lent_at ls k) → flag ≡ false → turned (empty_slots_from k ls) ≡ empty_slots_from (k + 1) ls
 turns_empty k ls flag h e off = turns k ls h (is_nothing (lent_at ls k) (sym e ∙ off))
 
 -- what is left once a job was offered in the slot of place k
-pub lent_rest : (k : ℕ) (ls : LentRow) (job : JobView) → k < length ls → spare (suc k) (drop (suc k) ls) ++ spare 0 (take k ls) ≡ spare_from (k + 1) (set ls k (Some job))
+pub lent_rest : (k : ℕ) (ls : LentJobs) (job : JobView) → k < length ls → empty_slots (suc k) (drop (suc k) ls) ++ empty_slots 0 (take k ls) ≡ empty_slots_from (k + 1) (set ls k (Some job))
 lent_rest k ls job h = let one : suc k ≡ k + 1 = omega arith in let wide : k < length (set ls k (Some job)) = let e = length-set ls k (Some job) in omega arith in
-    sym (ap (λ m. spare_from m (set ls k (Some job))) (sym one) ∙ (ap (λ ys. spare (suc k) ys ++ spare 0 (take (suc k) (set ls k (Some job)))) (drop-set-lt (suc k) ls k (Some job) (omega arith))
-    ∙ ap (λ ys. spare (suc k) (drop (suc k) ls) ++ ys) (spare_before k (set ls k (Some job)) wide
-    ∙ (ap (λ o. spare 0 (take k (set ls k (Some job))) ++ spare k (o ∷ [])) (get_or-set_same ls k (Some job) None h)
-    ∙ (append_none (spare 0 (take k (set ls k (Some job)))) ∙ ap (spare 0) (take-set ls k (Some job)))))))
+    sym (ap (λ m. empty_slots_from m (set ls k (Some job))) (sym one)
+    ∙ (ap (λ ys. empty_slots (suc k) ys ++ empty_slots 0 (take (suc k) (set ls k (Some job)))) (drop-set-lt (suc k) ls k (Some job) (omega arith))
+    ∙ ap (λ ys. empty_slots (suc k) (drop (suc k) ls) ++ ys) (spare_before k (set ls k (Some job)) wide
+    ∙ (ap (λ o. empty_slots 0 (take k (set ls k (Some job))) ++ empty_slots k (o ∷ [])) (get_or-set_same ls k (Some job) None h)
+    ∙ (append_none (empty_slots 0 (take k (set ls k (Some job)))) ∙ ap (empty_slots 0) (take-set ls k (Some job)))))))
 
 -- the list once the seat has the slot of place k again
-pub back_rest : (k : ℕ) (ls : LentRow) (job : JobView) → k < length ls → lent_at ls k ≡ Some job → (k, None) ∷ spare_from k ls ≡ spare_from k (set ls k None)
+pub back_rest : (k : ℕ) (ls : LentJobs) (job : JobView) → k < length ls → lent_at ls k ≡ Some job → (k, None) ∷ empty_slots_from k ls ≡ empty_slots_from k (set ls k None)
 back_rest k ls job h e = ap (λ ys. (k, None) ∷ ys) (spare_from_lent k ls job h e)
     ∙ sym (spare_from_empty k (set ls k None) (let w = length-set ls k None in omega arith) (get_or-set_same ls k None None h)
-    ∙ λ i. (k, None) ∷ (spare (suc k) (drop-set-lt (suc k) ls k None (let w = h in omega arith) i) ++ spare 0 (take-set ls k None i)))
+    ∙ λ i. (k, None) ∷ (empty_slots (suc k) (drop-set-lt (suc k) ls k None (let w = h in omega arith) i) ++ empty_slots 0 (take-set ls k None i)))
 
-pub readied : (j k m n : ℕ) → k ≡ j + 1 → n ≡ m + 1 → (j, None) ∷ spare k (replicate m None) ≡ spare j (replicate n None)
-readied j k m n e f = let g : n ≡ suc m = omega arith in let h : k ≡ suc j = omega arith in
-    ap (λ i. (j, None) ∷ spare i (replicate m None)) h ∙ sym (ap (λ l. spare j (replicate l None)) g)
+pub slot_taken : (j k m n : ℕ) → k ≡ j + 1 → n ≡ m + 1 → (j, None) ∷ empty_slots k (replicate m None) ≡ empty_slots j (replicate n None)
+slot_taken j k m n e f = let g : n ≡ suc m = omega arith in let h : k ≡ suc j = omega arith in
+    ap (λ i. (j, None) ∷ empty_slots i (replicate m None)) h ∙ sym (ap (λ l. empty_slots j (replicate l None)) g)

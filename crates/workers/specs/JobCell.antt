@@ -5,7 +5,7 @@ use Rattle.parcel.specs.declared.job.Done.{Done}
 use Rattle.workers.specs.declared.job_cell.CellContent.{CellContent}
 use Rattle.workers.specs.declared.job_cell.CellContent.TheVariants.{Offered, Delivered}
 
--- a job before a result
+-- what a cell holds: the job or the result that one of its vectors has
 abbrev pub content_of : List JobView → List Done → Option CellContent
 content_of (job ∷ jobs) results = Some (Offered job)
 content_of [] (done ∷ results) = Some (Delivered done)

@@ -1,16 +1,20 @@
 //! The bench: its table, and what the dispatcher does there.
+//!
+//! The table has a word (its state) and a slot (a job cell) for each place. A slot lies in the table or belongs to one seat. Clauses
+//! see of a seat its table (`table_id`) and `me`: what it knows (`me.0`; in `Dispatcher n lent`, n slots not yet taken from the table, and
+//! the jobs that are lent) and the slots that it has, the one taken last first (`me.1`).
 ghost use Rattle.std.specs.Prelude.{◌≡◌, ◌+◌, ◌<◌, ◌≤◌, [], ◌∷◌, map, replicate, is_some, slice_set, Option, None, Some, IfOk, IfSome, IfNone, All, MatchOption, IsTrue, IsFalse, length, vec_len, Ok, Err};
 ghost use Rattle.atomic_table.specs.Table.{rest};
 ghost use Rattle.parcel.specs.Run.{JobView, IsJobRun};
-ghost use Rattle.workers.specs.Rule.{LentRow, lent_at};
-ghost use Rattle.workers.specs.Seats.{IsAtBench, IsBench, IsDispatchSeat, HasCollected, lent_of, spare};
+ghost use Rattle.workers.specs.Rule.{LentJobs, lent_at};
+ghost use Rattle.workers.specs.Seats.{IsAtBench, IsBench, IsDispatchSeat, HasCollected, lent_of, empty_slots};
 ghost use Rattle.workers.specs.declared.job_cell.CellContent.TheVariants.{Delivered};
-ghost use Rattle.workers.specs.declared.seats.View.TheVariants.{Dispatcher};
+ghost use Rattle.workers.specs.declared.seats.SeatRole.TheVariants.{Dispatcher};
 
 use crate::event_counts::wake_worker;
 use crate::job_cell::JobCell;
-use crate::seats::{DispatchSeat, Seat, View, WorkSeat, rotate_to};
-use crate::steps::{self, Handoff, Words};
+use crate::seats::{DispatchSeat, Seat, SeatRole, WorkSeat, rotate_to};
+use crate::steps::{self, BenchInvariant, Words};
 use crate::words::{DELIVERED, FIRST_PLACE, MOST_PLACES, OFFER_EVENT};
 use atomic_table::Table;
 use parcel::{Done, Job};
@@ -19,7 +23,7 @@ use std::marker::Model;
 
 /// The table at which one dispatcher and its workers meet. A contract sees the table's identity; its `slots` are the places.
 pub struct Bench {
-    pub(crate) table: Table<JobCell, View, usize, Handoff, Global>,
+    pub(crate) table: Table<JobCell, SeatRole, usize, BenchInvariant, Global>,
 }
 
 // By hand, as a derived one is proved anew in each crate that drops a bench, with all that a job may hold.
@@ -55,7 +59,7 @@ impl Bench {
         let words = vec![in alloc; 0; places + FIRST_PLACE]?;
         let lent = vec![in alloc; false; places]?;
         let (table, mut seat) = lay(alloc, &words, places)?;
-        ready_all(&table.shared, &mut seat, places);
+        take_slots(&table.shared, &mut seat, places);
         let seats = seat_workers(alloc, &table.shared, &mut seat, workers)?;
         let dispatch_seat = DispatchSeat {
             seat,
@@ -119,7 +123,13 @@ fn lay(
     alloc: Global,
     words: &[u64],
     places: usize,
-) -> Result<(Table<JobCell, View, usize, Handoff, Global>, Seat), AllocError>
+) -> Result<
+    (
+        Table<JobCell, SeatRole, usize, BenchInvariant, Global>,
+        Seat,
+    ),
+    AllocError,
+>
     requires places { places ≤ MOST_PLACES }
     requires words { words.now ≡ replicate (places + FIRST_PLACE) 0 }
     ensures table { IfOk result (λ r. IsBench r.0.shared.table_id × (r.0.shared.table_id.slots ≡ places)) }
@@ -163,17 +173,17 @@ fn seat_workers(
 }
 
 // Takes the slots of all places, from the last one down, so that they are in order.
-fn ready_all(words: &Words, seat: &mut Seat, places: usize)
+fn take_slots(words: &Words, seat: &mut Seat, places: usize)
     requires bench { IsAtBench words.now.table_id seat.old.table_id }
     requires places { places ≡ words.now.table_id.slots }
     requires seat { seat.old.me ≡ (Dispatcher places (replicate places None), []) }
     ensures bench { seat.new.table_id ≡ seat.old.table_id }
-    ensures seat { seat.new.me ≡ (Dispatcher 0 (replicate places None), spare 0 (replicate places None)) }
+    ensures seat { seat.new.me ≡ (Dispatcher 0 (replicate places None), empty_slots 0 (replicate places None)) }
 {
     let mut k = places;
     while 0 < k {
         k -= 1;
-        steps::ready(words, seat, k);
+        steps::take_slot(words, seat, k);
     }
 }
 
@@ -213,7 +223,7 @@ fn try_collect(words: &Words, seat: &mut Seat, lent: &[bool], k: usize) -> bool
 // Takes the result out of the slot of a place that was won.
 fn take_delivered(words: &Words, seat: &mut Seat, lent: &mut [bool], k: usize) -> Done
     requires bench { (seat.old.table_id ≡ words.now.table_id) × (k < words.now.table_id.slots) × IsBench words.now.table_id }
-    requires won { (row : LentRow) × HasCollected k row seat.old.me × (lent.old ≡ map is_some row)
+    requires won { (jobs : LentJobs) × HasCollected k jobs seat.old.me × (lent.old ≡ map is_some jobs)
         × (length lent.old ≡ words.now.table_id.slots) }
     ensures bench { seat.new.table_id ≡ seat.old.table_id }
     ensures dispatch_seat { IsDispatchSeat words.now.table_id seat.new.me lent.new }

@@ -1,4 +1,4 @@
-//! How either side waits for the other. Waiting and waking decide nothing.
+//! How either side waits for the other. No contract depends on who waits or is woken.
 ghost use Rattle.std.specs.Prelude.{◌≡◌};
 ghost use Rattle.workers.specs.Seats.{IsAtBench, IsBench};
 
@@ -37,7 +37,7 @@ pub fn wait_delivery<R: Wait>(words: &Words, seat: &mut Seat, rt: &R, seen: u64)
 }
 
 /// Adds one to the event count of the deliveries, and wakes the dispatcher if the number found is the one recorded in `SLEPT_AT`.
-/// Returns whether it is.
+/// Returns whether it did so.
 pub fn signal_delivery(words: &Words, seat: &mut Seat) -> bool
     requires { IsAtBench words.now.table_id seat.old.table_id }
     ensures { (seat.new.table_id ≡ seat.old.table_id) × (seat.new.me ≡ seat.old.me) }
@@ -72,7 +72,7 @@ fn is_offered_now(words: &Words, seen: u64) -> bool
     false
 }
 
-// Whether it is seen with another number within some such rounds. It yields after each.
+// Whether the event count of the offers is seen with another number within `SPIN_ROUNDS` rounds. It yields after each.
 fn is_offered_soon(words: &Words, seen: u64) -> bool
     requires { IsBench words.now.table_id }
 {

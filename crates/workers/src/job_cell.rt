@@ -1,4 +1,4 @@
-//! What lies at a place: a job, or the result of one. Neither is copied where it may be moved.
+//! What lies at a place: a job, or the result of one. Each has a `Vec` of its own, so that only one of them is moved.
 ghost use Rattle.std.specs.Prelude.{◌≡◌, Option, None, Some, IfOk};
 ghost use Rattle.parcel.specs.Run.{JobView};
 ghost use Rattle.parcel.specs.declared.job.Done.{Done as TheDone};
@@ -8,8 +8,8 @@ use parcel::{Done, Job};
 use std::alloc::{AllocError, Global};
 use std::marker::Model;
 
-/// What a cell holds, as clauses see it. No value of it is made: it would have room for the greater of
-/// both, and clear what the lesser leaves.
+/// What a cell holds, as clauses see it. No value of it is made at run time: an enum has the size of its larger case,
+/// and writing the smaller one would clear the rest.
 pub enum CellContent {
     Offered(Job),
     Delivered(Done),

@@ -13,6 +13,7 @@ mod words;
 mod work;
 
 pub use bench::Bench;
+// `know_returned` is for proofs alone: it ends a `&mut` borrow, and has nothing to do with jobs.
 pub use dispatcher_task::{DispatcherTask, know_returned};
 pub use gate::{Gate, OpenGate};
 pub use seats::{DispatchSeat, WorkSeat};

@@ -2,7 +2,7 @@
 ghost use Rattle.std.specs.Prelude.{◌≡◌, ◌+◌, ◌<◌, ◌≤◌, length, map, position, replicate, Option, None, is_some, is_none, not, IsFalse, ◌↔◌};
 ghost use Rattle.std.specs.List.{list_any};
 ghost use Rattle.workers.specs.Rule.{lent_at};
-ghost use Rattle.workers.specs.Seats.{lent_of, spare_from};
+ghost use Rattle.workers.specs.Seats.{lent_of, empty_slots_from};
 
 use crate::job_cell::JobCell;
 use parcel::Job;
@@ -10,8 +10,9 @@ use std::collections::LinkedList;
 use std::marker::Model;
 
 /// What a seat knows. No value of it is made.
-pub enum View {
-    /// How many places are yet to be readied, and the job that is lent at each place.
+pub enum SeatRole {
+    /// How many places have a slot that the seat has not taken from the table yet (none but while the bench is opened), and the job that is
+    /// lent at each place.
     Dispatcher(u64, LinkedList<Option<Job>>),
     /// A worker with no job.
     Idle,
@@ -19,8 +20,9 @@ pub enum View {
     Claimed(u64, Job),
 }
 
-/// A seat at the table, whoever has it.
-pub type Seat = atomic_table::Seat<JobCell, View>;
+/// A seat at the table, whoever has it. Contracts see its table (`table_id`) and `me`: what the seat knows (a `SeatRole`), and the slots
+/// that it has, each with its content, the one taken last first.
+pub type Seat = atomic_table::Seat<JobCell, SeatRole>;
 
 /// The seat of the thread that offers jobs and collects their results. A clause sees which bench it
 /// belongs to and the job that is lent at each place.
@@ -57,7 +59,7 @@ impl Model for DispatchSeat {
 impl DispatchSeat {
     /// How many places its bench has.
     pub fn places(&self) -> usize
-        ensures row { result ≡ length self.now.lent }
+        ensures lent_length { result ≡ length self.now.lent }
         ensures bench { result ≡ self.now.bench.slots }
     {
         self.lent.len()
@@ -129,13 +131,13 @@ impl WorkSeat {
 }
 
 // Rotates the dispatcher's list of slots: it began with those of the places from `from` on, and then begins with
-// those from `to` on. A seat reaches its first slot alone.
+// those from `to` on. A seat can reach only the first slot of its list.
 pub fn rotate_to(seat: &mut Seat, lent: &[bool], from: usize, to: usize)
     requires places { (from ≤ to) × (to ≤ length lent.now) }
     requires flags { lent.now ≡ map is_some (lent_of seat.old.me.0) }
-    requires slots { seat.old.me.1 ≡ spare_from from (lent_of seat.old.me.0) }
+    requires slots { seat.old.me.1 ≡ empty_slots_from from (lent_of seat.old.me.0) }
     ensures bench { seat.new.table_id ≡ seat.old.table_id }
-    ensures slots { seat.new.me ≡ (seat.old.me.0, spare_from to (lent_of seat.old.me.0)) }
+    ensures slots { seat.new.me ≡ (seat.old.me.0, empty_slots_from to (lent_of seat.old.me.0)) }
 {
     for k in from..to {
         rotate_past(seat, lent[k], k);
@@ -146,9 +148,9 @@ pub fn rotate_to(seat: &mut Seat, lent: &[bool], from: usize, to: usize)
 fn rotate_past(seat: &mut Seat, is_lent: bool, k: usize)
     requires place { k < length (lent_of seat.old.me.0) }
     requires flag { is_lent ≡ is_some (lent_at (lent_of seat.old.me.0) k) }
-    requires slots { seat.old.me.1 ≡ spare_from k (lent_of seat.old.me.0) }
+    requires slots { seat.old.me.1 ≡ empty_slots_from k (lent_of seat.old.me.0) }
     ensures bench { seat.new.table_id ≡ seat.old.table_id }
-    ensures slots { seat.new.me ≡ (seat.old.me.0, spare_from (k + 1) (lent_of seat.old.me.0)) }
+    ensures slots { seat.new.me ≡ (seat.old.me.0, empty_slots_from (k + 1) (lent_of seat.old.me.0)) }
 {
     if is_lent {
         return;

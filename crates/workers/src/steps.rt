@@ -1,37 +1,40 @@
-//! The kinds of atomic step on the table, each one try: six that move seats and slots (split, ready, offer, claim, deliver, collect), the
-//! signal, the stop, and three by which a thread records that it waits. Nothing else changes a word. A slot is filled between them.
+//! The kinds of atomic step on the table, each one try: six that move seats and slots (split, take_slot, offer, claim, deliver, collect),
+//! the signal, the stop, and three by which a thread records that it waits. Nothing else changes a word. Between its steps a seat fills
+//! or empties a slot that it has.
 ghost use Rattle.std.specs.Prelude.{◌≡◌, ◌+◌, ◌<◌, [], ◌∷◌, replicate, slice_set, None, Some, IsTrue, IsFalse};
 ghost use Rattle.atomic_table.specs.Table.{rest};
 ghost use Rattle.parcel.specs.Run.{JobView, IsJobRun};
 ghost use Rattle.parcel.specs.declared.job.Done.{Done as TheDone};
-ghost use Rattle.workers.specs.Rule.{LentRow, BenchRule, lent_at};
+ghost use Rattle.workers.specs.Rule.{LentJobs, BenchRule, lent_at};
 ghost use Rattle.workers.specs.Seats.{IsAtBench, lent_of, idle};
-ghost use Rattle.workers.specs.Steps.{Readies, Offers, Claims, Delivers, Collects, OfPlace};
+ghost use Rattle.workers.specs.Steps.{TakesSlot, Offers, Claims, Delivers, Collects, OfPlace};
 ghost use Rattle.workers.specs.declared.job_cell.CellContent.TheVariants.{Offered, Delivered};
-ghost use Rattle.workers.specs.declared.seats.View.TheVariants.{Dispatcher, Idle, Claimed};
+ghost use Rattle.workers.specs.declared.seats.SeatRole.TheVariants.{Dispatcher, Idle, Claimed};
 
 use crate::job_cell::JobCell;
-use crate::seats::{Seat, View};
+use crate::seats::{Seat, SeatRole};
 use crate::words::{CLAIMED, DELIVERED, EMPTY, FIRST_PLACE, OFFERED, SLEPT_AT, STOP};
 use atomic_table::{Play, Shared, Split, TableRule};
 use parcel::{Done, Job};
 
-/// The shared part of the table.
-pub type Words = Shared<JobCell, View, usize, Handoff>;
+/// The shared part of the table: its words and its slots. A variable of this type is called `words`.
+pub type Words = Shared<JobCell, SeatRole, usize, BenchInvariant>;
 
 /// The rule of the table. It gets the number of places when it is made.
-pub struct Handoff;
+pub struct BenchInvariant;
 
-impl TableRule<JobCell, View, usize> for Handoff {
+impl TableRule<JobCell, SeatRole, usize> for BenchInvariant {
     ghost holds = { λ _. BenchRule };
 
     ghost first = { λ places. Dispatcher places (replicate places None) };
 }
 
-// What each kind of step makes of its seat's view, and the view of a worker's seat split off the dispatcher's.
+// What each kind of step makes of its seat's view `me` (its role, and the slots that it has, the one taken last first), and the view of
+// a worker's seat split off the dispatcher's. `Split` and `Play` are of `atomic_table`: `then` relates the step, the view before (m),
+// the number found in the word, and the view after (w), and `OfPlace` says it of the place whose word the step changes.
 struct Splitting;
 
-struct Readying;
+struct TakingSlot;
 
 struct Offering;
 
@@ -41,35 +44,35 @@ struct Delivering;
 
 struct Collecting;
 
-struct Aside;
+struct Bookkeeping;
 
-impl Split<View> for Splitting {
+impl Split<SeatRole> for Splitting {
     ghost left = { λ v. v };
 
     ghost right = { λ _. Idle };
 }
 
-impl Play<JobCell, View> for Readying {
-    ghost then = { OfPlace (λ k m _. Readies k m) };
+impl Play<JobCell, SeatRole> for TakingSlot {
+    ghost then = { OfPlace (λ k m _. TakesSlot k m) };
 }
 
-impl Play<JobCell, View> for Offering {
+impl Play<JobCell, SeatRole> for Offering {
     ghost then = { OfPlace (λ k m _. Offers k m) };
 }
 
-impl Play<JobCell, View> for Claiming {
+impl Play<JobCell, SeatRole> for Claiming {
     ghost then = { OfPlace Claims };
 }
 
-impl Play<JobCell, View> for Delivering {
+impl Play<JobCell, SeatRole> for Delivering {
     ghost then = { OfPlace (λ _ m _. Delivers m) };
 }
 
-impl Play<JobCell, View> for Collecting {
+impl Play<JobCell, SeatRole> for Collecting {
     ghost then = { OfPlace Collects };
 }
 
-impl Play<JobCell, View> for Aside {
+impl Play<JobCell, SeatRole> for Bookkeeping {
     ghost then = { λ _ m _ w. w ≡ m };
 }
 
@@ -83,21 +86,21 @@ pub fn split(words: &Words, seat: &mut Seat) -> Seat
 }
 
 /// Takes the slot of place k, the last place whose slot was not taken yet.
-pub fn ready(words: &Words, seat: &mut Seat, k: usize)
+pub fn take_slot(words: &Words, seat: &mut Seat, k: usize)
     requires bench { IsAtBench words.now.table_id seat.old.table_id }
     requires place { k < words.now.table_id.slots }
-    requires resting { (lent : LentRow) × (held : _) × (seat.old.me ≡ (Dispatcher (k + 1) lent, held)) × (lent_at lent k ≡ None) }
+    requires untaken { (lent : LentJobs) × (slots : _) × (seat.old.me ≡ (Dispatcher (k + 1) lent, slots)) × (lent_at lent k ≡ None) }
     ensures bench { seat.new.table_id ≡ seat.old.table_id }
-    ensures ready { Readies k seat.old.me seat.new.me }
+    ensures take_slot { TakesSlot k seat.old.me seat.new.me }
 {
-    words.store::<Readying>(seat, k + FIRST_PLACE, EMPTY);
+    words.store::<TakingSlot>(seat, k + FIRST_PLACE, EMPTY);
 }
 
 /// Offers the job in the slot that the dispatcher's seat took last. The slot goes back to the table.
 pub fn offer(words: &Words, seat: &mut Seat, k: usize)
     requires bench { IsAtBench words.now.table_id seat.old.table_id }
     requires place { k < words.now.table_id.slots }
-    requires job { (lent : LentRow) × (job : JobView) × (held : _) × (seat.old.me ≡ (Dispatcher 0 lent, (k, Some (Offered job)) ∷ held))
+    requires job { (lent : LentJobs) × (job : JobView) × (slots : _) × (seat.old.me ≡ (Dispatcher 0 lent, (k, Some (Offered job)) ∷ slots))
         × (lent_at lent k ≡ None) }
     ensures bench { seat.new.table_id ≡ seat.old.table_id }
     ensures lent { Offers k seat.old.me seat.new.me }
@@ -133,7 +136,7 @@ pub fn deliver(words: &Words, seat: &mut Seat, k: usize)
 pub fn collect(words: &Words, seat: &mut Seat, k: usize) -> bool
     requires bench { IsAtBench words.now.table_id seat.old.table_id }
     requires place { k < words.now.table_id.slots }
-    requires dispatch_seat { (lent : LentRow) × (held : _) × (seat.old.me ≡ (Dispatcher 0 lent, held)) }
+    requires dispatch_seat { (lent : LentJobs) × (slots : _) × (seat.old.me ≡ (Dispatcher 0 lent, slots)) }
     ensures bench { seat.new.table_id ≡ seat.old.table_id }
     ensures won { IsTrue result → (job : JobView) × (done : TheDone) × (lent_at (lent_of seat.old.me.0) k ≡ Some job) × IsJobRun job done
         × (seat.new.me ≡ (Dispatcher 0 (slice_set (lent_of seat.old.me.0) k None), (k, Some (Delivered done)) ∷ seat.old.me.1)) }
@@ -148,7 +151,7 @@ pub fn signal(words: &Words, seat: &mut Seat, event: usize) -> u64
     requires event { event < FIRST_PLACE }
     ensures { (seat.new.table_id ≡ seat.old.table_id) × (seat.new.me ≡ seat.old.me) }
 {
-    words.fetch_add::<Aside>(seat, event, 1)
+    words.fetch_add::<Bookkeeping>(seat, event, 1)
 }
 
 /// Sets the stop word: the bench is stopped.
@@ -156,7 +159,7 @@ pub fn set_stop(words: &Words, seat: &mut Seat)
     requires bench { IsAtBench words.now.table_id seat.old.table_id }
     ensures { (seat.new.table_id ≡ seat.old.table_id) × (seat.new.me ≡ seat.old.me) }
 {
-    words.store::<Aside>(seat, STOP, 1);
+    words.store::<Bookkeeping>(seat, STOP, 1);
 }
 
 /// Counts the worker among those that sleep, or among those that spin.
@@ -165,7 +168,7 @@ pub fn count_in(words: &Words, seat: &mut Seat, who: usize)
     requires who { who < FIRST_PLACE }
     ensures { (seat.new.table_id ≡ seat.old.table_id) × (seat.new.me ≡ seat.old.me) }
 {
-    words.fetch_add::<Aside>(seat, who, 1);
+    words.fetch_add::<Bookkeeping>(seat, who, 1);
 }
 
 /// Counts it among these no more.
@@ -174,7 +177,7 @@ pub fn count_out(words: &Words, seat: &mut Seat, who: usize)
     requires who { who < FIRST_PLACE }
     ensures { (seat.new.table_id ≡ seat.old.table_id) × (seat.new.me ≡ seat.old.me) }
 {
-    words.fetch_sub::<Aside>(seat, who, 1);
+    words.fetch_sub::<Bookkeeping>(seat, who, 1);
 }
 
 /// Records at which number of the event count of the deliveries the dispatcher goes to sleep.
@@ -182,7 +185,7 @@ pub fn announce_sleep(words: &Words, seat: &mut Seat, number: u64)
     requires { IsAtBench words.now.table_id seat.old.table_id }
     ensures { (seat.new.table_id ≡ seat.old.table_id) × (seat.new.me ≡ seat.old.me) }
 {
-    words.store::<Aside>(seat, SLEPT_AT, number);
+    words.store::<Bookkeeping>(seat, SLEPT_AT, number);
 }
 
 /// Lays a job into the slot that the seat took last.

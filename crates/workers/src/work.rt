@@ -3,7 +3,7 @@ ghost use Rattle.std.specs.Prelude.{◌≡◌, ◌<◌, [], ◌∷◌, Some, All
 ghost use Rattle.parcel.specs.Run.{JobView};
 ghost use Rattle.workers.specs.Seats.{IsAtBench, IsBench, idle};
 ghost use Rattle.workers.specs.declared.job_cell.CellContent.TheVariants.{Offered};
-ghost use Rattle.workers.specs.declared.seats.View.TheVariants.{Claimed};
+ghost use Rattle.workers.specs.declared.seats.SeatRole.TheVariants.{Claimed};
 
 use crate::bench::Bench;
 use crate::event_counts::{signal_delivery, sleep, spin_then_sleep, wait_delivery, wake_worker};
@@ -23,7 +23,7 @@ enum Round {
     Idle,
     /// The last result was delivered while the dispatcher was awake.
     Served,
-    /// The last result was delivered while the dispatcher slept, which was woken.
+    /// The last delivery signaled the dispatcher to wake: it slept, or this was the first delivery of all.
     Woke,
 }
 
@@ -35,23 +35,23 @@ impl Bench {
     {
         let words = &self.table.shared;
         let places = self.table.slot_count();
-        let mut pass = seat.into_inner();
+        let mut worker_seat = seat.into_inner();
         let mut last = Round::Idle;
         for _ in rt.forever() {
             let seen = words.peek(OFFER_EVENT);
             if words.peek(STOP) != 0 {
                 break;
             }
-            match serve_round(words, &mut pass, places, gate) {
+            match serve_round(words, &mut worker_seat, places, gate) {
                 Round::Idle if last == Round::Woke => {
-                    sleep(words, &mut pass, rt, seen);
+                    sleep(words, &mut worker_seat, rt, seen);
                     last = Round::Idle;
                 }
-                Round::Idle => spin_then_sleep(words, &mut pass, rt, seen),
+                Round::Idle => spin_then_sleep(words, &mut worker_seat, rt, seen),
                 round => last = round,
             }
         }
-        WorkSeat { seat: pass }
+        WorkSeat { seat: worker_seat }
     }
 
     /// Starts a thread of the scope for each seat, which works until the bench is stopped. Where one can't be started, those before it
@@ -108,8 +108,8 @@ impl Bench {
     }
 }
 
-// Wakes another worker where a place after k has a job too. An offer wakes none while one spins, and that
-// one may be held up by the job that it has claimed.
+// Wakes another worker where a place after k has a job too. An offer wakes nobody while a worker spins,
+// and that may be this worker, which is busy now with the job that it has claimed.
 fn wake_another(words: &Words, k: usize, places: usize)
     requires bench { IsBench words.now.table_id }
     requires places { (k < places) × (places ≡ words.now.table_id.slots) }
@@ -131,15 +131,14 @@ fn serve_round<G: Gate>(words: &Words, seat: &mut Seat, places: usize, gate: &G)
 {
     let mut round = Round::Idle;
     for k in 0..places {
-        if let Some(slept) = serve_place(words, seat, k, places, gate) {
-            round = if slept { Round::Woke } else { Round::Served };
+        if let Some(woke) = serve_place(words, seat, k, places, gate) {
+            round = if woke { Round::Woke } else { Round::Served };
         }
     }
     round
 }
 
-// Does the job of a place if it can be claimed. Returns whether the dispatcher slept when its result
-// was delivered.
+// Does the job of a place if it can be claimed. Returns `None` if it can't, else whether its delivery signaled the dispatcher to wake.
 fn serve_place<G: Gate>(
     words: &Words,
     seat: &mut Seat,
@@ -162,8 +161,8 @@ fn serve_place<G: Gate>(
     Some(run_claimed(words, seat, k, gate))
 }
 
-// Runs the job of the place that the seat has claimed, and delivers its result. Returns whether the
-// dispatcher slept.
+// Runs the job of the place that the seat has claimed, and delivers its result. Returns whether that signaled the dispatcher to wake: it
+// slept, or this was the first delivery of all.
 fn run_claimed<G: Gate>(words: &Words, seat: &mut Seat, k: usize, gate: &G) -> bool
     requires bench { IsAtBench words.now.table_id seat.old.table_id }
     requires place { k < words.now.table_id.slots }

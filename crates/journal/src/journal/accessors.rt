@@ -16,10 +16,10 @@ impl<D: Disk> Journal<D> {
     }
 
     /// How many pieces of a cut are still to be written, while one is in progress.
-    pub fn left(&self) -> Option<usize>
-        ensures { result ≡ self.now.left }
+    pub fn pieces_left(&self) -> Option<usize>
+        ensures { result ≡ self.now.pieces_left }
     {
-        self.left
+        self.pieces_left
     }
 
     /// The geometry of the device.

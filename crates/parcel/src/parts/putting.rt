@@ -4,7 +4,7 @@ ghost use Rattle.affinity.specs.Interval.{IsPath};
 ghost use Rattle.affinity.specs.Place.{path};
 ghost use Rattle.parcel.specs.Fits.{Fits, IsKindOf, FitsStripe, FitsLogical, FitsVolume, FitsAggregate, FitsRoot};
 ghost use Rattle.parcel.specs.Levels.{IsLogicalPath, IsVolumePath, IsAggregatePath, IsRootPath, Puts, HandsBack};
-ghost use Rattle.parcel.specs.Nodes.{in_child, in_stripe, in_label, in_logical, in_volume, in_aggregate, in_root};
+ghost use Rattle.parcel.specs.Nodes.{child_nodes, stripe_nodes, label_nodes, logical_nodes, volume_nodes, aggregate_nodes, root_nodes};
 
 use super::paths::path_of;
 use super::{Aggr, Label, Logical, Parcels, Root, Vol};
@@ -12,11 +12,12 @@ use crate::StripeParcel;
 use affinity::{Geometry, Place};
 
 fn put_stripe(node: &mut Option<StripeParcel>, p: Parcels) -> Result<(), Parcels>
-    ensures ok { OnOk result (Puts [] p (in_child in_stripe node.old) (in_child in_stripe node.new)) }
+    ensures ok { OnOk result (Puts [] p (child_nodes stripe_nodes node.old) (child_nodes stripe_nodes node.new)) }
     ensures kind { OnOk result ((a v s : ℕ) → IsKindOf (a ∷ v ∷ zero ∷ s ∷ []) p) }
     ensures fits { OnOk result ((g : Geometry) (a v s : ℕ) → Fits g (a ∷ v ∷ zero ∷ s ∷ []) p → IfSome node.new (FitsStripe g s)) }
     ensures err { IfErr result (λ back. (a v s : ℕ)
-        → HandsBack (IsKindOf (a ∷ v ∷ zero ∷ s ∷ []) p) [] p back (in_child in_stripe node.old) (in_child in_stripe node.new)) }
+        → HandsBack (IsKindOf (a ∷ v ∷ zero ∷ s ∷ []) p) [] p back (child_nodes stripe_nodes node.old)
+        (child_nodes stripe_nodes node.new)) }
     ensures stays { IfErr result (λ back. node.new ≡ node.old) }
 {
     match p {
@@ -29,10 +30,10 @@ fn put_stripe(node: &mut Option<StripeParcel>, p: Parcels) -> Result<(), Parcels
 }
 
 fn put_label(node: &mut Option<Label>, p: Parcels) -> Result<(), Parcels>
-    ensures ok { OnOk result (Puts [] p (in_child in_label node.old) (in_child in_label node.new)) }
+    ensures ok { OnOk result (Puts [] p (child_nodes label_nodes node.old) (child_nodes label_nodes node.new)) }
     ensures kind { OnOk result ((a v : ℕ) → IsKindOf (a ∷ v ∷ suc zero ∷ []) p) }
     ensures err { IfErr result (λ back. (a v : ℕ)
-        → HandsBack (IsKindOf (a ∷ v ∷ suc zero ∷ []) p) [] p back (in_child in_label node.old) (in_child in_label node.new)) }
+        → HandsBack (IsKindOf (a ∷ v ∷ suc zero ∷ []) p) [] p back (child_nodes label_nodes node.old) (child_nodes label_nodes node.new)) }
 {
     match p {
         Parcels::Label(label) if node.is_none() => {
@@ -52,11 +53,11 @@ fn put_logical(
     requires path { IsLogicalPath g.now path.now }
     requires fits { IfSome node.old (FitsLogical g.now) }
     requires parcels { (a v : ℕ) → IsKindOf (a ∷ v ∷ zero ∷ path.now) p → Fits g.now (a ∷ v ∷ zero ∷ path.now) p }
-    ensures ok { OnOk result (Puts path.now p (in_child in_logical node.old) (in_child in_logical node.new)) }
+    ensures ok { OnOk result (Puts path.now p (child_nodes logical_nodes node.old) (child_nodes logical_nodes node.new)) }
     ensures kind { OnOk result ((a v : ℕ) → IsKindOf (a ∷ v ∷ zero ∷ path.now) p) }
     ensures err { IfErr result (λ back. (a v : ℕ)
-        → HandsBack (IsKindOf (a ∷ v ∷ zero ∷ path.now) p) path.now p back (in_child in_logical node.old)
-        (in_child in_logical node.new)) }
+        → HandsBack (IsKindOf (a ∷ v ∷ zero ∷ path.now) p) path.now p back (child_nodes logical_nodes node.old)
+        (child_nodes logical_nodes node.new)) }
     ensures fits { IfSome node.new (FitsLogical g.now) }
 {
     match path {
@@ -74,10 +75,10 @@ fn put_logical(
 fn put_logical_itself(node: &mut Option<Logical>, g: &Geometry, p: Parcels) -> Result<(), Parcels>
     requires fits { IfSome node.old (FitsLogical g.now) }
     requires parcels { (a v : ℕ) → IsKindOf (a ∷ v ∷ zero ∷ []) p → Fits g.now (a ∷ v ∷ zero ∷ []) p }
-    ensures ok { OnOk result (Puts [] p (in_child in_logical node.old) (in_child in_logical node.new)) }
+    ensures ok { OnOk result (Puts [] p (child_nodes logical_nodes node.old) (child_nodes logical_nodes node.new)) }
     ensures kind { OnOk result ((a v : ℕ) → IsKindOf (a ∷ v ∷ zero ∷ []) p) }
     ensures err { IfErr result (λ back. (a v : ℕ)
-        → HandsBack (IsKindOf (a ∷ v ∷ zero ∷ []) p) [] p back (in_child in_logical node.old) (in_child in_logical node.new)) }
+        → HandsBack (IsKindOf (a ∷ v ∷ zero ∷ []) p) [] p back (child_nodes logical_nodes node.old) (child_nodes logical_nodes node.new)) }
     ensures fits { IfSome node.new (FitsLogical g.now) }
 {
     match p {
@@ -98,10 +99,11 @@ fn put_volume(
     requires path { IsVolumePath g.now path.now }
     requires fits { IfSome node.old (FitsVolume g.now) }
     requires parcels { (a v : ℕ) → IsKindOf (a ∷ v ∷ path.now) p → Fits g.now (a ∷ v ∷ path.now) p }
-    ensures ok { OnOk result (Puts path.now p (in_child in_volume node.old) (in_child in_volume node.new)) }
+    ensures ok { OnOk result (Puts path.now p (child_nodes volume_nodes node.old) (child_nodes volume_nodes node.new)) }
     ensures kind { OnOk result ((a v : ℕ) → IsKindOf (a ∷ v ∷ path.now) p) }
     ensures err { IfErr result (λ back. (a v : ℕ)
-        → HandsBack (IsKindOf (a ∷ v ∷ path.now) p) path.now p back (in_child in_volume node.old) (in_child in_volume node.new)) }
+        → HandsBack (IsKindOf (a ∷ v ∷ path.now) p) path.now p back (child_nodes volume_nodes node.old)
+        (child_nodes volume_nodes node.new)) }
     ensures fits { IfSome node.new (FitsVolume g.now) }
 {
     match path {
@@ -125,10 +127,10 @@ fn put_volume(
 fn put_volume_itself(node: &mut Option<Vol>, g: &Geometry, p: Parcels) -> Result<(), Parcels>
     requires fits { IfSome node.old (FitsVolume g.now) }
     requires parcels { (a v : ℕ) → IsKindOf (a ∷ v ∷ []) p → Fits g.now (a ∷ v ∷ []) p }
-    ensures ok { OnOk result (Puts [] p (in_child in_volume node.old) (in_child in_volume node.new)) }
+    ensures ok { OnOk result (Puts [] p (child_nodes volume_nodes node.old) (child_nodes volume_nodes node.new)) }
     ensures kind { OnOk result ((a v : ℕ) → IsKindOf (a ∷ v ∷ []) p) }
     ensures err { IfErr result (λ back. (a v : ℕ)
-        → HandsBack (IsKindOf (a ∷ v ∷ []) p) [] p back (in_child in_volume node.old) (in_child in_volume node.new)) }
+        → HandsBack (IsKindOf (a ∷ v ∷ []) p) [] p back (child_nodes volume_nodes node.old) (child_nodes volume_nodes node.new)) }
     ensures fits { IfSome node.new (FitsVolume g.now) }
 {
     match p {
@@ -149,10 +151,11 @@ fn put_aggregate(
     requires path { IsAggregatePath g.now path.now }
     requires fits { IfSome node.old (FitsAggregate g.now) }
     requires parcels { (a : ℕ) → IsKindOf (a ∷ path.now) p → Fits g.now (a ∷ path.now) p }
-    ensures ok { OnOk result (Puts path.now p (in_child in_aggregate node.old) (in_child in_aggregate node.new)) }
+    ensures ok { OnOk result (Puts path.now p (child_nodes aggregate_nodes node.old) (child_nodes aggregate_nodes node.new)) }
     ensures kind { OnOk result ((a : ℕ) → IsKindOf (a ∷ path.now) p) }
     ensures err { IfErr result (λ back. (a : ℕ)
-        → HandsBack (IsKindOf (a ∷ path.now) p) path.now p back (in_child in_aggregate node.old) (in_child in_aggregate node.new)) }
+        → HandsBack (IsKindOf (a ∷ path.now) p) path.now p back (child_nodes aggregate_nodes node.old)
+        (child_nodes aggregate_nodes node.new)) }
     ensures fits { IfSome node.new (FitsAggregate g.now) }
 {
     match path {
@@ -170,10 +173,10 @@ fn put_aggregate(
 fn put_aggregate_itself(node: &mut Option<Aggr>, g: &Geometry, p: Parcels) -> Result<(), Parcels>
     requires fits { IfSome node.old (FitsAggregate g.now) }
     requires parcels { (a : ℕ) → IsKindOf (a ∷ []) p → Fits g.now (a ∷ []) p }
-    ensures ok { OnOk result (Puts [] p (in_child in_aggregate node.old) (in_child in_aggregate node.new)) }
+    ensures ok { OnOk result (Puts [] p (child_nodes aggregate_nodes node.old) (child_nodes aggregate_nodes node.new)) }
     ensures kind { OnOk result ((a : ℕ) → IsKindOf (a ∷ []) p) }
     ensures err { IfErr result (λ back. (a : ℕ)
-        → HandsBack (IsKindOf (a ∷ []) p) [] p back (in_child in_aggregate node.old) (in_child in_aggregate node.new)) }
+        → HandsBack (IsKindOf (a ∷ []) p) [] p back (child_nodes aggregate_nodes node.old) (child_nodes aggregate_nodes node.new)) }
     ensures fits { IfSome node.new (FitsAggregate g.now) }
 {
     match p {
@@ -194,10 +197,10 @@ fn put_root(
     requires path { IsRootPath g.now path.now }
     requires fits { IfSome node.old (FitsRoot g.now) }
     requires parcels { IsKindOf path.now p → Fits g.now path.now p }
-    ensures ok { OnOk result (Puts path.now p (in_child in_root node.old) (in_child in_root node.new)) }
+    ensures ok { OnOk result (Puts path.now p (child_nodes root_nodes node.old) (child_nodes root_nodes node.new)) }
     ensures kind { OnOk result (IsKindOf path.now p) }
-    ensures err { IfErr result (λ back. HandsBack (IsKindOf path.now p) path.now p back (in_child in_root node.old)
-        (in_child in_root node.new)) }
+    ensures err { IfErr result (λ back. HandsBack (IsKindOf path.now p) path.now p back (child_nodes root_nodes node.old)
+        (child_nodes root_nodes node.new)) }
     ensures fits { IfSome node.new (FitsRoot g.now) }
 {
     match path {
@@ -215,9 +218,10 @@ fn put_root(
 fn put_root_itself(node: &mut Option<Root>, g: &Geometry, p: Parcels) -> Result<(), Parcels>
     requires fits { IfSome node.old (FitsRoot g.now) }
     requires parcels { IsKindOf [] p → Fits g.now [] p }
-    ensures ok { OnOk result (Puts [] p (in_child in_root node.old) (in_child in_root node.new)) }
+    ensures ok { OnOk result (Puts [] p (child_nodes root_nodes node.old) (child_nodes root_nodes node.new)) }
     ensures kind { OnOk result (IsKindOf [] p) }
-    ensures err { IfErr result (λ back. HandsBack (IsKindOf [] p) [] p back (in_child in_root node.old) (in_child in_root node.new)) }
+    ensures err { IfErr result
+        (λ back. HandsBack (IsKindOf [] p) [] p back (child_nodes root_nodes node.old) (child_nodes root_nodes node.new)) }
     ensures fits { IfSome node.new (FitsRoot g.now) }
 {
     match p {
@@ -239,10 +243,10 @@ pub(crate) fn put_at(
     requires path { IsPath g.now (path place) }
     requires fits { IfSome root.old (FitsRoot g.now) }
     requires parcels { IsKindOf (path place) p → Fits g.now (path place) p }
-    ensures ok { OnOk result (Puts (path place) p (in_child in_root root.old) (in_child in_root root.new)) }
+    ensures ok { OnOk result (Puts (path place) p (child_nodes root_nodes root.old) (child_nodes root_nodes root.new)) }
     ensures kind { OnOk result (IsKindOf (path place) p) }
-    ensures err { IfErr result (λ back. HandsBack (IsKindOf (path place) p) (path place) p back (in_child in_root root.old)
-        (in_child in_root root.new)) }
+    ensures err { IfErr result (λ back. HandsBack (IsKindOf (path place) p) (path place) p back (child_nodes root_nodes root.old)
+        (child_nodes root_nodes root.new)) }
     ensures fits { IfSome root.new (FitsRoot g.now) }
 {
     let (numbers, depth) = path_of(place);

@@ -2,8 +2,8 @@
 ghost use Rattle.std.specs.Prelude.{◌≡◌, [], ◌∷◌, option_copied};
 ghost use Rattle.affinity.specs.Path.{volume, logical};
 ghost use Rattle.affinity.specs.Place.{path};
-ghost use Rattle.parcel.specs.Levels.{volume_in};
-ghost use Rattle.parcel.specs.Nodes.{in_child, in_root, in_volume, marks_made, marks_sealed, files_bits};
+ghost use Rattle.parcel.specs.Levels.{volume_of_tree};
+ghost use Rattle.parcel.specs.Nodes.{child_nodes, root_nodes, volume_nodes, node_made, node_sealed, node_files};
 ghost use Rattle.parcel.specs.Tree.{standing_at};
 
 use super::{Root, Standing, Vol};
@@ -11,7 +11,7 @@ use affinity::Place;
 
 /// The standing at a place. For what is out it has `false` and 0.
 pub(crate) fn standing_at(root: &Option<Root>, place: Place) -> Standing
-    ensures { result ≡ standing_at (path place) (in_child in_root root.now) }
+    ensures { result ≡ standing_at (path place) (child_nodes root_nodes root.now) }
 {
     match place {
         Place::Stripe(a, v, _) => standing_in(root, a, v),
@@ -29,9 +29,9 @@ pub(crate) fn standing_at(root: &Option<Root>, place: Place) -> Standing
 
 // The flags of a volume, and its files.
 fn standing_in(root: &Option<Root>, a: u16, v: u16) -> Standing
-    ensures made { result.made ≡ marks_made (in_child in_root root.now (volume a v)) }
-    ensures sealed { result.sealed ≡ marks_sealed (in_child in_root root.now (volume a v)) }
-    ensures files { result.files ≡ files_bits (in_child in_root root.now (logical a v)) }
+    ensures made { result.made ≡ node_made (child_nodes root_nodes root.now (volume a v)) }
+    ensures sealed { result.sealed ≡ node_sealed (child_nodes root_nodes root.now (volume a v)) }
+    ensures files { result.files ≡ node_files (child_nodes root_nodes root.now (logical a v)) }
 {
     match volume_at(root, usize::from(a), usize::from(v)) {
         None => Standing {
@@ -47,8 +47,9 @@ fn standing_in(root: &Option<Root>, a: u16, v: u16) -> Standing
     }
 }
 
+// The files of a volume, file f as bit f; none if its Volume Logical is out.
 pub(crate) fn files_of(volume: &Vol) -> u64
-    ensures { result ≡ files_bits (in_volume volume.now (0 ∷ [])) }
+    ensures { result ≡ node_files (volume_nodes volume.now (0 ∷ [])) }
 {
     match &volume.logical {
         None => 0,
@@ -58,7 +59,7 @@ pub(crate) fn files_of(volume: &Vol) -> u64
 
 /// A volume, where it and its aggregate are in.
 pub(crate) fn volume_at(root: &Option<Root>, a: usize, v: usize) -> Option<&Vol>
-    ensures { option_copied result ≡ volume_in root.now a v }
+    ensures { option_copied result ≡ volume_of_tree root.now a v }
 {
     root.as_ref()?
         .aggregates

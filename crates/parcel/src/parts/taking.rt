@@ -5,7 +5,7 @@ ghost use Rattle.affinity.specs.Interval.{IsPath};
 ghost use Rattle.affinity.specs.Place.{path};
 ghost use Rattle.parcel.specs.Fits.{Fits, FitsStripe, FitsLogical, FitsVolume, FitsAggregate, FitsRoot};
 ghost use Rattle.parcel.specs.Levels.{IsLeafPath, IsLogicalPath, IsVolumePath, IsAggregatePath, IsRootPath, TakesNothing, TakesParcels};
-ghost use Rattle.parcel.specs.Nodes.{in_child, in_stripe, in_label, in_logical, in_volume, in_aggregate, in_root};
+ghost use Rattle.parcel.specs.Nodes.{child_nodes, stripe_nodes, label_nodes, logical_nodes, volume_nodes, aggregate_nodes, root_nodes};
 
 use super::paths::path_of;
 use super::whole::{is_whole_aggregate, is_whole_logical, is_whole_root, is_whole_volume};
@@ -14,8 +14,9 @@ use crate::StripeParcel;
 use affinity::{Geometry, Place};
 
 fn take_stripe(node: &mut Option<StripeParcel>) -> Option<Parcels>
-    ensures none { IfNone result (TakesNothing IsLeafPath [] (in_child in_stripe node.old) (in_child in_stripe node.new)) }
-    ensures some { IfSome result (λ r. TakesParcels IsLeafPath [] r (in_child in_stripe node.old) (in_child in_stripe node.new)) }
+    ensures none { IfNone result (TakesNothing IsLeafPath [] (child_nodes stripe_nodes node.old) (child_nodes stripe_nodes node.new)) }
+    ensures some { IfSome result
+        (λ r. TakesParcels IsLeafPath [] r (child_nodes stripe_nodes node.old) (child_nodes stripe_nodes node.new)) }
     ensures fits { (g : Geometry) (s : ℕ) → IfSome node.old (FitsStripe g s) → IfSome node.new (FitsStripe g s) }
     ensures lent { IfSome result (λ r. (g : Geometry) (a v s : ℕ) → IfSome node.old (FitsStripe g s) → Fits g (a ∷ v ∷ zero ∷ s ∷ []) r) }
 {
@@ -26,8 +27,8 @@ fn take_stripe(node: &mut Option<StripeParcel>) -> Option<Parcels>
 }
 
 fn take_label(node: &mut Option<Label>) -> Option<Parcels>
-    ensures none { IfNone result (TakesNothing IsLeafPath [] (in_child in_label node.old) (in_child in_label node.new)) }
-    ensures some { IfSome result (λ r. TakesParcels IsLeafPath [] r (in_child in_label node.old) (in_child in_label node.new)) }
+    ensures none { IfNone result (TakesNothing IsLeafPath [] (child_nodes label_nodes node.old) (child_nodes label_nodes node.new)) }
+    ensures some { IfSome result (λ r. TakesParcels IsLeafPath [] r (child_nodes label_nodes node.old) (child_nodes label_nodes node.new)) }
     ensures lent { IfSome result (λ r. (g : Geometry) (a v : ℕ) → Fits g (a ∷ v ∷ suc zero ∷ []) r) }
 {
     match node.take() {
@@ -40,9 +41,9 @@ fn take_logical(node: &mut Option<Logical>, g: &Geometry, path: &[usize]) -> Opt
     requires path { IsLogicalPath g.now path.now }
     requires fits { IfSome node.old (FitsLogical g.now) }
     ensures none { IfNone result
-        (TakesNothing (IsLogicalPath g.now) path.now (in_child in_logical node.old) (in_child in_logical node.new)) }
-    ensures some { IfSome result (λ r. TakesParcels (IsLogicalPath g.now) path.now r (in_child in_logical node.old)
-        (in_child in_logical node.new)) }
+        (TakesNothing (IsLogicalPath g.now) path.now (child_nodes logical_nodes node.old) (child_nodes logical_nodes node.new)) }
+    ensures some { IfSome result (λ r. TakesParcels (IsLogicalPath g.now) path.now r (child_nodes logical_nodes node.old)
+        (child_nodes logical_nodes node.new)) }
     ensures fits { IfSome node.new (FitsLogical g.now) }
     ensures lent { IfSome result (λ r. (a v : ℕ) → Fits g.now (a ∷ v ∷ zero ∷ path.now) r) }
 {
@@ -60,9 +61,10 @@ fn take_logical(node: &mut Option<Logical>, g: &Geometry, path: &[usize]) -> Opt
 
 fn take_logical_itself(node: &mut Option<Logical>, g: &Geometry) -> Option<Parcels>
     requires fits { IfSome node.old (FitsLogical g.now) }
-    ensures none { IfNone result (TakesNothing (IsLogicalPath g.now) [] (in_child in_logical node.old) (in_child in_logical node.new)) }
-    ensures some { IfSome result (λ r. TakesParcels (IsLogicalPath g.now) [] r (in_child in_logical node.old)
-        (in_child in_logical node.new)) }
+    ensures none { IfNone result
+        (TakesNothing (IsLogicalPath g.now) [] (child_nodes logical_nodes node.old) (child_nodes logical_nodes node.new)) }
+    ensures some { IfSome result (λ r. TakesParcels (IsLogicalPath g.now) [] r (child_nodes logical_nodes node.old)
+        (child_nodes logical_nodes node.new)) }
     ensures fits { IfSome node.new (FitsLogical g.now) }
     ensures lent { IfSome result (λ r. (a v : ℕ) → Fits g.now (a ∷ v ∷ zero ∷ []) r) }
 {
@@ -79,9 +81,9 @@ fn take_volume(node: &mut Option<Vol>, g: &Geometry, path: &[usize]) -> Option<P
     requires path { IsVolumePath g.now path.now }
     requires fits { IfSome node.old (FitsVolume g.now) }
     ensures none { IfNone result
-        (TakesNothing (IsVolumePath g.now) path.now (in_child in_volume node.old) (in_child in_volume node.new)) }
-    ensures some { IfSome result (λ r. TakesParcels (IsVolumePath g.now) path.now r (in_child in_volume node.old)
-        (in_child in_volume node.new)) }
+        (TakesNothing (IsVolumePath g.now) path.now (child_nodes volume_nodes node.old) (child_nodes volume_nodes node.new)) }
+    ensures some { IfSome result (λ r. TakesParcels (IsVolumePath g.now) path.now r (child_nodes volume_nodes node.old)
+        (child_nodes volume_nodes node.new)) }
     ensures fits { IfSome node.new (FitsVolume g.now) }
     ensures lent { IfSome result (λ r. (a v : ℕ) → Fits g.now (a ∷ v ∷ path.now) r) }
 {
@@ -105,9 +107,10 @@ fn take_volume(node: &mut Option<Vol>, g: &Geometry, path: &[usize]) -> Option<P
 
 fn take_volume_itself(node: &mut Option<Vol>, g: &Geometry) -> Option<Parcels>
     requires fits { IfSome node.old (FitsVolume g.now) }
-    ensures none { IfNone result (TakesNothing (IsVolumePath g.now) [] (in_child in_volume node.old) (in_child in_volume node.new)) }
-    ensures some { IfSome result (λ r. TakesParcels (IsVolumePath g.now) [] r (in_child in_volume node.old)
-        (in_child in_volume node.new)) }
+    ensures none { IfNone result
+        (TakesNothing (IsVolumePath g.now) [] (child_nodes volume_nodes node.old) (child_nodes volume_nodes node.new)) }
+    ensures some { IfSome result (λ r. TakesParcels (IsVolumePath g.now) [] r (child_nodes volume_nodes node.old)
+        (child_nodes volume_nodes node.new)) }
     ensures fits { IfSome node.new (FitsVolume g.now) }
     ensures lent { IfSome result (λ r. (a v : ℕ) → Fits g.now (a ∷ v ∷ []) r) }
 {
@@ -123,10 +126,10 @@ fn take_volume_itself(node: &mut Option<Vol>, g: &Geometry) -> Option<Parcels>
 fn take_aggregate(node: &mut Option<Aggr>, g: &Geometry, path: &[usize]) -> Option<Parcels>
     requires path { IsAggregatePath g.now path.now }
     requires fits { IfSome node.old (FitsAggregate g.now) }
-    ensures none { IfNone result (TakesNothing (IsAggregatePath g.now) path.now (in_child in_aggregate node.old)
-        (in_child in_aggregate node.new)) }
-    ensures some { IfSome result (λ r. TakesParcels (IsAggregatePath g.now) path.now r (in_child in_aggregate node.old)
-        (in_child in_aggregate node.new)) }
+    ensures none { IfNone result (TakesNothing (IsAggregatePath g.now) path.now (child_nodes aggregate_nodes node.old)
+        (child_nodes aggregate_nodes node.new)) }
+    ensures some { IfSome result (λ r. TakesParcels (IsAggregatePath g.now) path.now r (child_nodes aggregate_nodes node.old)
+        (child_nodes aggregate_nodes node.new)) }
     ensures fits { IfSome node.new (FitsAggregate g.now) }
     ensures lent { IfSome result (λ r. (a : ℕ) → Fits g.now (a ∷ path.now) r) }
 {
@@ -145,9 +148,9 @@ fn take_aggregate(node: &mut Option<Aggr>, g: &Geometry, path: &[usize]) -> Opti
 fn take_aggregate_itself(node: &mut Option<Aggr>, g: &Geometry) -> Option<Parcels>
     requires fits { IfSome node.old (FitsAggregate g.now) }
     ensures none { IfNone result
-        (TakesNothing (IsAggregatePath g.now) [] (in_child in_aggregate node.old) (in_child in_aggregate node.new)) }
-    ensures some { IfSome result (λ r. TakesParcels (IsAggregatePath g.now) [] r (in_child in_aggregate node.old)
-        (in_child in_aggregate node.new)) }
+        (TakesNothing (IsAggregatePath g.now) [] (child_nodes aggregate_nodes node.old) (child_nodes aggregate_nodes node.new)) }
+    ensures some { IfSome result (λ r. TakesParcels (IsAggregatePath g.now) [] r (child_nodes aggregate_nodes node.old)
+        (child_nodes aggregate_nodes node.new)) }
     ensures fits { IfSome node.new (FitsAggregate g.now) }
     ensures lent { IfSome result (λ r. (a : ℕ) → Fits g.now (a ∷ []) r) }
 {
@@ -163,9 +166,10 @@ fn take_aggregate_itself(node: &mut Option<Aggr>, g: &Geometry) -> Option<Parcel
 fn take_root(node: &mut Option<Root>, g: &Geometry, path: &[usize]) -> Option<Parcels>
     requires path { IsRootPath g.now path.now }
     requires fits { IfSome node.old (FitsRoot g.now) }
-    ensures none { IfNone result (TakesNothing (IsRootPath g.now) path.now (in_child in_root node.old) (in_child in_root node.new)) }
-    ensures some { IfSome result (λ r. TakesParcels (IsRootPath g.now) path.now r (in_child in_root node.old)
-        (in_child in_root node.new)) }
+    ensures none { IfNone result
+        (TakesNothing (IsRootPath g.now) path.now (child_nodes root_nodes node.old) (child_nodes root_nodes node.new)) }
+    ensures some { IfSome result (λ r. TakesParcels (IsRootPath g.now) path.now r (child_nodes root_nodes node.old)
+        (child_nodes root_nodes node.new)) }
     ensures fits { IfSome node.new (FitsRoot g.now) }
     ensures lent { IfSome result (λ r. Fits g.now path.now r) }
 {
@@ -183,8 +187,9 @@ fn take_root(node: &mut Option<Root>, g: &Geometry, path: &[usize]) -> Option<Pa
 
 fn take_root_itself(node: &mut Option<Root>, g: &Geometry) -> Option<Parcels>
     requires fits { IfSome node.old (FitsRoot g.now) }
-    ensures none { IfNone result (TakesNothing (IsRootPath g.now) [] (in_child in_root node.old) (in_child in_root node.new)) }
-    ensures some { IfSome result (λ r. TakesParcels (IsRootPath g.now) [] r (in_child in_root node.old) (in_child in_root node.new)) }
+    ensures none { IfNone result (TakesNothing (IsRootPath g.now) [] (child_nodes root_nodes node.old) (child_nodes root_nodes node.new)) }
+    ensures some { IfSome result
+        (λ r. TakesParcels (IsRootPath g.now) [] r (child_nodes root_nodes node.old) (child_nodes root_nodes node.new)) }
     ensures fits { IfSome node.new (FitsRoot g.now) }
     ensures lent { IfSome result (λ r. Fits g.now [] r) }
 {
@@ -201,9 +206,10 @@ fn take_root_itself(node: &mut Option<Root>, g: &Geometry) -> Option<Parcels>
 pub(crate) fn take_at(root: &mut Option<Root>, g: &Geometry, place: Place) -> Option<Parcels>
     requires path { IsPath g.now (path place) }
     requires fits { IfSome root.old (FitsRoot g.now) }
-    ensures none { IfNone result (TakesNothing (IsRootPath g.now) (path place) (in_child in_root root.old) (in_child in_root root.new)) }
-    ensures some { IfSome result (λ r. TakesParcels (IsRootPath g.now) (path place) r (in_child in_root root.old)
-        (in_child in_root root.new)) }
+    ensures none { IfNone result
+        (TakesNothing (IsRootPath g.now) (path place) (child_nodes root_nodes root.old) (child_nodes root_nodes root.new)) }
+    ensures some { IfSome result (λ r. TakesParcels (IsRootPath g.now) (path place) r (child_nodes root_nodes root.old)
+        (child_nodes root_nodes root.new)) }
     ensures fits { IfSome root.new (FitsRoot g.now) }
     ensures lent { IfSome result (λ r. Fits g.now (path place) r) }
 {

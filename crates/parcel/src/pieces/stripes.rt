@@ -1,6 +1,6 @@
 //! A stripe's piece of an image, from the stripe of a volume and into it.
 ghost use Rattle.std.specs.Prelude.{◌≡◌, ◌↔◌, ◌*◌, ◌<◌, ◌^◌, ◌==◌, ℕ, length, if◌then◌else◌, IfSome, IsTrue};
-ghost use Rattle.affinity.specs.Geometry.{group};
+ghost use Rattle.affinity.specs.Geometry.{stripe_of};
 ghost use Rattle.image.specs.Pieces.{block_in, stripe_piece};
 ghost use Rattle.meaning.specs.State.{State, IsState};
 ghost use Rattle.stripe.specs.Entries.{IsStripePiece};
@@ -12,13 +12,13 @@ ghost use Rattle.parcel.specs.Shown.{blocks_of};
 use crate::{Logical, StripeParcel};
 use affinity::Geometry;
 
-/// Writes the piece of stripe `s` of a volume: that of each state which has the blocks of the stripe
-/// there.
+/// Writes the piece of stripe `s` of a volume: the same bytes for every state that has these blocks in
+/// that stripe.
 pub(super) fn write_stripe(stripe: &StripeParcel, g: &Geometry, s: usize, out: &mut [u8])
     requires fits { FitsStripe g.now s stripe.now }
     requires size { length out.old ≡ g.now.quota * 520 }
     ensures { (x : State) (a v : ℕ) → IsState g.now x
-        → ((f b : ℕ) → group g.now f b ≡ s
+        → ((f b : ℕ) → stripe_of g.now f b ≡ s
         → x.blocks (a, v, f, b) ≡ content_at stripe.now.entries f b)
         → out.new ≡ stripe_piece g.now x a v s }
 {
@@ -28,8 +28,8 @@ pub(super) fn write_stripe(stripe: &StripeParcel, g: &Geometry, s: usize, out: &
     stripe.write_piece(out);
 }
 
-/// Takes in the piece of stripe `s` of a volume, in the place of all blocks that are there: whether
-/// the bytes are such a piece, of files that are there. Where they aren't, no block is left.
+/// Replaces the blocks of stripe `s` of a volume by those in `bytes`. Gives whether the bytes are such a
+/// piece, of files that exist. Where they aren't, the stripe is left without a block.
 pub(super) fn read_stripe(logical: &mut Logical, g: &Geometry, s: usize, bytes: &[u8]) -> bool
     requires fits { FitsLogical g.now logical.old }
     requires whole { IsWholeLogical logical.old }
@@ -38,7 +38,7 @@ pub(super) fn read_stripe(logical: &mut Logical, g: &Geometry, s: usize, bytes: 
     ensures piece { IsTrue result ↔ IsStripePiece g.now logical.old.files s bytes.now }
     ensures files { logical.new.files ≡ logical.old.files }
     ensures blocks { IsTrue result → (f b : ℕ) → blocks_of g.now logical.new.stripes.items f b
-        ≡ (if group g.now f b == s then block_in g.now bytes.now f b
+        ≡ (if stripe_of g.now f b == s then block_in g.now bytes.now f b
         else blocks_of g.now logical.old.stripes.items f b) }
     ensures fits { FitsLogical g.now logical.new }
     ensures whole { IsWholeLogical logical.new }

@@ -3,15 +3,15 @@
 ghost use Rattle.std.specs.Prelude.{◌≡◌, ℕ, ◌<◌, true, false, slice_index_or, Some, None, IfSome, vec_len};
 ghost use Rattle.affinity.specs.declared.geometry.Geometry.{Geometry};
 ghost use Rattle.messages.specs.declared.Msg.{Msg};
-ghost use Rattle.messages.specs.Messages.{is_in_range, place};
+ghost use Rattle.messages.specs.Messages.{is_in_range, path_of};
 ghost use Rattle.parcel.specs.Dropping.{Empties};
-ghost use Rattle.meaning.specs.Serial.{tests};
-ghost use Rattle.parcel.specs.Fits.{FitsAggregate, FitsLogical, FitsVolume, IsWholeAggregate, IsWholeChild, IsWholeLogical, IsWholeVolume, Suits};
+ghost use Rattle.meaning.specs.Serial.{checks};
+ghost use Rattle.parcel.specs.Fits.{FitsAggregate, FitsLogical, FitsVolume, IsWholeAggregate, IsWholeChild, IsWholeLogical, IsWholeVolume, IsRunnable};
 ghost use Rattle.parcel.specs.Run.{IsSerialStep};
-ghost use Rattle.parcel.specs.Shown.{blocks_of, by_child, volume_facts, shown_state};
+ghost use Rattle.parcel.specs.Shown.{blocks_of, child_facts, volume_facts, shown_state};
 ghost use Rattle.parcel.specs.Steps.{at_aggregate};
 ghost use Rattle.parcel.specs.Totals.{with_made};
-ghost use Rattle.parcel.specs.Volume.{nothing};
+ghost use Rattle.parcel.specs.Volume.{no_facts};
 ghost use Rattle.parcel.specs.declared.parts.Parcels.{Parcels};
 ghost use Rattle.parcel.specs.declared.parts.Standing.{Standing};
 
@@ -20,10 +20,10 @@ use crate::{Aggr, Label, Logical, StripeParcel, Vol};
 use affinity::Geometry;
 use messages::{Msg, Reply};
 
-// Whether the volume at one place is made, and whether it is sealed.
+// Whether the volume at one index is made, and whether it is sealed.
 fn marks(node: &Option<Vol>) -> (bool, bool)
-    ensures made { (g : Geometry) → result.0 ≡ (by_child (volume_facts g) node.now).made }
-    ensures sealed { (g : Geometry) → result.1 ≡ (by_child (volume_facts g) node.now).sealed }
+    ensures made { (g : Geometry) → result.0 ≡ (child_facts (volume_facts g) node.now).made }
+    ensures sealed { (g : Geometry) → result.1 ≡ (child_facts (volume_facts g) node.now).sealed }
 {
     match node {
         Some(volume) => (volume.made, volume.sealed),
@@ -31,10 +31,10 @@ fn marks(node: &Option<Vol>) -> (bool, bool)
     }
 }
 
-// Makes the volume at one place, with a label of zeros.
+// Makes the volume at one index, which isn't checked out, with a label of zeros.
 fn make(node: &mut Option<Vol>)
     requires { IsWholeChild IsWholeVolume node.old }
-    ensures facts { (g : Geometry) → by_child (volume_facts g) node.new ≡ with_made (by_child (volume_facts g) node.old) }
+    ensures facts { (g : Geometry) → child_facts (volume_facts g) node.new ≡ with_made (child_facts (volume_facts g) node.old) }
     ensures whole { IsWholeChild IsWholeVolume node.new }
     ensures fits { (g : Geometry) → IfSome node.old (FitsVolume g) → IfSome node.new (FitsVolume g) }
 {
@@ -46,7 +46,7 @@ fn make(node: &mut Option<Vol>)
     }
 }
 
-// Removes all blocks from the stripe at one place, where it is in.
+// Removes all blocks from a stripe, unless it is checked out.
 fn clear_in(node: &mut Option<StripeParcel>)
     ensures { Empties node.old node.new }
 {
@@ -77,10 +77,10 @@ fn clear_files(logical: &mut Logical)
     clear_stripes(&mut logical.stripes);
 }
 
-// Removes the volume at one place, with all that it has.
+// Removes the volume at one index, which isn't checked out, with all that it has.
 fn clear(node: &mut Option<Vol>)
     requires { IsWholeChild IsWholeVolume node.old }
-    ensures facts { (g : Geometry) → by_child (volume_facts g) node.new ≡ nothing }
+    ensures facts { (g : Geometry) → child_facts (volume_facts g) node.new ≡ no_facts }
     ensures whole { IsWholeChild IsWholeVolume node.new }
     ensures fits { (g : Geometry) → IfSome node.old (FitsVolume g) → IfSome node.new (FitsVolume g) }
 {
@@ -94,9 +94,10 @@ fn clear(node: &mut Option<Vol>)
     }
 }
 
-// Makes a volume that isn't there.
+// Makes a volume that isn't there. The message has to pass the checks of a `makevol`, which are the same for each aggregate, so 0 stands
+// for any.
 fn make_volume(aggregate: &mut Aggr, g: &Geometry, message: &Msg, v: u16) -> Reply
-    requires tests { tests message.now ≡ tests (Msg.MakeVol 0 v) }
+    requires checks { checks message.now ≡ checks (Msg.MakeVol 0 v) }
     requires volume { v < g.now.volumes }
     requires fits { FitsAggregate g.now aggregate.old }
     requires whole { IsWholeAggregate aggregate.old }
@@ -105,18 +106,18 @@ fn make_volume(aggregate: &mut Aggr, g: &Geometry, message: &Msg, v: u16) -> Rep
     ensures fits { FitsAggregate g.now aggregate.new }
     ensures whole { IsWholeAggregate aggregate.new }
 {
-    let place = usize::from(v);
-    let (made, _) = marks(&aggregate.volumes[place]);
+    let index = usize::from(v);
+    let (made, _) = marks(&aggregate.volumes[index]);
     if let Some(why) = make_refusal(message, made) {
         return Reply::Refused(why);
     }
-    make(&mut aggregate.volumes[place]);
+    make(&mut aggregate.volumes[index]);
     Reply::Done
 }
 
-// Removes a volume with all that it has.
+// Removes a volume with all that it has. The message has to pass the checks of a `dropvol`.
 fn drop_volume(aggregate: &mut Aggr, g: &Geometry, message: &Msg, v: u16) -> Reply
-    requires tests { tests message.now ≡ tests (Msg.DropVol 0 v) }
+    requires checks { checks message.now ≡ checks (Msg.DropVol 0 v) }
     requires volume { v < g.now.volumes }
     requires fits { FitsAggregate g.now aggregate.old }
     requires whole { IsWholeAggregate aggregate.old }
@@ -125,22 +126,22 @@ fn drop_volume(aggregate: &mut Aggr, g: &Geometry, message: &Msg, v: u16) -> Rep
     ensures fits { FitsAggregate g.now aggregate.new }
     ensures whole { IsWholeAggregate aggregate.new }
 {
-    let place = usize::from(v);
-    let (made, sealed) = marks(&aggregate.volumes[place]);
+    let index = usize::from(v);
+    let (made, sealed) = marks(&aggregate.volumes[index]);
     if let Some(why) = change_refusal(message, made, sealed) {
         return Reply::Refused(why);
     }
-    clear(&mut aggregate.volumes[place]);
+    clear(&mut aggregate.volumes[index]);
     Reply::Done
 }
 
 /// Runs a message at an aggregate. It sees nothing of what lies above.
 pub(crate) fn run_at_aggregate(aggregate: &mut Aggr, g: &Geometry, message: &Msg) -> Reply
-    requires { Suits g.now message.now (Parcels.Aggr aggregate.old) }
+    requires { IsRunnable g.now message.now (Parcels.Aggr aggregate.old) }
     ensures step { (t : Standing) → IsSerialStep g.now
-        (shown_state g.now (place g.now message.now) t (Parcels.Aggr aggregate.old)) message.now result
-        (shown_state g.now (place g.now message.now) t (Parcels.Aggr aggregate.new)) }
-    ensures suits { Suits g.now message.now (Parcels.Aggr aggregate.new) }
+        (shown_state g.now (path_of g.now message.now) t (Parcels.Aggr aggregate.old)) message.now result
+        (shown_state g.now (path_of g.now message.now) t (Parcels.Aggr aggregate.new)) }
+    ensures runnable { IsRunnable g.now message.now (Parcels.Aggr aggregate.new) }
 {
     match message {
         Msg::MakeVol(_, v) => make_volume(aggregate, g, message, *v),

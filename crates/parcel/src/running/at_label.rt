@@ -2,11 +2,11 @@
 
 ghost use Rattle.std.specs.Prelude.{◌≡◌};
 ghost use Rattle.messages.specs.declared.Msg.{Msg};
-ghost use Rattle.messages.specs.Messages.{place};
-ghost use Rattle.meaning.specs.Serial.{tests};
-ghost use Rattle.parcel.specs.Fits.{Suits};
+ghost use Rattle.messages.specs.Messages.{path_of};
+ghost use Rattle.meaning.specs.Serial.{checks};
+ghost use Rattle.parcel.specs.Fits.{IsRunnable};
 ghost use Rattle.parcel.specs.Run.{IsSerialStep};
-ghost use Rattle.parcel.specs.Shown.{by_label, shown_state};
+ghost use Rattle.parcel.specs.Shown.{label_facts, shown_state};
 ghost use Rattle.parcel.specs.Steps.{IsStepWithin};
 ghost use Rattle.parcel.specs.declared.parts.Parcels.{Parcels};
 
@@ -23,8 +23,9 @@ fn set_label(
     message: &Msg,
     bytes: &[u8; 32],
 ) -> Reply
-    requires { tests message.now ≡ tests (Msg.SetLabel 0 0 bytes.now) }
-    ensures { IsStepWithin g.now (λ a v. Msg.SetLabel a v bytes.now) (by_label standing label.old) result (by_label standing label.new) }
+    requires { checks message.now ≡ checks (Msg.SetLabel 0 0 bytes.now) }
+    ensures { IsStepWithin g.now (λ a v. Msg.SetLabel a v bytes.now) (label_facts standing label.old) result
+        (label_facts standing label.new) }
 {
     if let Some(why) = change_refusal(message, standing.made, standing.sealed) {
         return Reply::Refused(why);
@@ -35,8 +36,8 @@ fn set_label(
 
 // The label.
 fn get_label(label: &Label, g: &Geometry, standing: Standing, message: &Msg) -> Reply
-    requires { tests message.now ≡ tests (Msg.Label 0 0) }
-    ensures { IsStepWithin g.now Msg.Label (by_label standing label.now) result (by_label standing label.now) }
+    requires { checks message.now ≡ checks (Msg.Label 0 0) }
+    ensures { IsStepWithin g.now Msg.Label (label_facts standing label.now) result (label_facts standing label.now) }
 {
     if let Some(why) = volume_refusal(message, standing.made) {
         return Reply::Refused(why);
@@ -51,10 +52,10 @@ pub(crate) fn run_at_label(
     standing: Standing,
     message: &Msg,
 ) -> Reply
-    requires { Suits g.now message.now (Parcels.Label label.old) }
-    ensures step { IsSerialStep g.now (shown_state g.now (place g.now message.now) standing (Parcels.Label label.old)) message.now result
-        (shown_state g.now (place g.now message.now) standing (Parcels.Label label.new)) }
-    ensures suits { Suits g.now message.now (Parcels.Label label.new) }
+    requires { IsRunnable g.now message.now (Parcels.Label label.old) }
+    ensures step { IsSerialStep g.now (shown_state g.now (path_of g.now message.now) standing (Parcels.Label label.old)) message.now result
+        (shown_state g.now (path_of g.now message.now) standing (Parcels.Label label.new)) }
+    ensures runnable { IsRunnable g.now message.now (Parcels.Label label.new) }
 {
     match message {
         Msg::SetLabel(_, _, bytes) => set_label(label, g, standing, message, bytes),

@@ -2,12 +2,12 @@
 
 ghost use Rattle.std.specs.Prelude.{◌≡◌, ℕ, ◌<◌, slice_index_or, None, vec_len};
 ghost use Rattle.messages.specs.declared.Msg.{Msg};
-ghost use Rattle.messages.specs.Messages.{place};
+ghost use Rattle.messages.specs.Messages.{path_of};
 ghost use Rattle.parcel.specs.Dropping.{DropsFile};
-ghost use Rattle.meaning.specs.Serial.{tests};
-ghost use Rattle.parcel.specs.Fits.{FitsLogical, IsWholeLogical, Suits};
+ghost use Rattle.meaning.specs.Serial.{checks};
+ghost use Rattle.parcel.specs.Fits.{FitsLogical, IsWholeLogical, IsRunnable};
 ghost use Rattle.parcel.specs.Run.{IsSerialStep};
-ghost use Rattle.parcel.specs.Shown.{by_logical, shown_state};
+ghost use Rattle.parcel.specs.Shown.{logical_facts, shown_state};
 ghost use Rattle.parcel.specs.Steps.{IsStepWithin};
 ghost use Rattle.parcel.specs.declared.parts.Parcels.{Parcels};
 
@@ -18,11 +18,11 @@ use messages::{Msg, Reply};
 
 // Makes a file, without blocks.
 fn create(logical: &mut Logical, g: &Geometry, standing: Standing, message: &Msg, f: u16) -> Reply
-    requires tests { tests message.now ≡ tests (Msg.Create 0 0 f) }
+    requires checks { checks message.now ≡ checks (Msg.Create 0 0 f) }
     requires file { f < g.now.files }
     requires fits { FitsLogical g.now logical.old }
-    ensures step { IsStepWithin g.now (λ a v. Msg.Create a v f) (by_logical g.now standing logical.old) result
-        (by_logical g.now standing logical.new) }
+    ensures step { IsStepWithin g.now (λ a v. Msg.Create a v f) (logical_facts g.now standing logical.old) result
+        (logical_facts g.now standing logical.new) }
     ensures fits { FitsLogical g.now logical.new }
     ensures stripes { logical.new.stripes ≡ logical.old.stripes }
 {
@@ -34,7 +34,7 @@ fn create(logical: &mut Logical, g: &Geometry, standing: Standing, message: &Msg
     Reply::Done
 }
 
-// Removes the blocks of a file from the stripe at one place, where it is in.
+// Removes the blocks of a file from a stripe, unless it is checked out.
 fn drop_in(node: &mut Option<StripeParcel>, f: u16)
     ensures { DropsFile f node.old node.new }
 {
@@ -56,12 +56,12 @@ fn drop_file(stripes: &mut Vec<Option<StripeParcel>>, f: u16)
 
 // Removes a file and its blocks.
 fn delete(logical: &mut Logical, g: &Geometry, standing: Standing, message: &Msg, f: u16) -> Reply
-    requires tests { tests message.now ≡ tests (Msg.Delete 0 0 f) }
+    requires checks { checks message.now ≡ checks (Msg.Delete 0 0 f) }
     requires file { f < g.now.files }
     requires fits { FitsLogical g.now logical.old }
     requires whole { IsWholeLogical logical.old }
-    ensures step { IsStepWithin g.now (λ a v. Msg.Delete a v f) (by_logical g.now standing logical.old) result
-        (by_logical g.now standing logical.new) }
+    ensures step { IsStepWithin g.now (λ a v. Msg.Delete a v f) (logical_facts g.now standing logical.old) result
+        (logical_facts g.now standing logical.new) }
     ensures fits { FitsLogical g.now logical.new }
     ensures whole { IsWholeLogical logical.new }
 {
@@ -77,8 +77,8 @@ fn delete(logical: &mut Logical, g: &Geometry, standing: Standing, message: &Msg
 // Which files there are.
 fn list(logical: &Logical, g: &Geometry, standing: Standing, message: &Msg) -> Reply
     requires fits { FitsLogical g.now logical.now }
-    requires tests { tests message.now ≡ tests (Msg.List 0 0) }
-    ensures { IsStepWithin g.now Msg.List (by_logical g.now standing logical.now) result (by_logical g.now standing logical.now) }
+    requires checks { checks message.now ≡ checks (Msg.List 0 0) }
+    ensures { IsStepWithin g.now Msg.List (logical_facts g.now standing logical.now) result (logical_facts g.now standing logical.now) }
 {
     if let Some(why) = volume_refusal(message, standing.made) {
         return Reply::Refused(why);
@@ -93,11 +93,11 @@ pub(crate) fn run_at_logical(
     standing: Standing,
     message: &Msg,
 ) -> Reply
-    requires { Suits g.now message.now (Parcels.Logical logical.old) }
+    requires { IsRunnable g.now message.now (Parcels.Logical logical.old) }
     ensures step { IsSerialStep g.now
-        (shown_state g.now (place g.now message.now) standing (Parcels.Logical logical.old)) message.now result
-        (shown_state g.now (place g.now message.now) standing (Parcels.Logical logical.new)) }
-    ensures suits { Suits g.now message.now (Parcels.Logical logical.new) }
+        (shown_state g.now (path_of g.now message.now) standing (Parcels.Logical logical.old)) message.now result
+        (shown_state g.now (path_of g.now message.now) standing (Parcels.Logical logical.new)) }
+    ensures runnable { IsRunnable g.now message.now (Parcels.Logical logical.new) }
 {
     match message {
         Msg::Create(_, _, f) => create(logical, g, standing, message, *f),

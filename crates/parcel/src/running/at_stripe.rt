@@ -2,13 +2,13 @@
 
 ghost use Rattle.std.specs.Prelude.{◌≡◌, ◌<◌, ◌||◌, is_some, length, nat_lt};
 ghost use Rattle.affinity.specs.declared.geometry.Geometry.{Geometry};
-ghost use Rattle.affinity.specs.Geometry.{group};
+ghost use Rattle.affinity.specs.Geometry.{stripe_of};
 ghost use Rattle.messages.specs.declared.Msg.{Msg};
-ghost use Rattle.messages.specs.Messages.{place};
-ghost use Rattle.meaning.specs.Serial.{tests};
-ghost use Rattle.parcel.specs.Fits.{FitsStripe, Suits};
+ghost use Rattle.messages.specs.Messages.{path_of};
+ghost use Rattle.meaning.specs.Serial.{checks};
+ghost use Rattle.parcel.specs.Fits.{FitsStripe, IsRunnable};
 ghost use Rattle.parcel.specs.Run.{IsSerialStep};
-ghost use Rattle.parcel.specs.Shown.{by_stripe, shown_state};
+ghost use Rattle.parcel.specs.Shown.{stripe_facts, shown_state};
 ghost use Rattle.parcel.specs.Steps.{IsStepWithin};
 ghost use Rattle.stripe.specs.Stripe.{StripeRule, content_at};
 ghost use Rattle.parcel.specs.declared.parts.Parcels.{Parcels};
@@ -19,7 +19,7 @@ use affinity::Geometry;
 use messages::{Block, Msg, Reply};
 
 // Whether a block is there already, or there is room for one more.
-fn has_room(stripe: &StripeParcel, g: &Geometry, f: u16, b: u16) -> bool
+fn has_space(stripe: &StripeParcel, g: &Geometry, f: u16, b: u16) -> bool
     ensures room { result ≡ (is_some (content_at stripe.now.entries f b) || nat_lt (length stripe.now.entries) g.now.quota) }
     ensures kept { StripeRule stripe.now }
 {
@@ -36,15 +36,15 @@ fn write(
     b: u16,
     content: &Block,
 ) -> Reply
-    requires tests { tests message.now ≡ tests (Msg.Write 0 0 f b content.now) }
+    requires checks { checks message.now ≡ checks (Msg.Write 0 0 f b content.now) }
     requires file { f < g.now.files }
     requires block { b < g.now.blocks }
-    requires fits { FitsStripe g.now (group g.now f b) stripe.old }
-    ensures step { IsStepWithin g.now (λ a v. Msg.Write a v f b content.now) (by_stripe standing stripe.old) result
-        (by_stripe standing stripe.new) }
-    ensures fits { FitsStripe g.now (group g.now f b) stripe.new }
+    requires fits { FitsStripe g.now (stripe_of g.now f b) stripe.old }
+    ensures step { IsStepWithin g.now (λ a v. Msg.Write a v f b content.now) (stripe_facts standing stripe.old) result
+        (stripe_facts standing stripe.new) }
+    ensures fits { FitsStripe g.now (stripe_of g.now f b) stripe.new }
 {
-    let room = has_room(stripe, g, f, b);
+    let room = has_space(stripe, g, f, b);
     let Standing {
         made,
         sealed,
@@ -60,10 +60,10 @@ fn write(
 // Removes a block from a file.
 fn punch(stripe: &mut StripeParcel, standing: Standing, message: &Msg, f: u16, b: u16) -> Reply
     requires file { f < 64 }
-    requires tests { tests message.now ≡ tests (Msg.Punch 0 0 f b) }
-    ensures step { (g : Geometry) → IsStepWithin g (λ a v. Msg.Punch a v f b) (by_stripe standing stripe.old) result
-        (by_stripe standing stripe.new) }
-    ensures fits { (g : Geometry) → FitsStripe g (group g f b) stripe.old → FitsStripe g (group g f b) stripe.new }
+    requires checks { checks message.now ≡ checks (Msg.Punch 0 0 f b) }
+    ensures step { (g : Geometry) → IsStepWithin g (λ a v. Msg.Punch a v f b) (stripe_facts standing stripe.old) result
+        (stripe_facts standing stripe.new) }
+    ensures fits { (g : Geometry) → FitsStripe g (stripe_of g f b) stripe.old → FitsStripe g (stripe_of g f b) stripe.new }
 {
     let Standing {
         made,
@@ -80,9 +80,9 @@ fn punch(stripe: &mut StripeParcel, standing: Standing, message: &Msg, f: u16, b
 // The block of a file.
 fn read(stripe: &StripeParcel, standing: Standing, message: &Msg, f: u16, b: u16) -> Reply
     requires file { f < 64 }
-    requires tests { tests message.now ≡ tests (Msg.Read 0 0 f b) }
-    ensures { (g : Geometry) → IsStepWithin g (λ a v. Msg.Read a v f b) (by_stripe standing stripe.now) result
-        (by_stripe standing stripe.now) }
+    requires checks { checks message.now ≡ checks (Msg.Read 0 0 f b) }
+    ensures { (g : Geometry) → IsStepWithin g (λ a v. Msg.Read a v f b) (stripe_facts standing stripe.now) result
+        (stripe_facts standing stripe.now) }
 {
     if let Some(why) = read_refusal(message, standing.made, standing.files, f) {
         return Reply::Refused(why);
@@ -100,10 +100,11 @@ pub(crate) fn run_at_stripe(
     standing: Standing,
     message: &Msg,
 ) -> Reply
-    requires { Suits g.now message.now (Parcels.Stripe stripe.old) }
-    ensures step { IsSerialStep g.now (shown_state g.now (place g.now message.now) standing (Parcels.Stripe stripe.old)) message.now result
-        (shown_state g.now (place g.now message.now) standing (Parcels.Stripe stripe.new)) }
-    ensures suits { Suits g.now message.now (Parcels.Stripe stripe.new) }
+    requires { IsRunnable g.now message.now (Parcels.Stripe stripe.old) }
+    ensures step { IsSerialStep g.now (shown_state g.now (path_of g.now message.now) standing (Parcels.Stripe stripe.old))
+        message.now result
+        (shown_state g.now (path_of g.now message.now) standing (Parcels.Stripe stripe.new)) }
+    ensures runnable { IsRunnable g.now message.now (Parcels.Stripe stripe.new) }
 {
     match message {
         Msg::Write(_, _, f, b, content) => write(stripe, g, standing, message, *f, *b, content),

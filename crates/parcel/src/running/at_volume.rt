@@ -1,11 +1,12 @@
 //! Messages at a volume: they seal and unseal it, and ask how much it holds.
+//! In clauses `Msg.Seal 0 0` stands for a `seal` of any volume: its checks and its step are the same for each.
 
 ghost use Rattle.std.specs.Prelude.{◌≡◌};
 ghost use Rattle.affinity.specs.declared.geometry.Geometry.{Geometry};
 ghost use Rattle.messages.specs.declared.Msg.{Msg};
-ghost use Rattle.messages.specs.Messages.{place};
-ghost use Rattle.meaning.specs.Serial.{tests};
-ghost use Rattle.parcel.specs.Fits.{FitsVolume, Suits};
+ghost use Rattle.messages.specs.Messages.{path_of};
+ghost use Rattle.meaning.specs.Serial.{checks};
+ghost use Rattle.parcel.specs.Fits.{FitsVolume, IsRunnable};
 ghost use Rattle.parcel.specs.Run.{IsSerialStep};
 ghost use Rattle.parcel.specs.Shown.{volume_facts, shown_state};
 ghost use Rattle.parcel.specs.Steps.{IsStepWithin};
@@ -20,7 +21,7 @@ use messages::{Msg, Reply};
 
 // Seals the volume, whether it was sealed or not.
 fn seal(volume: &mut Vol, message: &Msg) -> Reply
-    requires { tests message.now ≡ tests (Msg.Seal 0 0) }
+    requires { checks message.now ≡ checks (Msg.Seal 0 0) }
     ensures step { (g : Geometry) → IsStepWithin g Msg.Seal (volume_facts g volume.old) result (volume_facts g volume.new) }
     ensures logical { volume.new.logical ≡ volume.old.logical }
     ensures label { volume.new.label ≡ volume.old.label }
@@ -34,7 +35,7 @@ fn seal(volume: &mut Vol, message: &Msg) -> Reply
 
 // Unseals the volume, whether it was sealed or not.
 fn unseal(volume: &mut Vol, message: &Msg) -> Reply
-    requires { tests message.now ≡ tests (Msg.Unseal 0 0) }
+    requires { checks message.now ≡ checks (Msg.Unseal 0 0) }
     ensures step { (g : Geometry) → IsStepWithin g Msg.Unseal (volume_facts g volume.old) result (volume_facts g volume.new) }
     ensures logical { volume.new.logical ≡ volume.old.logical }
     ensures label { volume.new.label ≡ volume.old.label }
@@ -49,7 +50,7 @@ fn unseal(volume: &mut Vol, message: &Msg) -> Reply
 // How much the volume holds, and whether it is sealed.
 fn usage(volume: &Vol, g: &Geometry, message: &Msg) -> Reply
     requires fits { FitsVolume g.now volume.now }
-    requires tests { tests message.now ≡ tests (Msg.Usage 0 0) }
+    requires checks { checks message.now ≡ checks (Msg.Usage 0 0) }
     ensures { IsStepWithin g.now Msg.Usage (volume_facts g.now volume.now) result (volume_facts g.now volume.now) }
 {
     if let Some(why) = volume_refusal(message, volume.made) {
@@ -65,11 +66,11 @@ fn usage(volume: &Vol, g: &Geometry, message: &Msg) -> Reply
 
 /// Runs a message at a volume. It sees nothing of what lies above.
 pub(crate) fn run_at_volume(volume: &mut Vol, g: &Geometry, message: &Msg) -> Reply
-    requires { Suits g.now message.now (Parcels.Vol volume.old) }
+    requires { IsRunnable g.now message.now (Parcels.Vol volume.old) }
     ensures step { (t : Standing) → IsSerialStep g.now
-        (shown_state g.now (place g.now message.now) t (Parcels.Vol volume.old)) message.now result
-        (shown_state g.now (place g.now message.now) t (Parcels.Vol volume.new)) }
-    ensures suits { Suits g.now message.now (Parcels.Vol volume.new) }
+        (shown_state g.now (path_of g.now message.now) t (Parcels.Vol volume.old)) message.now result
+        (shown_state g.now (path_of g.now message.now) t (Parcels.Vol volume.new)) }
+    ensures runnable { IsRunnable g.now message.now (Parcels.Vol volume.new) }
 {
     match message {
         Msg::Seal(..) => seal(volume, message),

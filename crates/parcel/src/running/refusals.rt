@@ -2,14 +2,14 @@
 
 ghost use Rattle.std.specs.Prelude.{◌≡◌, ◌<◌, ◌∷◌, [], not, find, None};
 ghost use Rattle.messages.specs.declared.Refusal.TheVariants.{Range, Volume, Exists, Sealed, File, Space};
-ghost use Rattle.meaning.specs.Serial.{tests};
+ghost use Rattle.meaning.specs.Serial.{checks};
 ghost use Rattle.parcel.specs.Shown.{has_file};
-ghost use Rattle.parcel.specs.Steps.{unless, unless_closed};
+ghost use Rattle.parcel.specs.Steps.{guard, guard_open};
 
-use meaning::tests_of;
+use meaning::checks_of;
 use messages::{Msg, Refusal};
 
-/// What the tests of a message look at, where its numbers are in range.
+/// What the checks of a message look at, where its numbers are in range.
 #[derive(Clone, Copy)]
 struct Seen {
     made: bool,
@@ -32,13 +32,13 @@ const UNMADE: Seen = Seen {
 };
 
 impl Seen {
-    ghost use Rattle.parcel.specs.Tests.{passes};
+    ghost use Rattle.parcel.specs.Checks.{passes};
 
-    // Whether a test is passed.
-    fn passes(&self, test: Refusal) -> bool
-        ensures { result ≡ passes self.now test }
+    // Whether a check is passed.
+    fn passes(&self, check: Refusal) -> bool
+        ensures { result ≡ passes self.now check }
     {
-        match test {
+        match check {
             Refusal::Range => true,
             Refusal::Volume => self.made,
             Refusal::Exists => !self.exists,
@@ -48,12 +48,12 @@ impl Seen {
         }
     }
 
-    // The first test that a message fails.
+    // The first check that a message fails.
     fn refusal(&self, message: &Msg) -> Option<Refusal>
-        ensures { result ≡ find (λ test. not (passes self.now test)) (tests message.now) }
+        ensures { result ≡ find (λ check. not (passes self.now check)) (checks message.now) }
     {
-        let mut tests = tests_of(message).iter().copied();
-        tests.find(|test| !self.passes(*test))
+        let mut checks = checks_of(message).iter().copied();
+        checks.find(|check| !self.passes(*check))
     }
 }
 
@@ -67,8 +67,8 @@ pub(crate) fn has_file(files: u64, f: u16) -> bool
 
 /// Why a volume can't be made.
 pub(crate) fn make_refusal(message: &Msg, made: bool) -> Option<Refusal>
-    requires { tests message.now ≡ Range ∷ Exists ∷ [] }
-    ensures { result ≡ unless (not made) Exists None }
+    requires { checks message.now ≡ Range ∷ Exists ∷ [] }
+    ensures { result ≡ guard (not made) Exists None }
 {
     let seen = Seen {
         exists: made,
@@ -79,8 +79,8 @@ pub(crate) fn make_refusal(message: &Msg, made: bool) -> Option<Refusal>
 
 /// Why a question about a volume, its sealing or its unsealing is refused.
 pub(crate) fn volume_refusal(message: &Msg, made: bool) -> Option<Refusal>
-    requires { tests message.now ≡ Range ∷ Volume ∷ [] }
-    ensures { result ≡ unless made Volume None }
+    requires { checks message.now ≡ Range ∷ Volume ∷ [] }
+    ensures { result ≡ guard made Volume None }
 {
     let seen = Seen { made, ..UNMADE };
     seen.refusal(message)
@@ -88,8 +88,8 @@ pub(crate) fn volume_refusal(message: &Msg, made: bool) -> Option<Refusal>
 
 /// Why what a volume has can't be changed.
 pub(crate) fn change_refusal(message: &Msg, made: bool, sealed: bool) -> Option<Refusal>
-    requires { tests message.now ≡ Range ∷ Volume ∷ Sealed ∷ [] }
-    ensures { result ≡ unless_closed made sealed None }
+    requires { checks message.now ≡ Range ∷ Volume ∷ Sealed ∷ [] }
+    ensures { result ≡ guard_open made sealed None }
 {
     let seen = Seen {
         made,
@@ -108,8 +108,8 @@ pub(crate) fn create_refusal(
     f: u16,
 ) -> Option<Refusal>
     requires file { f < 64 }
-    requires tests { tests message.now ≡ Range ∷ Volume ∷ Sealed ∷ Exists ∷ [] }
-    ensures { result ≡ unless_closed made sealed (unless (not (has_file files f)) Exists None) }
+    requires checks { checks message.now ≡ Range ∷ Volume ∷ Sealed ∷ Exists ∷ [] }
+    ensures { result ≡ guard_open made sealed (guard (not (has_file files f)) Exists None) }
 {
     let exists = has_file(files, f);
     let seen = Seen {
@@ -130,8 +130,8 @@ pub(crate) fn file_change_refusal(
     f: u16,
 ) -> Option<Refusal>
     requires file { f < 64 }
-    requires tests { tests message.now ≡ Range ∷ Volume ∷ Sealed ∷ File ∷ [] }
-    ensures { result ≡ unless_closed made sealed (unless (has_file files f) File None) }
+    requires checks { checks message.now ≡ Range ∷ Volume ∷ Sealed ∷ File ∷ [] }
+    ensures { result ≡ guard_open made sealed (guard (has_file files f) File None) }
 {
     let file = has_file(files, f);
     let seen = Seen {
@@ -143,7 +143,7 @@ pub(crate) fn file_change_refusal(
     seen.refusal(message)
 }
 
-/// Why a block can't be written, where there is room for it or not.
+/// Why a block can't be written, if it can't. `room`: there is room for it.
 pub(crate) fn write_refusal(
     message: &Msg,
     made: bool,
@@ -153,8 +153,8 @@ pub(crate) fn write_refusal(
     room: bool,
 ) -> Option<Refusal>
     requires file { f < 64 }
-    requires tests { tests message.now ≡ Range ∷ Volume ∷ Sealed ∷ File ∷ Space ∷ [] }
-    ensures { result ≡ unless_closed made sealed (unless (has_file files f) File (unless room Space None)) }
+    requires checks { checks message.now ≡ Range ∷ Volume ∷ Sealed ∷ File ∷ Space ∷ [] }
+    ensures { result ≡ guard_open made sealed (guard (has_file files f) File (guard room Space None)) }
 {
     let file = has_file(files, f);
     let seen = Seen {
@@ -170,8 +170,8 @@ pub(crate) fn write_refusal(
 /// Why a file can't be read.
 pub(crate) fn read_refusal(message: &Msg, made: bool, files: u64, f: u16) -> Option<Refusal>
     requires file { f < 64 }
-    requires tests { tests message.now ≡ Range ∷ Volume ∷ File ∷ [] }
-    ensures { result ≡ unless made Volume (unless (has_file files f) File None) }
+    requires checks { checks message.now ≡ Range ∷ Volume ∷ File ∷ [] }
+    ensures { result ≡ guard made Volume (guard (has_file files f) File None) }
 {
     let file = has_file(files, f);
     let seen = Seen {

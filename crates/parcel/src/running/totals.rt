@@ -2,7 +2,7 @@
 
 ghost use Rattle.std.specs.Prelude.{◌≡◌, ◌+◌, ◌<◌, ◌≤◌, ◌^◌, IfSome};
 ghost use Rattle.parcel.specs.Fits.{FitsAggregate, FitsLogical, FitsRoot, FitsVolume};
-ghost use Rattle.parcel.specs.Shown.{blocks_of, by_aggregate, by_child, by_root, volume_facts, has_file};
+ghost use Rattle.parcel.specs.Shown.{blocks_of, aggregate_facts, child_facts, root_facts, volume_facts, has_file};
 ghost use Rattle.stripe.specs.Stripe.{StripeRule};
 ghost use Rattle.parcel.specs.Totals.{block_total, entry_count, file_total, sum_totals, totals_of};
 
@@ -56,7 +56,7 @@ fn file_count(files: u64, g: &Geometry) -> u32
     total
 }
 
-// How many blocks lie in the stripe at one place, where it is in.
+// How many blocks lie in a stripe: none where it is checked out.
 fn entry_count(node: &Option<StripeParcel>) -> u32
     requires { IfSome node.now (λ p. p.quota ≤ 64) }
     ensures count { result ≡ entry_count node.now }
@@ -96,10 +96,10 @@ pub(crate) fn volume_totals(volume: &Vol, g: &Geometry) -> Totals
     }
 }
 
-// How much the volume at one place holds, where it is in.
-fn volume_in(node: &Option<Vol>, g: &Geometry) -> Totals
+// How much a volume holds: nothing where it is checked out.
+fn volume_of_tree(node: &Option<Vol>, g: &Geometry) -> Totals
     requires { IfSome node.now (FitsVolume g.now) }
-    ensures { result ≡ totals_of g.now (by_child (volume_facts g.now) node.now) }
+    ensures { result ≡ totals_of g.now (child_facts (volume_facts g.now) node.now) }
 {
     match node {
         Some(volume) => volume_totals(volume, g),
@@ -110,19 +110,19 @@ fn volume_in(node: &Option<Vol>, g: &Geometry) -> Totals
 // How much the volumes of an aggregate hold.
 fn aggregate_totals(aggregate: &Aggr, g: &Geometry) -> Totals
     requires { FitsAggregate g.now aggregate.now }
-    ensures { result ≡ sum_totals g.now.volumes (λ v. totals_of g.now (by_aggregate g.now aggregate.now v)) }
+    ensures { result ≡ sum_totals g.now.volumes (λ v. totals_of g.now (aggregate_facts g.now aggregate.now v)) }
 {
     let mut totals = NOTHING;
     for v in 0..aggregate.volumes.len() {
-        totals = totals.plus(volume_in(&aggregate.volumes[v], g));
+        totals = totals.plus(volume_of_tree(&aggregate.volumes[v], g));
     }
     totals
 }
 
-// How much the volumes of the aggregate at one place hold, where it is in.
+// How much the volumes of an aggregate hold: nothing where it is checked out.
 fn aggregate_in(node: &Option<Aggr>, g: &Geometry) -> Totals
     requires { IfSome node.now (FitsAggregate g.now) }
-    ensures { result ≡ sum_totals g.now.volumes (λ v. totals_of g.now (by_child (λ r. by_aggregate g.now r v) node.now)) }
+    ensures { result ≡ sum_totals g.now.volumes (λ v. totals_of g.now (child_facts (λ r. aggregate_facts g.now r v) node.now)) }
 {
     match node {
         Some(aggregate) => aggregate_totals(aggregate, g),
@@ -133,7 +133,7 @@ fn aggregate_in(node: &Option<Aggr>, g: &Geometry) -> Totals
 /// How much all volumes hold.
 pub(crate) fn root_totals(root: &Root, g: &Geometry) -> Totals
     requires { FitsRoot g.now root.now }
-    ensures { result ≡ sum_totals g.now.aggregates (λ a. sum_totals g.now.volumes (λ v. totals_of g.now (by_root g.now root.now a v))) }
+    ensures { result ≡ sum_totals g.now.aggregates (λ a. sum_totals g.now.volumes (λ v. totals_of g.now (root_facts g.now root.now a v))) }
 {
     let mut totals = NOTHING;
     for a in 0..root.aggregates.len() {

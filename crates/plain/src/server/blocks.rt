@@ -4,7 +4,7 @@ ghost use Rattle.std.specs.Prelude.{◌≡◌, ◌<◌, IfOk, OnErr, None, Some,
 ghost use Rattle.messages.specs.declared.Msg.{Msg};
 ghost use Rattle.messages.specs.declared.Refusal.{Refusal};
 ghost use Rattle.meaning.specs.Serial.{passes, effect};
-ghost use Rattle.plain.specs.Server.{server_state, IsCounted};
+ghost use Rattle.plain.specs.Server.{server_state, HasRightCounts};
 
 use super::Server;
 use affinity::{Geometry, group_of};
@@ -12,9 +12,9 @@ use messages::{Block, Msg, Refusal};
 use std::alloc::AllocError;
 
 impl Server {
-    /// Puts a block into a file, and gives why that is refused, if it is: for want of room. A block
-    /// that is there already is found once, and no count is looked at. Where none is there, only
-    /// the stripe's count matters, and one look-up serves its test and its change.
+    /// Puts a block into a file, or gives `Space` because the stripe's quota is used up. A block that
+    /// is there already is found once, and no count is looked at. Where none is there, only the
+    /// stripe's count matters, and one look-up serves its check and its change.
     pub(super) fn put_block(
         &mut self,
         g: &Geometry,
@@ -26,13 +26,13 @@ impl Server {
     ) -> Result<Option<Refusal>, AllocError>
         requires file { f < g.now.files }
         requires place { b < g.now.blocks }
-        requires counted { IsCounted g.now self.old }
+        requires counted { HasRightCounts g.now self.old }
         ensures room { IfOk result (λ why. why
             ≡ (if passes g.now (server_state self.old) (Msg.Write a v f b content.now) Refusal.Space then None else Some Refusal.Space)) }
         ensures state { IfOk result (λ why. server_state self.new
             ≡ (if is_some why then server_state self.old else effect (server_state self.old) (Msg.Write a v f b content.now))) }
         ensures unchanged { OnErr result (server_state self.new ≡ server_state self.old) }
-        ensures counted { IsCounted g.now self.new }
+        ensures counted { HasRightCounts g.now self.new }
     {
         if let Some(place) = self.blocks.get_mut(&(a, v, f, b)) {
             *place = *content;

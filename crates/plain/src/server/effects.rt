@@ -1,11 +1,11 @@
-//! What a message that passes its tests changes.
+//! What a message that passes its checks changes. The counts of each stripe's blocks stay right.
 
 ghost use Rattle.std.specs.Prelude.{◌≡◌, ◌<◌, OnOk, OnErr, None, true, false};
 ghost use Rattle.affinity.specs.declared.geometry.Geometry.{Geometry};
 ghost use Rattle.messages.specs.declared.Msg.{Msg};
 ghost use Rattle.message.specs.Heads.{message_without_data, has_data};
 ghost use Rattle.meaning.specs.Serial.{refusal, effect};
-ghost use Rattle.plain.specs.Server.{server_state, IsCounted, IsConsistent};
+ghost use Rattle.plain.specs.Server.{server_state, HasRightCounts, IsConsistent};
 
 use super::{Server, Volume};
 use affinity::{Geometry, Kind};
@@ -17,7 +17,7 @@ impl Server {
     pub(super) fn set_label(&mut self, a: u16, v: u16, bytes: &[u8; 32])
         requires made { (server_state self.old).made (a, v) ≡ true }
         ensures state { server_state self.new ≡ effect (server_state self.old) (Msg.SetLabel a v bytes.now) }
-        ensures counted { (g : Geometry) → IsCounted g self.old → IsCounted g self.new }
+        ensures counted { (g : Geometry) → HasRightCounts g self.old → HasRightCounts g self.new }
     {
         if let Some(volume) = self.volumes.get_mut(&(a, v)) {
             volume.label = *bytes;
@@ -29,7 +29,7 @@ impl Server {
         requires absent { (server_state self.old).made (a, v) ≡ false }
         ensures state { OnOk result (server_state self.new ≡ effect (server_state self.old) (Msg.MakeVol a v)) }
         ensures unchanged { OnErr result (server_state self.new ≡ server_state self.old) }
-        ensures counted { (g : Geometry) → IsCounted g self.old → IsCounted g self.new }
+        ensures counted { (g : Geometry) → HasRightCounts g self.old → HasRightCounts g self.new }
     {
         let volume = Volume {
             sealed: false,
@@ -45,7 +45,7 @@ impl Server {
         requires made { (server_state self.old).made (a, v) ≡ true }
         requires file { f < 64 }
         ensures state { server_state self.new ≡ effect (server_state self.old) (Msg.Create a v f) }
-        ensures counted { (g : Geometry) → IsCounted g self.old → IsCounted g self.new }
+        ensures counted { (g : Geometry) → HasRightCounts g self.old → HasRightCounts g self.new }
     {
         if let Some(volume) = self.volumes.get_mut(&(a, v)) {
             volume.files |= 1 << f;
@@ -56,7 +56,7 @@ impl Server {
     pub(super) fn seal_volume(&mut self, a: u16, v: u16)
         requires made { (server_state self.old).made (a, v) ≡ true }
         ensures state { server_state self.new ≡ effect (server_state self.old) (Msg.Seal a v) }
-        ensures counted { (g : Geometry) → IsCounted g self.old → IsCounted g self.new }
+        ensures counted { (g : Geometry) → HasRightCounts g self.old → HasRightCounts g self.new }
     {
         if let Some(volume) = self.volumes.get_mut(&(a, v)) {
             volume.sealed = true;
@@ -67,20 +67,20 @@ impl Server {
     pub(super) fn unseal_volume(&mut self, a: u16, v: u16)
         requires made { (server_state self.old).made (a, v) ≡ true }
         ensures state { server_state self.new ≡ effect (server_state self.old) (Msg.Unseal a v) }
-        ensures counted { (g : Geometry) → IsCounted g self.old → IsCounted g self.new }
+        ensures counted { (g : Geometry) → HasRightCounts g self.old → HasRightCounts g self.new }
     {
         if let Some(volume) = self.volumes.get_mut(&(a, v)) {
             volume.sealed = false;
         }
     }
 
-    /// Carries out a message that passes its tests.
+    /// Carries out a message that passes its checks.
     pub(super) fn apply(&mut self, g: &Geometry, m: &Msg) -> Result<(), AllocError>
         requires passed { refusal g.now (server_state self.old) m.now ≡ None }
         requires sound { IsConsistent g.now self.old }
         ensures state { OnOk result (server_state self.new ≡ effect (server_state self.old) m.now) }
         ensures unchanged { OnErr result (server_state self.new ≡ server_state self.old) }
-        ensures counted { IsCounted g.now self.new }
+        ensures counted { HasRightCounts g.now self.new }
     {
         match m {
             Msg::MakeVol(a, v) => self.insert_volume(*a, *v)?,
@@ -111,7 +111,7 @@ impl Server {
         requires sound { IsConsistent g.now self.old }
         ensures state { OnOk result (server_state self.new ≡ effect (server_state self.old) (message_without_data kind numbers)) }
         ensures unchanged { OnErr result (server_state self.new ≡ server_state self.old) }
-        ensures counted { IsCounted g.now self.new }
+        ensures counted { HasRightCounts g.now self.new }
     {
         let [a, v, f, b] = numbers;
         match kind {

@@ -6,7 +6,7 @@ ghost use Rattle.affinity.specs.declared.geometry.Geometry.{Geometry};
 ghost use Rattle.messages.specs.declared.Msg.{Msg};
 ghost use Rattle.meaning.specs.State.{BlockKey, one_if, is_block_of, is_block_of_file};
 ghost use Rattle.meaning.specs.Serial.{effect};
-ghost use Rattle.plain.specs.Server.{StripeKey, is_stripe, server_state, noted, IsCounted, IsConsistent};
+ghost use Rattle.plain.specs.Server.{StripeKey, is_stripe, server_state, noted, HasRightCounts, IsConsistent};
 ghost use Rattle.meaning.specs.Removals.{without_blocks};
 
 use super::Server;
@@ -29,7 +29,7 @@ impl Server {
     pub(super) fn remove_block(&mut self, g: &Geometry, a: u16, v: u16, f: u16, b: u16)
         requires sound { IsConsistent g.now self.old }
         ensures state { server_state self.new ≡ effect (server_state self.old) (Msg.Punch a v f b) }
-        ensures counted { IsCounted g.now self.new }
+        ensures counted { HasRightCounts g.now self.new }
         ensures len { btree_map_len self.new.blocks + one_if (is_some ((server_state self.old).blocks (a, v, f, b)))
             ≡ btree_map_len self.old.blocks }
     {
@@ -57,7 +57,7 @@ impl Server {
     fn clear_file(&mut self, g: &Geometry, a: u16, v: u16, f: u16)
         requires sound { IsConsistent g.now self.old }
         ensures state { server_state self.new ≡ without_blocks (is_block_of_file a v f) (server_state self.old) }
-        ensures counted { IsCounted g.now self.new }
+        ensures counted { HasRightCounts g.now self.new }
     {
         while let Some(b) = self.next_block_of_file(a, v, f) {
             self.remove_block(g, a, v, f, b);
@@ -70,7 +70,7 @@ impl Server {
         requires made { (server_state self.old).made (a, v) ≡ true }
         requires sound { IsConsistent g.now self.old }
         ensures state { server_state self.new ≡ effect (server_state self.old) (Msg.Delete a v f) }
-        ensures counted { IsCounted g.now self.new }
+        ensures counted { HasRightCounts g.now self.new }
     {
         self.clear_file(g, a, v, f);
         if let Some(volume) = self.volumes.get_mut(&(a, v)) {
@@ -97,7 +97,7 @@ impl Server {
     fn clear_volume(&mut self, g: &Geometry, a: u16, v: u16)
         requires sound { IsConsistent g.now self.old }
         ensures state { server_state self.new ≡ without_blocks (is_block_of a v) (server_state self.old) }
-        ensures counted { IsCounted g.now self.new }
+        ensures counted { HasRightCounts g.now self.new }
     {
         while let Some((f, b)) = self.next_block_of_volume(a, v) {
             self.remove_block(g, a, v, f, b);
@@ -108,7 +108,7 @@ impl Server {
     pub(super) fn remove_volume(&mut self, g: &Geometry, a: u16, v: u16)
         requires sound { IsConsistent g.now self.old }
         ensures state { server_state self.new ≡ effect (server_state self.old) (Msg.DropVol a v) }
-        ensures counted { IsCounted g.now self.new }
+        ensures counted { HasRightCounts g.now self.new }
     {
         self.clear_volume(g, a, v);
         self.volumes.remove(&(a, v));

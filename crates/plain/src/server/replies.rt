@@ -1,4 +1,4 @@
-//! The reply to a message that passes its tests.
+//! The reply to a message that passes its checks.
 
 ghost use Rattle.std.specs.Prelude.{◌≡◌, None, false, IfNone, IfSome};
 ghost use Rattle.affinity.specs.declared.geometry.Geometry.{Geometry};
@@ -51,7 +51,7 @@ impl Server {
         }
     }
 
-    /// The reply to a message that passes its tests.
+    /// The reply to a message that passes its checks.
     pub(super) fn reply(&self, g: &Geometry, m: &Msg) -> Reply
         requires passed { refusal g.now (server_state self.now) m.now ≡ None }
         requires sound { IsConsistent g.now self.now }
@@ -92,9 +92,9 @@ impl Server {
         }
     }
 
-    /// The block that answers a `read`, where it lies: a block that is there has a file and a
-    /// volume, so that one look-up finds it. Where there is none, the reply to a `read` that passes
-    /// its tests is a hole.
+    /// The block that answers a `read`, where it lies. A block that is there has a file and a volume,
+    /// so the read passes its checks without looking those up. Where there is none, the reply to a
+    /// `read` that passes its checks is a hole.
     pub(crate) fn block_by(&self, g: &Geometry, kind: Kind, numbers: [u16; 4]) -> Option<&Block>
         requires sound { IsConsistent g.now self.now }
         ensures shown { IfSome result (λ content.

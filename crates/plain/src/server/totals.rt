@@ -3,9 +3,9 @@
 ghost use Rattle.std.specs.Prelude.{◌≡◌};
 ghost use Rattle.affinity.specs.declared.geometry.Geometry.{Geometry};
 ghost use Rattle.messages.specs.declared.Msg.{Msg};
-ghost use Rattle.meaning.specs.State.{file_count, block_count, over_volumes};
+ghost use Rattle.meaning.specs.State.{file_count, block_count, sum_over_volumes};
 ghost use Rattle.meaning.specs.Serial.{accepted_reply};
-ghost use Rattle.plain.specs.Server.{server_state, IsCounted, IsConsistent};
+ghost use Rattle.plain.specs.Server.{server_state, HasRightCounts, IsConsistent};
 
 use super::Server;
 use affinity::Geometry;
@@ -38,7 +38,7 @@ impl Server {
     /// How many blocks a volume has: the numbers noted for its stripes. It walks these notes
     /// alone.
     pub(super) fn blocks_of(&self, g: &Geometry, a: u16, v: u16) -> u32
-        requires counted { IsCounted g.now self.now }
+        requires counted { HasRightCounts g.now self.now }
         ensures { result ≡ block_count g.now (server_state self.now) a v }
     {
         let mut total = 0;
@@ -64,7 +64,7 @@ impl Server {
     /// How many files there are. It walks the volumes that are made.
     fn all_files(&self, g: &Geometry) -> u32
         requires sound { IsConsistent g.now self.now }
-        ensures { result ≡ over_volumes g.now (file_count g.now (server_state self.now)) }
+        ensures { result ≡ sum_over_volumes g.now (file_count g.now (server_state self.now)) }
     {
         let mut total = 0;
         for volume in self.volumes.values() {

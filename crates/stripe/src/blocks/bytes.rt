@@ -3,7 +3,7 @@
 ghost use Rattle.std.specs.Prelude.{◌≡◌, ◌↔◌, ◌*◌, ◌<◌, ◌==◌, ◌++◌, ◌∷◌, [], IsTrue, IsFalse, get_or, length, take, drop, replicate, slice_index_or};
 ghost use Rattle.std.specs.List.{list_all, AllByRecursion};
 ghost use Rattle.messages.specs.Replies.{has_file};
-ghost use Rattle.stripe.specs.Entries.{entry_bytes, entry_in, entries_in, stripe_bytes, can_stand, IsStripePiece};
+ghost use Rattle.stripe.specs.Entries.{entry_bytes, entry_in, entries_in, stripe_bytes, fits_stripe, IsStripePiece};
 ghost use Rattle.stripe.specs.Index.{no_entry, PrecedesEntry, IsNextEntry};
 
 use super::StripeParcel;
@@ -24,8 +24,8 @@ fn has_file(files: u64, file: u16) -> bool
 }
 
 /// Whether a block can be in stripe `s` of a volume with these files.
-fn can_stand(g: &Geometry, files: u64, s: u16, file: u16, block: u16) -> bool
-    ensures { result ≡ can_stand g.now files s file block }
+fn fits_stripe(g: &Geometry, files: u64, s: u16, file: u16, block: u16) -> bool
+    ensures { result ≡ fits_stripe g.now files s file block }
 {
     has_file(files, file) && block < g.blocks && group_of(g, file, block) == s
 }
@@ -78,16 +78,16 @@ impl StripeParcel {
         requires file { (slice_index_or self.now.entries n no_entry).file < 256 }
         ensures { row.new ≡ entry_bytes (slice_index_or self.now.entries n no_entry) }
     {
-        let place = self.index[n];
-        match self.blocks.get(usize::from(place.slot)) {
-            Some(content) => put_entry(row, place.file, place.block, content),
+        let index_entry = self.index[n];
+        match self.blocks.get(usize::from(index_entry.slot)) {
+            Some(content) => put_entry(row, index_entry.file, index_entry.block, content),
             None => unreachable!(),
         }
     }
 
     /// Takes in the blocks of a piece of stripe `s` of a volume with these files, none being there
-    /// before: whether the bytes are such a piece. Where they aren't, it is unspecified which blocks
-    /// are there.
+    /// before. Returns whether the bytes are such a piece. Where they aren't, it is unspecified which
+    /// blocks are there.
     pub fn read_piece(&mut self, g: &Geometry, files: u64, s: u16, bytes: &[u8]) -> bool
         requires empty { self.old.entries ≡ [] }
         requires quota { self.old.quota ≡ g.now.quota }
@@ -109,7 +109,7 @@ impl StripeParcel {
         true
     }
 
-    /// Takes in an entry after all that are there, if it is one and can be there: whether it
+    /// Takes in an entry after all that are there, if it is one and can be there. Returns whether it
     /// was taken.
     fn push(&mut self, g: &Geometry, files: u64, s: u16, row: &[u8]) -> bool
         requires row { length row.now ≡ 520 }
@@ -124,7 +124,7 @@ impl StripeParcel {
         if !is_blank_between(row) {
             return false;
         }
-        if !can_stand(g, files, s, file, block) {
+        if !fits_stripe(g, files, s, file, block) {
             return false;
         }
         if !self.ends_before(file, block) {

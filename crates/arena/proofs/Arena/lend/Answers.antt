@@ -1,6 +1,6 @@
 -- The slot leaves its list, and its value goes.
 use Rattle.std.proofs.Common.{◌≡◌, true, is_some, None, sym, ◌∙◌, slice_index_or}
-use Rattle.arena.proofs.Keeping.{lend-kept, lend-row}
+use Rattle.arena.proofs.Keeping.{lend-kept, lend-arena}
 use Rattle.arena.proofs.Arena.lend.Goals as goal
 
 pub invariant_of-self : goal.invariant_of-self
@@ -9,11 +9,11 @@ invariant_of-self g c =
     rw (c.take.ensures.after, c.unlink.ensures.lists)
     (lend-kept c.args.i c.self.invariant held)
 
-pub returns-clause-row : goal.returns-clause-row
-returns-clause-row g c =
+pub returns-clause-arena : goal.returns-clause-arena
+returns-clause-arena g c =
     let held : is_some (slice_index_or c.self.inside.values.items c.args.i None) ≡ true = rw (← c.self.view_is) at (sym c.holds.ensures.answer ∙ c.if-not-holds.false) in
     rw (← c.self.view_is, c.take.ensures.after, c.unlink.ensures.lists)
-    (lend-row c.args.i c.self.invariant held)
+    (lend-arena c.args.i c.self.invariant held)
 
-pub returns-clause-parted : goal.returns-clause-parted
-returns-clause-parted g c = (invariant_of-self g c).parted
+pub returns-clause-partitioned : goal.returns-clause-partitioned
+returns-clause-partitioned g c = (invariant_of-self g c).partitioned

@@ -18,9 +18,9 @@ invariant_of-self g c =
     rw (c.fill.ensures, c.unlink.ensures.lists)
     (put-kept c.args.value c.self.invariant (sym c.first.ensures ∙ c.in-Some.is))
 
-pub returns-clause-row : goal.returns-clause-row
-returns-clause-row g c =
+pub returns-clause-arena : goal.returns-clause-arena
+returns-clause-arena g c =
     put-made c.args.value c.self.invariant (sym c.first.ensures ∙ c.in-Some.is) c.fill.ensures c.unlink.ensures.lists c.self.view_is
 
-pub returns-clause-parted : goal.returns-clause-parted
-returns-clause-parted g c = (invariant_of-self g c).parted
+pub returns-clause-partitioned : goal.returns-clause-partitioned
+returns-clause-partitioned g c = (invariant_of-self g c).partitioned

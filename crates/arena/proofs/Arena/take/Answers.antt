@@ -1,7 +1,7 @@
 -- The slot leaves its list, becomes the first free one, and its value goes.
 use Rattle.std.proofs.Common.{◌≡◌, true, is_some, None, sym, ◌∙◌, slice_index_or, arith}
 use Rattle.std.proofs.lemmas.List.{length-set}
-use Rattle.arena.proofs.Keeping.{take-kept, take-row, kept-fits}
+use Rattle.arena.proofs.Keeping.{take-kept, take-arena, kept-fits}
 use Rattle.arena.proofs.Arena.take.Goals as goal
 
 pub overflow_add-self : goal.overflow_add-self
@@ -16,11 +16,11 @@ invariant_of-self g c =
     rw (c.take.ensures.after, c.move_first.ensures.lists)
     (take-kept c.args.i c.self.invariant held)
 
-pub returns-clause-row : goal.returns-clause-row
-returns-clause-row g c =
+pub returns-clause-arena : goal.returns-clause-arena
+returns-clause-arena g c =
     let held : is_some (slice_index_or c.self.inside.values.items c.args.i None) ≡ true = rw (← c.self.view_is) at (sym c.holds.ensures.answer ∙ c.if-not-holds.false) in
     rw (← c.self.view_is, c.take.ensures.after, c.move_first.ensures.lists)
-    (take-row c.args.i c.self.invariant held)
+    (take-arena c.args.i c.self.invariant held)
 
-pub returns-clause-parted : goal.returns-clause-parted
-returns-clause-parted g c = (invariant_of-self g c).parted
+pub returns-clause-partitioned : goal.returns-clause-partitioned
+returns-clause-partitioned g c = (invariant_of-self g c).partitioned

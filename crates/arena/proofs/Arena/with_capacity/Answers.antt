@@ -8,5 +8,5 @@ invariant_of-result g c =
     let all : c.loop.counter ≡ c.args.slots = omega arith in
     rw (c.loop.invariant.0, all, c.in_ok-links.ensures.lists) (start-kept c.args.slots c.args.chains)
 
-pub returns-clause-parted : goal.returns-clause-parted
-returns-clause-parted g c = (invariant_of-result g c).parted
+pub returns-clause-partitioned : goal.returns-clause-partitioned
+returns-clause-partitioned g c = (invariant_of-result g c).partitioned

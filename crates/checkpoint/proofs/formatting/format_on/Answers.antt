@@ -1,4 +1,4 @@
--- Shut the gate, lay out the rest, open the gate: a crash leaves the old device, a shut one, or the new one.
+-- Clear the format byte, lay out the rest, write the header: a crash leaves the old device, one that isn't formatted, or the new one.
 use Rattle.std.proofs.Common.{◌≡◌, ◌⊎◌, Some, ◌∙◌, subst, arith, ℕ}
 use Rattle.checkpoint.specs.Formatting.{HasNoFormatByte}
 use Rattle.checkpoint.specs.Recovery.{recovered_state}
@@ -9,29 +9,33 @@ use Rattle.device_map.specs.Layout.{layout_of}
 use Rattle.oplog.proofs.Beyond.{beyond_then, beyond_write}
 use Rattle.checkpoint.proofs.formatting.format_on.Goals as goal
 
-pub returns-in_err-shut_gate-clause-any_moment : goal.returns-in_err-shut_gate-clause-any_moment
-returns-in_err-shut_gate-clause-any_moment g c = λ k. shut_moments c.args.g.now _ c.requires.long_enough _ (c.shut_gate.ensures.any_moment k)
+pub returns-in_err-clear_format_byte-clause-any_moment : goal.returns-in_err-clear_format_byte-clause-any_moment
+returns-in_err-clear_format_byte-clause-any_moment g c = λ k. shut_moments c.args.g.now _ c.requires.long_enough _ (c.clear_format_byte.ensures.any_moment k)
 
 pub returns-in_err-lay_out-clause-any_moment : goal.returns-in_err-lay_out-clause-any_moment
 returns-in_err-lay_out-clause-any_moment g c = λ k.
-    laid_moments c.args.g.now _ c.requires.long_enough _ _ (c.shut_gate.ensures.any_moment k) (c.in_ok-shut_gate.ensures.shut k) 64 _ (omega arith) (c.lay_out.ensures.any_moment k)
+    laid_moments c.args.g.now _ c.requires.long_enough _ _ (c.clear_format_byte.ensures.any_moment k) (c.in_ok-clear_format_byte.ensures.unformatted k) 64 _ (omega arith)
+    (c.lay_out.ensures.any_moment k)
 
 pub returns-clause-any_moment : goal.returns-clause-any_moment
 returns-clause-any_moment g c = λ k.
-    opened_moments c.args.g.now _ c.requires.long_enough _ _ (c.shut_gate.ensures.any_moment k) (c.in_ok-shut_gate.ensures.shut k) 64 _ (omega arith) (c.lay_out.ensures.any_moment k) _
-    (subst (λ (n : ℕ). CrashImagesAre (g.D.Disk.medium c.lay_out.new.disk) (g.D.Disk.medium c.open_gate.new.disk)
-    (λ l. HasNoFormatByte n l ⊎ (recovered_state c.args.g.now l ≡ Some empty))) (c.lay_out.ensures.call.1 ∙ c.shut_gate.ensures.call.1)
-    (c.open_gate.ensures.any_moment k))
+    opened_moments c.args.g.now _ c.requires.long_enough _ _ (c.clear_format_byte.ensures.any_moment k) (c.in_ok-clear_format_byte.ensures.unformatted k) 64 _ (omega arith)
+    (c.lay_out.ensures.any_moment k) _
+    (subst (λ (n : ℕ). CrashImagesAre (g.D.Disk.medium c.lay_out.new.disk) (g.D.Disk.medium c.write_header.new.disk)
+    (λ l. HasNoFormatByte n l ⊎ (recovered_state c.args.g.now l ≡ Some empty))) (c.lay_out.ensures.call.1 ∙ c.clear_format_byte.ensures.call.1)
+    (c.write_header.ensures.any_moment k))
 
-pub returns-in_err-shut_gate-clause-beyond : goal.returns-in_err-shut_gate-clause-beyond
-returns-in_err-shut_gate-clause-beyond g c = λ k. c.shut_gate.ensures.beyond k (layout_of c.args.g.now)
+pub returns-in_err-clear_format_byte-clause-beyond : goal.returns-in_err-clear_format_byte-clause-beyond
+returns-in_err-clear_format_byte-clause-beyond g c = λ k. c.clear_format_byte.ensures.beyond k (layout_of c.args.g.now)
 
 pub returns-in_err-lay_out-clause-beyond : goal.returns-in_err-lay_out-clause-beyond
 returns-in_err-lay_out-clause-beyond g c = λ k.
-    beyond_then (layout_of c.args.g.now) _ _ _ (c.shut_gate.ensures.beyond k (layout_of c.args.g.now)) (beyond_write (layout_of c.args.g.now) 64 _ _ _ (omega arith) (c.lay_out.ensures.any_moment k))
+    beyond_then (layout_of c.args.g.now) _ _ _ (c.clear_format_byte.ensures.beyond k (layout_of c.args.g.now))
+    (beyond_write (layout_of c.args.g.now) 64 _ _ _ (omega arith) (c.lay_out.ensures.any_moment k))
 
 pub returns-clause-beyond : goal.returns-clause-beyond
 returns-clause-beyond g c = λ k.
     beyond_then (layout_of c.args.g.now) _ _ _
-    (beyond_then (layout_of c.args.g.now) _ _ _ (c.shut_gate.ensures.beyond k (layout_of c.args.g.now)) (beyond_write (layout_of c.args.g.now) 64 _ _ _ (omega arith) (c.lay_out.ensures.any_moment k)))
-    (c.open_gate.ensures.beyond k)
+    (beyond_then (layout_of c.args.g.now) _ _ _ (c.clear_format_byte.ensures.beyond k (layout_of c.args.g.now))
+    (beyond_write (layout_of c.args.g.now) 64 _ _ _ (omega arith) (c.lay_out.ensures.any_moment k)))
+    (c.write_header.ensures.beyond k)

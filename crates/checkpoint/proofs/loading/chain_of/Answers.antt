@@ -8,19 +8,19 @@ use Rattle.checkpoint.proofs.Refusing.{both_are, one_not}
 use Rattle.checkpoint.proofs.Replays.{same_bytes}
 use Rattle.checkpoint.proofs.loading.chain_of.Goals as goal
 
-pub returns-then-not-named-clause-sound : goal.returns-then-not-named-clause-sound
-returns-then-not-named-clause-sound g c = λ k.
-    one_not (layout_of c.args.g.now) (g.D.Disk.medium c.args.disk.now).now c.args.area c.requires.area (sym (c.in_ok-named.ensures.chained k) ∙ c.if-not-named.true)
+pub returns-then-not-named_chained-clause-sound : goal.returns-then-not-named_chained-clause-sound
+returns-then-not-named_chained-clause-sound g c = λ k.
+    one_not (layout_of c.args.g.now) (g.D.Disk.medium c.args.disk.now).now c.args.area c.requires.area (sym (c.in_ok-named_chained.ensures.chained k) ∙ c.if-not-named_chained.true)
 
-pub returns-then-behind-clause-refused : goal.returns-then-behind-clause-refused
-returns-then-behind-clause-refused g c = λ k.
+pub returns-then-other_chained-clause-refused : goal.returns-then-other_chained-clause-refused
+returns-then-other_chained-clause-refused g c = λ k.
     let same = same_bytes (g.D.Disk.medium c.args.disk.now) (g.D.Disk.medium c.is_chained.new.disk) (c.is_chained.ensures.untouched k) in
     ap (λ (t : Bool). fault_if t BadChain None)
-    (both_are (layout_of c.args.g.now) (g.D.Disk.medium c.args.disk.now).now c.args.area c.requires.area (sym (c.in_ok-named.ensures.chained k) ∙ c.if-not-named.false)
-    (sym (ap (λ (bytes : List ℕ). chain (layout_of c.args.g.now) (other c.args.area) bytes == 1) same) ∙ sym (c.in_ok-behind.ensures.chained k) ∙ c.if-behind.true))
+    (both_are (layout_of c.args.g.now) (g.D.Disk.medium c.args.disk.now).now c.args.area c.requires.area (sym (c.in_ok-named_chained.ensures.chained k) ∙ c.if-not-named_chained.false)
+    (sym (ap (λ (bytes : List ℕ). chain (layout_of c.args.g.now) (other c.args.area) bytes == 1) same) ∙ sym (c.in_ok-other_chained.ensures.chained k) ∙ c.if-other_chained.true))
 
 pub returns-clause-sound : goal.returns-clause-sound
 returns-clause-sound g c = λ k.
     let same = same_bytes (g.D.Disk.medium c.args.disk.now) (g.D.Disk.medium c.is_chained.new.disk) (c.is_chained.ensures.untouched k) in
     one_not (layout_of c.args.g.now) (g.D.Disk.medium c.args.disk.now).now (other c.args.area) (omega (arith, c.requires.area))
-    (sym (ap (λ (bytes : List ℕ). chain (layout_of c.args.g.now) (other c.args.area) bytes == 1) same) ∙ sym (c.in_ok-behind.ensures.chained k) ∙ c.if-behind.false)
+    (sym (ap (λ (bytes : List ℕ). chain (layout_of c.args.g.now) (other c.args.area) bytes == 1) same) ∙ sym (c.in_ok-other_chained.ensures.chained k) ∙ c.if-other_chained.false)

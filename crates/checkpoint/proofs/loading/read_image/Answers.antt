@@ -3,10 +3,10 @@ use Rattle.std.proofs.Common.{List, ℕ, None, sym, ◌∙◌, ap, subst, not}
 use Rattle.std.proofs.lemmas.Result.{err_from_is_err_and}
 use Rattle.affinity.specs.declared.geometry.Geometry.{Geometry}
 use Rattle.checkpoint.specs.declared.fault.OpenFault.TheVariants.{BadPiece, BadVersion}
-use Rattle.checkpoint.specs.Loading.{IsFaultOfBytes}
+use Rattle.checkpoint.specs.Loading.{IsConsistentFault}
 use Rattle.checkpoint.specs.Refusals.{fault_if, fault_or_later, first_bad_piece}
 use Rattle.image.specs.Image.{has_head}
-use Rattle.device_map.specs.Layout.{image, layout_of, part_bytes}
+use Rattle.device_map.specs.Layout.{image_part, layout_of, part_bytes}
 use Rattle.checkpoint.proofs.Refusing.{head_refused, pieces_refused}
 use Rattle.checkpoint.proofs.Replays.{same_bytes}
 use Rattle.checkpoint.proofs.loading.read_image.Goals as goal
@@ -17,8 +17,8 @@ returns-in_err-version-clause-refused g c =
     rw (p.1, p.2)
     (λ k.
     let now = (g.D.Disk.medium c.args.disk.now).now in
-    head_refused c.args.tree.now.geometry (part_bytes (layout_of c.args.tree.now.geometry) (image c.args.area) now) _
-    (subst (λ (h : Geometry). IsFaultOfBytes (fault_if (not (has_head (part_bytes (layout_of h) (image c.args.area) now))) BadVersion None)
+    head_refused c.args.tree.now.geometry (part_bytes (layout_of c.args.tree.now.geometry) (image_part c.args.area) now) _
+    (subst (λ (h : Geometry). IsConsistentFault (fault_if (not (has_head (part_bytes (layout_of h) (image_part c.args.area) now))) BadVersion None)
     c.in_err-version.field-0.0) c.geometry.ensures (c.in_err-version.ensures.refused k)))
 
 pub returns-in_err-read_pieces-clause-refused : goal.returns-in_err-read_pieces-clause-refused
@@ -28,9 +28,9 @@ returns-in_err-read_pieces-clause-refused g c =
     (λ k.
     let now = (g.D.Disk.medium c.args.disk.now).now in
     let same = same_bytes (g.D.Disk.medium c.args.disk.now) (g.D.Disk.medium c.version_of.new.disk) (c.version_of.ensures.untouched k) in
-    pieces_refused c.args.tree.now.geometry (part_bytes (layout_of c.args.tree.now.geometry) (image c.args.area) now)
-    (sym (ap (λ (h : Geometry). has_head (part_bytes (layout_of h) (image c.args.area) now)) c.geometry.ensures) ∙ c.in_ok-version.ensures.head k) _
-    (subst (λ (bytes : List ℕ). IsFaultOfBytes (fault_or_later BadPiece
-    (first_bad_piece c.args.tree.now.geometry (part_bytes (layout_of c.args.tree.now.geometry) (image c.args.area) bytes)) None)
+    pieces_refused c.args.tree.now.geometry (part_bytes (layout_of c.args.tree.now.geometry) (image_part c.args.area) now)
+    (sym (ap (λ (h : Geometry). has_head (part_bytes (layout_of h) (image_part c.args.area) now)) c.geometry.ensures) ∙ c.in_ok-version.ensures.head k) _
+    (subst (λ (bytes : List ℕ). IsConsistentFault (fault_or_later BadPiece
+    (first_bad_piece c.args.tree.now.geometry (part_bytes (layout_of c.args.tree.now.geometry) (image_part c.args.area) bytes)) None)
     c.in_err-read_pieces.field-0.0)
     same (c.in_err-read_pieces.ensures.refused k)))

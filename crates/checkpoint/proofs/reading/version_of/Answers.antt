@@ -1,7 +1,7 @@
 -- The head is the first 64 bytes of the image, so the version and the refusal are the image's.
 use Rattle.std.proofs.Common.{Bool, not, None, sym, ◌∙◌, ap, arith}
 use Rattle.image.specs.Image.{has_head, version_in}
-use Rattle.device_map.specs.Layout.{image, layout_of, part_bytes}
+use Rattle.device_map.specs.Layout.{image_part, layout_of, part_bytes}
 use Rattle.oplog.proofs.Slices.{image_sized, part_inside}
 use Rattle.checkpoint.specs.declared.fault.OpenFault.TheVariants.{BadVersion}
 use Rattle.checkpoint.specs.Refusals.{fault_if}
@@ -14,7 +14,7 @@ read-requires g c =
     omega (
       arith,
       c.image_at.ensures,
-      part_inside (layout_of c.args.g.now) (image c.args.number),
+      part_inside (layout_of c.args.g.now) (image_part c.args.number),
       image_sized (layout_of c.args.g.now) c.args.number c.requires.number,
       image_some c.args.g.now,
       c.requires.long_enough,
@@ -25,16 +25,16 @@ returns-then-not-has_head-clause-refused g c = λ k.
     let now = (g.D.Disk.medium c.args.disk.now).now in
     let there = head_there c.args.g.now c.args.number c.image_at.result now c.read.new.out c.requires.number c.image_at.ensures (c.in_ok-read.ensures.bytes k) in
     ap (λ (b : Bool). fault_if (not b) BadVersion None)
-    (sym (ap has_head there ∙ has_head_first (part_bytes (layout_of c.args.g.now) (image c.args.number) now)) ∙ sym c.has_head.ensures ∙ c.if-not-has_head.true)
+    (sym (ap has_head there ∙ has_head_first (part_bytes (layout_of c.args.g.now) (image_part c.args.number) now)) ∙ sym c.has_head.ensures ∙ c.if-not-has_head.true)
 
 pub returns-clause-version : goal.returns-clause-version
 returns-clause-version g c = λ k.
     let now = (g.D.Disk.medium c.args.disk.now).now in
     ap version_in (head_there c.args.g.now c.args.number c.image_at.result now c.read.new.out c.requires.number c.image_at.ensures (c.in_ok-read.ensures.bytes k))
-    ∙ version_first (part_bytes (layout_of c.args.g.now) (image c.args.number) now)
+    ∙ version_first (part_bytes (layout_of c.args.g.now) (image_part c.args.number) now)
 
 pub returns-clause-head : goal.returns-clause-head
 returns-clause-head g c = λ k.
     let now = (g.D.Disk.medium c.args.disk.now).now in
     let there = head_there c.args.g.now c.args.number c.image_at.result now c.read.new.out c.requires.number c.image_at.ensures (c.in_ok-read.ensures.bytes k) in
-    sym (ap has_head there ∙ has_head_first (part_bytes (layout_of c.args.g.now) (image c.args.number) now)) ∙ sym c.has_head.ensures ∙ c.if-not-has_head.false
+    sym (ap has_head there ∙ has_head_first (part_bytes (layout_of c.args.g.now) (image_part c.args.number) now)) ∙ sym c.has_head.ensures ∙ c.if-not-has_head.false

@@ -15,9 +15,9 @@ returns-in_err-m-clause-refused g c =
     rw (p.1, p.2)
     (λ k.
     let bytes = records_are_bytes (layout c.args.log.now) c.args.half c.args.i (g.D.Disk.medium c.args.disk.now).now c.requires.half c.requires.i
-    c.requires.parts (g.met.D.Disk.bytes c.args.disk.now) in
+    c.requires.long_enough (g.met.D.Disk.bytes c.args.disk.now) in
     read_fault c.requires.geometry (state_in c.args.tree.now) c.args.half c.args.i _ bytes.0 bytes.1
-    c.in_err-m.field-0.0 (c.in_err-m.ensures.record k) c.in_err-m.ensures.about)
+    c.in_err-m.field-0.0 (c.in_err-m.ensures.record k) c.in_err-m.ensures.names_record)
 
 pub returns-in-Done-clause-done : goal.returns-in-Done-clause-done
 returns-in-Done-clause-done g c = λ k.

@@ -2,7 +2,7 @@
 use Rattle.std.proofs.Common.{◌≡◌, [], sym, ◌∙◌, subst}
 use Rattle.affinity.specs.declared.geometry.Geometry.{Geometry}
 use Rattle.parcel.specs.Nodes.{tree_state}
-use Rattle.parcel.specs.Tree.{IsIn, in_tree}
+use Rattle.parcel.specs.Tree.{IsIn, tree_nodes}
 use Rattle.meaning.specs.Serial.{next_state}
 use Rattle.meaning.specs.State.{IsState}
 use Rattle.checkpoint.proofs.Served.{placed, fits_there, goes, stepped, all_in_again, state_again}
@@ -27,7 +27,7 @@ returns-clause-reply c =
 pub returns-clause-state : goal.returns-clause-state
 returns-clause-state c =
     let same = c.restore.ensures.geometry ∙ c.lend.ensures.geometry in
-    subst (λ (i : Geometry). tree_state i (in_tree c.restore.new.self) ≡ next_state c.args.tree.now.geometry (tree_state c.args.tree.now.geometry (in_tree c.args.tree.now)) c.args.m) (sym same)
+    subst (λ (i : Geometry). tree_state i (tree_nodes c.restore.new.self) ≡ next_state c.args.tree.now.geometry (tree_state c.args.tree.now.geometry (tree_nodes c.args.tree.now)) c.args.m) (sym same)
     (stepped c.new.ensures (placed c.args.m c.kind.ensures c.numbers.ensures c.in-Some.ensures.placed) c.run-done.ensures c.geometry-g.ensures
     c.in-Some-lend.ensures.some (c.geometry-g.ensures ∙ sym c.lend.ensures.geometry) c.into_parcels.ensures c.in-Ok.ensures.ok).state
 
@@ -35,10 +35,10 @@ pub returns-clause-whole : goal.returns-clause-whole
 returns-clause-whole c =
     let same = c.restore.ensures.geometry ∙ c.lend.ensures.geometry in
     record {
-      all_in = subst (λ (i : Geometry). IsIn i [] (in_tree c.restore.new.self)) (sym same)
+      all_in = subst (λ (i : Geometry). IsIn i [] (tree_nodes c.restore.new.self)) (sym same)
           (all_in_again c.new.ensures (placed c.args.m c.kind.ensures c.numbers.ensures c.in-Some.ensures.placed) c.run-done.ensures c.geometry-g.ensures
           c.in-Some-lend.ensures.some (c.geometry-g.ensures ∙ sym c.lend.ensures.geometry) c.into_parcels.ensures c.in-Ok.ensures.ok c.requires.whole.all_in);
-      state = subst (λ (i : Geometry). IsState i (tree_state i (in_tree c.restore.new.self))) (sym same)
+      state = subst (λ (i : Geometry). IsState i (tree_state i (tree_nodes c.restore.new.self))) (sym same)
           (state_again c.new.ensures (placed c.args.m c.kind.ensures c.numbers.ensures c.in-Some.ensures.placed) c.run-done.ensures c.geometry-g.ensures
           c.in-Some-lend.ensures.some (c.geometry-g.ensures ∙ sym c.lend.ensures.geometry) c.into_parcels.ensures c.in-Ok.ensures.ok c.know_message.ensures c.requires.whole.state);
     }

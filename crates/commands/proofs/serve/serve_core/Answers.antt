@@ -1,4 +1,4 @@
--- What is promised is that of `serve`, with as many workers.
+-- `serve` promises it for `workers`, which is `service.workers` as a `usize`.
 use Rattle.std.proofs.Common.{ℕ, Ok, Err, subst}
 use Rattle.serving.specs.Serve.{ServePromise}
 use Rattle.commands.proofs.serve.serve_core.Goals as goal

@@ -3,7 +3,7 @@ use Rattle.std.proofs.Common.{ℕ, refl, sym, subst}
 use Rattle.std.specs.Prelude.{Result, Err}
 use Rattle.disk.specs.Device.{AreBytes, Medium}
 use Rattle.scheduler.specs.CoreView.{IsJustOpened}
-use Rattle.commands.specs.Faults.{as_fault}
+use Rattle.commands.specs.Faults.{command_result}
 use Rattle.commands.specs.Acknowledged.{KeepsAcknowledged}
 use Rattle.commands.specs.Promise.{LeavesRecovered}
 use Rattle.commands.specs.Serving.{EndsOnDevice, CrashesSafely}
@@ -39,10 +39,10 @@ returns g c =
     let by = has_served_by keeps service old start now end input left before written fresh c.in-Ok.ensures.header c.in-Ok.ensures.recovered_before
     c.in-Ok.ensures.any_moment c.serve_core-core.ensures c.know_recovery.ensures.now in
     let bytes = subst (λ (m : Medium). AreBytes m.now) c.into_disk.ensures (g.met.D.Disk.bytes c.into_disk.result) in
-    let given_back : (P : Medium → Result (Unit {0}) Fault → Type 0) → P now.medium (as_fault end)
-    → P (g.D.Disk.medium c.into_disk.result) c.as_fault.result =
-    λ P h. subst (λ (m : Medium). P m c.as_fault.result) (sym c.into_disk.ensures)
-    (subst (λ (r : Result (Unit {0}) Fault). P now.medium r) (sym c.as_fault.ensures) h) in
+    let given_back : (P : Medium → Result (Unit {0}) Fault → Type 0) → P now.medium (command_result end)
+    → P (g.D.Disk.medium c.into_disk.result) c.command_result.result =
+    λ P h. subst (λ (m : Medium). P m c.command_result.result) (sym c.into_disk.ensures)
+    (subst (λ (r : Result (Unit {0}) Fault). P now.medium r) (sym c.command_result.ensures) h) in
     record {
       ends = given_back (λ m r. EndsOnDevice keeps service old m r input left before written)
           (ends_on_device end by c.know_recovery.ensures.no_doubt bytes);

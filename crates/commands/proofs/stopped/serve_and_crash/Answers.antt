@@ -1,6 +1,6 @@
 -- What serving promises of any device, of the one in memory that is crashed.
 use Rattle.disk.specs.Memory.{medium_of, memory_of}
-use Rattle.commands.proofs.Kept.{told_so}
+use Rattle.commands.proofs.Kept.{unless_write_failed}
 use Rattle.commands.proofs.Promise.{opened_then}
 use Rattle.commands.proofs.stopped.serve_and_crash.Goals as goal
 
@@ -17,6 +17,6 @@ returns g c =
         crash = c.crash.ensures.after;
         leaves = c.crash.ensures.may;
       };
-      kept = told_so end before written (λ k. k tt (medium_of c.crash.result).now c.crash.ensures.may) c.serve_on-disk.ensures.kept;
+      kept = unless_write_failed end before written (λ k. k tt (medium_of c.crash.result).now c.crash.ensures.may) c.serve_on-disk.ensures.kept;
       recovers = opened_then end (λ k. k tt (medium_of c.crash.result).now c.crash.ensures.may) c.serve_on-disk.ensures.recovers;
     }

@@ -3,7 +3,7 @@ use Rattle.std.proofs.Common.{◌≡◌, ap, subst}
 use Rattle.disk.specs.Device.{Medium}
 use Rattle.disk.specs.Memory.{Memory, medium_of, memory_of}
 use Rattle.commands.specs.Acknowledged.{HoldsAcknowledged, UnlessWriteFailed}
-use Rattle.commands.specs.Promise.{HoldsRecovered, UnlessUnopened, known_unless_write_failed}
+use Rattle.commands.specs.Promise.{HoldsRecovered, IfOpened, known_unless_write_failed}
 use Rattle.commands.specs.Serving.{HasServedUntilCrash}
 use Rattle.commands.proofs.stopped.serve_stopped.Goals as goal
 
@@ -21,7 +21,7 @@ returns g c =
           same c.serve_and_crash.ensures.crashed;
       kept = subst (λ (m : Medium). UnlessWriteFailed end before written (HoldsAcknowledged m input before written (medium_of left).now))
           same c.serve_and_crash.ensures.kept;
-      recovers = subst (λ (m : Medium). UnlessUnopened end (HoldsRecovered m input (known_unless_write_failed end before) written (medium_of left).now))
+      recovers = subst (λ (m : Medium). IfOpened end (HoldsRecovered m input (known_unless_write_failed end before) written (medium_of left).now))
           same c.serve_and_crash.ensures.recovers;
     }
 

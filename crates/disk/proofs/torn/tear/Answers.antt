@@ -7,7 +7,7 @@ use Rattle.disk.proofs.torn.tear.Goals.{then-is_unsynced, else-is_unsynced}
 
 pub loop-i-preserved : goal.loop-i-preserved
 loop-i-preserved c =
-    let put = torn_byte c.args.kind.now c.args.kept.now c.args.asked.now in
+    let put = torn_byte c.args.kind.now c.args.last_synced.now c.args.last_written.now in
     elim c.if-is_unsynced.branch [
       | then-is_unsynced w ↦
           let more = torn_more put c.loop-i.i c.loop-i.below c.args.unsynced.now c.loop-i.bytes (omega arith) (omega arith) w.if-is_unsynced.true in

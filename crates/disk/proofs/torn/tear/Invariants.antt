@@ -7,5 +7,5 @@ use Rattle.disk.proofs.torn.tear.Given as goal
 abbrev pub invariant-loop-i : goal.invariant-loop-i
 invariant-loop-i l = record {
   few : l.below ≤ l.i;
-  torn : torn_so_far (torn_byte l.kind l.kept l.asked) l.i l.below l.unsynced l.bytes ≡ torn_from (torn_byte l.kind l.kept l.asked) 0 0 l.unsynced l.initial.bytes;
+  torn : torn_so_far (torn_byte l.kind l.last_synced l.last_written) l.i l.below l.unsynced l.bytes ≡ torn_from (torn_byte l.kind l.last_synced l.last_written) 0 0 l.unsynced l.initial.bytes;
 }

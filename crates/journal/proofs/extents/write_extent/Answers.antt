@@ -4,7 +4,7 @@ use Rattle.std.proofs.lemmas.Result.{err_from_is_err_and}
 use Rattle.disk.specs.Device.{overlaid}
 use Rattle.journal.specs.Extents.{image_in, extent_at, extent_size}
 use Rattle.journal.proofs.Patches.{image_long, one_patched}
-use Rattle.journal.proofs.Places.{extent_after, extent_inside, extent_rises, stretch_some}
+use Rattle.journal.proofs.Places.{extent_after, extent_inside, extent_rises, extent_some}
 use Rattle.device_map.specs.Layout.{slice}
 use Rattle.journal.proofs.extents.write_extent.Goals as goal
 
@@ -44,10 +44,10 @@ returns-clause-written g c = λ k.
 pub returns-in_err-write_run-clause-costs : goal.returns-in_err-write_run-clause-costs
 returns-in_err-write_run-clause-costs g c =
     let p = err_from_is_err_and c.from_residual.result c.from_residual.ensures.1 in
-    let some = stretch_some c.args.g.now c.args.n in
+    let some = extent_some c.args.g.now c.args.n in
     rw p.1 (λ k. c.in_err-write_run.ensures.costs (omega (arith, some, c.extent_size.ensures.size)) k)
 
 pub returns-clause-costs : goal.returns-clause-costs
 returns-clause-costs g c =
-    let some = stretch_some c.args.g.now c.args.n in
+    let some = extent_some c.args.g.now c.args.n in
     λ k. c.in_ok-write_run.ensures.costs (omega (arith, some, c.extent_size.ensures.size)) k

@@ -2,13 +2,13 @@
 use Rattle.std.proofs.Common.{◌≡◌, ◌+◌, ◌<◌, true, false, length, get_or, refl, sym, ◌∙◌, ap, arith}
 use Rattle.std.proofs.lemmas.Grind.{common_steps}
 use Rattle.std.proofs.lemmas.Result.{err_from_is_err_and}
-use Rattle.disk.specs.Moments.{moment}
+use Rattle.disk.specs.Moments.{moment_number}
 use Rattle.disk.proofs.Calls.{after_sync}
 use Rattle.image.specs.Pieces.{piece_count}
 use Rattle.journal.specs.Extents.{extent_at}
 use Rattle.journal.proofs.Costs.{run_closed, run_ended, run_failed, run_goes_on, runs_begun}
 use Rattle.journal.proofs.Patches.{along_patch, patch_begun, patch_moments, patch_passed, patch_synced, patched}
-use Rattle.journal.proofs.Places.{extent_end, extent_after, extent_inside, stretch_some}
+use Rattle.journal.proofs.Places.{extent_end, extent_after, extent_inside, extent_some}
 use Rattle.device_map.specs.Layout.{image_size}
 use Rattle.journal.proofs.extents.write_image.Goals as goal
 use Rattle.journal.proofs.extents.write_image.Goals.{then-not-is_dirty+in_ok-write_run, else-not-is_dirty}
@@ -19,7 +19,7 @@ loop-n-init g c = record {
   order = omega arith;
   len = refl;
   faults = refl;
-  runs = λ k. runs_begun c.args.dirty.now (moment (g.D.Disk.medium c.args.disk.now));
+  runs = λ k. runs_begun c.args.dirty.now (moment_number (g.D.Disk.medium c.args.disk.now));
   so_far = λ k. patch_begun c.args.g.now c.args.area c.args.bytes.now (g.D.Disk.medium c.args.disk.now);
 }
 
@@ -55,8 +55,8 @@ loop-n-preserved g c =
             faults = ap (λ d. (g.D.Disk.medium d).faults) w.disk-is ∙ w.in_ok-write_run.ensures.call.0 ∙ c.loop-n.invariant.faults;
             runs = λ k.
                 run_closed (c.loop-n.invariant.runs k) (omega (arith, few, c.requires.dirty)) clean (omega (arith, w.at-is, w.from-is))
-                (λ some. ap (λ d. moment (g.D.Disk.medium d)) w.disk-is ∙ w.in_ok-write_run.ensures.costs some k)
-                (λ none. ap (λ d. moment (g.D.Disk.medium d)) (w.disk-is ∙ w.write_run.ensures.none none));
+                (λ some. ap (λ d. moment_number (g.D.Disk.medium d)) w.disk-is ∙ w.in_ok-write_run.ensures.costs some k)
+                (λ none. ap (λ d. moment_number (g.D.Disk.medium d)) (w.disk-is ∙ w.write_run.ensures.none none));
             so_far = λ k.
                 along_patch w.from-is (ap (λ d. g.D.Disk.medium d) w.disk-is)
                 (patch_passed c.loop-n.n c.args.dirty.now (c.requires.clean k) few clean c.loop-n.invariant.place (omega (arith, c.extent_size.ensures.size))
@@ -65,7 +65,7 @@ loop-n-preserved g c =
           }
       | else-not-is_dirty w ↦
           let is_dirty : get_or c.args.dirty.now c.loop-n.n true ≡ true = grind (arith, common_steps) in
-          let some = stretch_some c.args.g.now c.loop-n.n in
+          let some = extent_some c.args.g.now c.loop-n.n in
           record {
             place = w.at-is ∙ place;
             order = omega (arith, w.at-is, w.from-is, c.loop-n.invariant.order);
@@ -73,7 +73,7 @@ loop-n-preserved g c =
             faults = ap (λ d. (g.D.Disk.medium d).faults) w.disk-is ∙ c.loop-n.invariant.faults;
             runs = λ k.
                 run_goes_on (c.loop-n.invariant.runs k) (omega (arith, few, c.requires.dirty)) is_dirty w.from-is
-                (omega (arith, w.at-is, c.extent_size.ensures.size, some)) c.loop-n.invariant.order (ap (λ d. moment (g.D.Disk.medium d)) w.disk-is);
+                (omega (arith, w.at-is, c.extent_size.ensures.size, some)) c.loop-n.invariant.order (ap (λ d. moment_number (g.D.Disk.medium d)) w.disk-is);
             so_far = λ k. along_patch w.from-is (ap (λ d. g.D.Disk.medium d) w.disk-is) (c.loop-n.invariant.so_far k);
           }
     ]
@@ -112,7 +112,7 @@ returns-in_err-write_run-clause-costs g c =
     rw p.1
     (λ k.
     run_failed _ (c.loop-n.invariant.runs k) (λ some. c.in_err-write_run.ensures.costs some k)
-    (λ none. ap (λ d. moment (g.D.Disk.medium d)) (c.write_run.ensures.none none)))
+    (λ none. ap (λ d. moment_number (g.D.Disk.medium d)) (c.write_run.ensures.none none)))
 
 pub returns-in_err-write_run-2-clause-costs : goal.returns-in_err-write_run-2-clause-costs
 returns-in_err-write_run-2-clause-costs g c =
@@ -120,7 +120,7 @@ returns-in_err-write_run-2-clause-costs g c =
     rw p.1
     (λ k.
     run_failed _ (c.loop-n.invariant.runs k) (λ some. c.in_err-write_run-2.ensures.costs some k)
-    (λ none. ap (λ d. moment (g.D.Disk.medium d)) (c.write_run-2.ensures.none none)))
+    (λ none. ap (λ d. moment_number (g.D.Disk.medium d)) (c.write_run-2.ensures.none none)))
 
 pub returns-in_err-sync_image-clause-costs : goal.returns-in_err-sync_image-clause-costs
 returns-in_err-sync_image-clause-costs g c =
@@ -130,7 +130,7 @@ returns-in_err-sync_image-clause-costs g c =
     let all : c.loop-n.n ≡ piece_count c.args.g.now = grind (arith, common_steps) in
     let ended =
     run_ended (c.loop-n.invariant.runs k) (omega (arith, all, c.requires.dirty)) (λ some. c.in_ok-write_run-2.ensures.costs some k)
-    (λ none. ap (λ d. moment (g.D.Disk.medium d)) (c.write_run-2.ensures.none none)) in
+    (λ none. ap (λ d. moment_number (g.D.Disk.medium d)) (c.write_run-2.ensures.none none)) in
     omega (arith, ended, c.in_err-sync_image.ensures.costs k))
 
 pub returns-clause-costs : goal.returns-clause-costs
@@ -138,5 +138,5 @@ returns-clause-costs g c = λ k.
     let all : c.loop-n.n ≡ piece_count c.args.g.now = grind (arith, common_steps) in
     let ended =
     run_ended (c.loop-n.invariant.runs k) (omega (arith, all, c.requires.dirty)) (λ some. c.in_ok-write_run-2.ensures.costs some k)
-    (λ none. ap (λ d. moment (g.D.Disk.medium d)) (c.write_run-2.ensures.none none)) in
+    (λ none. ap (λ d. moment_number (g.D.Disk.medium d)) (c.write_run-2.ensures.none none)) in
     omega (arith, ended, c.in_ok-sync_image.ensures.costs k)

@@ -1,6 +1,6 @@
 -- The image is patched up to the run in progress, with one write for each run of dirty extents before it.
 use Rattle.std.proofs.Common.{◌≡◌, ◌≤◌, length}
-use Rattle.disk.specs.Moments.{moment}
+use Rattle.disk.specs.Moments.{moment_number}
 use Rattle.journal.specs.Extents.{extent_at}
 use Rattle.journal.proofs.Costs.{RunsLeft}
 use Rattle.journal.proofs.Patches.{IsPatched}
@@ -12,6 +12,6 @@ invariant-loop-n g l = record {
   order : l.from ≤ l.at;
   len : length (g.D.Disk.medium l.disk).now ≡ length (g.D.Disk.medium l.initial.disk).now;
   faults : (g.D.Disk.medium l.disk).faults ≡ (g.D.Disk.medium l.initial.disk).faults;
-  runs : g.D.Disk.keeps → RunsLeft l.dirty l.n l.from l.at (moment (g.D.Disk.medium l.initial.disk)) (moment (g.D.Disk.medium l.disk));
+  runs : g.D.Disk.keeps → RunsLeft l.dirty l.n l.from l.at (moment_number (g.D.Disk.medium l.initial.disk)) (moment_number (g.D.Disk.medium l.disk));
   so_far : g.D.Disk.keeps → IsPatched l.g l.area l.from l.bytes (g.D.Disk.medium l.initial.disk) (g.D.Disk.medium l.disk);
 }

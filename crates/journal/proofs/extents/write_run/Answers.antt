@@ -1,7 +1,7 @@
 -- A write within an image changes, at each moment, that image alone; an empty run writes nothing.
 use Rattle.std.proofs.Common.{arith}
 use Rattle.journal.proofs.Runs.{nothing_written, part_begun, run_inside, run_moments, run_ready, run_same, run_written}
-use Rattle.device_map.specs.Layout.{layout_of, image}
+use Rattle.device_map.specs.Layout.{layout_of, image_part}
 use Rattle.oplog.proofs.Slices.{same_but_none}
 use Rattle.journal.proofs.extents.write_run.Goals as goal
 
@@ -42,10 +42,10 @@ returns-in_ok-write-clause-written g c = λ k.
     c.requires.long_enough (c.in_ok-write.ensures.written k)
 
 pub returns-else-from-end-clause-any_moment : goal.returns-else-from-end-clause-any_moment
-returns-else-from-end-clause-any_moment g c = λ k. part_begun (layout_of c.args.g.now) (image c.args.area) _
+returns-else-from-end-clause-any_moment g c = λ k. part_begun (layout_of c.args.g.now) (image_part c.args.area) _
 
 pub returns-else-from-end-clause-same : goal.returns-else-from-end-clause-same
-returns-else-from-end-clause-same g c = λ k. same_but_none (layout_of c.args.g.now) (image c.args.area) _
+returns-else-from-end-clause-same g c = λ k. same_but_none (layout_of c.args.g.now) (image_part c.args.area) _
 
 pub returns-else-from-end-clause-written : goal.returns-else-from-end-clause-written
 returns-else-from-end-clause-written g c = λ k. nothing_written _ c.args.from _ c.args.bytes.now (omega (arith, c.requires.order, c.if-from-end.false))

@@ -1,4 +1,4 @@
--- All pieces are dirty, so the snapshot is the image of the state which the named area holds by itself.
+-- All pieces are dirty, so the snapshot is the image of the state which the named area holds without the records of the other half.
 use Rattle.std.proofs.Common.{Bool, List, length, refl, sym, ◌∙◌, ap, subst}
 use Rattle.affinity.specs.declared.geometry.Geometry.{Geometry}
 use Rattle.image.specs.Image.{image_of, read}

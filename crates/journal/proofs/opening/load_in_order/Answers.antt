@@ -7,7 +7,7 @@ use Rattle.checkpoint.specs.Recovery.{recovered_state}
 use Rattle.checkpoint.specs.Refusals.{refused}
 use Rattle.checkpoint.proofs.Replays.{same_bytes}
 use Rattle.disk.specs.Moments.{CrashImagesAre}
-use Rattle.journal.specs.Parts.{IsBad, IsRefusedAlike}
+use Rattle.journal.specs.Parts.{IsFaultAfterCut, IsRefusedAlike}
 use Rattle.journal.specs.Steps.{RecoversStill}
 use Rattle.journal.proofs.Costs.{finish_is, no_call}
 use Rattle.journal.proofs.Loaded.{are_loaded, alone_fine, alone_holds, alone_recovers, held_after, not_off, not_on}
@@ -62,69 +62,70 @@ returns-then-not-named-clause-sound g c = λ k.
     alone_fine geometry now c.in_ok-named.named.area x (subst (λ (t : Bool). NamedHolds geometry now c.in_ok-named.named.area t x)
     (not_on c.in_ok-named.named.chained c.if-not-named.true) (c.in_ok-named.ensures.loaded k))
 
-pub replay_behind-requires-clause-recovers : goal.replay_behind-requires-clause-recovers
-replay_behind-requires-clause-recovers g c = λ k.
+pub finish_cut_and_replay-requires-clause-recovers : goal.finish_cut_and_replay-requires-clause-recovers
+finish_cut_and_replay-requires-clause-recovers g c = λ k.
     held_after (g.D.Disk.medium c.args.disk.now) (g.D.Disk.medium c.load_named.new.disk) c.in_ok-named.ensures.log
     (not_off c.in_ok-named.named.chained c.if-not-named.false) (c.load_named.ensures.untouched k) (c.in_ok-named.ensures.loaded k)
 
-pub returns-in_err-replay_behind-clause-any_moment : goal.returns-in_err-replay_behind-clause-any_moment
-returns-in_err-replay_behind-clause-any_moment g c = λ k.
+pub returns-in_err-finish_cut_and_replay-clause-any_moment : goal.returns-in_err-finish_cut_and_replay-clause-any_moment
+returns-in_err-finish_cut_and_replay-clause-any_moment g c = λ k.
     let w1 = g.D.Disk.medium c.load_named.new.disk in
-    let w2 = g.D.Disk.medium c.replay_behind.new.disk in
+    let w2 = g.D.Disk.medium c.finish_cut_and_replay.new.disk in
     let log = ap (λ (l : Log). l.geometry) c.in_ok-named.ensures.log in
     still_after c.args.parts.now.tree.geometry (g.D.Disk.medium c.args.disk.now) w1 w2 (c.requires.synced k) (c.load_named.ensures.untouched k)
-    (subst (λ (h : Geometry). RecoversStill h w1 w2) log (c.replay_behind.ensures.any_moment k))
+    (subst (λ (h : Geometry). RecoversStill h w1 w2) log (c.finish_cut_and_replay.ensures.any_moment k))
 
-pub returns-in_err-replay_behind-clause-alike : goal.returns-in_err-replay_behind-clause-alike
-returns-in_err-replay_behind-clause-alike g c = λ k.
+pub returns-in_err-finish_cut_and_replay-clause-alike : goal.returns-in_err-finish_cut_and_replay-clause-alike
+returns-in_err-finish_cut_and_replay-clause-alike g c = λ k.
     let w1 = g.D.Disk.medium c.load_named.new.disk in
-    let w2 = g.D.Disk.medium c.replay_behind.new.disk in
+    let w2 = g.D.Disk.medium c.finish_cut_and_replay.new.disk in
     let log = ap (λ (l : Log). l.geometry) c.in_ok-named.ensures.log in
     alike_after c.args.parts.now.tree.geometry (g.D.Disk.medium c.args.disk.now) w1 w2 (c.requires.header k) (c.requires.synced k) (c.load_named.ensures.untouched k)
-    (subst (λ (h : Geometry). CrashImagesAre w1 w2 (IsRefusedAlike h w1.now)) log (c.replay_behind.ensures.alike k))
+    (subst (λ (h : Geometry). CrashImagesAre w1 w2 (IsRefusedAlike h w1.now)) log (c.finish_cut_and_replay.ensures.alike k))
 
-pub returns-in_err-replay_behind-clause-unwritten : goal.returns-in_err-replay_behind-clause-unwritten
-returns-in_err-replay_behind-clause-unwritten g c =
-    let p = err_from_is_err_and c.from_residual-in_err-replay_behind.result c.from_residual-in_err-replay_behind.ensures.1 in
+pub returns-in_err-finish_cut_and_replay-clause-unwritten : goal.returns-in_err-finish_cut_and_replay-clause-unwritten
+returns-in_err-finish_cut_and_replay-clause-unwritten g c =
+    let p = err_from_is_err_and c.from_residual-in_err-finish_cut_and_replay.result c.from_residual-in_err-finish_cut_and_replay.ensures.1 in
     rw (p.1, p.2)
     (λ k.
-    let w2 = g.D.Disk.medium c.replay_behind.new.disk in
+    let w2 = g.D.Disk.medium c.finish_cut_and_replay.new.disk in
     let w0 = g.D.Disk.medium c.args.disk.now in
     let w1 = g.D.Disk.medium c.load_named.new.disk in
-    let bad = subst (λ (l : Log). IsBad l.geometry (other l.named) w1 w2 c.in_err-replay_behind.field-0.0) c.in_ok-named.ensures.log (c.in_err-replay_behind.ensures.behind k) in
+    let bad = subst (λ (l : Log). IsFaultAfterCut l.geometry (other l.named) w1 w2 c.in_err-finish_cut_and_replay.field-0.0) c.in_ok-named.ensures.log
+    (c.in_err-finish_cut_and_replay.ensures.behind k) in
     bad_behind _ (g.D.Disk.medium c.args.disk.now) w2 c.args.parts.now.tree.geometry c.in_ok-named.ensures.area (c.in_ok-named.ensures.loaded k).named (c.requires.header k)
     (bad_from _ _ _ w0 w1 w2 (same_bytes w0 w1 (c.load_named.ensures.untouched k)) bad))
 
 pub returns-clause-any_moment : goal.returns-clause-any_moment
 returns-clause-any_moment g c = λ k.
     let w1 = g.D.Disk.medium c.load_named.new.disk in
-    let w2 = g.D.Disk.medium c.replay_behind.new.disk in
+    let w2 = g.D.Disk.medium c.finish_cut_and_replay.new.disk in
     let log = ap (λ (l : Log). l.geometry) c.in_ok-named.ensures.log in
     still_after c.args.parts.now.tree.geometry (g.D.Disk.medium c.args.disk.now) w1 w2 (c.requires.synced k) (c.load_named.ensures.untouched k)
-    (subst (λ (h : Geometry). RecoversStill h w1 w2) log (c.replay_behind.ensures.any_moment k))
+    (subst (λ (h : Geometry). RecoversStill h w1 w2) log (c.finish_cut_and_replay.ensures.any_moment k))
 
 pub returns-clause-alike : goal.returns-clause-alike
 returns-clause-alike g c = λ k.
     let w1 = g.D.Disk.medium c.load_named.new.disk in
-    let w2 = g.D.Disk.medium c.replay_behind.new.disk in
+    let w2 = g.D.Disk.medium c.finish_cut_and_replay.new.disk in
     let log = ap (λ (l : Log). l.geometry) c.in_ok-named.ensures.log in
     alike_after c.args.parts.now.tree.geometry (g.D.Disk.medium c.args.disk.now) w1 w2 (c.requires.header k) (c.requires.synced k) (c.load_named.ensures.untouched k)
-    (subst (λ (h : Geometry). CrashImagesAre w1 w2 (IsRefusedAlike h w1.now)) log (c.replay_behind.ensures.alike k))
+    (subst (λ (h : Geometry). CrashImagesAre w1 w2 (IsRefusedAlike h w1.now)) log (c.finish_cut_and_replay.ensures.alike k))
 
 pub returns-clause-was : goal.returns-clause-was
 returns-clause-was g c = λ k.
     let same = same_bytes (g.D.Disk.medium c.args.disk.now) (g.D.Disk.medium c.load_named.new.disk) (c.load_named.ensures.untouched k) in
     let log = ap (λ (l : Log). l.geometry) c.in_ok-named.ensures.log in
-    sym (λ i. recovered_state (log i) (same i)) ∙ c.in_ok-replay_behind.ensures.was k
+    sym (λ i. recovered_state (log i) (same i)) ∙ c.in_ok-finish_cut_and_replay.ensures.was k
 
 pub returns-clause-sound : goal.returns-clause-sound
 returns-clause-sound g c = λ k.
     let same = same_bytes (g.D.Disk.medium c.args.disk.now) (g.D.Disk.medium c.load_named.new.disk) (c.load_named.ensures.untouched k) in
     let log = ap (λ (l : Log). l.geometry) c.in_ok-named.ensures.log in
-    sym (λ i. refused (log i) (same i)) ∙ c.in_ok-replay_behind.ensures.sound k
+    sym (λ i. refused (log i) (same i)) ∙ c.in_ok-finish_cut_and_replay.ensures.sound k
 
-pub replay_behind-requires-clause-loaded : goal.replay_behind-requires-clause-loaded
-replay_behind-requires-clause-loaded g c =
+pub finish_cut_and_replay-requires-clause-loaded : goal.finish_cut_and_replay-requires-clause-loaded
+finish_cut_and_replay-requires-clause-loaded g c =
     let taken = c.requires.taken in
     are_loaded {p = c.args.parts.now} c.in_ok-named.ensures.log refl refl c.in_ok-named.ensures.whole c.in_ok-named.ensures.geometry
     (record { snapshot = refl; named_dirty = refl; other_dirty = refl; pending = refl })
@@ -144,7 +145,7 @@ returns-then-not-named-clause-room g c = record { snapshot = refl; named_dirty =
 
 pub returns-clause-room : goal.returns-clause-room
 returns-clause-room g c =
-    let room = c.in_ok-replay_behind.ensures.room in
+    let room = c.in_ok-finish_cut_and_replay.ensures.room in
     record { snapshot = room.snapshot; named_dirty = room.named_dirty; other_dirty = room.other_dirty; pending = room.pending }
 
 pub returns-in_err-named-clause-synced : goal.returns-in_err-named-clause-synced
@@ -152,14 +153,14 @@ returns-in_err-named-clause-synced g c =
     let p = err_from_is_err_and c.from_residual.result c.from_residual.ensures.1 in
     rw p.1 (λ not_device k. still_synced (g.D.Disk.medium c.args.disk.now) (g.D.Disk.medium c.load_named.new.disk) (c.load_named.ensures.untouched k) (c.requires.synced k))
 
-pub returns-in_err-replay_behind-clause-synced : goal.returns-in_err-replay_behind-clause-synced
-returns-in_err-replay_behind-clause-synced g c =
-    let p = err_from_is_err_and c.from_residual-in_err-replay_behind.result c.from_residual-in_err-replay_behind.ensures.1 in
+pub returns-in_err-finish_cut_and_replay-clause-synced : goal.returns-in_err-finish_cut_and_replay-clause-synced
+returns-in_err-finish_cut_and_replay-clause-synced g c =
+    let p = err_from_is_err_and c.from_residual-in_err-finish_cut_and_replay.result c.from_residual-in_err-finish_cut_and_replay.ensures.1 in
     rw (p.1, p.2)
     (λ not_device k.
     let log = c.load_named.new.log in
-    bad_synced log.geometry (other log.named) c.in_err-replay_behind.field-0.0 (g.D.Disk.medium c.load_named.new.disk)
-    (g.D.Disk.medium c.replay_behind.new.disk) not_device (c.in_err-replay_behind.ensures.behind k))
+    bad_synced log.geometry (other log.named) c.in_err-finish_cut_and_replay.field-0.0 (g.D.Disk.medium c.load_named.new.disk)
+    (g.D.Disk.medium c.finish_cut_and_replay.new.disk) not_device (c.in_err-finish_cut_and_replay.ensures.behind k))
 
 pub returns-in_err-named-clause-beyond : goal.returns-in_err-named-clause-beyond
 returns-in_err-named-clause-beyond g c = λ k.
@@ -169,25 +170,25 @@ pub returns-then-not-named-clause-beyond : goal.returns-then-not-named-clause-be
 returns-then-not-named-clause-beyond g c = λ k.
     beyond_read (layout_of c.args.parts.now.tree.geometry) _ _ (c.load_named.ensures.untouched k)
 
-pub returns-in_err-replay_behind-clause-beyond : goal.returns-in_err-replay_behind-clause-beyond
-returns-in_err-replay_behind-clause-beyond g c = λ k.
+pub returns-in_err-finish_cut_and_replay-clause-beyond : goal.returns-in_err-finish_cut_and_replay-clause-beyond
+returns-in_err-finish_cut_and_replay-clause-beyond g c = λ k.
     let t = c.args.parts.now.tree.geometry in
     let w0 = g.D.Disk.medium c.args.disk.now in
     let w1 = g.D.Disk.medium c.load_named.new.disk in
-    let w2 = g.D.Disk.medium c.replay_behind.new.disk in
+    let w2 = g.D.Disk.medium c.finish_cut_and_replay.new.disk in
     let log = ap (λ (l : Log). l.geometry) c.in_ok-named.ensures.log in
     beyond_then (layout_of t) w0 w1 w2 (beyond_read (layout_of t) w0 w1 (c.load_named.ensures.untouched k))
-    (subst (λ (h : Geometry). KeepsBeyond (layout_of h) w1 w2) log (c.replay_behind.ensures.beyond k))
+    (subst (λ (h : Geometry). KeepsBeyond (layout_of h) w1 w2) log (c.finish_cut_and_replay.ensures.beyond k))
 
 pub returns-clause-beyond : goal.returns-clause-beyond
 returns-clause-beyond g c = λ k.
     let t = c.args.parts.now.tree.geometry in
     let w0 = g.D.Disk.medium c.args.disk.now in
     let w1 = g.D.Disk.medium c.load_named.new.disk in
-    let w2 = g.D.Disk.medium c.replay_behind.new.disk in
+    let w2 = g.D.Disk.medium c.finish_cut_and_replay.new.disk in
     let log = ap (λ (l : Log). l.geometry) c.in_ok-named.ensures.log in
     beyond_then (layout_of t) w0 w1 w2 (beyond_read (layout_of t) w0 w1 (c.load_named.ensures.untouched k))
-    (subst (λ (h : Geometry). KeepsBeyond (layout_of h) w1 w2) log (c.replay_behind.ensures.beyond k))
+    (subst (λ (h : Geometry). KeepsBeyond (layout_of h) w1 w2) log (c.finish_cut_and_replay.ensures.beyond k))
 
 pub returns-in_err-named-clause-costs : goal.returns-in_err-named-clause-costs
 returns-in_err-named-clause-costs g c =
@@ -204,19 +205,19 @@ returns-then-not-named-clause-costs g c = λ k.
     false (state_in c.load_named.new.tree) (not_on c.in_ok-named.named.chained c.if-not-named.true) (c.in_ok-named.ensures.loaded k) in
     omega (arith, read, none)
 
-pub returns-in_err-replay_behind-clause-costs : goal.returns-in_err-replay_behind-clause-costs
-returns-in_err-replay_behind-clause-costs g c =
-    let p = err_from_is_err_and c.from_residual-in_err-replay_behind.result c.from_residual-in_err-replay_behind.ensures.1 in
+pub returns-in_err-finish_cut_and_replay-clause-costs : goal.returns-in_err-finish_cut_and_replay-clause-costs
+returns-in_err-finish_cut_and_replay-clause-costs g c =
+    let p = err_from_is_err_and c.from_residual-in_err-finish_cut_and_replay.result c.from_residual-in_err-finish_cut_and_replay.ensures.1 in
     rw p.1
     (λ k.
     let read = no_call (g.D.Disk.medium c.args.disk.now) (g.D.Disk.medium c.load_named.new.disk) (c.load_named.ensures.untouched k) in
     let four = finish_is c.args.parts.now.tree.geometry (g.D.Disk.medium c.args.disk.now).now c.in_ok-named.named.area c.in_ok-named.named.chained
     true (state_in c.load_named.new.tree) (not_off c.in_ok-named.named.chained c.if-not-named.false) (c.in_ok-named.ensures.loaded k) in
-    omega (arith, read, four, c.in_err-replay_behind.ensures.costs k))
+    omega (arith, read, four, c.in_err-finish_cut_and_replay.ensures.costs k))
 
 pub returns-clause-costs : goal.returns-clause-costs
 returns-clause-costs g c = λ k.
     let read = no_call (g.D.Disk.medium c.args.disk.now) (g.D.Disk.medium c.load_named.new.disk) (c.load_named.ensures.untouched k) in
     let four = finish_is c.args.parts.now.tree.geometry (g.D.Disk.medium c.args.disk.now).now c.in_ok-named.named.area c.in_ok-named.named.chained
     true (state_in c.load_named.new.tree) (not_off c.in_ok-named.named.chained c.if-not-named.false) (c.in_ok-named.ensures.loaded k) in
-    omega (arith, read, four, c.in_ok-replay_behind.ensures.costs k)
+    omega (arith, read, four, c.in_ok-finish_cut_and_replay.ensures.costs k)

@@ -1,6 +1,6 @@
 -- The parts that were opened make a sound journal, of the state to which the device recovers.
 use Rattle.std.proofs.Common.{◌+◌, sym, ◌∙◌, ap}
-use Rattle.disk.specs.Moments.{moment}
+use Rattle.disk.specs.Moments.{moment_number}
 use Rattle.journal.specs.Costs.{opening_cost}
 use Rattle.journal.specs.Journal.{JournalView}
 use Rattle.journal.proofs.Loaded.{opened}
@@ -17,5 +17,5 @@ returns-in-Ok-clause-opened g c = λ k.
 pub returns-in-Ok-clause-costs : goal.returns-in-Ok-clause-costs
 returns-in-Ok-clause-costs g c = λ k.
     let m = g.D.Disk.medium c.args.d in
-    ap (λ (j : JournalView). moment j.medium) c.new-journal.ensures ∙ c.in-Ok.ensures.costs k
-    ∙ sym (ap (λ (j : JournalView). moment m + opening_cost j.geometry m.now) c.new-journal.ensures)
+    ap (λ (j : JournalView). moment_number j.medium) c.new-journal.ensures ∙ c.in-Ok.ensures.costs k
+    ∙ sym (ap (λ (j : JournalView). moment_number m + opening_cost j.geometry m.now) c.new-journal.ensures)

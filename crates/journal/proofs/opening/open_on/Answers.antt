@@ -2,7 +2,7 @@
 use Rattle.std.proofs.Common.{ℕ, List, sym, subst, arith}
 use Rattle.std.proofs.lemmas.Result.{err_from_is_err_and}
 use Rattle.checkpoint.specs.Header.{HasHeader}
-use Rattle.checkpoint.specs.Refusals.{IsDevice}
+use Rattle.checkpoint.specs.Refusals.{IsWholeDevice}
 use Rattle.journal.specs.Parts.{IsMadeOf}
 use Rattle.journal.proofs.Costs.{opening_after}
 use Rattle.journal.proofs.Opened.{if_err, if_ok, never_synced, synced_then, unwritten_from, unwritten_then}
@@ -15,29 +15,29 @@ returns-in_err-first_sync-clause-any_moment g c = λ k. never_synced _ _ (c.firs
 
 pub returns-clause-any_moment : goal.returns-clause-any_moment
 returns-clause-any_moment g c = λ k.
-    synced_then (g.D.Disk.medium c.args.disk.now) (g.D.Disk.medium c.first_sync.new.disk) (g.D.Disk.medium c.open_committed.new.disk)
-    (c.in_ok-first_sync.ensures.synced k) (c.first_sync.ensures.now k) (c.first_sync.ensures.any_moment k) (c.open_committed.ensures.any_moment k)
+    synced_then (g.D.Disk.medium c.args.disk.now) (g.D.Disk.medium c.first_sync.new.disk) (g.D.Disk.medium c.open_synced.new.disk)
+    (c.in_ok-first_sync.ensures.synced k) (c.first_sync.ensures.now k) (c.first_sync.ensures.any_moment k) (c.open_synced.ensures.any_moment k)
 
 pub returns-clause-made_of : goal.returns-clause-made_of
 returns-clause-made_of g c =
-    if_ok c.open_committed.result _ _
-    (λ p made k. subst (λ (l : List ℕ). IsMadeOf l p (g.D.Disk.medium c.open_committed.new.disk)) (c.first_sync.ensures.now k) (made k))
-    c.open_committed.ensures.made_of
+    if_ok c.open_synced.result _ _
+    (λ p made k. subst (λ (l : List ℕ). IsMadeOf l p (g.D.Disk.medium c.open_synced.new.disk)) (c.first_sync.ensures.now k) (made k))
+    c.open_synced.ensures.made_of
 
 pub returns-clause-unwritten : goal.returns-clause-unwritten
 returns-clause-unwritten g c =
     let w0 = g.D.Disk.medium c.args.disk.now in
     let w1 = g.D.Disk.medium c.first_sync.new.disk in
-    let w2 = g.D.Disk.medium c.open_committed.new.disk in
-    if_err c.open_committed.result _ _
+    let w2 = g.D.Disk.medium c.open_synced.new.disk in
+    if_err c.open_synced.result _ _
     (λ e is k.
     unwritten_from e w0 w1 w2 (c.first_sync.ensures.now k) (unwritten_then w0 w1 w2 (g.met.D.Disk.bytes c.args.disk.now) (c.in_ok-first_sync.ensures.synced k)
     (c.first_sync.ensures.now k) (c.first_sync.ensures.any_moment k)) (is k))
-    c.open_committed.ensures.unwritten
+    c.open_synced.ensures.unwritten
 
 pub returns-clause-memory : goal.returns-clause-memory
 returns-clause-memory g c =
-    if_err c.open_committed.result _ _ (λ e told is k. subst (λ (l : List ℕ). IsDevice l) (c.first_sync.ensures.now k) (told is k)) c.open_committed.ensures.memory
+    if_err c.open_synced.result _ _ (λ e told is k. subst (λ (l : List ℕ). IsWholeDevice l) (c.first_sync.ensures.now k) (told is k)) c.open_synced.ensures.memory
 
 pub returns-in_err-first_sync-clause-beyond : goal.returns-in_err-first_sync-clause-beyond
 returns-in_err-first_sync-clause-beyond g c = λ k h head.
@@ -47,9 +47,9 @@ pub returns-clause-beyond : goal.returns-clause-beyond
 returns-clause-beyond g c = λ k h head.
     let w0 = g.D.Disk.medium c.args.disk.now in
     let w1 = g.D.Disk.medium c.first_sync.new.disk in
-    let w2 = g.D.Disk.medium c.open_committed.new.disk in
+    let w2 = g.D.Disk.medium c.open_synced.new.disk in
     beyond_then (layout_of h) w0 w1 w2 (c.first_sync.ensures.beyond k (layout_of h))
-    (c.open_committed.ensures.beyond k h (subst (λ (l : List ℕ). HasHeader h l) (sym (c.first_sync.ensures.now k)) head))
+    (c.open_synced.ensures.beyond k h (subst (λ (l : List ℕ). HasHeader h l) (sym (c.first_sync.ensures.now k)) head))
 
 pub returns-in_err-first_sync-clause-costs : goal.returns-in_err-first_sync-clause-costs
 returns-in_err-first_sync-clause-costs g c =
@@ -58,5 +58,5 @@ returns-in_err-first_sync-clause-costs g c =
 
 pub returns-clause-costs : goal.returns-clause-costs
 returns-clause-costs g c = λ k.
-    opening_after c.open_committed.result (g.D.Disk.medium c.args.disk.now) (g.D.Disk.medium c.first_sync.new.disk)
-    (g.D.Disk.medium c.open_committed.new.disk) (c.first_sync.ensures.now k) (c.in_ok-first_sync.ensures.costs k) (c.open_committed.ensures.costs k)
+    opening_after c.open_synced.result (g.D.Disk.medium c.args.disk.now) (g.D.Disk.medium c.first_sync.new.disk)
+    (g.D.Disk.medium c.open_synced.new.disk) (c.first_sync.ensures.now k) (c.in_ok-first_sync.ensures.costs k) (c.open_synced.ensures.costs k)

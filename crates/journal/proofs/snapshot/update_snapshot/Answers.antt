@@ -5,9 +5,9 @@ use Rattle.image.specs.Image.{image_of}
 use Rattle.image.proofs.Measures.{length-piece, state_is_measured}
 use Rattle.meaning.specs.State.{IsState}
 use Rattle.image.specs.Pieces.{piece_count, piece_of}
-use Rattle.journal.specs.Extents.{AreSpelled}
+use Rattle.journal.specs.Extents.{AreCleanPiecesOf}
 use Rattle.image.proofs.Joining.{piece_inside, whole_image}
-use Rattle.journal.proofs.FrozenBytes.{IsFrozenTo, all_put, headed, none_behind, pass_one, put_one}
+use Rattle.journal.proofs.SnapshotBytes.{IsSnapshotTo, all_put, headed, none_behind, pass_one, put_one}
 use Rattle.affinity.specs.declared.geometry.Geometry.{Geometry}
 use Rattle.device_map.specs.Layout.{image_size}
 use Rattle.parcel.specs.Tree.{state_in}
@@ -68,13 +68,13 @@ loop-n-preserved c =
           let is_state = subst (λ (g : Geometry). IsState g x) (sym same) c.requires.whole.state in
           let long : length w.write_piece.new.out ≡ c.piece_size.result = ap length piece
           ∙ length-piece 2 c.geometry-g.result x (state_is_measured c.geometry-g.result x is_state) c.loop-n.n ∙ sym c.piece_size.ensures.size in
-          subst (λ (k : ℕ). IsFrozenTo c.geometry-g.result x c.args.dirty.now first (c.loop-n.n + 1) k c.if-is_dirty.bytes) (sym w.at-is)
-          (subst (λ (l : List ℕ). IsFrozenTo c.geometry-g.result x c.args.dirty.now first (c.loop-n.n + 1) (c.loop-n.at + c.piece_size.result) l) (sym w.bytes-is)
+          subst (λ (k : ℕ). IsSnapshotTo c.geometry-g.result x c.args.dirty.now first (c.loop-n.n + 1) k c.if-is_dirty.bytes) (sym w.at-is)
+          (subst (λ (l : List ℕ). IsSnapshotTo c.geometry-g.result x c.args.dirty.now first (c.loop-n.n + 1) (c.loop-n.at + c.piece_size.result) l) (sym w.bytes-is)
           (put_one c.geometry-g.result x c.args.dirty.now first c.loop-n.n c.loop-n.at c.piece_size.result c.loop-n.bytes size few
           c.piece_size.ensures.size c.loop-n.invariant (c.loop-n.at + c.piece_size.result - c.loop-n.at) w.write_piece.new.out over long piece))
       | else-is_dirty w ↦
-          subst (λ (k : ℕ). IsFrozenTo c.geometry-g.result x c.args.dirty.now first (c.loop-n.n + 1) k c.if-is_dirty.bytes) (sym w.at-is)
-          (subst (λ (l : List ℕ). IsFrozenTo c.geometry-g.result x c.args.dirty.now first (c.loop-n.n + 1) (c.loop-n.at + c.piece_size.result) l) (sym w.bytes-is)
+          subst (λ (k : ℕ). IsSnapshotTo c.geometry-g.result x c.args.dirty.now first (c.loop-n.n + 1) k c.if-is_dirty.bytes) (sym w.at-is)
+          (subst (λ (l : List ℕ). IsSnapshotTo c.geometry-g.result x c.args.dirty.now first (c.loop-n.n + 1) (c.loop-n.at + c.piece_size.result) l) (sym w.bytes-is)
           (pass_one c.geometry-g.result x c.args.dirty.now first c.loop-n.n c.loop-n.at c.piece_size.result c.loop-n.bytes size few c.piece_size.ensures.size c.loop-n.invariant
           (grind (arith, common_steps))))
     ]
@@ -87,6 +87,6 @@ returns-clause-image c = λ right.
     let all : c.loop-n.n ≡ piece_count c.geometry-g.result = omega (arith, count, c.loop-n-test.false, c.loop-n.auto.n-end, c.requires.dirty) in
     let size : length c.loop-n.bytes ≡ image_size c.geometry-g.result = c.loop-n.invariant.size ∙ c.write_head.ensures.size ∙ c.requires.size ∙ sym (ap image_size same) in
     let right' = headed c.geometry-g.result x c.args.dirty.now c.args.bytes.now c.write_head.new.bytes c.write_head.ensures.head c.write_head.ensures.rest
-    (subst (λ (g : Geometry). AreSpelled g x c.args.dirty.now c.args.bytes.now) (sym same) right) in
+    (subst (λ (g : Geometry). AreCleanPiecesOf g x c.args.dirty.now c.args.bytes.now) (sym same) right) in
     all_put c.geometry-g.result x all c.loop-n.invariant.place size (c.loop-n.invariant.so_far right')
     ∙ ap (λ (g : Geometry). image_of 2 g x) same

@@ -1,7 +1,7 @@
 -- Up to here the bytes are those of the image, if the clean pieces were so at first.
-use Rattle.journal.proofs.FrozenBytes.{IsFrozenTo}
+use Rattle.journal.proofs.SnapshotBytes.{IsSnapshotTo}
 use Rattle.parcel.specs.Tree.{state_in}
 use Rattle.journal.proofs.snapshot.update_snapshot.Given as goal
 
 abbrev pub invariant-loop-n : goal.invariant-loop-n
-invariant-loop-n l = IsFrozenTo l.g (state_in l.tree) l.dirty l.initial.bytes l.n l.at l.bytes
+invariant-loop-n l = IsSnapshotTo l.g (state_in l.tree) l.dirty l.initial.bytes l.n l.at l.bytes

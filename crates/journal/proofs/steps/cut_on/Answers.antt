@@ -53,7 +53,7 @@ returns-clause-begun g c = λ k.
         synced = chained.synced;
       };
       none = begun_none geometry named _ is_area w0 w1 w2 recovers clears cleared chains are c.requires.long_enough chained;
-      forced = begun_forced geometry named _ is_area w0 w1 w2 recovers clears cleared chains are c.requires.long_enough chained
+      same_records = begun_forced geometry named _ is_area w0 w1 w2 recovers clears cleared chains are c.requires.long_enough chained
           (g.met.D.Disk.bytes c.args.disk.now) (g.met.D.Disk.bytes c.open_chain.new.disk);
       images = begun_images geometry named _ is_area w0 w1 w2 recovers clears cleared chains are c.requires.long_enough chained;
     }

@@ -9,8 +9,8 @@ use Rattle.journal.proofs.Finishing.{finish_image_moments, finish_moments, finis
 use Rattle.journal.proofs.StillRefused.{finish_alike, image_alike}
 use Rattle.oplog.proofs.Answered.{on_ok}
 use Rattle.oplog.proofs.Beyond.{beyond, beyond_then}
-use Rattle.oplog.specs.Changes.{ChangesOnly, IsSameBut, IsSameButRoot}
-use Rattle.device_map.specs.Layout.{layout_of, image, other}
+use Rattle.oplog.specs.Changes.{CrashesChangeOnly, IsSameBut, IsSameButRoot}
+use Rattle.device_map.specs.Layout.{layout_of, image_part, other}
 use Rattle.journal.proofs.steps.finish_on.Goals as goal
 
 along : {A B : Type 0} (P : A → B → Type 0) {a a' : A} {b b' : B} → a ≡ a' → b ≡ b' → P a b → P a' b'
@@ -22,14 +22,14 @@ write_image-requires-clause-clean g c = λ k n few clean.
 
 pub returns-then-is_err-clause-any_moment : goal.returns-then-is_err-clause-any_moment
 returns-then-is_err-clause-any_moment g c = λ k.
-    let writes = along (λ (x : Geometry) (n : ℕ). ChangesOnly (g.D.Disk.medium c.args.disk.now) (g.D.Disk.medium c.write_image.new.disk)
-    (IsSameBut (layout_of x) (image (other n)))) c.geometry-g.ensures c.named-second.ensures.named (c.write_image.ensures.any_moment k) in
+    let writes = along (λ (x : Geometry) (n : ℕ). CrashesChangeOnly (g.D.Disk.medium c.args.disk.now) (g.D.Disk.medium c.write_image.new.disk)
+    (IsSameBut (layout_of x) (image_part (other n)))) c.geometry-g.ensures c.named-second.ensures.named (c.write_image.ensures.any_moment k) in
     finish_image_moments c.args.halves.now c.args.bytes.now _ (omega (arith, c.named-second.ensures.named, c.named-second.ensures.half)) (c.requires.unfinished k) _ writes
 
 pub returns-in_err-flip_root-clause-any_moment : goal.returns-in_err-flip_root-clause-any_moment
 returns-in_err-flip_root-clause-any_moment g c = λ k.
-    let writes = along (λ (x : Geometry) (n : ℕ). ChangesOnly (g.D.Disk.medium c.args.disk.now) (g.D.Disk.medium c.write_image.new.disk)
-    (IsSameBut (layout_of x) (image (other n)))) c.geometry-g.ensures c.named-second.ensures.named (c.write_image.ensures.any_moment k) in
+    let writes = along (λ (x : Geometry) (n : ℕ). CrashesChangeOnly (g.D.Disk.medium c.args.disk.now) (g.D.Disk.medium c.write_image.new.disk)
+    (IsSameBut (layout_of x) (image_part (other n)))) c.geometry-g.ensures c.named-second.ensures.named (c.write_image.ensures.any_moment k) in
     let imaged = along (λ (x : Geometry) (n : ℕ). Imaged x (other n) c.args.bytes.now (g.D.Disk.medium c.args.disk.now)
     (g.D.Disk.medium c.write_image.new.disk)) c.geometry-g.ensures c.named-second.ensures.named
     (on_ok c.write_image.result _ (sym c.is_err.ensures.value ∙ c.if-is_err.false) c.write_image.ensures.written k) in
@@ -38,8 +38,8 @@ returns-in_err-flip_root-clause-any_moment g c = λ k.
 
 pub returns-clause-any_moment : goal.returns-clause-any_moment
 returns-clause-any_moment g c = λ k.
-    let writes = along (λ (x : Geometry) (n : ℕ). ChangesOnly (g.D.Disk.medium c.args.disk.now) (g.D.Disk.medium c.write_image.new.disk)
-    (IsSameBut (layout_of x) (image (other n)))) c.geometry-g.ensures c.named-second.ensures.named (c.write_image.ensures.any_moment k) in
+    let writes = along (λ (x : Geometry) (n : ℕ). CrashesChangeOnly (g.D.Disk.medium c.args.disk.now) (g.D.Disk.medium c.write_image.new.disk)
+    (IsSameBut (layout_of x) (image_part (other n)))) c.geometry-g.ensures c.named-second.ensures.named (c.write_image.ensures.any_moment k) in
     let imaged = along (λ (x : Geometry) (n : ℕ). Imaged x (other n) c.args.bytes.now (g.D.Disk.medium c.args.disk.now)
     (g.D.Disk.medium c.write_image.new.disk)) c.geometry-g.ensures c.named-second.ensures.named
     (on_ok c.write_image.result _ (sym c.is_err.ensures.value ∙ c.if-is_err.false) c.write_image.ensures.written k) in
@@ -48,8 +48,8 @@ returns-clause-any_moment g c = λ k.
 
 pub returns-clause-finished : goal.returns-clause-finished
 returns-clause-finished g c = λ k.
-    let writes = along (λ (x : Geometry) (n : ℕ). ChangesOnly (g.D.Disk.medium c.args.disk.now) (g.D.Disk.medium c.write_image.new.disk)
-    (IsSameBut (layout_of x) (image (other n)))) c.geometry-g.ensures c.named-second.ensures.named (c.write_image.ensures.any_moment k) in
+    let writes = along (λ (x : Geometry) (n : ℕ). CrashesChangeOnly (g.D.Disk.medium c.args.disk.now) (g.D.Disk.medium c.write_image.new.disk)
+    (IsSameBut (layout_of x) (image_part (other n)))) c.geometry-g.ensures c.named-second.ensures.named (c.write_image.ensures.any_moment k) in
     let imaged = along (λ (x : Geometry) (n : ℕ). Imaged x (other n) c.args.bytes.now (g.D.Disk.medium c.args.disk.now)
     (g.D.Disk.medium c.write_image.new.disk)) c.geometry-g.ensures c.named-second.ensures.named
     (on_ok c.write_image.result _ (sym c.is_err.ensures.value ∙ c.if-is_err.false) c.write_image.ensures.written k) in
@@ -58,14 +58,14 @@ returns-clause-finished g c = λ k.
 
 pub returns-then-is_err-clause-alike : goal.returns-then-is_err-clause-alike
 returns-then-is_err-clause-alike g c = λ k x reads held.
-    let writes = along (λ (h : Geometry) (n : ℕ). ChangesOnly (g.D.Disk.medium c.args.disk.now) (g.D.Disk.medium c.write_image.new.disk)
-    (IsSameBut (layout_of h) (image (other n)))) c.geometry-g.ensures c.named-second.ensures.named (c.write_image.ensures.any_moment k) in
+    let writes = along (λ (h : Geometry) (n : ℕ). CrashesChangeOnly (g.D.Disk.medium c.args.disk.now) (g.D.Disk.medium c.write_image.new.disk)
+    (IsSameBut (layout_of h) (image_part (other n)))) c.geometry-g.ensures c.named-second.ensures.named (c.write_image.ensures.any_moment k) in
     image_alike c.args.halves.now.geometry c.args.halves.now.named (omega (arith, c.named-second.ensures.named, c.named-second.ensures.half)) x _ _ (c.requires.unfinished k).synced held writes
 
 pub returns-in_err-flip_root-clause-alike : goal.returns-in_err-flip_root-clause-alike
 returns-in_err-flip_root-clause-alike g c = λ k x reads held.
-    let writes = along (λ (h : Geometry) (n : ℕ). ChangesOnly (g.D.Disk.medium c.args.disk.now) (g.D.Disk.medium c.write_image.new.disk)
-    (IsSameBut (layout_of h) (image (other n)))) c.geometry-g.ensures c.named-second.ensures.named (c.write_image.ensures.any_moment k) in
+    let writes = along (λ (h : Geometry) (n : ℕ). CrashesChangeOnly (g.D.Disk.medium c.args.disk.now) (g.D.Disk.medium c.write_image.new.disk)
+    (IsSameBut (layout_of h) (image_part (other n)))) c.geometry-g.ensures c.named-second.ensures.named (c.write_image.ensures.any_moment k) in
     let imaged = along (λ (h : Geometry) (n : ℕ). Imaged h (other n) c.args.bytes.now (g.D.Disk.medium c.args.disk.now)
     (g.D.Disk.medium c.write_image.new.disk)) c.geometry-g.ensures c.named-second.ensures.named
     (on_ok c.write_image.result _ (sym c.is_err.ensures.value ∙ c.if-is_err.false) c.write_image.ensures.written k) in
@@ -74,8 +74,8 @@ returns-in_err-flip_root-clause-alike g c = λ k x reads held.
 
 pub returns-clause-alike : goal.returns-clause-alike
 returns-clause-alike g c = λ k x reads held.
-    let writes = along (λ (h : Geometry) (n : ℕ). ChangesOnly (g.D.Disk.medium c.args.disk.now) (g.D.Disk.medium c.write_image.new.disk)
-    (IsSameBut (layout_of h) (image (other n)))) c.geometry-g.ensures c.named-second.ensures.named (c.write_image.ensures.any_moment k) in
+    let writes = along (λ (h : Geometry) (n : ℕ). CrashesChangeOnly (g.D.Disk.medium c.args.disk.now) (g.D.Disk.medium c.write_image.new.disk)
+    (IsSameBut (layout_of h) (image_part (other n)))) c.geometry-g.ensures c.named-second.ensures.named (c.write_image.ensures.any_moment k) in
     let imaged = along (λ (h : Geometry) (n : ℕ). Imaged h (other n) c.args.bytes.now (g.D.Disk.medium c.args.disk.now)
     (g.D.Disk.medium c.write_image.new.disk)) c.geometry-g.ensures c.named-second.ensures.named
     (on_ok c.write_image.result _ (sym c.is_err.ensures.value ∙ c.if-is_err.false) c.write_image.ensures.written k) in
@@ -87,9 +87,9 @@ returns-then-is_err-clause-beyond g c = λ k.
     let l = layout_of c.args.halves.now.geometry in
     let w0 = g.D.Disk.medium c.args.disk.now in
     let w1 = g.D.Disk.medium c.write_image.new.disk in
-    let writes = along (λ (x : Geometry) (n : ℕ). ChangesOnly w0 w1 (IsSameBut (layout_of x) (image (other n)))) c.geometry-g.ensures
+    let writes = along (λ (x : Geometry) (n : ℕ). CrashesChangeOnly w0 w1 (IsSameBut (layout_of x) (image_part (other n)))) c.geometry-g.ensures
     c.named-second.ensures.named (c.write_image.ensures.any_moment k) in
-    let imaged = beyond l w0 w1 (IsSameBut l (image (other c.args.halves.now.named))) (λ o d h. h.rest) writes in
+    let imaged = beyond l w0 w1 (IsSameBut l (image_part (other c.args.halves.now.named))) (λ o d h. h.rest) writes in
     imaged
 
 pub returns-in_err-flip_root-clause-beyond : goal.returns-in_err-flip_root-clause-beyond
@@ -97,9 +97,9 @@ returns-in_err-flip_root-clause-beyond g c = λ k.
     let l = layout_of c.args.halves.now.geometry in
     let w0 = g.D.Disk.medium c.args.disk.now in
     let w1 = g.D.Disk.medium c.write_image.new.disk in
-    let writes = along (λ (x : Geometry) (n : ℕ). ChangesOnly w0 w1 (IsSameBut (layout_of x) (image (other n)))) c.geometry-g.ensures
+    let writes = along (λ (x : Geometry) (n : ℕ). CrashesChangeOnly w0 w1 (IsSameBut (layout_of x) (image_part (other n)))) c.geometry-g.ensures
     c.named-second.ensures.named (c.write_image.ensures.any_moment k) in
-    let imaged = beyond l w0 w1 (IsSameBut l (image (other c.args.halves.now.named))) (λ o d h. h.rest) writes in
+    let imaged = beyond l w0 w1 (IsSameBut l (image_part (other c.args.halves.now.named))) (λ o d h. h.rest) writes in
     let w2 = g.D.Disk.medium c.flip_root.new.disk in
     beyond_then l w0 w1 w2 imaged (beyond l w1 w2 (IsSameButRoot l) (λ o d h. h.same.rest) (c.flip_root.ensures.any_moment k))
 
@@ -108,9 +108,9 @@ returns-clause-beyond g c = λ k.
     let l = layout_of c.args.halves.now.geometry in
     let w0 = g.D.Disk.medium c.args.disk.now in
     let w1 = g.D.Disk.medium c.write_image.new.disk in
-    let writes = along (λ (x : Geometry) (n : ℕ). ChangesOnly w0 w1 (IsSameBut (layout_of x) (image (other n)))) c.geometry-g.ensures
+    let writes = along (λ (x : Geometry) (n : ℕ). CrashesChangeOnly w0 w1 (IsSameBut (layout_of x) (image_part (other n)))) c.geometry-g.ensures
     c.named-second.ensures.named (c.write_image.ensures.any_moment k) in
-    let imaged = beyond l w0 w1 (IsSameBut l (image (other c.args.halves.now.named))) (λ o d h. h.rest) writes in
+    let imaged = beyond l w0 w1 (IsSameBut l (image_part (other c.args.halves.now.named))) (λ o d h. h.rest) writes in
     let w2 = g.D.Disk.medium c.flip_root.new.disk in
     beyond_then l w0 w1 w2 imaged (beyond l w1 w2 (IsSameButRoot l) (λ o d h. h.same.rest) (c.flip_root.ensures.any_moment k))
 

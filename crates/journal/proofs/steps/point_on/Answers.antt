@@ -8,8 +8,8 @@ use Rattle.journal.proofs.Pointing.{clear_moments, flip_moments, image_moments, 
 use Rattle.oplog.proofs.Answered.{on_ok}
 use Rattle.oplog.proofs.Beyond.{beyond, beyond_then}
 use Rattle.oplog.specs.Calls.{Flips, HasFlipped}
-use Rattle.oplog.specs.Changes.{ChangesOnly, IsSameBut, IsSameButGates, IsSameButRoot}
-use Rattle.device_map.specs.Layout.{layout_of, image, other}
+use Rattle.oplog.specs.Changes.{CrashesChangeOnly, IsSameBut, IsSameButGates, IsSameButRoot}
+use Rattle.device_map.specs.Layout.{layout_of, image_part, other}
 use Rattle.oplog.specs.Log.{Log}
 use Rattle.journal.proofs.steps.point_on.Goals as goal
 
@@ -30,15 +30,15 @@ write_image-requires-clause-clean g c = λ k.
 
 pub returns-then-is_err-clause-any_moment : goal.returns-then-is_err-clause-any_moment
 returns-then-is_err-clause-any_moment g c = λ k.
-    let writes = along (λ (x : Geometry) (n : ℕ). ChangesOnly (g.D.Disk.medium c.clear_other.new.disk) (g.D.Disk.medium c.write_image.new.disk)
-    (IsSameBut (layout_of x) (image (other n)))) c.geometry-g.ensures c.named-area.ensures.named (c.write_image.ensures.any_moment k) in
+    let writes = along (λ (x : Geometry) (n : ℕ). CrashesChangeOnly (g.D.Disk.medium c.clear_other.new.disk) (g.D.Disk.medium c.write_image.new.disk)
+    (IsSameBut (layout_of x) (image_part (other n)))) c.geometry-g.ensures c.named-area.ensures.named (c.write_image.ensures.any_moment k) in
     image_moments c.args.halves.now.geometry c.args.halves.now.named _ (omega (arith, c.named-area.ensures.named, c.named-area.ensures.half)) _ _
     (c.requires.alone k).recovers (c.clear_other.ensures.any_moment k) _ writes
 
 pub returns-in_err-flip_root-clause-any_moment : goal.returns-in_err-flip_root-clause-any_moment
 returns-in_err-flip_root-clause-any_moment g c = λ k.
-    let writes = along (λ (x : Geometry) (n : ℕ). ChangesOnly (g.D.Disk.medium c.clear_other.new.disk) (g.D.Disk.medium c.write_image.new.disk)
-    (IsSameBut (layout_of x) (image (other n)))) c.geometry-g.ensures c.named-area.ensures.named (c.write_image.ensures.any_moment k) in
+    let writes = along (λ (x : Geometry) (n : ℕ). CrashesChangeOnly (g.D.Disk.medium c.clear_other.new.disk) (g.D.Disk.medium c.write_image.new.disk)
+    (IsSameBut (layout_of x) (image_part (other n)))) c.geometry-g.ensures c.named-area.ensures.named (c.write_image.ensures.any_moment k) in
     let imaged = along (λ (x : Geometry) (n : ℕ). Imaged x (other n) c.args.bytes.now (g.D.Disk.medium c.clear_other.new.disk)
     (g.D.Disk.medium c.write_image.new.disk)) c.geometry-g.ensures c.named-area.ensures.named
     (on_ok c.write_image.result _ (sym c.is_err.ensures.value ∙ c.if-is_err.false) c.write_image.ensures.written k) in
@@ -49,8 +49,8 @@ returns-in_err-flip_root-clause-any_moment g c = λ k.
 
 pub returns-clause-any_moment : goal.returns-clause-any_moment
 returns-clause-any_moment g c = λ k.
-    let writes = along (λ (x : Geometry) (n : ℕ). ChangesOnly (g.D.Disk.medium c.clear_other.new.disk) (g.D.Disk.medium c.write_image.new.disk)
-    (IsSameBut (layout_of x) (image (other n)))) c.geometry-g.ensures c.named-area.ensures.named (c.write_image.ensures.any_moment k) in
+    let writes = along (λ (x : Geometry) (n : ℕ). CrashesChangeOnly (g.D.Disk.medium c.clear_other.new.disk) (g.D.Disk.medium c.write_image.new.disk)
+    (IsSameBut (layout_of x) (image_part (other n)))) c.geometry-g.ensures c.named-area.ensures.named (c.write_image.ensures.any_moment k) in
     let imaged = along (λ (x : Geometry) (n : ℕ). Imaged x (other n) c.args.bytes.now (g.D.Disk.medium c.clear_other.new.disk)
     (g.D.Disk.medium c.write_image.new.disk)) c.geometry-g.ensures c.named-area.ensures.named
     (on_ok c.write_image.result _ (sym c.is_err.ensures.value ∙ c.if-is_err.false) c.write_image.ensures.written k) in
@@ -68,7 +68,8 @@ returns-clause-pointed g c = λ k.
     let w2 = g.D.Disk.medium c.write_image.new.disk in
     let w3 = g.D.Disk.medium c.flip_root.new.disk in
     let is_area : named < 2 = omega (arith, c.named-area.ensures.named, c.named-area.ensures.half) in
-    let writes = along (λ (x : Geometry) (n : ℕ). ChangesOnly w1 w2 (IsSameBut (layout_of x) (image (other n)))) c.geometry-g.ensures c.named-area.ensures.named (c.write_image.ensures.any_moment k) in
+    let writes = along (λ (x : Geometry) (n : ℕ). CrashesChangeOnly w1 w2 (IsSameBut (layout_of x) (image_part (other n)))) c.geometry-g.ensures c.named-area.ensures.named
+    (c.write_image.ensures.any_moment k) in
     let imaged = along (λ (x : Geometry) (n : ℕ). Imaged x (other n) c.args.bytes.now w1 w2) c.geometry-g.ensures c.named-area.ensures.named
     (on_ok c.write_image.result _ (sym c.is_err.ensures.value ∙ c.if-is_err.false) c.write_image.ensures.written k) in
     let flipped = subst (λ (log : Log). HasFlipped log w2 w3) c.in_ok-clear_other.ensures.log (c.in_ok-flip_root.ensures.flipped k) in
@@ -103,8 +104,9 @@ returns-then-is_err-clause-beyond g c = λ k.
     let w1 = g.D.Disk.medium c.clear_other.new.disk in
     let cleared = beyond l w0 w1 (IsSameButGates l (other c.args.halves.now.named)) (λ o d h. h.same.rest) (c.clear_other.ensures.any_moment k) in
     let w2 = g.D.Disk.medium c.write_image.new.disk in
-    let writes = along (λ (x : Geometry) (n : ℕ). ChangesOnly w1 w2 (IsSameBut (layout_of x) (image (other n)))) c.geometry-g.ensures c.named-area.ensures.named (c.write_image.ensures.any_moment k) in
-    let imaged = beyond_then l w0 w1 w2 cleared (beyond l w1 w2 (IsSameBut l (image (other c.args.halves.now.named))) (λ o d h. h.rest) writes) in
+    let writes = along (λ (x : Geometry) (n : ℕ). CrashesChangeOnly w1 w2 (IsSameBut (layout_of x) (image_part (other n)))) c.geometry-g.ensures c.named-area.ensures.named
+    (c.write_image.ensures.any_moment k) in
+    let imaged = beyond_then l w0 w1 w2 cleared (beyond l w1 w2 (IsSameBut l (image_part (other c.args.halves.now.named))) (λ o d h. h.rest) writes) in
     imaged
 
 pub returns-in_err-flip_root-clause-beyond : goal.returns-in_err-flip_root-clause-beyond
@@ -114,8 +116,9 @@ returns-in_err-flip_root-clause-beyond g c = λ k.
     let w1 = g.D.Disk.medium c.clear_other.new.disk in
     let cleared = beyond l w0 w1 (IsSameButGates l (other c.args.halves.now.named)) (λ o d h. h.same.rest) (c.clear_other.ensures.any_moment k) in
     let w2 = g.D.Disk.medium c.write_image.new.disk in
-    let writes = along (λ (x : Geometry) (n : ℕ). ChangesOnly w1 w2 (IsSameBut (layout_of x) (image (other n)))) c.geometry-g.ensures c.named-area.ensures.named (c.write_image.ensures.any_moment k) in
-    let imaged = beyond_then l w0 w1 w2 cleared (beyond l w1 w2 (IsSameBut l (image (other c.args.halves.now.named))) (λ o d h. h.rest) writes) in
+    let writes = along (λ (x : Geometry) (n : ℕ). CrashesChangeOnly w1 w2 (IsSameBut (layout_of x) (image_part (other n)))) c.geometry-g.ensures c.named-area.ensures.named
+    (c.write_image.ensures.any_moment k) in
+    let imaged = beyond_then l w0 w1 w2 cleared (beyond l w1 w2 (IsSameBut l (image_part (other c.args.halves.now.named))) (λ o d h. h.rest) writes) in
     let w3 = g.D.Disk.medium c.flip_root.new.disk in
     let flips = subst (λ (log : Log). Flips log w2 w3) c.in_ok-clear_other.ensures.log (c.flip_root.ensures.any_moment k) in
     beyond_then l w0 w2 w3 imaged (beyond l w2 w3 (IsSameButRoot l) (λ o d h. h.same.rest) flips)
@@ -127,8 +130,9 @@ returns-clause-beyond g c = λ k.
     let w1 = g.D.Disk.medium c.clear_other.new.disk in
     let cleared = beyond l w0 w1 (IsSameButGates l (other c.args.halves.now.named)) (λ o d h. h.same.rest) (c.clear_other.ensures.any_moment k) in
     let w2 = g.D.Disk.medium c.write_image.new.disk in
-    let writes = along (λ (x : Geometry) (n : ℕ). ChangesOnly w1 w2 (IsSameBut (layout_of x) (image (other n)))) c.geometry-g.ensures c.named-area.ensures.named (c.write_image.ensures.any_moment k) in
-    let imaged = beyond_then l w0 w1 w2 cleared (beyond l w1 w2 (IsSameBut l (image (other c.args.halves.now.named))) (λ o d h. h.rest) writes) in
+    let writes = along (λ (x : Geometry) (n : ℕ). CrashesChangeOnly w1 w2 (IsSameBut (layout_of x) (image_part (other n)))) c.geometry-g.ensures c.named-area.ensures.named
+    (c.write_image.ensures.any_moment k) in
+    let imaged = beyond_then l w0 w1 w2 cleared (beyond l w1 w2 (IsSameBut l (image_part (other c.args.halves.now.named))) (λ o d h. h.rest) writes) in
     let w3 = g.D.Disk.medium c.flip_root.new.disk in
     let flips = subst (λ (log : Log). Flips log w2 w3) c.in_ok-clear_other.ensures.log (c.flip_root.ensures.any_moment k) in
     beyond_then l w0 w2 w3 imaged (beyond l w2 w3 (IsSameButRoot l) (λ o d h. h.same.rest) flips)

@@ -2,8 +2,8 @@
 use Rattle.legal_runs.proofs.Answering.{run_replies, run_in_order, answered_left}
 use Rattle.legal_runs.proofs.laws.answered_changes_are_in_the_log.Goals as goal
 
-pub returns-clause-told : goal.returns-clause-told
-returns-clause-told c = run_replies
+pub returns-clause-reply_pairs : goal.returns-clause-reply_pairs
+returns-clause-reply_pairs c = run_replies
 
 pub returns-clause-in_order : goal.returns-clause-in_order
 returns-clause-in_order c = run_in_order

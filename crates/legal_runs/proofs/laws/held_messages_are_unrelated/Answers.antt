@@ -1,10 +1,10 @@
 -- Each core state of the run is sound.
 use Rattle.legal_runs.specs.CoreState.{held}
-use Rattle.legal_runs.specs.Laws.{AreApart, IsSoundCoreState}
+use Rattle.legal_runs.specs.Laws.{AreUnrelated, IsSoundCoreState}
 use Rattle.legal_runs.proofs.Lists.{all_weaker}
 use Rattle.legal_runs.proofs.Sound.{run_sound}
 use Rattle.legal_runs.proofs.laws.held_messages_are_unrelated.Goals as goal
 
 pub returns : goal.returns
-returns c g old events legal sound = all_weaker (λ event. IsSoundCoreState g event.state_after.core) (λ event. AreApart g (held event.state_after.core))
+returns c g old events legal sound = all_weaker (λ event. IsSoundCoreState g event.state_after.core) (λ event. AreUnrelated g (held event.state_after.core))
     (λ event k. k.apart) events (run_sound g old events legal sound)

@@ -2,7 +2,7 @@
 use Rattle.legal_runs.specs.Runs.{arrived}
 use Rattle.legal_runs.proofs.Arrivals.{run_ascending}
 use Rattle.legal_runs.proofs.Elements.{in_contained}
-use Rattle.legal_runs.proofs.SerialLogs.{answered_came, none_lost, one_message}
+use Rattle.legal_runs.proofs.SerialHistories.{answered_came, none_lost, one_message}
 use Rattle.legal_runs.proofs.laws.messages_are_neither_lost_nor_doubled.Goals as goal
 
 pub returns-clause-all : goal.returns-clause-all

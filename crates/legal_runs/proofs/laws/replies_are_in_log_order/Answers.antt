@@ -4,7 +4,7 @@ use Rattle.legal_runs.proofs.Runs.{run_follows, run_answers}
 use Rattle.legal_runs.proofs.laws.replies_are_in_log_order.Goals as goal
 
 pub returns-clause-replied : goal.returns-clause-replied
-returns-clause-replied c g old events legal sound = sym (run_follows g old events legal sound).told
+returns-clause-replied c g old events legal sound = sym (run_follows g old events legal sound).reply_pairs
 
 pub returns-clause-answered : goal.returns-clause-answered
 returns-clause-answered c = run_answers

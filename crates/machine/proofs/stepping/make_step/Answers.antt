@@ -1,4 +1,4 @@
--- The lemma on steps of the core.
+-- A step of the core alone leaves the hands with the jobs of what is in flight: by `core_holds`.
 use Rattle.std.proofs.Common.{refl}
 use Rattle.legal_runs.specs.declared.outcomes.Step.TheVariants as steps
 use Rattle.runs.proofs.Events.{core_holds}

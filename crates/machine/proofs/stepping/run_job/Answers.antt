@@ -1,4 +1,5 @@
--- The lemmas on what is done in one hand.
+-- Running the job in a hand is a step of the machine, and the hands hold jobs of the core afterwards: where there is no such hand,
+-- where its job was run, and where it has none.
 use Rattle.std.proofs.Common.{get_or}
 use Rattle.std.proofs.lemmas.Option.{slice_get-get_or}
 use Rattle.runs.proofs.Events.{a_job, no_job, run_nowhere}

@@ -1,4 +1,4 @@
--- A word of digits without a leading zero is its value; each early exit is a word that is no number.
+-- A word of digits without a leading zero gives its value; at each early exit the word is no number.
 use Rattle.std.proofs.Common.{◌≡◌, ℕ, ◌+◌, ◌-◌, ◌*◌, ◌<◌, length, get_or, take, true, false, Some, arith, List, Result, Ok, Err, ap, sym, ◌∙◌, inl, inr}
 use Rattle.std.specs.Str.{all_ascii_digits}
 use Rattle.std.specs.Str.Parse.{digits_value}

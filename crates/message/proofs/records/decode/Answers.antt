@@ -8,7 +8,7 @@ use Rattle.affinity.specs.Place.{is_in_range as are_in_range}
 use Rattle.messages.specs.declared.Msg.{Msg}
 use Rattle.messages.specs.Messages.{kind, four_numbers, is_in_range}
 use Rattle.message.specs.Records.{record_of}
-use Rattle.message.proofs.RecordLemmas.{data_there, decodes_none, decodes_some, head_there, record_by_parts, said_whole, said_room}
+use Rattle.message.proofs.RecordLemmas.{data_there, decodes_none, decodes_some, head_there, record_by_parts, whole_if_decoded, room_if_decoded}
 use Rattle.message.proofs.records.decode.Goals as goal
 use Rattle.message.proofs.records.decode.Goals.{else-has_head_of-via-then-has_head_of+else-has_data_of, else-has_head_of-via-else-has_head_of}
 
@@ -17,7 +17,7 @@ tested : (g : Geometry) (m : Msg) (k : Kind) (n : List ℕ) (t : Bool) → k ≡
 tested g m k n t ek en e = (λ i. are_in_range g (sym ek i) (sym en i)) ∙ sym e
 
 pub has_head_of-requires : goal.has_head_of-requires
-has_head_of-requires c = said_room c.args.bytes.now c.in_ok-m.m c.told-bytes c.fits-bytes (sym c.in_ok-m.ensures)
+has_head_of-requires c = room_if_decoded c.args.bytes.now c.in_ok-m.m c.told-bytes c.fits-bytes (sym c.in_ok-m.ensures)
 
 pub returns-in_err-m-clause-exact : goal.returns-in_err-m-clause-exact
 returns-in_err-m-clause-exact c = decodes_none c.args.g.now c.args.bytes.now _ c.from_residual.ensures (λ m says is there. let f : None ≡ Some m = c.in_err-m.ensures ∙ says in cc f)
@@ -40,7 +40,7 @@ returns-then-has_data_of-clause-exact c =
     decodes_some g bytes m (sym c.in_ok-m.ensures) (record_by_parts bytes m head (c.has_data_of.ensures.0 c.if-has_data_of.true)) there
 
 pub returns-then-has_data_of-clause-whole : goal.returns-then-has_data_of-clause-whole
-returns-then-has_data_of-clause-whole c = said_whole c.args.bytes.now c.in_ok-m.m c.told-bytes c.fits-bytes (sym c.in_ok-m.ensures)
+returns-then-has_data_of-clause-whole c = whole_if_decoded c.args.bytes.now c.in_ok-m.m c.told-bytes c.fits-bytes (sym c.in_ok-m.ensures)
 
 pub returns-else-has_head_of-clause-exact : goal.returns-else-has_head_of-clause-exact
 returns-else-has_head_of-clause-exact c =

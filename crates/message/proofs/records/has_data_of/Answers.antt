@@ -5,7 +5,7 @@ use Rattle.std.specs.Str.{bytes_eq}
 use Rattle.std.proofs.lemmas.List.{take_all}
 use Rattle.std.proofs.lemmas.Slice.Eq.{bytes_eq-Decides}
 use Rattle.messages.specs.Messages.{kind}
-use Rattle.message.proofs.RecordLemmas.{said_label, said_write, zeros_else}
+use Rattle.message.proofs.RecordLemmas.{label_if_decoded, write_if_decoded, zeros_else}
 use Rattle.message.proofs.records.has_data_of.Goals as goal
 
 -- whether the bytes from a place on are zeros
@@ -19,14 +19,14 @@ tested bytes n k t size e =
 
 pub returns-in-Write : goal.returns-in-Write
 returns-in-Write c = (
-  (λ is. said_write c.args.bytes.now c.args.m.now c.told-bytes c.fits-bytes (sym c.requires) (ap kind c.in-Write.is)),
+  (λ is. write_if_decoded c.args.bytes.now c.args.m.now c.told-bytes c.fits-bytes (sym c.requires) (ap kind c.in-Write.is)),
   (λ there. refl),
 )
 
 pub returns-in-SetLabel : goal.returns-in-SetLabel
 returns-in-SetLabel c =
     let zeros = tested c.args.bytes.now 40 480 c.eq.result c.told-bytes c.eq.ensures in
-    let label = said_label c.args.bytes.now c.args.m.now c.told-bytes c.fits-bytes (sym c.requires) (ap kind c.in-SetLabel.is) in
+    let label = label_if_decoded c.args.bytes.now c.args.m.now c.told-bytes c.fits-bytes (sym c.requires) (ap kind c.in-SetLabel.is) in
     ((λ is. label.0 (zeros.0 is)), (λ there. zeros.1 (label.1 there)))
 
 pub returns-in_default : goal.returns-in_default

@@ -1,4 +1,4 @@
--- A step changes the state below its place alone, which is unrelated to what is out.
+-- A step changes the state only at and below its affinity, which is unrelated to the one whose parcels are out.
 use Rattle.parcel.proofs.Holding.{shows_still}
 use Rattle.parcel.proofs.laws.step_elsewhere_is_shown.Goals as goal
 

@@ -3,8 +3,8 @@ use Rattle.std.proofs.Common.{◌≡◌, ℕ, ◌<◌, ◌∷◌, [], length, sl
 use Rattle.std.specs.Prelude.{None, IfSome}
 use Rattle.std.proofs.lemmas.List.{get_or_read, length-set}
 use Rattle.parcel.specs.Fits.{FitsAggregate, FitsVolume}
-use Rattle.parcel.specs.Levels.{volume_below, volume_in}
-use Rattle.parcel.specs.Nodes.{in_child, in_volume, in_aggregate, in_root, in_row, PutsBack}
+use Rattle.parcel.specs.Levels.{volume_below, volume_of_tree}
+use Rattle.parcel.specs.Nodes.{child_nodes, volume_nodes, aggregate_nodes, root_nodes, children_nodes, PutsBack}
 use Rattle.parcel.specs.Nodes.Node.{Inner}
 use Rattle.parcel.proofs.ChildRows.{each_set, fits_in_place, row_put}
 use Rattle.parcel.proofs.pieces.read_in_aggregate.Goals as goal
@@ -45,7 +45,7 @@ returns-clause-read c =
       now = r.now;
       there = ap (λ o. volume_below o i) c.in-Some.is ∙ ap (λ o. o) at ∙ r.there;
       read = r.read;
-      nodes = subst (λ o. PutsBack (i ∷ []) (in_volume r.now) (in_child in_aggregate o) (in_row in_volume Inner (slice_set row.items i c.read_in_volume.new.at))) (sym c.in-Some.is)
-          (row_put in_volume Inner row.items i c.read_in_volume.new.at below [] (in_volume r.now)
-          (subst (λ o. PutsBack [] (in_volume r.now) (in_child in_volume o) (in_child in_volume c.read_in_volume.new.at)) (sym at) r.nodes));
+      nodes = subst (λ o. PutsBack (i ∷ []) (volume_nodes r.now) (child_nodes aggregate_nodes o) (children_nodes volume_nodes Inner (slice_set row.items i c.read_in_volume.new.at))) (sym c.in-Some.is)
+          (row_put volume_nodes Inner row.items i c.read_in_volume.new.at below [] (volume_nodes r.now)
+          (subst (λ o. PutsBack [] (volume_nodes r.now) (child_nodes volume_nodes o) (child_nodes volume_nodes c.read_in_volume.new.at)) (sym at) r.nodes));
     }

@@ -3,8 +3,8 @@ use Rattle.std.proofs.Common.{◌≡◌, ℕ, ◌<◌, ◌∷◌, [], length, sl
 use Rattle.std.specs.Prelude.{None, IfSome}
 use Rattle.std.proofs.lemmas.List.{get_or_read, length-set}
 use Rattle.parcel.specs.Fits.{FitsRoot, FitsAggregate}
-use Rattle.parcel.specs.Levels.{volume_below, volume_in}
-use Rattle.parcel.specs.Nodes.{in_child, in_volume, in_aggregate, in_root, in_row, PutsBack}
+use Rattle.parcel.specs.Levels.{volume_below, volume_of_tree}
+use Rattle.parcel.specs.Nodes.{child_nodes, volume_nodes, aggregate_nodes, root_nodes, children_nodes, PutsBack}
 use Rattle.parcel.specs.Nodes.Node.{Inner}
 use Rattle.parcel.proofs.ChildRows.{each_set, fits_in_place, row_put}
 use Rattle.parcel.proofs.pieces.read_in_root.Goals as goal
@@ -43,10 +43,10 @@ returns-clause-read c =
     record {
       was = r.was;
       now = r.now;
-      there = ap (λ o. volume_in o i c.args.place.volume) c.in-Some.is ∙ ap (λ o. volume_below o c.args.place.volume) at ∙ r.there;
+      there = ap (λ o. volume_of_tree o i c.args.place.volume) c.in-Some.is ∙ ap (λ o. volume_below o c.args.place.volume) at ∙ r.there;
       read = r.read;
-      nodes = subst (λ o. PutsBack (i ∷ c.args.place.volume ∷ []) (in_volume r.now) (in_child in_root o)
-          (in_row in_aggregate Inner (slice_set row.items i c.read_in_aggregate.new.at))) (sym c.in-Some.is)
-          (row_put in_aggregate Inner row.items i c.read_in_aggregate.new.at below (c.args.place.volume ∷ []) (in_volume r.now)
-          (subst (λ o. PutsBack (c.args.place.volume ∷ []) (in_volume r.now) (in_child in_aggregate o) (in_child in_aggregate c.read_in_aggregate.new.at)) (sym at) r.nodes));
+      nodes = subst (λ o. PutsBack (i ∷ c.args.place.volume ∷ []) (volume_nodes r.now) (child_nodes root_nodes o)
+          (children_nodes aggregate_nodes Inner (slice_set row.items i c.read_in_aggregate.new.at))) (sym c.in-Some.is)
+          (row_put aggregate_nodes Inner row.items i c.read_in_aggregate.new.at below (c.args.place.volume ∷ []) (volume_nodes r.now)
+          (subst (λ o. PutsBack (c.args.place.volume ∷ []) (volume_nodes r.now) (child_nodes aggregate_nodes o) (child_nodes aggregate_nodes c.read_in_aggregate.new.at)) (sym at) r.nodes));
     }

@@ -2,14 +2,14 @@
 use Rattle.std.proofs.Common.{◌≡◌, ℕ, suc, ◌-◌, ◌*◌, sym, ap, subst, arith, ◌∙◌, Some}
 use Rattle.messages.specs.Messages.{AreSizedBytes}
 use Rattle.image.specs.Pieces.{piece_part_size}
-use Rattle.parcel.specs.Pieces.{IsPartRead}
+use Rattle.parcel.specs.Pieces.{IsPieceOfVolumeRead}
 use Rattle.parcel.proofs.PieceParts.{all_bytes, stripe_is_read, volume_is_read}
 use Rattle.parcel.proofs.pieces.read_part.Goals as goal
 
 pub returns-then-part-eq0 : goal.returns-then-part-eq0
 returns-then-part-eq0 c =
     let g = c.args.g.now in
-    subst (λ (part : ℕ). IsPartRead c.args.version g part c.args.bytes.now c.read_volume.result c.args.volume.now c.read_volume.new.volume) (sym c.if-part-eq0.true)
+    subst (λ (part : ℕ). IsPieceOfVolumeRead c.args.version g part c.args.bytes.now c.read_volume.result c.args.volume.now c.read_volume.new.volume) (sym c.if-part-eq0.true)
     (volume_is_read c.requires.fits c.requires.whole c.read_volume.ensures.good c.read_volume.ensures.taken c.read_volume.ensures.kept)
 
 pub returns : goal.returns
@@ -18,5 +18,5 @@ returns c =
     let s : ℕ = c.args.part - 1 in
     let next : suc s ≡ c.args.part = omega (arith, c.if-part-eq0.false) in
     let are : AreSizedBytes (g.quota * 520) c.args.bytes.now = (c.requires.size ∙ sym (ap (piece_part_size g) next), all_bytes c.args.bytes.now (λ i. (c.type_inv.bytes i).fits)) in
-    subst (λ (part : ℕ). IsPartRead c.args.version g part c.args.bytes.now c.read_stripe.result c.args.volume.now (record c.args.volume.now { logical = Some c.read_stripe.new.logical })) next
+    subst (λ (part : ℕ). IsPieceOfVolumeRead c.args.version g part c.args.bytes.now c.read_stripe.result c.args.volume.now (record c.args.volume.now { logical = Some c.read_stripe.new.logical })) next
     (stripe_is_read c.in-Some.is c.requires.whole c.read_stripe.ensures.fits c.read_stripe.ensures.whole c.read_stripe.ensures.files c.read_stripe.ensures.piece c.read_stripe.ensures.blocks are)

@@ -3,4 +3,4 @@ use Rattle.std.proofs.Common.{refl}
 use Rattle.parcel.proofs.running.run.Goals as goal
 
 pub returns : goal.returns
-returns c = rw (← c.job.view_is) (record { ticket = refl; message = refl; suits = c.run_on-reply.ensures.suits; step = c.run_on-reply.ensures.step })
+returns c = rw (← c.job.view_is) (record { ticket = refl; message = refl; runnable = c.run_on-reply.ensures.runnable; step = c.run_on-reply.ensures.step })

@@ -1,6 +1,6 @@
 -- The answers so far are the serial server's, and so is the state after them, with its counts right.
 use Rattle.message.specs.Reader.{unread, is_drained, KnowsEnd}
-use Rattle.message.specs.Waiting.{so_far}
+use Rattle.message.specs.Waiting.{all_output}
 use Rattle.plain.specs.Server.{server_state, IsConsistent}
 use Rattle.meaning.specs.Progress.{HasAnswered}
 use Rattle.plain.proofs.answering.answer_all.Given as goal
@@ -10,5 +10,5 @@ invariant-loop g l = record {
   sound : IsConsistent l.g l.server;
   knows : KnowsEnd g.R.Read.remaining l.lines;
   answered : HasAnswered l.g (server_state l.initial.server) (unread g.R.Read.remaining l.initial.lines) (unread g.R.Read.remaining l.lines)
-      (is_drained l.lines) (server_state l.server) (so_far (g.W.Write.contents l.initial.w) l.initial.out) (so_far (g.W.Write.contents l.w) l.out);
+      (is_drained l.lines) (server_state l.server) (all_output (g.W.Write.contents l.initial.w) l.initial.out) (all_output (g.W.Write.contents l.w) l.out);
 }

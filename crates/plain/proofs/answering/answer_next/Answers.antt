@@ -5,7 +5,7 @@ use Rattle.messages.specs.FirstLine.{LosesFront}
 use Rattle.message.specs.Reader.{unread, line_of, source}
 use Rattle.messages.specs.Grammar.{message_of}
 use Rattle.messages.specs.Replies.{no_message}
-use Rattle.message.specs.Waiting.{so_far}
+use Rattle.message.specs.Waiting.{all_output}
 use Rattle.message.proofs.Adding.{adds_so_far}
 use Rattle.plain.specs.Server.{server_state}
 use Rattle.meaning.specs.Output.{answer_line as line_answer, state_after_line}
@@ -20,7 +20,7 @@ returns-in-Ok-clause-answered g c = λ start input before h.
     let contents = g.W.Write.contents c.send_before_line.new.w in
     let answer = line_answer c.args.g.now (server_state c.args.server.now) (message_of (line_of c.next_line.new.self)) in
     answers_line (line_of c.next_line.new.self)
-    (goes_on {newer = so_far contents c.send_before_line.new.out} h c.in_ok-send_before_line.ensures.kept) (sym c.if-is_drained.ensures.value)
+    (goes_on {newer = all_output contents c.send_before_line.new.out} h c.in_ok-send_before_line.ensures.kept) (sym c.if-is_drained.ensures.value)
     (rw c.in-Ok-Line.field-0-is at c.in-Ok-Line.ensures.found) (rw c.in-Ok-Line.field-0-is at c.in-Ok-Line.ensures.closes)
     (c.in-Ok.ensures.state ∙ ap (λ z. state_after_line c.args.g.now (server_state c.args.server.now) (message_of z)) c.line.ensures) refl
     (adds_so_far contents c.send_before_line.new.out c.answer_line.new.out answer (rw c.line.ensures at c.in-Ok.ensures.added))
@@ -28,13 +28,13 @@ returns-in-Ok-clause-answered g c = λ start input before h.
 pub returns-in-Err-answer_line-clause-out_of_memory : goal.returns-in-Err-answer_line-clause-out_of_memory
 returns-in-Err-answer_line-clause-out_of_memory g c = λ start input before h is.
     rw c.in-Err-answer_line.ensures.out_of_memory
-    (stops_short (goes_on {newer = so_far (g.W.Write.contents c.send_before_line.new.w) c.send_before_line.new.out} h c.in_ok-send_before_line.ensures.kept))
+    (stops_short (goes_on {newer = all_output (g.W.Write.contents c.send_before_line.new.w) c.send_before_line.new.out} h c.in_ok-send_before_line.ensures.kept))
 
 pub returns-in-Ok-TooLong-clause-answered : goal.returns-in-Ok-TooLong-clause-answered
 returns-in-Ok-TooLong-clause-answered g c = λ start input before h.
     let contents = g.W.Write.contents c.send_before_line.new.w in
     answers_long_line
-    (goes_on {newer = so_far contents c.send_before_line.new.out} h c.in_ok-send_before_line.ensures.kept) (sym c.if-is_drained.ensures.value)
+    (goes_on {newer = all_output contents c.send_before_line.new.out} h c.in_ok-send_before_line.ensures.kept) (sym c.if-is_drained.ensures.value)
     (rw c.in-Ok-TooLong.field-0-is at c.in-Ok-TooLong.ensures.found) (rw c.in-Ok-TooLong.field-0-is at c.in-Ok-TooLong.ensures.closes) refl
     (adds_so_far contents c.send_before_line.new.out c.add_no_message.new.self no_message c.add_no_message.ensures)
 
@@ -43,5 +43,5 @@ returns-in-Err-clause-read g c = λ start input before h _.
     let unread_before = unread g.R.Read.remaining c.args.lines.now in
     let P : Option (List ℕ) → Type 0 = λ left. IfSome unread_before (λ bs. LosesFront bs left) in
     fails (g.R.Read.remaining (source c.next_line.new.self))
-    (goes_on {newer = so_far (g.W.Write.contents c.send_before_line.new.w) c.send_before_line.new.out} h c.in_ok-send_before_line.ensures.kept)
+    (goes_on {newer = all_output (g.W.Write.contents c.send_before_line.new.w) c.send_before_line.new.out} h c.in_ok-send_before_line.ensures.kept)
     (sym c.if-is_drained.ensures.value) (subst P c.in-Err.ensures.lost c.in-Err.ensures.found)

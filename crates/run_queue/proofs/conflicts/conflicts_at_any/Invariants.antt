@@ -1,7 +1,7 @@
 -- No one at an earlier number does.
 use Rattle.std.proofs.Common.{◌≡◌, false, take}
 use Rattle.std.specs.List.{list_any}
-use Rattle.run_queue.specs.Near.{conflicts_at}
+use Rattle.run_queue.specs.RelatedNumbers.{conflicts_at}
 use Rattle.run_queue.proofs.conflicts.conflicts_at_any.Given as goal
 
 abbrev pub invariant-loop-n : goal.invariant-loop-n

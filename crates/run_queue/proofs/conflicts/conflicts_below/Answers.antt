@@ -1,7 +1,7 @@
 -- Each number below the affinity is looked at.
 use Rattle.std.proofs.Common.{◌≡◌, false, inl, inr, arith, sym, subst, ◌∙◌}
 use Rattle.std.proofs.lemmas.Bool.{cases_eq, and_parts, leb-true, ltb-true}
-use Rattle.run_queue.specs.Near.{conflicts_at}
+use Rattle.run_queue.specs.RelatedNumbers.{conflicts_at}
 use Rattle.run_queue.proofs.conflicts.conflicts_below.Goals as goal
 
 pub loop-n-init : goal.loop-n-init

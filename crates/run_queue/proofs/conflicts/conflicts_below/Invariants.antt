@@ -1,6 +1,6 @@
 -- No one at an earlier number does.
 use Rattle.std.proofs.Common.{◌≡◌, ◌<◌, ◌≤◌, ℕ, false}
-use Rattle.run_queue.specs.Near.{conflicts_at}
+use Rattle.run_queue.specs.RelatedNumbers.{conflicts_at}
 use Rattle.run_queue.proofs.conflicts.conflicts_below.Given as goal
 
 abbrev pub invariant-loop-n : goal.invariant-loop-n

@@ -4,7 +4,7 @@ use Rattle.std.specs.Prelude.{List}
 use Rattle.affinity.specs.Interval.{Interval}
 use Rattle.affinity.specs.Path.{Path, volume, logical, label, stripe}
 use Rattle.affinity.proofs.Preorder.{path_unique}
-use Rattle.run_queue.specs.Near.{numbers_above}
+use Rattle.run_queue.specs.RelatedNumbers.{numbers_above}
 use Rattle.run_queue.proofs.conflicts.numbers_above.Goals as goal
 
 four : {a b c d e f g h : ℕ} → a ≡ e → b ≡ f → c ≡ g → d ≡ h → ◌≡◌ {A = List ℕ} (a ∷ b ∷ c ∷ d ∷ []) (e ∷ f ∷ g ∷ h ∷ [])

@@ -1,7 +1,7 @@
--- The ready flag of each number below the affinity is updated, and stays right.
+-- The ready entry of each number below the affinity is updated, and stays right.
 use Rattle.std.proofs.Common.{◌∙◌, sym, subst, refl, inl, inr, arith}
 use Rattle.std.proofs.lemmas.Bool.{cases_eq, and_parts, leb-true, ltb-true}
-use Rattle.run_queue.specs.ReadyTable.{IsFlagRight}
+use Rattle.run_queue.specs.ReadyTable.{IsEntryRight}
 use Rattle.run_queue.proofs.Ready.{stay-trans}
 use Rattle.run_queue.proofs.update_ready.update_ready_below.Goals as goal
 
@@ -16,7 +16,7 @@ loop-n-preserved c = record {
   stay = stay-trans c.args.held.now.messages c.args.waiting.now.messages c.args.ready_table.now c.loop-n.ready_table c.update_ready.new.ready_table
       c.loop-n.invariant.stay c.update_ready.ensures.others;
   done = λ k low high. elim (cases_eq k c.loop-n.n) [
-    | inl e ↦ subst (λ m. IsFlagRight c.args.held.now.messages c.args.waiting.now.messages c.update_ready.new.ready_table m) (c.from.ensures ∙ sym e) c.update_ready.ensures.right
+    | inl e ↦ subst (λ m. IsEntryRight c.args.held.now.messages c.args.waiting.now.messages c.update_ready.new.ready_table m) (c.from.ensures ∙ sym e) c.update_ready.ensures.right
     | inr other ↦ c.update_ready.ensures.others.1 k (c.loop-n.invariant.done k low (omega arith))
   ];
 }

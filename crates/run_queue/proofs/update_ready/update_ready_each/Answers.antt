@@ -1,8 +1,8 @@
--- The ready flag of each of the numbers is updated, and stays right.
+-- The ready entry of each of the numbers is updated, and stays right.
 use Rattle.std.proofs.Common.{◌==◌, ◌∙◌, ℕ, List, sym, ap, subst, refl, inl, inr, arith}
 use Rattle.std.specs.List.{list_any}
 use Rattle.std.proofs.lemmas.Bool.{eqb-true, or_cases, true≢false}
-use Rattle.run_queue.specs.ReadyTable.{IsFlagRight}
+use Rattle.run_queue.specs.ReadyTable.{IsEntryRight}
 use Rattle.run_queue.proofs.Ready.{stay-trans, any-more, take-past}
 use Rattle.run_queue.proofs.update_ready.update_ready_each.Goals as goal
 
@@ -18,7 +18,7 @@ loop-n-preserved c = record {
       c.loop-n.invariant.stay c.update_ready.ensures.others;
   done = λ k found. elim (or_cases _ _ (sym (any-more (λ m. m == k) c.args.numbers.now c.loop-n.n-index c.loop-n-test.true) ∙ found)) [
     | inl before ↦ c.update_ready.ensures.others.1 k (c.loop-n.invariant.done k before)
-    | inr here ↦ subst (λ m. IsFlagRight c.args.held.now.messages c.args.waiting.now.messages c.update_ready.new.ready_table m)
+    | inr here ↦ subst (λ m. IsEntryRight c.args.held.now.messages c.args.waiting.now.messages c.update_ready.new.ready_table m)
         (c.from.ensures ∙ eqb-true _ _ here) c.update_ready.ensures.right
   ];
 }

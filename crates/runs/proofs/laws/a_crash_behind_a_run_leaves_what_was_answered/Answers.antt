@@ -1,4 +1,4 @@
--- The lemmas.
+-- The lemmas on the end of a run.
 use Rattle.legal_runs.proofs.Idle.{idle_sound}
 use Rattle.runs.proofs.Ending.{ended_so, holds_answered}
 use Rattle.scheduler.specs.CoreView.{core_state_of}

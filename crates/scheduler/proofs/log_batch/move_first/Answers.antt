@@ -1,6 +1,6 @@
 -- Of those that ran there is a first, and it becomes the last of the logged ones.
 use Rattle.std.proofs.Common.{sym, subst, ◌∙◌}
-use Rattle.arena.specs.ArenaView.{IsParted, ArenaView}
+use Rattle.arena.specs.ArenaView.{IsPartitioned, ArenaView}
 use Rattle.scheduler.proofs.Shifting.{first_is_there, first_logged}
 use Rattle.scheduler.specs.Moving.{HasLogged}
 use Rattle.scheduler.specs.declared.slot.Slot.{Slot}
@@ -10,5 +10,5 @@ pub unreachable-requires : goal.unreachable-requires
 unreachable-requires c = first_is_there c.args.slots.now c.requires.some (sym c.front.ensures.slot ∙ c.in_default.is)
 
 pub returns : goal.returns
-returns c = subst (λ (row : ArenaView Slot). HasLogged 1 c.args.slots.now row) (sym c.move_to.ensures.row)
-    (first_logged c.args.slots.now c.requires.chains c.in-Some.slot (sym c.front.ensures.slot ∙ c.in-Some.is) (subst IsParted c.move_to.ensures.row c.move_to.ensures.parted))
+returns c = subst (λ (arena : ArenaView Slot). HasLogged 1 c.args.slots.now arena) (sym c.move_to.ensures.arena)
+    (first_logged c.args.slots.now c.requires.chains c.in-Some.slot (sym c.front.ensures.slot ∙ c.in-Some.is) (subst IsPartitioned c.move_to.ensures.arena c.move_to.ensures.partitioned))

@@ -3,4 +3,4 @@ use Rattle.serving.proofs.Chain.{passes_on}
 use Rattle.serving.proofs.laws.segments_join.Goals as goal
 
 pub returns : goal.returns
-returns g c old mid new come more replies others h k = passes_on h k
+returns g c old mid new arriving more replies others h k = passes_on h k

@@ -1,8 +1,8 @@
--- Words of zeros and empty slots keep the rule of the bench while no place is ready.
+-- Words of zeros and empty slots keep the rule of the bench while no slot is taken.
 use Rattle.std.proofs.Common.{sym, subst, replicate, None}
 use Rattle.atomic_table.specs.Table.{opening}
 use Rattle.workers.specs.Rule.{BenchRule}
-use Rattle.workers.specs.declared.seats.View.TheVariants.{Dispatcher}
+use Rattle.workers.specs.declared.seats.SeatRole.TheVariants.{Dispatcher}
 use Rattle.workers.proofs.Keeps.{opens_empty}
 use Rattle.workers.proofs.bench.lay.Goals as goal
 

@@ -1,9 +1,9 @@
 -- One exchange of offered for claimed: it wins the slot with the job, or else changes nothing.
 use Rattle.std.proofs.Common.{rules, arith, refl, ap, ◌∙◌, eqb-true, ◌∷◌, Some}
 use Rattle.std.proofs.lemmas.Bool.{eqb-false}
-use Rattle.workers.specs.Steps.{Sat}
+use Rattle.workers.specs.Steps.{SeatState}
 use Rattle.workers.specs.declared.job_cell.CellContent.TheVariants.{Offered}
-use Rattle.workers.specs.declared.seats.View.TheVariants.{Claimed}
+use Rattle.workers.specs.declared.seats.SeatRole.TheVariants.{Claimed}
 use Rattle.workers.proofs.Keeps.{claims}
 use Rattle.workers.proofs.steps.claim.Goals as goal
 
@@ -13,7 +13,7 @@ compare_exchange-requires c = let w = c.requires.bench.1.0 in
 
 pub returns-clause-won : goal.returns-clause-won
 returns-clause-won c = λ yes. let t = (c.compare_exchange.ensures.2 c.args.k refl).0 (eqb-true _ _ yes) in
-    (t.0, t.1 ∙ ap (λ (m : Sat). (Claimed c.args.k t.0, (c.args.k, Some (Offered t.0)) ∷ m.1)) c.requires.idle)
+    (t.0, t.1 ∙ ap (λ (m : SeatState). (Claimed c.args.k t.0, (c.args.k, Some (Offered t.0)) ∷ m.1)) c.requires.idle)
 
 pub returns-clause-lost : goal.returns-clause-lost
 returns-clause-lost c = λ no. (c.compare_exchange.ensures.2 c.args.k refl).1 (eqb-false _ _ no)

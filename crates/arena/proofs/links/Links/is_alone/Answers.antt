@@ -1,7 +1,7 @@
 -- A slot is its own neighbor exactly where it is on no list.
 use Rattle.std.proofs.Common.{◌<◌, sym, ◌∙◌, eq-eqb, eqb-true}
 use Rattle.arena.proofs.Stored.{read_next}
-use Rattle.arena.proofs.Alone.{times-alone, alone-from_times}
+use Rattle.arena.proofs.Alone.{count_of-alone, alone-from_times}
 use Rattle.arena.proofs.links.Links.is_alone.Goals as goal
 
 pub returns : goal.returns
@@ -9,6 +9,6 @@ returns c =
     let within : c.args.slot < c.self.inside.slots = rw (← c.self.view_is) at c.requires in
     let found = read_next _ _ _ _ _ c.self.invariant within c.index.ensures in
     rw (← c.self.view_is) (
-      (λ same. times-alone _ _ _ _ _ c.self.invariant.1 within (sym found ∙ eqb-true _ _ same)),
+      (λ same. count_of-alone _ _ _ _ _ c.self.invariant.1 within (sym found ∙ eqb-true _ _ same)),
       (λ none. eq-eqb _ _ (found ∙ alone-from_times _ _ _ _ c.self.invariant.1 _ within none)),
     )

@@ -1,9 +1,9 @@
 -- The four writes are those of `IsStored-unlinked`.
 use Rattle.std.proofs.Common.{◌<◌, ℕ, List, ap, ◌∙◌}
 use Rattle.std.specs.List.{concat}
-use Rattle.arena.specs.Lists.{times}
+use Rattle.arena.specs.Lists.{count_of}
 use Rattle.arena.specs.Linked.{Linked}
-use Rattle.arena.proofs.Times.{times-without_all_same}
+use Rattle.arena.proofs.Counts.{count_of-without_all_same}
 use Rattle.arena.proofs.Stored.{read_next, read_previous, IsWellLinked-linked}
 use Rattle.arena.proofs.StoredUnlinking.{IsStored-unlinked, lists-unlinked}
 use Rattle.arena.proofs.links.Links.unlink.Goals as goal
@@ -26,7 +26,7 @@ returns-clause-lists c =
     (read_next _ _ _ _ _ c.self.invariant within c.index-after.ensures)))
 
 pub returns-clause-alone : goal.returns-clause-alone
-returns-clause-alone c = ap (λ (m : Linked). times c.args.slot (concat m.lists)) (returns-clause-lists c) ∙ times-without_all_same c.args.slot c.args.self.now.lists
+returns-clause-alone c = ap (λ (m : Linked). count_of c.args.slot (concat m.lists)) (returns-clause-lists c) ∙ count_of-without_all_same c.args.slot c.args.self.now.lists
 
 pub returns-clause-sound : goal.returns-clause-sound
 returns-clause-sound c = IsWellLinked-linked c.self.inside.slots _ _ _ ((invariant_of-self c).1)

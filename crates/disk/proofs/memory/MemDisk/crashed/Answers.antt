@@ -9,7 +9,7 @@ use Rattle.disk.proofs.memory.MemDisk.crashed.Goals as goal
 pub returns-clause-may : goal.returns-clause-may
 returns-clause-may c =
     let self = c.args.self.now in
-    let put = torn_byte c.args.torn.now self.kept.items self.asked.items in
+    let put = torn_byte c.args.torn.now self.last_synced.items self.last_written.items in
     let now = self.ghost_device.medium.now in
     let unsynced = self.ghost_device.medium.unsynced in
     let size : length unsynced ≡ length now = ap length self.unsynced_is ∙ self.unsynced_size ∙ sym (ap length self.now_is) in

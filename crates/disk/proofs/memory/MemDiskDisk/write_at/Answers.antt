@@ -14,11 +14,11 @@ invariant_of-self c =
     record {
       now_is = grind (arith, common_steps);
       unsynced_is = grind (arith, common_steps);
-      kept_size = grind (arith, common_steps);
-      asked_size = grind (arith, common_steps);
+      last_synced_size = grind (arith, common_steps);
+      last_written_size = grind (arith, common_steps);
       unsynced_size = grind (arith, common_steps);
-      holds_unsynced = subst (λ (m : Medium). HoldsUnsynced span.start span.end m self.kept.items) (sym c.note.ensures)
-          (holds_failed_write self.span.start self.span.end span.start span.end c.args.at _ self.ghost_device.medium self.kept.items self.span.ordered
+      holds_unsynced = subst (λ (m : Medium). HoldsUnsynced span.start span.end m self.last_synced.items) (sym c.note.ensures)
+          (holds_failed_write self.span.start self.span.end span.start span.end c.args.at _ self.ghost_device.medium self.last_synced.items self.span.ordered
           (omega (arith, c.in_ok-start.ensures.start, c.in_ok-start.ensures.inside))
           (omega (arith, c.in_ok-start.ensures.start, c.in_ok-start.ensures.inside))
           (omega (arith, c.in_ok-start.ensures.start, c.in_ok-start.ensures.inside)) c.with-self.ensures.holds_old self.holds_unsynced);
@@ -33,11 +33,11 @@ invariant_of-self-2 c =
     record {
       now_is = grind (arith, common_steps);
       unsynced_is = grind (arith, common_steps);
-      kept_size = grind (arith, common_steps);
-      asked_size = grind (arith, common_steps);
+      last_synced_size = grind (arith, common_steps);
+      last_written_size = grind (arith, common_steps);
       unsynced_size = grind (arith, common_steps);
-      holds_unsynced = subst (λ (m : Medium). HoldsUnsynced span.start span.end m self.kept.items) (sym c.note-2.ensures)
-          (holds_written self.span.start self.span.end span.start span.end c.args.at _ self.ghost_device.medium self.kept.items self.span.ordered
+      holds_unsynced = subst (λ (m : Medium). HoldsUnsynced span.start span.end m self.last_synced.items) (sym c.note-2.ensures)
+          (holds_written self.span.start self.span.end span.start span.end c.args.at _ self.ghost_device.medium self.last_synced.items self.span.ordered
           (omega (arith, c.in_ok-start.ensures.start, c.in_ok-start.ensures.inside))
           (omega (arith, c.in_ok-start.ensures.start, c.in_ok-start.ensures.inside))
           (omega (arith, c.in_ok-start.ensures.start, c.in_ok-start.ensures.inside)) c.with-self.ensures.holds_old self.holds_unsynced

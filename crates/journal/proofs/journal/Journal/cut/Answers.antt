@@ -10,10 +10,10 @@ use Rattle.journal.specs.Journal.{JournalView, records, records_in, committed}
 use Rattle.journal.specs.Images.{KeepsImages}
 use Rattle.journal.specs.Keeping.{IsCutState, journal_view_of}
 use Rattle.journal.specs.DirtyPieces.{all_clean, count_dirty, cut_dirty}
-use Rattle.journal.specs.Steps.{cut_now}
+use Rattle.journal.specs.Steps.{cut_log}
 use Rattle.journal.proofs.Logging.{recoverable_of, sound_along}
 use Rattle.journal.proofs.Rows.{count_most, whole_items, whole_put}
-use Rattle.journal.proofs.Saving.{frozen_right, cut_committed, cut_sound}
+use Rattle.journal.proofs.Saving.{snapshot_right, cut_committed, cut_sound}
 use Rattle.oplog.specs.Beyond.{KeepsBeyond}
 use Rattle.device_map.specs.Layout.{device_size, image_size, other, layout_of}
 use Rattle.oplog.specs.Log.{Log, layout}
@@ -32,12 +32,12 @@ returns-clause-any_moment g c = λ k.
 pub returns-clause-committed : goal.returns-clause-committed
 returns-clause-committed g c = λ k.
     let fine : c.self.inside.failed ≡ false = ap (λ (h : JournalView). h.failed) c.self.view_is ∙ c.requires.not_failed in
-    let no_cut : c.self.inside.left ≡ None = ap (λ (h : JournalView). h.left) c.self.view_is ∙ c.requires.no_cut in
+    let no_cut : c.self.inside.pieces_left ≡ None = ap (λ (h : JournalView). h.pieces_left) c.self.view_is ∙ c.requires.no_cut in
     let geometry : c.args.tree.now.geometry ≡ c.self.inside.halves.geometry = c.requires.geometry ∙ sym (ap (λ (h : JournalView). h.geometry) c.self.view_is) in
     let is_state = subst (λ (x : Geometry). IsState x (state_in c.args.tree.now)) geometry c.requires.whole.state in
     let w0 = g.D.Disk.medium c.self.inside.disk in
     let is : recovered_state c.self.inside.halves.geometry w0.now ≡ Some (state_in c.args.tree.now) = ap committed c.self.view_is ∙ c.requires.state k in
-    let right = frozen_right no_cut (c.self.invariant.7 fine k) is geometry c.deref.ensures.value c.deref_mut.ensures.value in
+    let right = snapshot_right no_cut (c.self.invariant.7 fine k) is geometry c.deref.ensures.value c.deref_mut.ensures.value in
     let spelled : c.update_snapshot.new.bytes ≡ image_of 2 c.self.inside.halves.geometry (state_in c.args.tree.now) = c.update_snapshot.ensures.image right
     ∙ ap (λ (x : Geometry). image_of 2 x (state_in c.args.tree.now)) geometry in
     let w1 = g.D.Disk.medium c.cut_on.new.disk in
@@ -49,14 +49,14 @@ returns-clause-committed g c = λ k.
 pub returns-clause-recoverable : goal.returns-clause-recoverable
 returns-clause-recoverable g c = λ k.
     let fine : c.self.inside.failed ≡ false = ap (λ (h : JournalView). h.failed) c.self.view_is ∙ c.requires.not_failed in
-    let no_cut : c.self.inside.left ≡ None = ap (λ (h : JournalView). h.left) c.self.view_is ∙ c.requires.no_cut in
+    let no_cut : c.self.inside.pieces_left ≡ None = ap (λ (h : JournalView). h.pieces_left) c.self.view_is ∙ c.requires.no_cut in
     let geometry : c.args.tree.now.geometry ≡ c.self.inside.halves.geometry = c.requires.geometry ∙ sym (ap (λ (h : JournalView). h.geometry) c.self.view_is) in
     let is_state = subst (λ (x : Geometry). IsState x (state_in c.args.tree.now)) geometry c.requires.whole.state in
     let snapshot = whole_put c.self.inside.snapshot.len c.update_snapshot.new.bytes c.self.inside.snapshot.items
     (c.update_snapshot.ensures.size ∙ ap length c.deref_mut.ensures.value) (c.update_snapshot.ensures.size ∙ c.deref_mut.ensures.len) in
     let w0 = g.D.Disk.medium c.self.inside.disk in
     let is : recovered_state c.self.inside.halves.geometry w0.now ≡ Some (state_in c.args.tree.now) = ap committed c.self.view_is ∙ c.requires.state k in
-    let right = frozen_right no_cut (c.self.invariant.7 fine k) is geometry c.deref.ensures.value c.deref_mut.ensures.value in
+    let right = snapshot_right no_cut (c.self.invariant.7 fine k) is geometry c.deref.ensures.value c.deref_mut.ensures.value in
     let spelled : c.update_snapshot.new.bytes ≡ image_of 2 c.self.inside.halves.geometry (state_in c.args.tree.now) = c.update_snapshot.ensures.image right
     ∙ ap (λ (x : Geometry). image_of 2 x (state_in c.args.tree.now)) geometry in
     let begun = c.in_default.ensures.begun k in
@@ -78,22 +78,22 @@ returns-clause-begun g c =
     ap length c.deref_mut-2.ensures.value ∙ ap (λ v. length v.items) c.swap.ensures.y_after ∙ c.self.invariant.5 ∙ sym c.self.invariant.4 in
     let others = put ∙ c.clear_dirty.ensures ∙ ap (λ (n : ℕ). replicate n false) long in
     ap (λ (l : Log). journal_view_of l named (whole_items c.swap.new.y.len c.clear_dirty.new.dirty c.swap.new.y.items) (Some c.count_dirty.result) c.self.inside.failed w1) c.in_default.ensures.log
-    ∙ ap (λ (l : List Bool). journal_view_of (cut_now c.self.inside.halves) named l (Some c.count_dirty.result) c.self.inside.failed w1) others
-    ∙ ap (λ (n : ℕ). journal_view_of (cut_now c.self.inside.halves) named (all_clean c.self.inside.other_dirty.items) (Some n) c.self.inside.failed w1) count
-    ∙ ap (λ (n : ℕ). record (journal_view_of (cut_now c.self.inside.halves) named (all_clean c.self.inside.other_dirty.items)
+    ∙ ap (λ (l : List Bool). journal_view_of (cut_log c.self.inside.halves) named l (Some c.count_dirty.result) c.self.inside.failed w1) others
+    ∙ ap (λ (n : ℕ). journal_view_of (cut_log c.self.inside.halves) named (all_clean c.self.inside.other_dirty.items) (Some n) c.self.inside.failed w1) count
+    ∙ ap (λ (n : ℕ). record (journal_view_of (cut_log c.self.inside.halves) named (all_clean c.self.inside.other_dirty.items)
     (Some (count_dirty c.self.inside.other_dirty.items)) c.self.inside.failed w1) { room = n }) all
-    ∙ ap (λ (h : JournalView). record h { room = h.geometry.half; left = Some (count_dirty h.dirty.others); dirty = cut_dirty h.dirty; medium = w1 }) c.self.view_is
+    ∙ ap (λ (h : JournalView). record h { room = h.geometry.half; pieces_left = Some (count_dirty h.dirty.other); dirty = cut_dirty h.dirty; medium = w1 }) c.self.view_is
 
 pub returns-clause-few : goal.returns-clause-few
 returns-clause-few g c =
     let most = count_most c.self.inside.other_dirty.items in
-    let count = ap (λ (h : JournalView). count_dirty h.dirty.others) c.self.view_is in
+    let count = ap (λ (h : JournalView). count_dirty h.dirty.other) c.self.view_is in
     let long : length c.self.inside.other_dirty.items ≡ piece_count c.args.self.now.geometry = c.self.invariant.4 ∙ ap (λ (h : JournalView). piece_count h.geometry) c.self.view_is in
     omega (arith, most, count, long)
 
 pub returns-clause-records : goal.returns-clause-records
 returns-clause-records g c = λ k.
-    ap (λ (x : Geometry). records_in x (g.D.Disk.medium c.cut_on.new.disk).now) c.cut_on.ensures.geometry ∙ (c.in_default.ensures.begun k).forced ∙ ap records c.self.view_is
+    ap (λ (x : Geometry). records_in x (g.D.Disk.medium c.cut_on.new.disk).now) c.cut_on.ensures.geometry ∙ (c.in_default.ensures.begun k).same_records ∙ ap records c.self.view_is
 
 pub returns-clause-images : goal.returns-clause-images
 returns-clause-images g c = λ k.
@@ -102,7 +102,7 @@ returns-clause-images g c = λ k.
 pub invariant_of-self-2 : goal.invariant_of-self-2
 invariant_of-self-2 g c =
     let fine : c.self.inside.failed ≡ false = ap (λ (h : JournalView). h.failed) c.self.view_is ∙ c.requires.not_failed in
-    let no_cut : c.self.inside.left ≡ None = ap (λ (h : JournalView). h.left) c.self.view_is ∙ c.requires.no_cut in
+    let no_cut : c.self.inside.pieces_left ≡ None = ap (λ (h : JournalView). h.pieces_left) c.self.view_is ∙ c.requires.no_cut in
     let geometry : c.args.tree.now.geometry ≡ c.self.inside.halves.geometry = c.requires.geometry ∙ sym (ap (λ (h : JournalView). h.geometry) c.self.view_is) in
     let is_state = subst (λ (x : Geometry). IsState x (state_in c.args.tree.now)) geometry c.requires.whole.state in
     let snapshot = whole_put c.self.inside.snapshot.len c.update_snapshot.new.bytes c.self.inside.snapshot.items
@@ -127,7 +127,7 @@ invariant_of-self-2 g c =
       (λ fine k.
           let w0 = g.D.Disk.medium c.self.inside.disk in
           let is : recovered_state c.self.inside.halves.geometry w0.now ≡ Some (state_in c.args.tree.now) = ap committed c.self.view_is ∙ c.requires.state k in
-          let right = frozen_right no_cut (c.self.invariant.7 fine k) is geometry c.deref.ensures.value c.deref_mut.ensures.value in
+          let right = snapshot_right no_cut (c.self.invariant.7 fine k) is geometry c.deref.ensures.value c.deref_mut.ensures.value in
           let spelled : c.update_snapshot.new.bytes ≡ image_of 2 c.self.inside.halves.geometry (state_in c.args.tree.now) = c.update_snapshot.ensures.image right
           ∙ ap (λ (x : Geometry). image_of 2 x (state_in c.args.tree.now)) geometry in
           let begun = c.in_default.ensures.begun k in

@@ -6,7 +6,7 @@ use Rattle.disk.specs.Moments.{CrashImagesAre}
 use Rattle.journal.specs.Journal.{JournalView, records, records_in, committed}
 use Rattle.journal.specs.Images.{KeepsImages}
 use Rattle.journal.specs.Keeping.{IsCutState}
-use Rattle.journal.specs.Steps.{IsWritten}
+use Rattle.journal.specs.Steps.{IsCutWritten}
 use Rattle.checkpoint.specs.Version.{named_version}
 use Rattle.journal.proofs.Flipping.{flip_asks, flip_sound, flip_version}
 use Rattle.journal.proofs.Logging.{recoverable_of, sound_along}
@@ -21,8 +21,8 @@ use Rattle.journal.proofs.journal.Journal.flip.Goals as goal
 pub flip_on-requires-clause-written : goal.flip_on-requires-clause-written
 flip_on-requires-clause-written g c = λ k.
     let fine : c.self.inside.failed ≡ false = ap (λ (h : JournalView). h.failed) c.self.view_is ∙ c.requires.not_failed in
-    let none : c.self.inside.left ≡ Some 0 = ap (λ (h : JournalView). h.left) c.self.view_is ∙ c.requires.written in
-    subst (λ (l : List ℕ). IsWritten c.self.inside.halves l (g.D.Disk.medium c.self.inside.disk)) (sym c.deref.ensures.value)
+    let none : c.self.inside.pieces_left ≡ Some 0 = ap (λ (h : JournalView). h.pieces_left) c.self.view_is ∙ c.requires.written in
+    subst (λ (l : List ℕ). IsCutWritten c.self.inside.halves l (g.D.Disk.medium c.self.inside.disk)) (sym c.deref.ensures.value)
     (flip_asks none c.self.invariant.0 c.self.invariant.2 c.self.invariant.5 (g.met.D.Disk.bytes c.self.inside.disk) (c.self.invariant.6 fine).1 (c.self.invariant.7 fine k))
 
 pub returns-in-Err-clause-any_moment : goal.returns-in-Err-clause-any_moment
@@ -43,7 +43,7 @@ returns-clause-committed g c = λ k.
 pub returns-clause-recoverable : goal.returns-clause-recoverable
 returns-clause-recoverable g c = λ k.
     let fine : c.self.inside.failed ≡ false = ap (λ (h : JournalView). h.failed) c.self.view_is ∙ c.requires.not_failed in
-    let none : c.self.inside.left ≡ Some 0 = ap (λ (h : JournalView). h.left) c.self.view_is ∙ c.requires.written in
+    let none : c.self.inside.pieces_left ≡ Some 0 = ap (λ (h : JournalView). h.pieces_left) c.self.view_is ∙ c.requires.written in
     let sound = c.self.invariant.7 fine k in
     let placed = (c.self.invariant.6 fine).1 in
     let written = flip_asks none c.self.invariant.0 c.self.invariant.2 c.self.invariant.5 (g.met.D.Disk.bytes c.self.inside.disk) placed sound in
@@ -63,7 +63,7 @@ returns-clause-records g c = λ k.
 pub returns-clause-version : goal.returns-clause-version
 returns-clause-version g c = λ k.
     let fine : c.self.inside.failed ≡ false = ap (λ (h : JournalView). h.failed) c.self.view_is ∙ c.requires.not_failed in
-    let none : c.self.inside.left ≡ Some 0 = ap (λ (h : JournalView). h.left) c.self.view_is ∙ c.requires.written in
+    let none : c.self.inside.pieces_left ≡ Some 0 = ap (λ (h : JournalView). h.pieces_left) c.self.view_is ∙ c.requires.written in
     let sound = c.self.invariant.7 fine k in
     let placed = (c.self.invariant.6 fine).1 in
     let w1 = g.D.Disk.medium c.flip_on.new.disk in
@@ -77,7 +77,7 @@ returns-clause-images g c = λ k.
 
 pub invariant_of-self-2 : goal.invariant_of-self-2
 invariant_of-self-2 g c =
-    let none : c.self.inside.left ≡ Some 0 = ap (λ (h : JournalView). h.left) c.self.view_is ∙ c.requires.written in
+    let none : c.self.inside.pieces_left ≡ Some 0 = ap (λ (h : JournalView). h.pieces_left) c.self.view_is ∙ c.requires.written in
     let log = c.in_default.ensures.log in (
       omega (arith, c.self.invariant.0, c.flip_on.ensures.call.1, ap (λ (l : Log). device_size (layout l)) log),
       omega (arith, c.self.invariant.1, ap (λ (l : Log). l.used) log, ap (λ (l : Log). l.geometry.half) log),

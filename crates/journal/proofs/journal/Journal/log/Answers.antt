@@ -14,7 +14,7 @@ use Rattle.oplog.specs.Beyond.{KeepsBeyond}
 use Rattle.device_map.specs.Layout.{device_size, image_size, layout_of}
 use Rattle.oplog.specs.Log.{Log, layout}
 use Rattle.oplog.specs.Changing.{records_of}
-use Rattle.meaning.specs.Serial.{fold}
+use Rattle.meaning.specs.Serial.{state_after_all}
 use Rattle.meaning.specs.State.{State}
 use Rattle.journal.proofs.journal.Journal.log.Goals as goal
 
@@ -40,7 +40,7 @@ returns-clause-committed g c = λ k.
     let out : (x : State) → recovered_state c.self.inside.halves.geometry (g.D.Disk.medium c.self.inside.disk).now ≡ Some x → AreCarriedOut c.self.inside.halves.geometry x c.args.messages.now =
     λ x is. subst (λ (h : JournalView). AreCarriedOut h.geometry x c.args.messages.now) (sym c.self.view_is) (c.requires.carried_out k x (sym (ap committed c.self.view_is) ∙ is)) in
     subst (λ (h : JournalView). recovered_state c.append.new.self.geometry (g.D.Disk.medium c.append.new.disk).now ≡ option_map
-    (λ x. fold h.geometry x c.args.messages.now) (committed h)) c.self.view_is
+    (λ x. state_after_all h.geometry x c.args.messages.now) (committed h)) c.self.view_is
     (ap (λ (l : Log). recovered_state l.geometry (g.D.Disk.medium c.append.new.disk).now) c.in_default.ensures.log
     ∙ log_told c.args.messages.now (g.met.D.Disk.bytes c.self.inside.disk)
     (g.met.D.Disk.bytes c.append.new.disk) (c.self.invariant.7 fine k) out (c.in_default.ensures.added k))
@@ -57,7 +57,7 @@ returns-clause-recoverable g c = λ k.
     (g.met.D.Disk.bytes c.append.new.disk) (c.self.invariant.7 fine k) out (c.in_default.ensures.added k) (c.self.invariant.6 fine).1
     (record {
       named = touched_along c.args.messages.now same c.deref_mut.ensures.value refl c.dirty_touched.ensures.touched;
-      others = touched_along c.args.messages.now same c.deref_mut-2.ensures.value refl c.dirty_touched-2.ensures.touched;
+      other = touched_along c.args.messages.now same c.deref_mut-2.ensures.value refl c.dirty_touched-2.ensures.touched;
     })))
 
 pub returns-clause-records : goal.returns-clause-records
@@ -76,11 +76,11 @@ returns-clause-dirties g c =
     (c.dirty_touched-2.ensures.size ∙ ap length c.deref_mut-2.ensures.value) (c.dirty_touched-2.ensures.size ∙ c.deref_mut-2.ensures.len) in
     subst (λ (h : JournalView). AreBothTouched h.geometry c.args.messages.now h.dirty (record {
       named = whole_items c.self.inside.named_dirty.len c.dirty_touched.new.dirty c.self.inside.named_dirty.items;
-      others = whole_items c.self.inside.other_dirty.len c.dirty_touched-2.new.dirty c.self.inside.other_dirty.items;
+      other = whole_items c.self.inside.other_dirty.len c.dirty_touched-2.new.dirty c.self.inside.other_dirty.items;
     })) c.self.view_is
     (record {
       named = touched_along c.args.messages.now same c.deref_mut.ensures.value first c.dirty_touched.ensures.touched;
-      others = touched_along c.args.messages.now same c.deref_mut-2.ensures.value second c.dirty_touched-2.ensures.touched;
+      other = touched_along c.args.messages.now same c.deref_mut-2.ensures.value second c.dirty_touched-2.ensures.touched;
     })
 
 pub returns-clause-none : goal.returns-clause-none
@@ -96,9 +96,9 @@ returns-clause-none g c = λ none.
     (touched_along c.args.messages.now same c.deref_mut.ensures.value first c.dirty_touched.ensures.touched) in
     let others = same_dirty c.self.inside.halves.geometry c.args.messages.now _ _ none c.self.invariant.4 (ap length second ∙ c.dirty_touched-2.ensures.size ∙ ap length c.deref_mut-2.ensures.value)
     (touched_along c.args.messages.now same c.deref_mut-2.ensures.value second c.dirty_touched-2.ensures.touched) in
-    (λ i. journal_view_of (log i) (named i) (others i) c.self.inside.left c.self.inside.failed (g.D.Disk.medium (c.append.ensures.none none i)))
+    (λ i. journal_view_of (log i) (named i) (others i) c.self.inside.pieces_left c.self.inside.failed (g.D.Disk.medium (c.append.ensures.none none i)))
     ∙ ap (λ (n : ℕ). journal_view_of (record c.self.inside.halves { used = n }) c.self.inside.named_dirty.items c.self.inside.other_dirty.items
-    c.self.inside.left c.self.inside.failed (g.D.Disk.medium c.self.inside.disk)) used
+    c.self.inside.pieces_left c.self.inside.failed (g.D.Disk.medium c.self.inside.disk)) used
     ∙ c.self.view_is
 
 pub invariant_of-self-2 : goal.invariant_of-self-2
@@ -118,8 +118,8 @@ invariant_of-self-2 g c =
       c.self.invariant.5 ∙ sym (ap piece_count geometry),
       (λ fine. (
         ap (λ (l : Log). l.failed) log ∙ (c.self.invariant.6 fine).0,
-        subst (λ (l : Log). IsCutState l c.self.inside.pending.items c.self.inside.left) (sym log)
-            (placed_used c.self.inside.halves (c.self.inside.halves.used + length c.args.messages.now) c.self.inside.pending.items c.self.inside.left
+        subst (λ (l : Log). IsCutState l c.self.inside.pending.items c.self.inside.pieces_left) (sym log)
+            (placed_used c.self.inside.halves (c.self.inside.halves.used + length c.args.messages.now) c.self.inside.pending.items c.self.inside.pieces_left
             (c.self.invariant.6 fine).1),
       )),
       (λ fine k.
@@ -130,7 +130,7 @@ invariant_of-self-2 g c =
           out (c.in_default.ensures.added k) (c.self.invariant.6 fine).1
           (record {
             named = touched_along c.args.messages.now same c.deref_mut.ensures.value first c.dirty_touched.ensures.touched;
-            others = touched_along c.args.messages.now same c.deref_mut-2.ensures.value second c.dirty_touched-2.ensures.touched;
+            other = touched_along c.args.messages.now same c.deref_mut-2.ensures.value second c.dirty_touched-2.ensures.touched;
           }))),
       c.self.invariant.8,
       c.self.invariant.9,

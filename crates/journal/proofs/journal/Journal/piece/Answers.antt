@@ -7,16 +7,16 @@ use Rattle.disk.proofs.Leaves.{itself}
 use Rattle.disk.proofs.Moments.{started}
 use Rattle.disk.specs.Moments.{CrashImagesAre}
 use Rattle.journal.specs.Journal.{JournalView, IsRecoverable, records, committed}
-use Rattle.journal.specs.Images.{PatchesOne}
+use Rattle.journal.specs.Images.{PatchesUnnamed}
 use Rattle.journal.specs.Keeping.{AreCleanBefore, IsCutState}
 use Rattle.journal.specs.DirtyPieces.{count_dirty}
 use Rattle.journal.proofs.Logging.{recoverable_of}
 use Rattle.journal.proofs.Rows.{clear_set}
 use Rattle.journal.proofs.Piecing.{piece_counted, piece_left, piece_moments, piece_records, none_due, patches_one, piece_same, piece_some, piece_sound, pieced_along, some_left}
 use Rattle.oplog.specs.Beyond.{KeepsBeyond}
-use Rattle.oplog.specs.Changes.{ChangesOnly, IsSameBut}
+use Rattle.oplog.specs.Changes.{CrashesChangeOnly, IsSameBut}
 use Rattle.oplog.proofs.Beyond.{beyond, beyond_none}
-use Rattle.device_map.specs.Layout.{layout_of, image, other}
+use Rattle.device_map.specs.Layout.{layout_of, image_part, other}
 use Rattle.oplog.proofs.Answered.{on_ok}
 use Rattle.journal.proofs.journal.Journal.piece.Goals as goal
 
@@ -38,8 +38,8 @@ returns-then-is_err-clause-any_moment g c = λ k.
     let fine : c.self.inside.failed ≡ false = ap (λ (h : JournalView). h.failed) c.self.view_is ∙ c.requires.not_failed in
     let w0 = g.D.Disk.medium c.self.inside.disk in
     let w1 = g.D.Disk.medium c.write_extent.new.disk in
-    let moments = subst (λ (n : ℕ). ChangesOnly w0 w1 (IsSameBut (layout_of c.self.inside.halves.geometry) (image (other n)))) c.named-area.ensures.named
-    (subst (λ (x : Geometry). ChangesOnly w0 w1 (IsSameBut (layout_of x) (image (other c.named-area.result)))) c.geometry-g.ensures (c.write_extent.ensures.any_moment k)) in
+    let moments = subst (λ (n : ℕ). CrashesChangeOnly w0 w1 (IsSameBut (layout_of c.self.inside.halves.geometry) (image_part (other n)))) c.named-area.ensures.named
+    (subst (λ (x : Geometry). CrashesChangeOnly w0 w1 (IsSameBut (layout_of x) (image_part (other c.named-area.result)))) c.geometry-g.ensures (c.write_extent.ensures.any_moment k)) in
     subst (λ (h : JournalView). CrashImagesAre h.medium w1 (λ c'. recovered_state h.geometry c' ≡ committed h)) c.self.view_is
     (piece_moments w1 (g.met.D.Disk.bytes c.self.inside.disk) (c.self.invariant.7 fine k) moments)
 
@@ -47,21 +47,23 @@ pub returns-then-is_err-clause-none : goal.returns-then-is_err-clause-none
 returns-then-is_err-clause-none g c = λ none.
     let fine : c.self.inside.failed ≡ false = ap (λ (h : JournalView). h.failed) c.self.view_is ∙ c.requires.not_failed in
     let dirty_at = subst (λ (l : List Bool). get_or l c.in-Some.n false ≡ true) c.deref.ensures.value c.in-Some.ensures.dirty_at in
-    absurd (piece_some c.self.inside.halves c.self.inside.pending.items c.self.inside.left c.in-Some.n (c.self.invariant.6 fine).1 dirty_at (ap (λ (h : JournalView). h.left) c.self.view_is ∙ none))
+    absurd (piece_some c.self.inside.halves c.self.inside.pending.items c.self.inside.pieces_left c.in-Some.n (c.self.invariant.6 fine).1 dirty_at
+    (ap (λ (h : JournalView). h.pieces_left) c.self.view_is ∙ none))
 
 pub returns-clause-none : goal.returns-clause-none
 returns-clause-none g c = λ none.
     let fine : c.self.inside.failed ≡ false = ap (λ (h : JournalView). h.failed) c.self.view_is ∙ c.requires.not_failed in
     let dirty_at = subst (λ (l : List Bool). get_or l c.in-Some.n false ≡ true) c.deref.ensures.value c.in-Some.ensures.dirty_at in
-    absurd (piece_some c.self.inside.halves c.self.inside.pending.items c.self.inside.left c.in-Some.n (c.self.invariant.6 fine).1 dirty_at (ap (λ (h : JournalView). h.left) c.self.view_is ∙ none))
+    absurd (piece_some c.self.inside.halves c.self.inside.pending.items c.self.inside.pieces_left c.in-Some.n (c.self.invariant.6 fine).1 dirty_at
+    (ap (λ (h : JournalView). h.pieces_left) c.self.view_is ∙ none))
 
 pub returns-clause-any_moment : goal.returns-clause-any_moment
 returns-clause-any_moment g c = λ k.
     let fine : c.self.inside.failed ≡ false = ap (λ (h : JournalView). h.failed) c.self.view_is ∙ c.requires.not_failed in
     let w0 = g.D.Disk.medium c.self.inside.disk in
     let w1 = g.D.Disk.medium c.write_extent.new.disk in
-    let moments = subst (λ (n : ℕ). ChangesOnly w0 w1 (IsSameBut (layout_of c.self.inside.halves.geometry) (image (other n)))) c.named-area.ensures.named
-    (subst (λ (x : Geometry). ChangesOnly w0 w1 (IsSameBut (layout_of x) (image (other c.named-area.result)))) c.geometry-g.ensures (c.write_extent.ensures.any_moment k)) in
+    let moments = subst (λ (n : ℕ). CrashesChangeOnly w0 w1 (IsSameBut (layout_of c.self.inside.halves.geometry) (image_part (other n)))) c.named-area.ensures.named
+    (subst (λ (x : Geometry). CrashesChangeOnly w0 w1 (IsSameBut (layout_of x) (image_part (other c.named-area.result)))) c.geometry-g.ensures (c.write_extent.ensures.any_moment k)) in
     subst (λ (h : JournalView). CrashImagesAre h.medium w1 (λ c'. recovered_state h.geometry c' ≡ committed h)) c.self.view_is
     (piece_moments w1 (g.met.D.Disk.bytes c.self.inside.disk) (c.self.invariant.7 fine k) moments)
 
@@ -70,8 +72,8 @@ returns-clause-committed g c = λ k.
     let fine : c.self.inside.failed ≡ false = ap (λ (h : JournalView). h.failed) c.self.view_is ∙ c.requires.not_failed in
     let w0 = g.D.Disk.medium c.self.inside.disk in
     let w1 = g.D.Disk.medium c.write_extent.new.disk in
-    let moments = subst (λ (n : ℕ). ChangesOnly w0 w1 (IsSameBut (layout_of c.self.inside.halves.geometry) (image (other n)))) c.named-area.ensures.named
-    (subst (λ (x : Geometry). ChangesOnly w0 w1 (IsSameBut (layout_of x) (image (other c.named-area.result)))) c.geometry-g.ensures (c.write_extent.ensures.any_moment k)) in
+    let moments = subst (λ (n : ℕ). CrashesChangeOnly w0 w1 (IsSameBut (layout_of c.self.inside.halves.geometry) (image_part (other n)))) c.named-area.ensures.named
+    (subst (λ (x : Geometry). CrashesChangeOnly w0 w1 (IsSameBut (layout_of x) (image_part (other c.named-area.result)))) c.geometry-g.ensures (c.write_extent.ensures.any_moment k)) in
     piece_same w1 (g.met.D.Disk.bytes c.self.inside.disk) (c.self.invariant.7 fine k) (g.met.D.Disk.bytes c.write_extent.new.disk) moments ∙ ap committed c.self.view_is
 
 pub returns-clause-recoverable : goal.returns-clause-recoverable
@@ -79,58 +81,60 @@ returns-clause-recoverable g c = λ k.
     let fine : c.self.inside.failed ≡ false = ap (λ (h : JournalView). h.failed) c.self.view_is ∙ c.requires.not_failed in
     let w1 = g.D.Disk.medium c.write_extent.new.disk in
     let few = subst (λ (l : List Bool). c.in-Some.n < length l) c.deref.ensures.value c.in-Some.ensures.inside in
-    let left = some_left c.self.inside.left (ap (λ (h : JournalView). is_some h.left) c.self.view_is ∙ c.requires.running) in
+    let pieces_left = some_left c.self.inside.pieces_left (ap (λ (h : JournalView). is_some h.pieces_left) c.self.view_is ∙ c.requires.running) in
     let written = on_ok c.write_extent.result _ (sym c.is_err.ensures.value ∙ c.if-is_err.false) c.write_extent.ensures.written k in
     let pieced = pieced_along c.geometry-g.ensures c.named-area.ensures.named c.deref-2.ensures.value
     (record { moments = c.write_extent.ensures.any_moment k; same = c.write_extent.ensures.same k; is = written; ready = c.write_extent.ensures.ready k }) in
     recoverable_of
     (piece_sound w1 (g.met.D.Disk.bytes c.self.inside.disk) (c.self.invariant.7 fine k) (g.met.D.Disk.bytes c.write_extent.new.disk)
-    c.in-Some.n left.0 c.saturating_sub-left.result left.1 few pieced)
+    c.in-Some.n pieces_left.0 c.saturating_sub-pieces_left.result pieces_left.1 few pieced)
 
-pub returns-clause-left : goal.returns-clause-left
-returns-clause-left g c =
+pub returns-clause-pieces_left : goal.returns-clause-pieces_left
+returns-clause-pieces_left g c =
     let fine : c.self.inside.failed ≡ false = ap (λ (h : JournalView). h.failed) c.self.view_is ∙ c.requires.not_failed in
     let dirty_at = subst (λ (l : List Bool). get_or l c.in-Some.n false ≡ true) c.deref.ensures.value c.in-Some.ensures.dirty_at in
-    let running = ap (λ (h : JournalView). is_some h.left) c.self.view_is ∙ c.requires.running in
-    sym (ap (λ (h : JournalView). option_map (λ (l : ℕ). l - 1) h.left) c.self.view_is)
-    ∙ piece_left c.self.inside.halves c.self.inside.pending.items c.self.inside.left c.in-Some.n running (c.self.invariant.6 fine).1 dirty_at
-    (piece_counted c.self.inside.halves c.self.inside.pending.items c.self.inside.left c.in-Some.n running (c.self.invariant.6 fine).1 dirty_at
-    (c.saturating_sub-left.ensures ∙ ap (λ (n : ℕ). n - 1) c.unwrap_or.ensures))
+    let running = ap (λ (h : JournalView). is_some h.pieces_left) c.self.view_is ∙ c.requires.running in
+    sym (ap (λ (h : JournalView). option_map (λ (l : ℕ). l - 1) h.pieces_left) c.self.view_is)
+    ∙ piece_left c.self.inside.halves c.self.inside.pending.items c.self.inside.pieces_left c.in-Some.n running (c.self.invariant.6 fine).1 dirty_at
+    (piece_counted c.self.inside.halves c.self.inside.pending.items c.self.inside.pieces_left c.in-Some.n running (c.self.invariant.6 fine).1 dirty_at
+    (c.saturating_sub-pieces_left.ensures ∙ ap (λ (n : ℕ). n - 1) c.unwrap_or.ensures))
 
 pub returns-clause-after : goal.returns-clause-after
 returns-clause-after g c =
     let fine : c.self.inside.failed ≡ false = ap (λ (h : JournalView). h.failed) c.self.view_is ∙ c.requires.not_failed in
     let dirty_at = subst (λ (l : List Bool). get_or l c.in-Some.n false ≡ true) c.deref.ensures.value c.in-Some.ensures.dirty_at in
-    let running = ap (λ (h : JournalView). is_some h.left) c.self.view_is ∙ c.requires.running in
-    let left = piece_left c.self.inside.halves c.self.inside.pending.items c.self.inside.left c.in-Some.n running (c.self.invariant.6 fine).1 dirty_at
-    (piece_counted c.self.inside.halves c.self.inside.pending.items c.self.inside.left c.in-Some.n running (c.self.invariant.6 fine).1 dirty_at
-    (c.saturating_sub-left.ensures ∙ ap (λ (n : ℕ). n - 1) c.unwrap_or.ensures)) in
-    ap (λ (h : JournalView). record h { left = Some c.saturating_sub-left.result; medium = g.D.Disk.medium c.write_extent.new.disk }) c.self.view_is
-    ∙ ap (λ (l : Option ℕ). record c.args.self.now { left = l; medium = g.D.Disk.medium c.write_extent.new.disk })
-    (sym left ∙ ap (λ (h : JournalView). option_map (λ (l : ℕ). l - 1) h.left) c.self.view_is)
+    let running = ap (λ (h : JournalView). is_some h.pieces_left) c.self.view_is ∙ c.requires.running in
+    let pieces_left = piece_left c.self.inside.halves c.self.inside.pending.items c.self.inside.pieces_left c.in-Some.n running (c.self.invariant.6 fine).1 dirty_at
+    (piece_counted c.self.inside.halves c.self.inside.pending.items c.self.inside.pieces_left c.in-Some.n running (c.self.invariant.6 fine).1 dirty_at
+    (c.saturating_sub-pieces_left.ensures ∙ ap (λ (n : ℕ). n - 1) c.unwrap_or.ensures)) in
+    ap (λ (h : JournalView). record h { pieces_left = Some c.saturating_sub-pieces_left.result; medium = g.D.Disk.medium c.write_extent.new.disk }) c.self.view_is
+    ∙ ap (λ (l : Option ℕ). record c.args.self.now { pieces_left = l; medium = g.D.Disk.medium c.write_extent.new.disk })
+    (sym pieces_left ∙ ap (λ (h : JournalView). option_map (λ (l : ℕ). l - 1) h.pieces_left) c.self.view_is)
 
 pub returns-clause-records : goal.returns-clause-records
 returns-clause-records g c = λ k.
     let fine : c.self.inside.failed ≡ false = ap (λ (h : JournalView). h.failed) c.self.view_is ∙ c.requires.not_failed in
     let w0 = g.D.Disk.medium c.self.inside.disk in
     let w1 = g.D.Disk.medium c.write_extent.new.disk in
-    let moments = subst (λ (n : ℕ). ChangesOnly w0 w1 (IsSameBut (layout_of c.self.inside.halves.geometry) (image (other n)))) c.named-area.ensures.named
-    (subst (λ (x : Geometry). ChangesOnly w0 w1 (IsSameBut (layout_of x) (image (other c.named-area.result)))) c.geometry-g.ensures (c.write_extent.ensures.any_moment k)) in
+    let moments = subst (λ (n : ℕ). CrashesChangeOnly w0 w1 (IsSameBut (layout_of c.self.inside.halves.geometry) (image_part (other n)))) c.named-area.ensures.named
+    (subst (λ (x : Geometry). CrashesChangeOnly w0 w1 (IsSameBut (layout_of x) (image_part (other c.named-area.result)))) c.geometry-g.ensures (c.write_extent.ensures.any_moment k)) in
     piece_records w1 (g.met.D.Disk.bytes c.self.inside.disk) (c.self.invariant.7 fine k) (g.met.D.Disk.bytes c.write_extent.new.disk) moments ∙ ap records c.self.view_is
 
 pub returns-in_default-clause-one : goal.returns-in_default-clause-one
 returns-in_default-clause-one g c = λ some.
     let fine : c.self.inside.failed ≡ false = ap (λ (h : JournalView). h.failed) c.self.view_is ∙ c.requires.not_failed in
     let none : count_dirty c.self.inside.pending.items ≡ 0 = sym (ap count_dirty c.deref.ensures.value) ∙ c.in_default.ensures.none refl in
-    absurd (some (sym (ap (λ (h : JournalView). h.left) c.self.view_is)
-    ∙ none_due c.self.inside.halves c.self.inside.pending.items c.self.inside.left (ap (λ (h : JournalView). is_some h.left) c.self.view_is ∙ c.requires.running) (c.self.invariant.6 fine).1 none))
+    absurd (some (sym (ap (λ (h : JournalView). h.pieces_left) c.self.view_is)
+    ∙ none_due c.self.inside.halves c.self.inside.pending.items c.self.inside.pieces_left (ap (λ (h : JournalView). is_some h.pieces_left) c.self.view_is ∙ c.requires.running)
+    (c.self.invariant.6 fine).1 none))
 
 pub returns-in_default-clause-costs : goal.returns-in_default-clause-costs
 returns-in_default-clause-costs g c = λ some.
     let fine : c.self.inside.failed ≡ false = ap (λ (h : JournalView). h.failed) c.self.view_is ∙ c.requires.not_failed in
     let none : count_dirty c.self.inside.pending.items ≡ 0 = sym (ap count_dirty c.deref.ensures.value) ∙ c.in_default.ensures.none refl in
-    absurd (some (sym (ap (λ (h : JournalView). h.left) c.self.view_is)
-    ∙ none_due c.self.inside.halves c.self.inside.pending.items c.self.inside.left (ap (λ (h : JournalView). is_some h.left) c.self.view_is ∙ c.requires.running) (c.self.invariant.6 fine).1 none))
+    absurd (some (sym (ap (λ (h : JournalView). h.pieces_left) c.self.view_is)
+    ∙ none_due c.self.inside.halves c.self.inside.pending.items c.self.inside.pieces_left (ap (λ (h : JournalView). is_some h.pieces_left) c.self.view_is ∙ c.requires.running)
+    (c.self.invariant.6 fine).1 none))
 
 pub returns-clause-one : goal.returns-clause-one
 returns-clause-one g c = λ some k.
@@ -142,7 +146,7 @@ returns-clause-one g c = λ some k.
     (record { moments = c.write_extent.ensures.any_moment k; same = c.write_extent.ensures.same k; is = written; ready = c.write_extent.ensures.ready k }) in
     let sound = c.self.invariant.7 fine k in
     let named = (sound.recovers w0.now (itself w0.now w0.unsynced (g.met.D.Disk.bytes c.self.inside.disk))).named in
-    subst (λ (h : JournalView). PatchesOne h.geometry h.medium.now w1.now) c.self.view_is (patches_one named pieced)
+    subst (λ (h : JournalView). PatchesUnnamed h.geometry h.medium.now w1.now) c.self.view_is (patches_one named pieced)
 
 pub invariant_of-self-2 : goal.invariant_of-self-2
 invariant_of-self-2 g c =
@@ -155,23 +159,24 @@ invariant_of-self-2 g c =
       c.self.invariant.4,
       length-set c.self.inside.pending.items c.in-Some.n false ∙ c.self.invariant.5,
       (λ fine.
-          let left = some_left c.self.inside.left (ap (λ (h : JournalView). is_some h.left) c.self.view_is ∙ c.requires.running) in
-          let placed = subst (λ (l : Option ℕ). IsCutState c.self.inside.halves c.self.inside.pending.items l) left.1 (c.self.invariant.6 fine).1 in (
+          let pieces_left = some_left c.self.inside.pieces_left (ap (λ (h : JournalView). is_some h.pieces_left) c.self.view_is ∙ c.requires.running) in
+          let placed = subst (λ (l : Option ℕ). IsCutState c.self.inside.halves c.self.inside.pending.items l) pieces_left.1 (c.self.invariant.6 fine).1 in (
             (c.self.invariant.6 fine).0,
             (
               placed.0,
-              sym (piece_counted c.self.inside.halves c.self.inside.pending.items c.self.inside.left c.in-Some.n (ap (λ (h : JournalView). is_some h.left) c.self.view_is ∙ c.requires.running)
-                  (c.self.invariant.6 fine).1 dirty_at (c.saturating_sub-left.ensures ∙ ap (λ (n : ℕ). n - 1) c.unwrap_or.ensures)),
+              sym (piece_counted c.self.inside.halves c.self.inside.pending.items c.self.inside.pieces_left c.in-Some.n
+                  (ap (λ (h : JournalView). is_some h.pieces_left) c.self.view_is ∙ c.requires.running)
+                  (c.self.invariant.6 fine).1 dirty_at (c.saturating_sub-pieces_left.ensures ∙ ap (λ (n : ℕ). n - 1) c.unwrap_or.ensures)),
             ),
           )),
       (λ fine k.
           let w1 = g.D.Disk.medium c.write_extent.new.disk in
-          let left = some_left c.self.inside.left (ap (λ (h : JournalView). is_some h.left) c.self.view_is ∙ c.requires.running) in
+          let pieces_left = some_left c.self.inside.pieces_left (ap (λ (h : JournalView). is_some h.pieces_left) c.self.view_is ∙ c.requires.running) in
           let written = on_ok c.write_extent.result _ (sym c.is_err.ensures.value ∙ c.if-is_err.false) c.write_extent.ensures.written k in
           let pieced = pieced_along c.geometry-g.ensures c.named-area.ensures.named c.deref-2.ensures.value
           (record { moments = c.write_extent.ensures.any_moment k; same = c.write_extent.ensures.same k; is = written; ready = c.write_extent.ensures.ready k }) in
           piece_sound w1 (g.met.D.Disk.bytes c.self.inside.disk) (c.self.invariant.7 fine k) (g.met.D.Disk.bytes c.write_extent.new.disk)
-          c.in-Some.n left.0 c.saturating_sub-left.result left.1 few pieced),
+          c.in-Some.n pieces_left.0 c.saturating_sub-pieces_left.result pieces_left.1 few pieced),
       let long = length-set c.self.inside.pending.items c.in-Some.n false in omega (arith, few, long),
       clear_set c.in-Some.n c.self.inside.pending.items few (subst (λ (l : List Bool). AreCleanBefore c.in-Some.n l) c.deref.ensures.value c.in-Some.ensures.clear),
     )
@@ -185,17 +190,17 @@ returns-then-is_err-clause-beyond g c = λ k.
     let w0 = g.D.Disk.medium c.self.inside.disk in
     let w1 = g.D.Disk.medium c.write_extent.new.disk in
     let l = layout_of c.self.inside.halves.geometry in
-    let moments = subst (λ (n : ℕ). ChangesOnly w0 w1 (IsSameBut l (image (other n)))) c.named-area.ensures.named
-    (subst (λ (x : Geometry). ChangesOnly w0 w1 (IsSameBut (layout_of x) (image (other c.named-area.result)))) c.geometry-g.ensures (c.write_extent.ensures.any_moment k)) in
+    let moments = subst (λ (n : ℕ). CrashesChangeOnly w0 w1 (IsSameBut l (image_part (other n)))) c.named-area.ensures.named
+    (subst (λ (x : Geometry). CrashesChangeOnly w0 w1 (IsSameBut (layout_of x) (image_part (other c.named-area.result)))) c.geometry-g.ensures (c.write_extent.ensures.any_moment k)) in
     subst (λ (h : JournalView). KeepsBeyond (layout_of h.geometry) h.medium w1) c.self.view_is
-    (beyond l w0 w1 (IsSameBut l (image (other c.self.inside.halves.named))) (λ o d h. h.rest) moments)
+    (beyond l w0 w1 (IsSameBut l (image_part (other c.self.inside.halves.named))) (λ o d h. h.rest) moments)
 
 pub returns-clause-beyond : goal.returns-clause-beyond
 returns-clause-beyond g c = λ k.
     let w0 = g.D.Disk.medium c.self.inside.disk in
     let w1 = g.D.Disk.medium c.write_extent.new.disk in
     let l = layout_of c.self.inside.halves.geometry in
-    let moments = subst (λ (n : ℕ). ChangesOnly w0 w1 (IsSameBut l (image (other n)))) c.named-area.ensures.named
-    (subst (λ (x : Geometry). ChangesOnly w0 w1 (IsSameBut (layout_of x) (image (other c.named-area.result)))) c.geometry-g.ensures (c.write_extent.ensures.any_moment k)) in
+    let moments = subst (λ (n : ℕ). CrashesChangeOnly w0 w1 (IsSameBut l (image_part (other n)))) c.named-area.ensures.named
+    (subst (λ (x : Geometry). CrashesChangeOnly w0 w1 (IsSameBut (layout_of x) (image_part (other c.named-area.result)))) c.geometry-g.ensures (c.write_extent.ensures.any_moment k)) in
     subst (λ (h : JournalView). KeepsBeyond (layout_of h.geometry) h.medium w1) c.self.view_is
-    (beyond l w0 w1 (IsSameBut l (image (other c.self.inside.halves.named))) (λ o d h. h.rest) moments)
+    (beyond l w0 w1 (IsSameBut l (image_part (other c.self.inside.halves.named))) (λ o d h. h.rest) moments)

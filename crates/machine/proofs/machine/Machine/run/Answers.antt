@@ -1,4 +1,4 @@
--- Each step extends the run, and a crash of the whole leaves what it may.
+-- Each step extends the run by an event, and a crash at any moment of the whole run leaves what `HasRun` allows.
 use Rattle.std.proofs.Common.{◌≡◌, ◌+◌, ◌<◌, ◌≤◌, List, [], arith, length, subst, sym, ◌∙◌, take}
 use Rattle.std.specs.Prelude.{slice_set}
 use Rattle.std.specs.Vec.{with_items}
@@ -6,8 +6,8 @@ use Rattle.std.proofs.lemmas.List.{take_all, with_items_is}
 use Rattle.legal_runs.specs.Laws.{IsSoundCoreState}
 use Rattle.legal_runs.specs.declared.outcomes.Outcome.{Outcome}
 use Rattle.legal_runs.specs.declared.outcomes.Step.{Step}
-use Rattle.runs.proofs.Running.{has_run, next_stages, no_stages}
-use Rattle.runs.specs.Machine.{MachineView, HasStages, HoldsJobs}
+use Rattle.runs.proofs.Running.{has_run, next_device_events, no_device_events}
+use Rattle.runs.specs.Machine.{MachineView, HasDeviceEvents, HoldsJobs}
 use Rattle.runs.specs.declared.hands.Holding.{Holding}
 use Rattle.scheduler.specs.CoreView.{core_state_of}
 use Rattle.machine.proofs.machine.Machine.run.Goals as goal
@@ -16,7 +16,7 @@ pub loop-i-init : goal.loop-i-init
 loop-i-init g c =
     let here : MachineView = record { core = c.self.inside.core; hands = c.self.inside.hands.items } in
     record {
-      ran = subst (λ (m : MachineView). HasStages g.D.Disk.keeps m here [] []) c.self.view_is (no_stages g.D.Disk.keeps here);
+      ran = subst (λ (m : MachineView). HasDeviceEvents g.D.Disk.keeps m here [] []) c.self.view_is (no_device_events g.D.Disk.keeps here);
       holds = c.self.invariant;
     }
 
@@ -28,14 +28,14 @@ pub loop-i-preserved : goal.loop-i-preserved
 loop-i-preserved g c =
     let new : MachineView = record { core = c.make_step.new.core; hands = c.make_step.new.hands } in
     let within : c.loop-i.i < length c.loop-i.outcomes = omega (arith, c.requires, c.loop-i.auto.outcomes, c.loop-i-test.true) in
-    let more : HasStages g.D.Disk.keeps c.args.self.now new (take (c.loop-i.i + 1) c.args.steps.now)
+    let more : HasDeviceEvents g.D.Disk.keeps c.args.self.now new (take (c.loop-i.i + 1) c.args.steps.now)
     (take (c.loop-i.i + 1) (slice_set c.loop-i.outcomes c.loop-i.i c.make_step.result)) =
-    next_stages {new = new} c.args.steps.now _ c.loop-i.outcomes c.deref_mut.ensures.value (c.loop-i-test.true, within)
+    next_device_events {new = new} c.args.steps.now _ c.loop-i.outcomes c.deref_mut.ensures.value (c.loop-i-test.true, within)
     c.loop-i.invariant.ran c.make_step.ensures.step c.make_step.ensures.untouched in
     let kept : (with_items c.loop-i.self-inside.hands c.make_step.new.hands).items ≡ c.make_step.new.hands =
     with_items_is c.loop-i.self-inside.hands c.make_step.new.hands (c.make_step.auto.hands ∙ c.deref_mut.ensures.len) in
     record {
-      ran = subst (λ (hands : List Holding). HasStages g.D.Disk.keeps c.args.self.now (record { core = c.make_step.new.core; hands = hands })
+      ran = subst (λ (hands : List Holding). HasDeviceEvents g.D.Disk.keeps c.args.self.now (record { core = c.make_step.new.core; hands = hands })
           (take (c.loop-i.i + 1) c.args.steps.now) (take (c.loop-i.i + 1) (slice_set c.loop-i.outcomes c.loop-i.i c.make_step.result)))
           (sym kept) more;
       holds = subst (HoldsJobs c.make_step.new.core.geometry (core_state_of c.make_step.new.core)) (sym kept) c.make_step.ensures.holds;
@@ -50,6 +50,6 @@ returns g c =
     let all : take c.loop-i.i c.args.steps.now ≡ c.args.steps.now = take_all c.loop-i.i c.args.steps.now c.loop-i-test.false in
     let long : length c.loop-i.outcomes ≤ c.loop-i.i = omega (arith, c.requires, c.loop-i.auto.outcomes, c.loop-i-test.false) in
     has_run (subst (λ (m : MachineView). IsSoundCoreState m.core.geometry (core_state_of m.core)) c.self.view_is c.self.invariant.sound)
-    (subst (λ (os : List Outcome). HasStages g.D.Disk.keeps c.args.self.now now c.args.steps.now os) (take_all c.loop-i.i c.loop-i.outcomes long)
-    (subst (λ (ss : List Step). HasStages g.D.Disk.keeps c.args.self.now now ss (take c.loop-i.i c.loop-i.outcomes)) all c.loop-i.invariant.ran))
+    (subst (λ (os : List Outcome). HasDeviceEvents g.D.Disk.keeps c.args.self.now now c.args.steps.now os) (take_all c.loop-i.i c.loop-i.outcomes long)
+    (subst (λ (ss : List Step). HasDeviceEvents g.D.Disk.keeps c.args.self.now now ss (take c.loop-i.i c.loop-i.outcomes)) all c.loop-i.invariant.ran))
     c.know_recovery.ensures.no_doubt c.know_recovery.ensures.now

@@ -4,8 +4,8 @@ use Rattle.std.specs.List.{Contains}
 use Rattle.std.specs.Prelude.{◌&&◌}
 use Rattle.std.proofs.KnownBytes.{Keeps-refl}
 use Rattle.messages.specs.FirstLine.{LosesFront, behind_first_line}
-use Rattle.message.specs.Reader.{held_bytes, still_to_come, unread, are_none}
-use Rattle.message.proofs.ReaderLemmas.{IsWhole-told, passed, LosesFront-kept, IsClosed-held, IsClosed-behind}
+use Rattle.message.specs.Reader.{buffered_bytes, still_to_come, unread, are_none}
+use Rattle.message.proofs.ReaderLemmas.{IsWhole-known_end, passed, LosesFront-kept, HasWholeFirstLine-buffered, HasWholeFirstLine-behind}
 use Rattle.message.proofs.reading.LineReader.skip_line.Goals as goal
 use Rattle.message.proofs.reading.LineReader.skip_line.Goals.{then-not-self+then-not-has_newline+in_ok-skip, else-not-self, else-not-self-via-then-not-self+else-not-has_newline, else-not-self-via-else-not-self}
 
@@ -18,15 +18,15 @@ returns-clause-passed g c =
       | then-not-self+then-not-has_newline+in_ok-skip w ↦ rw w.self-is w.skip.ensures.lost
       | else-not-self w ↦ rw w.self-is (LosesFront-kept a a (Keeps-refl a))
     ] in
-    let whole : (before.ended ≡ true) ⊎ Contains (held_bytes before.held) 10 = elim c.if-not-self.branch [
+    let whole : (before.ended ≡ true) ⊎ Contains (buffered_bytes before.buffered) 10 = elim c.if-not-self.branch [
       | then-not-self+then-not-has_newline+in_ok-skip w ↦ rw w.self-is w.in_ok-skip.ensures.whole
       | else-not-self w ↦ rw w.self-is (elim w.else-not-self.branch [
         | else-not-self-via-then-not-self+else-not-has_newline w' ↦ inr (w'.has_newline.ensures.holds.0 w'.if-not-has_newline.false)
         | else-not-self-via-else-not-self w' ↦ inl w'.if-not-self.false
       ])
     ] in
-    passed a known (held_bytes before.held) (held_bytes c.pass_line.new.self) lost
-    (IsWhole-told before.ended (held_bytes before.held) (g.R.Read.remaining before.reader) whole) c.pass_line.ensures.bytes
+    passed a known (buffered_bytes before.buffered) (buffered_bytes c.pass_line.new.self) lost
+    (IsWhole-known_end before.ended (buffered_bytes before.buffered) (g.R.Read.remaining before.reader) whole) c.pass_line.ensures.bytes
 
 pub returns-clause-closed : goal.returns-clause-closed
 returns-clause-closed g c =
@@ -36,12 +36,12 @@ returns-clause-closed g c =
       | then-not-self+then-not-has_newline+in_ok-skip w ↦ rw w.self-is w.skip.ensures.lost
       | else-not-self w ↦ rw w.self-is (LosesFront-kept a a (Keeps-refl a))
     ] in
-    let whole : (before.ended ≡ true) ⊎ Contains (held_bytes before.held) 10 = elim c.if-not-self.branch [
+    let whole : (before.ended ≡ true) ⊎ Contains (buffered_bytes before.buffered) 10 = elim c.if-not-self.branch [
       | then-not-self+then-not-has_newline+in_ok-skip w ↦ rw w.self-is w.in_ok-skip.ensures.whole
       | else-not-self w ↦ rw w.self-is (elim w.else-not-self.branch [
         | else-not-self-via-then-not-self+else-not-has_newline w' ↦ inr (w'.has_newline.ensures.holds.0 w'.if-not-has_newline.false)
         | else-not-self-via-else-not-self w' ↦ inl w'.if-not-self.false
       ])
     ] in
-    rw c.pass_line.ensures.bytes (IsClosed-behind a (unread g.R.Read.remaining before) (before.ended && are_none (behind_first_line (held_bytes before.held))) lost
-    (IsClosed-held before.ended (held_bytes before.held) (g.R.Read.remaining before.reader) whole))
+    rw c.pass_line.ensures.bytes (HasWholeFirstLine-behind a (unread g.R.Read.remaining before) (before.ended && are_none (behind_first_line (buffered_bytes before.buffered))) lost
+    (HasWholeFirstLine-buffered before.ended (buffered_bytes before.buffered) (g.R.Read.remaining before.reader) whole))

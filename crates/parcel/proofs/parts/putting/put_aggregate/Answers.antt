@@ -1,10 +1,10 @@
--- What is done to a child is done to this level.
+-- What putting parcels into the volume promises (its kind, what an error hands back, that it fits) holds of the aggregate.
 use Rattle.std.proofs.Common.{◌≡◌, ℕ, ◌<◌, ◌∷◌, sym, ap, subst, ◌∙◌, arith}
 use Rattle.std.specs.Prelude.{Some, None, IfSome, IfErr, OnOk, slice_index_or}
 use Rattle.std.proofs.lemmas.List.{length-set}
 use Rattle.parcel.specs.Fits.{Fits, IsKindOf, FitsVolume, FitsAggregate}
 use Rattle.parcel.specs.Levels.{IsVolumePath, HandsBack}
-use Rattle.parcel.specs.Nodes.{in_child, in_volume, in_aggregate}
+use Rattle.parcel.specs.Nodes.{child_nodes, volume_nodes, aggregate_nodes}
 use Rattle.parcel.specs.Nodes.Node.{Inner}
 use Rattle.parcel.proofs.ChildRows.{rest_of, row_path, row_handed_back, split, each_at, each_set}
 use Rattle.parcel.proofs.Levels.{no_path, child_read, through, on_ok, map_err, moved_volume}
@@ -20,7 +20,7 @@ returns-in-empty-clause-kind c =
 pub returns-in-empty-clause-err : goal.returns-in-empty-clause-err
 returns-in-empty-clause-err c =
     subst (λ q. IfErr c.put_aggregate_itself.result (λ back. (a : ℕ) → HandsBack (IsKindOf (a ∷ q) c.args.p) q c.args.p back
-    (in_child in_aggregate c.args.node.now) (in_child in_aggregate c.put_aggregate_itself.new.node)))
+    (child_nodes aggregate_nodes c.args.node.now) (child_nodes aggregate_nodes c.put_aggregate_itself.new.node)))
     (sym (no_path c.args.path.now c.in-empty.len_below)) c.put_aggregate_itself.ensures.err
 
 pub put_volume-requires-clause-fits : goal.put_volume-requires-clause-fits
@@ -58,8 +58,8 @@ returns-in-Some-clause-err c =
     let path : (i < g.volumes) × IsVolumePath g (rest_of p) = row_path g.volumes (IsVolumePath g) p c.in-len1-up.len_at_least c.requires.path in
     let at : c.index_mut.result.now ≡ slice_index_or xs i None = child_read xs i g.volumes c.index_mut.result.now path.0 fits.count c.index_mut.ensures.value in
     map_err c.put_volume.result (λ back h. λ a. through (λ q old new. HandsBack (IsKindOf (a ∷ i ∷ q) c.args.p) q c.args.p back old new)
-    (λ q old new. HandsBack (IsKindOf (a ∷ q) c.args.p) q c.args.p back old new) c.in-len1-up.len_at_least (ap (in_child in_aggregate) was) (ap (in_child in_volume) at)
-    (row_handed_back in_volume Inner xs i c.put_volume.new.node (omega arith) (IsKindOf (a ∷ i ∷ rest_of p) c.args.p) (rest_of p) c.args.p back) (h a i)) c.put_volume.ensures.err
+    (λ q old new. HandsBack (IsKindOf (a ∷ q) c.args.p) q c.args.p back old new) c.in-len1-up.len_at_least (ap (child_nodes aggregate_nodes) was) (ap (child_nodes volume_nodes) at)
+    (row_handed_back volume_nodes Inner xs i c.put_volume.new.node (omega arith) (IsKindOf (a ∷ i ∷ rest_of p) c.args.p) (rest_of p) c.args.p back) (h a i)) c.put_volume.ensures.err
 
 pub returns-in-Some-clause-fits : goal.returns-in-Some-clause-fits
 returns-in-Some-clause-fits c =

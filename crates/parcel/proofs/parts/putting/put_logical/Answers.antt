@@ -1,10 +1,10 @@
--- What is done to a child is done to this level.
+-- What putting parcels into the stripe promises (its kind, what an error hands back, that it fits) holds of the level above it.
 use Rattle.std.proofs.Common.{◌≡◌, ℕ, zero, ◌+◌, ◌<◌, [], ◌∷◌, sym, ap, subst, ◌∙◌, arith}
 use Rattle.std.specs.Prelude.{Some, None, IfSome, IfErr, OnOk, slice_index_or}
 use Rattle.std.proofs.lemmas.List.{length-set}
 use Rattle.parcel.specs.Fits.{Fits, IsKindOf, FitsStripe, FitsLogical}
 use Rattle.parcel.specs.Levels.{IsLeafPath, HandsBack}
-use Rattle.parcel.specs.Nodes.{in_child, in_stripe, in_logical}
+use Rattle.parcel.specs.Nodes.{child_nodes, stripe_nodes, logical_nodes}
 use Rattle.parcel.specs.Nodes.Node.{Files}
 use Rattle.parcel.proofs.ChildRows.{rest_of, row_path, row_handed_back, split, each_at, each_set}
 use Rattle.parcel.proofs.Levels.{no_path, leaf_path, child_read, through, on_ok, either, map_ok, map_err}
@@ -21,7 +21,7 @@ returns-in-empty-clause-kind c =
 pub returns-in-empty-clause-err : goal.returns-in-empty-clause-err
 returns-in-empty-clause-err c =
     subst (λ q. IfErr c.put_logical_itself.result (λ back. (a v : ℕ) → HandsBack (IsKindOf (a ∷ v ∷ zero ∷ q) c.args.p) q c.args.p back
-    (in_child in_logical c.args.node.now) (in_child in_logical c.put_logical_itself.new.node)))
+    (child_nodes logical_nodes c.args.node.now) (child_nodes logical_nodes c.put_logical_itself.new.node)))
     (sym (no_path c.args.path.now c.in-empty.len_below)) c.put_logical_itself.ensures.err
 
 pub returns-in-Some-clause-kind : goal.returns-in-Some-clause-kind
@@ -48,11 +48,11 @@ returns-in-Some-clause-err c =
     let path : (i < g.stripes) × IsLeafPath (rest_of p) = row_path g.stripes IsLeafPath p c.in-len1-up.len_at_least c.requires.path in
     let at : c.index_mut.result.now ≡ slice_index_or xs i None = child_read xs i g.stripes c.index_mut.result.now path.0 fits.count c.index_mut.ensures.value in
     map_err c.put_stripe.result (λ back h. λ a v. through (λ q old new. HandsBack (IsKindOf (a ∷ v ∷ zero ∷ i ∷ q) c.args.p) q c.args.p back old
-    new) (λ q old new. HandsBack (IsKindOf (a ∷ v ∷ zero ∷ q) c.args.p) q c.args.p back old new) c.in-len1-up.len_at_least (ap (in_child in_logical) was) (ap (in_child in_stripe) at)
-    (row_handed_back in_stripe (Files c.in-Some.logical.files) xs i c.put_stripe.new.node (omega arith)
+    new) (λ q old new. HandsBack (IsKindOf (a ∷ v ∷ zero ∷ q) c.args.p) q c.args.p back old new) c.in-len1-up.len_at_least (ap (child_nodes logical_nodes) was) (ap (child_nodes stripe_nodes) at)
+    (row_handed_back stripe_nodes (Files c.in-Some.logical.files) xs i c.put_stripe.new.node (omega arith)
     (IsKindOf (a ∷ v ∷ zero ∷ i ∷ rest_of p) c.args.p) (rest_of p) c.args.p back)
-    (subst (λ q. HandsBack (IsKindOf (a ∷ v ∷ zero ∷ i ∷ q) c.args.p) q c.args.p back (in_child in_stripe c.index_mut.result.now)
-    (in_child in_stripe c.put_stripe.new.node)) (sym (leaf_path (rest_of p) path.1)) (h a v i))) c.put_stripe.ensures.err
+    (subst (λ q. HandsBack (IsKindOf (a ∷ v ∷ zero ∷ i ∷ q) c.args.p) q c.args.p back (child_nodes stripe_nodes c.index_mut.result.now)
+    (child_nodes stripe_nodes c.put_stripe.new.node)) (sym (leaf_path (rest_of p) path.1)) (h a v i))) c.put_stripe.ensures.err
 
 pub returns-in-Some-clause-fits : goal.returns-in-Some-clause-fits
 returns-in-Some-clause-fits c =

@@ -1,10 +1,10 @@
--- What is done to a child is done to this level.
+-- What putting parcels into the aggregate promises (its kind, what an error hands back, that it fits) holds of the root.
 use Rattle.std.proofs.Common.{◌≡◌, ◌<◌, ◌∷◌, sym, ap, subst, ◌∙◌, arith}
 use Rattle.std.specs.Prelude.{Some, None, IfSome, slice_index_or}
 use Rattle.std.proofs.lemmas.List.{length-set}
 use Rattle.parcel.specs.Fits.{Fits, IsKindOf, FitsAggregate, FitsRoot}
 use Rattle.parcel.specs.Levels.{IsAggregatePath, HandsBack}
-use Rattle.parcel.specs.Nodes.{in_child, in_aggregate, in_root}
+use Rattle.parcel.specs.Nodes.{child_nodes, aggregate_nodes, root_nodes}
 use Rattle.parcel.specs.Nodes.Node.{Inner}
 use Rattle.parcel.proofs.ChildRows.{rest_of, row_path, row_handed_back, split, each_at, each_set}
 use Rattle.parcel.proofs.Levels.{child_read, through, on_ok, map_err, moved_aggregate}
@@ -45,8 +45,8 @@ returns-in-Some-clause-err c =
     let path : (i < g.aggregates) × IsAggregatePath g (rest_of p) = row_path g.aggregates (IsAggregatePath g) p c.in-len1-up.len_at_least c.requires.path in
     let at : c.index_mut.result.now ≡ slice_index_or xs i None = child_read xs i g.aggregates c.index_mut.result.now path.0 fits.count c.index_mut.ensures.value in
     map_err c.put_aggregate.result (λ back h. through (λ q old new. HandsBack (IsKindOf (i ∷ q) c.args.p) q c.args.p back old new)
-    (λ q old new. HandsBack (IsKindOf q c.args.p) q c.args.p back old new) c.in-len1-up.len_at_least (ap (in_child in_root) was) (ap (in_child in_aggregate) at)
-    (row_handed_back in_aggregate Inner xs i c.put_aggregate.new.node (omega arith) (IsKindOf (i ∷ rest_of p) c.args.p) (rest_of p) c.args.p back) (h i)) c.put_aggregate.ensures.err
+    (λ q old new. HandsBack (IsKindOf q c.args.p) q c.args.p back old new) c.in-len1-up.len_at_least (ap (child_nodes root_nodes) was) (ap (child_nodes aggregate_nodes) at)
+    (row_handed_back aggregate_nodes Inner xs i c.put_aggregate.new.node (omega arith) (IsKindOf (i ∷ rest_of p) c.args.p) (rest_of p) c.args.p back) (h i)) c.put_aggregate.ensures.err
 
 pub returns-in-Some-clause-fits : goal.returns-in-Some-clause-fits
 returns-in-Some-clause-fits c =

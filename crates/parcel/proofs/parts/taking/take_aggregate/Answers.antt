@@ -4,7 +4,7 @@ use Rattle.std.specs.Prelude.{Some, None, IfSome, slice_index_or}
 use Rattle.std.proofs.lemmas.List.{length-set}
 use Rattle.parcel.specs.Fits.{Fits, FitsVolume, FitsAggregate}
 use Rattle.parcel.specs.Levels.{IsVolumePath, IsAggregatePath, TakesNothing}
-use Rattle.parcel.specs.Nodes.{in_child, in_volume, in_aggregate}
+use Rattle.parcel.specs.Nodes.{child_nodes, volume_nodes, aggregate_nodes}
 use Rattle.parcel.specs.Nodes.Node.{Inner}
 use Rattle.parcel.proofs.ChildRows.{rest_of, row_path, row_refused, split, each_at, each_set}
 use Rattle.parcel.proofs.Levels.{no_path, child_read, through, map_none, map_some}
@@ -36,8 +36,9 @@ returns-in-Some-clause-none c =
     let fits : FitsAggregate g c.in-Some.aggregate = subst (λ x. IfSome x (FitsAggregate g)) was c.requires.fits in
     let path : (i < g.volumes) × IsVolumePath g (rest_of p) = row_path g.volumes (IsVolumePath g) p c.in-len1-up.len_at_least c.requires.path in
     let at : c.index_mut.result.now ≡ slice_index_or xs i None = child_read xs i g.volumes c.index_mut.result.now path.0 fits.count c.index_mut.ensures.value in
-    map_none c.take_volume.result (through (TakesNothing (IsVolumePath g)) (TakesNothing (IsAggregatePath g)) c.in-len1-up.len_at_least (ap (in_child in_aggregate) was) (ap (in_child in_volume) at)
-    (row_refused in_volume Inner xs i c.take_volume.new.node (omega arith) (IsVolumePath g) g.volumes (rest_of p) path.0)) c.take_volume.ensures.none
+    map_none c.take_volume.result
+    (through (TakesNothing (IsVolumePath g)) (TakesNothing (IsAggregatePath g)) c.in-len1-up.len_at_least (ap (child_nodes aggregate_nodes) was) (ap (child_nodes volume_nodes) at)
+    (row_refused volume_nodes Inner xs i c.take_volume.new.node (omega arith) (IsVolumePath g) g.volumes (rest_of p) path.0)) c.take_volume.ensures.none
 
 pub returns-in-Some-clause-fits : goal.returns-in-Some-clause-fits
 returns-in-Some-clause-fits c =

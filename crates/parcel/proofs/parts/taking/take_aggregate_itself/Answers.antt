@@ -3,7 +3,7 @@ use Rattle.std.proofs.Common.{◌≡◌, true, false, subst, refl}
 use Rattle.std.specs.Prelude.{Some, IfSome}
 use Rattle.parcel.specs.Fits.{FitsAggregate, IsWholeChild, IsWholeAggregate}
 use Rattle.parcel.specs.Levels.{is_whole_aggregate}
-use Rattle.parcel.specs.Nodes.{in_aggregate}
+use Rattle.parcel.specs.Nodes.{aggregate_nodes}
 use Rattle.parcel.proofs.Whole.{aggregate_whole, aggregate_all_in, aggregate_gap, taken_itself, refused_itself}
 use Rattle.parcel.proofs.parts.taking.take_aggregate_itself.Goals as goal
 
@@ -15,7 +15,7 @@ returns-then-not-is_whole_aggregate-clause-none c =
 pub returns-in-Some-clause-some : goal.returns-in-Some-clause-some
 returns-in-Some-clause-some c =
     let whole : is_whole_aggregate c.args.node.now ≡ true = cc in
-    taken_itself in_aggregate c.in-Some.aggregate (cc) (cc) (aggregate_all_in c.args.g.now c.args.node.now c.requires.fits (aggregate_whole c.args.node.now whole)) (λ q. refl)
+    taken_itself aggregate_nodes c.in-Some.aggregate (cc) (cc) (aggregate_all_in c.args.g.now c.args.node.now c.requires.fits (aggregate_whole c.args.node.now whole)) (λ q. refl)
 
 pub returns-in-Some-clause-lent : goal.returns-in-Some-clause-lent
 returns-in-Some-clause-lent c =

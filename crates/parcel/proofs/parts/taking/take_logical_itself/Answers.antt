@@ -3,7 +3,7 @@ use Rattle.std.proofs.Common.{◌≡◌, true, false, subst, refl}
 use Rattle.std.specs.Prelude.{Some, IfSome}
 use Rattle.parcel.specs.Fits.{FitsLogical, IsWholeChild, IsWholeLogical}
 use Rattle.parcel.specs.Levels.{is_whole_logical}
-use Rattle.parcel.specs.Nodes.{in_logical}
+use Rattle.parcel.specs.Nodes.{logical_nodes}
 use Rattle.parcel.proofs.Whole.{logical_whole, logical_all_in, logical_gap, taken_itself, refused_itself}
 use Rattle.parcel.proofs.parts.taking.take_logical_itself.Goals as goal
 
@@ -15,7 +15,7 @@ returns-then-not-is_whole_logical-clause-none c =
 pub returns-in-Some-clause-some : goal.returns-in-Some-clause-some
 returns-in-Some-clause-some c =
     let whole : is_whole_logical c.args.node.now ≡ true = cc in
-    taken_itself in_logical c.in-Some.logical (cc) (cc) (logical_all_in c.args.g.now c.args.node.now c.requires.fits (logical_whole c.args.node.now whole)) (λ q. refl)
+    taken_itself logical_nodes c.in-Some.logical (cc) (cc) (logical_all_in c.args.g.now c.args.node.now c.requires.fits (logical_whole c.args.node.now whole)) (λ q. refl)
 
 pub returns-in-Some-clause-lent : goal.returns-in-Some-clause-lent
 returns-in-Some-clause-lent c =

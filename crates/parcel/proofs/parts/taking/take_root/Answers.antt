@@ -4,7 +4,7 @@ use Rattle.std.specs.Prelude.{Some, None, IfSome, slice_index_or}
 use Rattle.std.proofs.lemmas.List.{length-set}
 use Rattle.parcel.specs.Fits.{Fits, FitsAggregate, FitsRoot}
 use Rattle.parcel.specs.Levels.{IsAggregatePath, IsRootPath, TakesNothing}
-use Rattle.parcel.specs.Nodes.{in_child, in_aggregate, in_root}
+use Rattle.parcel.specs.Nodes.{child_nodes, aggregate_nodes, root_nodes}
 use Rattle.parcel.specs.Nodes.Node.{Inner}
 use Rattle.parcel.proofs.ChildRows.{rest_of, row_path, row_refused, split, each_at, each_set}
 use Rattle.parcel.proofs.Levels.{child_read, through, map_none, map_some}
@@ -32,8 +32,9 @@ returns-in-Some-clause-none c =
     let fits : FitsRoot g c.in-Some.root = subst (λ x. IfSome x (FitsRoot g)) was c.requires.fits in
     let path : (i < g.aggregates) × IsAggregatePath g (rest_of p) = row_path g.aggregates (IsAggregatePath g) p c.in-len1-up.len_at_least c.requires.path in
     let at : c.index_mut.result.now ≡ slice_index_or xs i None = child_read xs i g.aggregates c.index_mut.result.now path.0 fits.count c.index_mut.ensures.value in
-    map_none c.take_aggregate.result (through (TakesNothing (IsAggregatePath g)) (TakesNothing (IsRootPath g)) c.in-len1-up.len_at_least (ap (in_child in_root) was) (ap (in_child in_aggregate) at)
-    (row_refused in_aggregate Inner xs i c.take_aggregate.new.node (omega arith) (IsAggregatePath g) g.aggregates (rest_of p) path.0)) c.take_aggregate.ensures.none
+    map_none c.take_aggregate.result
+    (through (TakesNothing (IsAggregatePath g)) (TakesNothing (IsRootPath g)) c.in-len1-up.len_at_least (ap (child_nodes root_nodes) was) (ap (child_nodes aggregate_nodes) at)
+    (row_refused aggregate_nodes Inner xs i c.take_aggregate.new.node (omega arith) (IsAggregatePath g) g.aggregates (rest_of p) path.0)) c.take_aggregate.ensures.none
 
 pub returns-in-Some-clause-fits : goal.returns-in-Some-clause-fits
 returns-in-Some-clause-fits c =

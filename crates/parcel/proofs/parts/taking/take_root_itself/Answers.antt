@@ -1,9 +1,9 @@
--- It is taken where all below it is in.
+-- The root itself is taken exactly if nothing below it is out.
 use Rattle.std.proofs.Common.{◌≡◌, true, false, subst, refl}
 use Rattle.std.specs.Prelude.{Some, IfSome}
 use Rattle.parcel.specs.Fits.{FitsRoot, IsWholeChild, IsWholeRoot}
 use Rattle.parcel.specs.Levels.{is_whole_root}
-use Rattle.parcel.specs.Nodes.{in_root}
+use Rattle.parcel.specs.Nodes.{root_nodes}
 use Rattle.parcel.proofs.Whole.{root_whole, root_all_in, root_gap, taken_itself, refused_itself}
 use Rattle.parcel.proofs.parts.taking.take_root_itself.Goals as goal
 
@@ -15,7 +15,7 @@ returns-then-not-is_whole_root-clause-none c =
 pub returns-in-Some-clause-some : goal.returns-in-Some-clause-some
 returns-in-Some-clause-some c =
     let whole : is_whole_root c.args.node.now ≡ true = cc in
-    taken_itself in_root c.in-Some.root (cc) (cc) (root_all_in c.args.g.now c.args.node.now c.requires.fits (root_whole c.args.node.now whole)) (λ q. refl)
+    taken_itself root_nodes c.in-Some.root (cc) (cc) (root_all_in c.args.g.now c.args.node.now c.requires.fits (root_whole c.args.node.now whole)) (λ q. refl)
 
 pub returns-in-Some-clause-lent : goal.returns-in-Some-clause-lent
 returns-in-Some-clause-lent c =

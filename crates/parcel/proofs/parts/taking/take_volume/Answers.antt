@@ -3,7 +3,7 @@ use Rattle.std.proofs.Common.{◌≡◌, ℕ, ◌∷◌, sym, subst}
 use Rattle.std.specs.Prelude.{Some, IfSome}
 use Rattle.parcel.specs.Fits.{Fits}
 use Rattle.parcel.specs.Levels.{IsVolumePath, TakesNothing}
-use Rattle.parcel.specs.Nodes.{in_child, in_volume}
+use Rattle.parcel.specs.Nodes.{child_nodes, volume_nodes}
 use Rattle.parcel.specs.declared.parts.Vol.{Vol}
 use Rattle.parcel.proofs.ChildRows.{rest_of}
 use Rattle.parcel.proofs.Levels.{no_path, path_from, logical_refused, map_none, map_some}
@@ -21,8 +21,8 @@ returns-then-child-eq0-clause-none c =
     let at : p ≡ 0 ∷ rest_of p = path_from p 0 c.in-len1-up.len_at_least c.if-child-eq0.true in
     let after : Vol = record { made = c.in-Some.volume.made; sealed = c.in-Some.volume.sealed; logical = c.take_logical.new.node; label = c.in-Some.volume.label } in
     map_none c.take_logical.result
-    (λ h. subst (λ q. TakesNothing (IsVolumePath g) q (in_child in_volume c.args.node.now) (in_volume after)) (sym at)
-    (subst (λ x. TakesNothing (IsVolumePath g) (0 ∷ rest_of p) (in_child in_volume x) (in_volume after)) (sym was) (logical_refused g c.in-Some.volume c.take_logical.new.node (rest_of p) h)))
+    (λ h. subst (λ q. TakesNothing (IsVolumePath g) q (child_nodes volume_nodes c.args.node.now) (volume_nodes after)) (sym at)
+    (subst (λ x. TakesNothing (IsVolumePath g) (0 ∷ rest_of p) (child_nodes volume_nodes x) (volume_nodes after)) (sym was) (logical_refused g c.in-Some.volume c.take_logical.new.node (rest_of p) h)))
     c.take_logical.ensures.none
 
 pub returns-then-child-eq0-clause-lent : goal.returns-then-child-eq0-clause-lent

@@ -3,7 +3,7 @@ use Rattle.std.proofs.Common.{◌≡◌, true, false, subst, refl}
 use Rattle.std.specs.Prelude.{Some, IfSome}
 use Rattle.parcel.specs.Fits.{FitsVolume, IsWholeChild, IsWholeVolume}
 use Rattle.parcel.specs.Levels.{is_whole_volume}
-use Rattle.parcel.specs.Nodes.{in_volume}
+use Rattle.parcel.specs.Nodes.{volume_nodes}
 use Rattle.parcel.proofs.Whole.{volume_whole, volume_all_in, volume_gap, taken_itself, refused_itself}
 use Rattle.parcel.proofs.parts.taking.take_volume_itself.Goals as goal
 
@@ -15,7 +15,7 @@ returns-then-not-is_whole_volume-clause-none c =
 pub returns-in-Some-clause-some : goal.returns-in-Some-clause-some
 returns-in-Some-clause-some c =
     let whole : is_whole_volume c.args.node.now ≡ true = cc in
-    taken_itself in_volume c.in-Some.volume (cc) (cc) (volume_all_in c.args.g.now c.args.node.now c.requires.fits (volume_whole c.args.node.now whole)) (λ q. refl)
+    taken_itself volume_nodes c.in-Some.volume (cc) (cc) (volume_all_in c.args.g.now c.args.node.now c.requires.fits (volume_whole c.args.node.now whole)) (λ q. refl)
 
 pub returns-in-Some-clause-lent : goal.returns-in-Some-clause-lent
 returns-in-Some-clause-lent c =

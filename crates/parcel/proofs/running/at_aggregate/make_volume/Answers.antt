@@ -5,8 +5,8 @@ use Rattle.std.proofs.lemmas.List.{get_or_read, length-set}
 use Rattle.messages.specs.declared.Msg.TheVariants.{MakeVol}
 use Rattle.messages.specs.declared.Refusal.TheVariants.{Exists}
 use Rattle.parcel.specs.Fits.{FitsVolume}
-use Rattle.parcel.specs.Shown.{by_aggregate, by_child, volume_facts}
-use Rattle.parcel.specs.Steps.{unless, at_aggregate}
+use Rattle.parcel.specs.Shown.{aggregate_facts, child_facts, volume_facts}
+use Rattle.parcel.specs.Steps.{guard, at_aggregate}
 use Rattle.parcel.specs.Totals.{with_made}
 use Rattle.parcel.proofs.OneVolume.{passed}
 use Rattle.parcel.proofs.ChildRows.{each_set, fits_in_place}
@@ -17,8 +17,8 @@ pub returns-clause-fits : goal.returns-clause-fits
 returns-clause-fits c =
     let g = c.args.g.now in
     let row = c.args.aggregate.now.volumes in
-    let n = c.from-place.result in
-    let below : n < length row.items = omega (arith, c.from-place.ensures, c.requires.volume, c.requires.fits.count) in
+    let n = c.from-index.result in
+    let below : n < length row.items = omega (arith, c.from-index.ensures, c.requires.volume, c.requires.fits.count) in
     let at : slice_index_or row.items n None ≡ c.index_mut.result.now = sym (get_or_read row.items _ _ below c.index_mut.ensures.value None) in
     record {
       count = length-set row.items n c.make.new.node ∙ c.requires.fits.count;
@@ -32,15 +32,15 @@ returns-clause-step c =
     let r = c.args.aggregate.now in
     let row = r.volumes in
     let v = c.args.v in
-    let n = c.from-place.result in
-    let below : n < length row.items = omega (arith, c.from-place.ensures, c.requires.volume, c.requires.fits.count) in
+    let n = c.from-index.result in
+    let below : n < length row.items = omega (arith, c.from-index.ensures, c.requires.volume, c.requires.fits.count) in
     let at : slice_index_or row.items n None ≡ c.index_mut.result.now = sym (get_or_read row.items _ _ below c.index_mut.ensures.value None) in
-    let seen : slice_index_or row.items v None ≡ c.index.result.now = ap (λ k. slice_index_or row.items k None) (sym c.from-place.ensures)
+    let seen : slice_index_or row.items v None ≡ c.index.result.now = ap (λ k. slice_index_or row.items k None) (sym c.from-index.ensures)
     ∙ sym (get_or_read row.items _ _ below c.index.ensures None) in
     λ a range. passed g (at_aggregate g a r) (MakeVol a v) _ _ (make_tests g a v r range
-    ∙ (λ i. unless (not ((ap (λ o. (by_child (volume_facts g) o).made) seen ∙ sym (c.marks-made.ensures.made g)) i)) Exists None)
+    ∙ (λ i. guard (not ((ap (λ o. (child_facts (volume_facts g) o).made) seen ∙ sym (c.marks-made.ensures.made g)) i)) Exists None)
     ∙ sym c.make_refusal.ensures ∙ c.in_default.is) refl
-    (effect_make a v (by_aggregate g r) (λ q. by_child (volume_facts g) (slice_index_or (slice_set row.items n c.make.new.node) q None))
+    (effect_make a v (aggregate_facts g r) (λ q. child_facts (volume_facts g) (slice_index_or (slice_set row.items n c.make.new.node) q None))
     (λ q. set_changes g with_made row.items n c.make.new.node below (c.make.ensures.facts g
-    ∙ ap (λ o. with_made (by_child (volume_facts g) o)) (sym at)) q
-    ∙ ap (λ k. changed_if with_made (k == q) (by_aggregate g r q)) c.from-place.ensures))
+    ∙ ap (λ o. with_made (child_facts (volume_facts g) o)) (sym at)) q
+    ∙ ap (λ k. changed_if with_made (k == q) (aggregate_facts g r q)) c.from-index.ensures))

@@ -1,4 +1,4 @@
--- The two messages at an aggregate, each by the contract of its own function.
+-- The two kinds of message that belong at an aggregate, `makevol` and `dropvol`, each by the contract of its own function.
 use Rattle.parcel.proofs.running.at_aggregate.run_at_aggregate.Goals as goal
 
 pub returns-in-MakeVol-clause-step : goal.returns-in-MakeVol-clause-step

@@ -1,11 +1,11 @@
--- The bits of the files that the volume has are the reply, for a list that passes its test.
+-- The bits of the files that the volume has are the reply, for a list that passes its check.
 use Rattle.std.proofs.Common.{◌^◌, refl, ap, sym, ◌∙◌}
 use Rattle.std.specs.Prelude.{if◌then◌else◌}
 use Rattle.messages.specs.declared.Msg.TheVariants.{List as ListFiles}
 use Rattle.messages.specs.declared.Reply.TheVariants.{Files}
 use Rattle.meaning.specs.State.{sum_below}
-use Rattle.parcel.specs.Shown.{by_logical}
-use Rattle.parcel.specs.Volume.{only}
+use Rattle.parcel.specs.Shown.{logical_facts}
+use Rattle.parcel.specs.Volume.{one_volume}
 use Rattle.meaning.proofs.FileNumber.{bits_back}
 use Rattle.parcel.proofs.OneVolume.{at_volume, passed, list_tests}
 use Rattle.parcel.proofs.running.at_logical.list.Goals as goal
@@ -13,6 +13,6 @@ use Rattle.parcel.proofs.running.at_logical.list.Goals as goal
 pub returns : goal.returns
 returns c =
     let g = c.args.g.now in
-    let h = by_logical g c.args.standing c.args.logical.now in
-    λ a v range. passed g (only a v h) (ListFiles a v) _ _ (list_tests g a v h range ∙ sym c.volume_refusal.ensures ∙ c.in_default.is)
+    let h = logical_facts g c.args.standing c.args.logical.now in
+    λ a v range. passed g (one_volume a v h) (ListFiles a v) _ _ (list_tests g a v h range ∙ sym c.volume_refusal.ensures ∙ c.in_default.is)
     (ap Files (sym (bits_back g.files c.args.logical.now.files c.requires.fits.files)) ∙ (λ i. Files (sum_below g.files (λ f. if (sym (at_volume a v h) i).files f then 2 ^ f else 0)))) refl

@@ -7,7 +7,7 @@ returns-in-Write-clause-step c = rw c.in-Write.is (c.write.ensures.step c.in-Wri
 pub returns-in-Punch-clause-step : goal.returns-in-Punch-clause-step
 returns-in-Punch-clause-step c = rw c.in-Punch.is (c.punch.ensures.step c.args.g.now c.in-Punch.field-0 c.in-Punch.field-1 (rw c.in-Punch.is at c.requires.range))
 
-pub returns-in-Punch-clause-suits : goal.returns-in-Punch-clause-suits
-returns-in-Punch-clause-suits c =
-    let suits = rw c.in-Punch.is at c.requires in
-    rw c.in-Punch.is (record { range = suits.range; fits = c.punch.ensures.fits c.args.g.now suits.fits })
+pub returns-in-Punch-clause-runnable : goal.returns-in-Punch-clause-runnable
+returns-in-Punch-clause-runnable c =
+    let runnable = rw c.in-Punch.is at c.requires in
+    rw c.in-Punch.is (record { range = runnable.range; fits = c.punch.ensures.fits c.args.g.now runnable.fits })

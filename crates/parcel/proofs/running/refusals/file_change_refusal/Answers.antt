@@ -1,11 +1,11 @@
--- The first test that fails of four: range, volume, seal and file.
+-- The first check that fails of four: range, volume, seal and file.
 use Rattle.std.proofs.Common.{ap, ◌∙◌}
 use Rattle.std.specs.Prelude.{None}
 use Rattle.messages.specs.declared.Refusal.TheVariants.{File}
-use Rattle.parcel.specs.Steps.{unless, unless_closed}
+use Rattle.parcel.specs.Steps.{guard, guard_open}
 use Rattle.parcel.proofs.running.refusals.file_change_refusal.Goals as goal
 
 pub returns : goal.returns
 returns c =
-    let first = rw c.requires.tests at c.refusal.ensures in
-    first ∙ ap (λ b. unless_closed c.args.made c.args.sealed (unless b File None)) c.has_file-file.ensures
+    let first = rw c.requires.checks at c.refusal.ensures in
+    first ∙ ap (λ b. guard_open c.args.made c.args.sealed (guard b File None)) c.has_file-file.ensures

@@ -1,4 +1,4 @@
--- The one test: that the volume isn't made yet.
+-- The one check: that the volume isn't made yet.
 use Rattle.parcel.proofs.running.refusals.make_refusal.Goals as goal
 
 pub returns : goal.returns

@@ -1,4 +1,4 @@
--- The one test: that the volume is made.
+-- The one check: that the volume is made.
 use Rattle.parcel.proofs.running.refusals.volume_refusal.Goals as goal
 
 pub returns : goal.returns

@@ -1,8 +1,8 @@
--- A stripe has as many entries as the state counts blocks in its group, and all groups make up the volume.
+-- A stripe has as many entries as the state counts blocks in it, and all stripes make up the volume.
 use Rattle.std.proofs.Common.{◌≡◌, ◌<◌, ap, sym, ◌∙◌, length, slice_index_or, arith}
 use Rattle.std.specs.Prelude.{None, IfSome}
 use Rattle.std.proofs.lemmas.List.{get_or_read}
-use Rattle.meaning.specs.State.{sum_below, group_count}
+use Rattle.meaning.specs.State.{sum_below, blocks_in_stripe}
 use Rattle.meaning.proofs.Counts.{block_count-by_stripe}
 use Rattle.parcel.specs.Fits.{FitsStripe}
 use Rattle.parcel.specs.Shown.{blocks_of}
@@ -42,7 +42,7 @@ loop-s-preserved c =
     let fits : IfSome c.index.result.now (FitsStripe g s) = fits_in_place (FitsStripe g) row.items c.requires.stripes s c.index.result.now at in
     let few = few_entries g s c.index.result.now c.entry_count-total.ensures.kept fits in
     let here = count_at g row.items s c.index.result.now at c.entry_count-total.ensures.kept fits in
-    let step = sum_step s (group_count g (holding (blocks_of g row.items)) 0 0) in
+    let step = sum_step s (blocks_in_stripe g (holding (blocks_of g row.items)) 0 0) in
     (omega (arith, step, here, c.loop-s.invariant.0, c.entry_count-total.ensures.count), omega (arith, few, c.loop-s.invariant.1, c.entry_count-total.ensures.count))
 
 pub returns : goal.returns
@@ -51,5 +51,5 @@ returns c =
     let row = c.args.logical.now.stripes in
     let last : c.loop-s.s ≡ g.stripes = omega (arith, c.loop-s-test.false, c.len-s-end.ensures, row.ok.0, c.requires.count) in
     c.loop-s.invariant.0
-    ∙ ap (λ n. sum_below n (group_count g (holding (blocks_of g row.items)) 0 0)) last
+    ∙ ap (λ n. sum_below n (blocks_in_stripe g (holding (blocks_of g row.items)) 0 0)) last
     ∙ sym (block_count-by_stripe g (holding (blocks_of g row.items)) 0 0)

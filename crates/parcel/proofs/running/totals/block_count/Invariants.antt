@@ -1,9 +1,9 @@
 -- The total so far is what the stripes so far count, at most 64 each.
 use Rattle.std.proofs.Common.{◌≡◌, ◌≤◌, ◌*◌}
-use Rattle.meaning.specs.State.{sum_below, group_count}
+use Rattle.meaning.specs.State.{sum_below, blocks_in_stripe}
 use Rattle.parcel.specs.Shown.{blocks_of}
 use Rattle.parcel.proofs.StripeTotals.{holding}
 use Rattle.parcel.proofs.running.totals.block_count.Given as goal
 
 abbrev pub invariant-loop-s : goal.invariant-loop-s
-invariant-loop-s l = (l.total ≡ sum_below l.s (group_count l.g (holding (blocks_of l.g l.logical.stripes.items)) 0 0)) × (l.total ≤ l.s * 64)
+invariant-loop-s l = (l.total ≡ sum_below l.s (blocks_in_stripe l.g (holding (blocks_of l.g l.logical.stripes.items)) 0 0)) × (l.total ≤ l.s * 64)

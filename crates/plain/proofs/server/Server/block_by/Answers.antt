@@ -1,4 +1,4 @@
--- Where a block is there, its read passes all tests; where none is, an accepted read is answered as a hole.
+-- Where a block is there, its read passes all checks; where none is, an accepted read is answered as a hole.
 use Rattle.std.proofs.Common.{◌≡◌, ℕ, None, Some, Option, Bor, ap, sym, slice_index}
 use Rattle.std.specs.Prelude.{IfNone, IfSome}
 use Rattle.std.specs.Option.{option_copied}

@@ -1,4 +1,4 @@
--- The block that is found is the reply to a read that passes its tests, and the state stays.
+-- The block that is found is the reply to a read that passes its checks, and the state stays.
 use Rattle.std.proofs.Common.{◌≡◌, None, Some, Option, Bor, ap, sym, ◌∙◌}
 use Rattle.std.specs.Prelude.{IfSome}
 use Rattle.std.specs.Option.{option_copied}
@@ -6,7 +6,7 @@ use Rattle.messages.specs.declared.Block.{Block}
 use Rattle.messages.specs.declared.Reply.{Reply}
 use Rattle.messages.specs.declared.Reply.TheVariants.{Block as shows}
 use Rattle.meaning.specs.State.{State}
-use Rattle.meaning.specs.Serial.{accepted_reply, block_reply, effect, outcome}
+use Rattle.meaning.specs.Serial.{accepted_reply, block_reply, effect, reply_and_state}
 use Rattle.plain.specs.Server.{server_state}
 use Rattle.plain.proofs.server.Server.block_shown.Goals as goal
 
@@ -22,4 +22,4 @@ returns-in-None c =
     let x = server_state c.args.self.now in
     let m = c.args.m.now in
     looked_up c.get.result (x.blocks (c.in-Read.a, c.in-Read.v, c.in-Read.f, c.in-Read.b)) x _ c.get.ensures.value
-    (ap (λ r. outcome r (accepted_reply g x m) (effect x m) x) (sym c.in-None.ensures) ∙ ap (λ m. (accepted_reply g x m, effect x m)) c.in-Read.is)
+    (ap (λ r. reply_and_state r (accepted_reply g x m) (effect x m) x) (sym c.in-None.ensures) ∙ ap (λ m. (accepted_reply g x m, effect x m)) c.in-Read.is)

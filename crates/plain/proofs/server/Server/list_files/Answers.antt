@@ -2,14 +2,14 @@
 use Rattle.std.proofs.Common.{ap, sym}
 use Rattle.messages.specs.declared.Reply.TheVariants.{Files}
 use Rattle.std.specs.BTreeMap as map
-use Rattle.meaning.specs.KeyOrders.{volume_order, by_block}
+use Rattle.meaning.specs.KeyOrders.{volume_order, block_order}
 use Rattle.plain.proofs.Totals.{listed, none_listed}
 use Rattle.plain.proofs.server.Server.list_files.Goals as goal
 
 pub returns-in-Some : goal.returns-in-Some
-returns-in-Some c = ap Files (sym (listed c.args.g.now (map.get volume_order c.args.self.now.volumes) (map.get by_block c.args.self.now.blocks)
+returns-in-Some c = ap Files (sym (listed c.args.g.now (map.get volume_order c.args.self.now.volumes) (map.get block_order c.args.self.now.blocks)
     c.requires.sound.state c.args.a c.args.v (sym c.in-Some.ensures.value)))
 
 pub returns-in-None : goal.returns-in-None
-returns-in-None c = ap Files (sym (none_listed c.args.g.now (map.get volume_order c.args.self.now.volumes) (map.get by_block c.args.self.now.blocks)
+returns-in-None c = ap Files (sym (none_listed c.args.g.now (map.get volume_order c.args.self.now.volumes) (map.get block_order c.args.self.now.blocks)
     c.requires.sound.state c.args.a c.args.v (sym c.in-None.ensures.value)))

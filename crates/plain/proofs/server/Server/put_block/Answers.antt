@@ -7,7 +7,7 @@ use Rattle.std.specs.Map.{lookup}
 use Rattle.affinity.specs.declared.geometry.Geometry.{Geometry}
 use Rattle.messages.specs.declared.Block.{Block}
 use Rattle.meaning.specs.State.{State, BlockKey, one_if}
-use Rattle.meaning.specs.KeyOrders.{by_file, by_block}
+use Rattle.meaning.specs.KeyOrders.{file_order, block_order}
 use Rattle.meaning.proofs.Keys.{one_block}
 use Rattle.plain.specs.Server.{StripeKey, is_stripe, server_state, noted}
 use Rattle.plain.proofs.ServerCounts.{noted_again, noted_one_more}
@@ -15,19 +15,19 @@ use Rattle.plain.proofs.Writes.{AreCounts, replaced_counts, added_counts}
 use Rattle.plain.proofs.server.Server.put_block.Goals as goal
 
 -- the counts of entries with the same blocks
-same_counted : (g : Geometry) (x : State) (es : List (BlockKey × Block)) (notes : StripeKey → ℕ) → ((k : BlockKey) → lookup (is_at (by_block k)) es ≡ x.blocks k)
-    → AreCounts g notes x → AreCounts g notes (record x { blocks = λ k. lookup (is_at (by_block k)) es })
+same_counted : (g : Geometry) (x : State) (es : List (BlockKey × Block)) (notes : StripeKey → ℕ) → ((k : BlockKey) → lookup (is_at (block_order k)) es ≡ x.blocks k)
+    → AreCounts g notes x → AreCounts g notes (record x { blocks = λ k. lookup (is_at (block_order k)) es })
 same_counted g x es notes h counts = subst (AreCounts g notes) (λ i. record x { blocks = λ k. sym (h k) i }) counts
 
 -- what is noted in a map is what is noted in its entries
 as_noted : (es fs : List (StripeKey × ℕ)) (wanted : StripeKey → ℕ) → es ≡ fs
-    → ((k : StripeKey) → unwrap_or (lookup (is_at (by_file k)) fs) 0 ≡ wanted k) → (k : StripeKey) → unwrap_or (lookup (is_at (by_file k)) es) 0
+    → ((k : StripeKey) → unwrap_or (lookup (is_at (file_order k)) fs) 0 ≡ wanted k) → (k : StripeKey) → unwrap_or (lookup (is_at (file_order k)) es) 0
     ≡ wanted k
-as_noted es fs wanted e h k = ap (λ es. unwrap_or (lookup (is_at (by_file k)) es) 0) e ∙ h k
+as_noted es fs wanted e h k = ap (λ es. unwrap_or (lookup (is_at (file_order k)) es) 0) e ∙ h k
 
 pub returns-in-Some-clause-state : goal.returns-in-Some-clause-state
 returns-in-Some-clause-state c = λ i. record (server_state c.args.self.now) {
-  blocks = one_block (map.get by_block c.args.self.now.blocks) (map.get by_block (c.get_mut.follows.lender c.args.content.now)) c.args.a c.args.v
+  blocks = one_block (map.get block_order c.args.self.now.blocks) (map.get block_order (c.get_mut.follows.lender c.args.content.now)) c.args.a c.args.v
       c.args.f c.args.b c.args.content.now ((c.get_mut.follows.holds c.args.content.now).3 (search rules)).0 i;
 }
 
@@ -41,21 +41,21 @@ returns-in-Some-clause-counted c =
 pub returns-then-count-g-clause-counted : goal.returns-then-count-g-clause-counted
 returns-then-count-g-clause-counted c =
     same_counted c.args.g.now (server_state c.args.self.now) _ _ (λ k. search rules)
-    (as_noted _ _ _ (search rules) (λ k. noted_again (map.get by_file c.args.self.now.used) (λ k. lookup (is_at (by_file k)) _) c.args.a c.args.v c.group_of.result c.or_insert-count.result.now
+    (as_noted _ _ _ (search rules) (λ k. noted_again (map.get file_order c.args.self.now.used) (λ k. lookup (is_at (file_order k)) _) c.args.a c.args.v c.group_of.result c.or_insert-count.result.now
     (λ k. (c.in_ok-self.ensures.update.0 c.or_insert-count.result.now).0 k)
     (c.or_insert-count.ensures.value ∙ ap (λ o. unwrap_or o 0) c.in_ok-self.ensures.value) k ∙ c.requires.counted k))
 
 pub returns-in_err-insert-clause-counted : goal.returns-in_err-insert-clause-counted
 returns-in_err-insert-clause-counted c =
     same_counted c.args.g.now (server_state c.args.self.now) _ _ (λ k. search rules)
-    (as_noted _ _ _ (search rules) (λ k. noted_again (map.get by_file c.args.self.now.used) (λ k. lookup (is_at (by_file k)) _) c.args.a c.args.v c.group_of.result c.or_insert-count.result.now
+    (as_noted _ _ _ (search rules) (λ k. noted_again (map.get file_order c.args.self.now.used) (λ k. lookup (is_at (file_order k)) _) c.args.a c.args.v c.group_of.result c.or_insert-count.result.now
     (λ k. (c.in_ok-self.ensures.update.0 c.or_insert-count.result.now).0 k)
     (c.or_insert-count.ensures.value ∙ ap (λ o. unwrap_or o 0) c.in_ok-self.ensures.value) k ∙ c.requires.counted k))
 
 pub returns-clause-state : goal.returns-clause-state
 returns-clause-state c = λ i. record (server_state c.args.self.now) {
-  blocks = one_block (map.get by_block c.args.self.now.blocks) (map.get by_block c.insert.new.self) c.args.a c.args.v c.args.f c.args.b c.args.content.now
-      (λ k. c.in_ok-insert.ensures.updates.0 k ∙ ap (cond (is_at (by_block (c.args.a, c.args.v, c.args.f, c.args.b)) k) (Some c.args.content.now)) (search rules)) i;
+  blocks = one_block (map.get block_order c.args.self.now.blocks) (map.get block_order c.insert.new.self) c.args.a c.args.v c.args.f c.args.b c.args.content.now
+      (λ k. c.in_ok-insert.ensures.updates.0 k ∙ ap (cond (is_at (block_order (c.args.a, c.args.v, c.args.f, c.args.b)) k) (Some c.args.content.now)) (search rules)) i;
 }
 
 pub returns-clause-counted : goal.returns-clause-counted
@@ -65,7 +65,7 @@ returns-clause-counted c =
     let count = c.or_insert-count.result.now + 1 in
     let more : StripeKey → ℕ = λ k. noted c.args.self.now k + one_if (is_stripe c.args.a c.args.v c.group_of.result k) in
     λ k. as_noted _ _ more (search rules)
-    (noted_one_more (map.get by_file c.args.self.now.used) (λ k. lookup (is_at (by_file k)) _) c.args.a c.args.v c.group_of.result count
+    (noted_one_more (map.get file_order c.args.self.now.used) (λ k. lookup (is_at (file_order k)) _) c.args.a c.args.v c.group_of.result count
     (λ k. (c.in_ok-self.ensures.update.0 count).0 k)
     (ap (λ n. n + 1) c.or_insert-count.ensures.value ∙ ap (λ o. unwrap_or o 0 + 1) c.in_ok-self.ensures.value)) k
     ∙ subst (AreCounts c.args.g.now more) (sym (returns-clause-state c))

@@ -12,7 +12,7 @@ use Rattle.meaning.specs.ByKind.{refusal_by}
 use Rattle.plain.specs.Server.{server_state}
 use Rattle.plain.proofs.server.Server.refusal_by.Goals as goal
 
--- why the volume or the file refuses it, and the tests from that of the volume on
+-- why the volume or the file refuses it, and the checks from that of the volume on
 abbrev refuses : Bool → Bool → Bool → Option Refusal
 refuses made sealed file = if made then (if sealed then Some Sealed else (if file then None else Some File)) else Some Volume
 

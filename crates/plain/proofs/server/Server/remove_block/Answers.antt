@@ -2,8 +2,8 @@
 use Rattle.std.proofs.Common.{rules, ◌≡◌, ◌+◌, true, false, sym, ◌∙◌, subst}
 use Rattle.std.specs.Prelude.{is_some}
 use Rattle.std.specs.BTreeMap as map
-use Rattle.meaning.specs.State.{one_if, group_count}
-use Rattle.meaning.specs.KeyOrders.{by_block}
+use Rattle.meaning.specs.State.{one_if, blocks_in_stripe}
+use Rattle.meaning.specs.KeyOrders.{block_order}
 use Rattle.plain.specs.Server.{StripeKey, is_stripe, server_state, noted}
 use Rattle.meaning.proofs.Keys.{no_block}
 use Rattle.plain.proofs.Writes.{AreCounts}
@@ -18,13 +18,13 @@ note_one_less-requires c =
     let file = c.requires.sound.state.files (c.args.a, c.args.v, c.args.f) block.1 in
     record {
       some = some_noted c.args.g.now x c.args.a c.args.v c.args.f c.args.b file.0 block.0 there _
-          (subst (λ s. noted c.args.self.now (c.args.a, c.args.v, c.group_of.result) ≡ group_count c.args.g.now x c.args.a c.args.v s)
+          (subst (λ s. noted c.args.self.now (c.args.a, c.args.v, c.group_of.result) ≡ blocks_in_stripe c.args.g.now x c.args.a c.args.v s)
           c.group_of.ensures.value (c.requires.sound.counted (c.args.a, c.args.v, c.group_of.result)));
     }
 
 pub returns-then-is_some-clause-state : goal.returns-then-is_some-clause-state
 returns-then-is_some-clause-state c = c.note_one_less.ensures.state ∙ (λ i. record (server_state c.args.self.now) {
-  blocks = no_block (map.get by_block c.args.self.now.blocks) (map.get by_block c.remove.new.self) c.args.a c.args.v c.args.f c.args.b c.remove.ensures.updates.0 i;
+  blocks = no_block (map.get block_order c.args.self.now.blocks) (map.get block_order c.remove.new.self) c.args.a c.args.v c.args.f c.args.b c.remove.ensures.updates.0 i;
 })
 
 pub returns-then-is_some-clause-counted : goal.returns-then-is_some-clause-counted
@@ -39,7 +39,7 @@ returns-then-is_some-clause-counted c =
 
 pub returns-else-is_some-clause-state : goal.returns-else-is_some-clause-state
 returns-else-is_some-clause-state c = λ i. record (server_state c.args.self.now) {
-  blocks = no_block (map.get by_block c.args.self.now.blocks) (map.get by_block c.remove.new.self) c.args.a c.args.v c.args.f c.args.b c.remove.ensures.updates.0 i;
+  blocks = no_block (map.get block_order c.args.self.now.blocks) (map.get block_order c.remove.new.self) c.args.a c.args.v c.args.f c.args.b c.remove.ensures.updates.0 i;
 }
 
 pub returns-else-is_some-clause-counted : goal.returns-else-is_some-clause-counted

@@ -4,7 +4,7 @@ use Rattle.std.specs.Prelude.{is_some}
 use Rattle.std.specs.BTreeMap as map
 use Rattle.std.proofs.lemmas.Bool.{true≢false}
 use Rattle.meaning.specs.State.{State, IsState, dropping, is_block_of_file, is_file}
-use Rattle.meaning.specs.KeyOrders.{volume_order, by_block}
+use Rattle.meaning.specs.KeyOrders.{volume_order, block_order}
 use Rattle.meaning.proofs.FileBits.{without_bit, without_bit_has}
 use Rattle.meaning.proofs.Kept.{clearing_kept}
 use Rattle.plain.specs.Server.{server_state}
@@ -16,7 +16,7 @@ pub returns-in-Some-clause-state : goal.returns-in-Some-clause-state
 returns-in-Some-clause-state c =
     let g = c.args.g.now in
     let volumes = map.get volume_order c.clear_file.new.self.volumes in
-    let blocks = map.get by_block c.clear_file.new.self.blocks in
+    let blocks = map.get block_order c.clear_file.new.self.blocks in
     let was = sym c.in-Some.ensures.value in
     let left = without_bit c.in-Some.volume.now.files c.args.f in
     let now = record c.in-Some.volume.now { files = left } in

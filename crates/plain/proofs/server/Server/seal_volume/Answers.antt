@@ -1,7 +1,7 @@
 -- The volume that is found changes so, and no other: the effect of a seal.
 use Rattle.std.proofs.Common.{rules, Some, true, refl, sym}
 use Rattle.std.specs.BTreeMap as map
-use Rattle.meaning.specs.KeyOrders.{volume_order, by_block}
+use Rattle.meaning.specs.KeyOrders.{volume_order, block_order}
 use Rattle.plain.proofs.Volumes.{sealed_state}
 use Rattle.plain.proofs.server.Server.seal_volume.Goals as goal
 
@@ -10,4 +10,4 @@ returns-in-Some-clause-state c =
     let was = sym c.in-Some.ensures.value in
     let now = record c.in-Some.volume.now { sealed = true } in
     sealed_state (map.get volume_order c.args.self.now.volumes) (map.get volume_order (c.get_mut.follows.lender now)) c.args.a c.args.v (Some now)
-    ((c.get_mut.follows.holds now).3 (search rules)).0 (map.get by_block c.args.self.now.blocks) was refl
+    ((c.get_mut.follows.holds now).3 (search rules)).0 (map.get block_order c.args.self.now.blocks) was refl

@@ -8,8 +8,8 @@ use Rattle.reorder_buffer.proofs.reorder_buffer.ReorderBuffer.answer.Goals as go
 
 pub loop-k-init : goal.loop-k-init
 loop-k-init c = record {
-  ticketed = looked_first c.args.ticket c.args.reply c.places_of-places.result.start c.self.inside.ticketed.items
-      (c.places_of-places.ensures.before c.args.reply);
+  ticketed = looked_first c.args.ticket c.args.reply c.index_range_of-range.result.start c.self.inside.ticketed.items
+      (c.index_range_of-range.ensures.before c.args.reply);
   many = refl;
   kinds = refl;
   kinds_capacity = refl;
@@ -38,7 +38,7 @@ loop-k-preserved c =
     let ticketed = c.self.inside.ticketed.items in
     let line = c.index_mut.result.now in
     let ok = c.self.inside.ticketed.ok in
-    let ends = c.places_of-places.ensures.within in
+    let ends = c.index_range_of-range.ensures.within in
     let test = c.loop-k-test.true in
     let within : k < length ticketed = omega (arith, test, ends, ok) in
     record {
@@ -59,12 +59,12 @@ returns-clause-lines c =
     let ticket = c.args.ticket in
     let reply = c.args.reply in
     let ticketed = c.self.inside.ticketed.items in
-    let ends = c.places_of-places.ensures.within in
+    let ends = c.index_range_of-range.ensures.within in
     let test = c.loop-k-test.false in
     let so_far = c.loop-k.auto in
-    let all : c.places_of-places.result.end ≡ c.loop-k.k = omega (arith, test, ends, so_far.k, so_far.k-end) in
+    let all : c.index_range_of-range.result.end ≡ c.loop-k.k = omega (arith, test, ends, so_far.k, so_far.k-end) in
     ap (λ (l : List LineKind). lines_of l c.loop-k.self-inside.ticketed.items) i.kinds
     ∙ ap (λ (l : List Line). lines_of c.self.inside.kinds.items l) (i.ticketed ∙ ap (λ k. looked ticket reply k ticketed) (sym all)
-    ∙ looked_last ticket reply c.places_of-places.result.end ticketed (c.places_of-places.ensures.behind reply))
+    ∙ looked_last ticket reply c.index_range_of-range.result.end ticketed (c.index_range_of-range.ensures.behind reply))
     ∙ lines_of-answered ticket reply c.self.inside.kinds.items ticketed
     ∙ ap (λ (v : ReorderBufferView). map (complete_one ticket reply) v.lines) c.self.view_is

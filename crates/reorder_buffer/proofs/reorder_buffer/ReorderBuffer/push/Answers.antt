@@ -1,7 +1,7 @@
 -- A line more is a kind more, and where it has a ticket, a line more beside the kinds.
 use Rattle.std.proofs.Common.{◌++◌, ◌∷◌, [], List, ap, arith, length, subst, sym, ◌∙◌}
 use Rattle.std.proofs.lemmas.List.{length_push}
-use Rattle.reorder_buffer.specs.ReorderBuffer.{Line, NoMessage, OutOfRange, AreConsecutive, Ticketed, LineKind, Outside, ReorderBufferView, Stray, ticketed_among, lines_of, with_tickets}
+use Rattle.reorder_buffer.specs.ReorderBuffer.{Line, NoMessage, OutOfRange, AreConsecutive, Ticketed, LineKind, OutOfRangeKind, ReorderBufferView, NoMessageKind, ticketed_among, lines_of, with_tickets}
 use Rattle.reorder_buffer.proofs.Order.{ticket_in}
 use Rattle.reorder_buffer.proofs.Lines.{ticketed_among-append, fewer_are_ticketed, kinds_have_room, lines_of-append, lines_of-plain, tickets_of_lines}
 use Rattle.reorder_buffer.proofs.reorder_buffer.ReorderBuffer.push.Goals as goal
@@ -44,8 +44,8 @@ invariant_of-self c =
     let was = c.self.invariant in
     let room = kinds_have_room k.kinds.items k.ticketed.items k.slots c.args.self.now c.self.view_is was.3 c.requires.room in
     let pushed = c.push_back_reserved.ensures in
-    let more = ap (λ (l : List LineKind). length l) pushed.items ∙ length_push k.kinds.items Stray in
-    let ticketed = ap (λ (l : List LineKind). ticketed_among l) pushed.items ∙ ticketed_among-append k.kinds.items (Stray ∷ []) in
+    let more = ap (λ (l : List LineKind). length l) pushed.items ∙ length_push k.kinds.items NoMessageKind in
+    let ticketed = ap (λ (l : List LineKind). ticketed_among l) pushed.items ∙ ticketed_among-append k.kinds.items (NoMessageKind ∷ []) in
     (omega (arith, was.0, pushed.capacity), was.1, omega (arith, more, room), omega (arith, ticketed, was.3), was.4)
 
 pub invariant_of-self-in-OutOfRange : goal.invariant_of-self-in-OutOfRange
@@ -54,15 +54,15 @@ invariant_of-self-in-OutOfRange c =
     let was = c.self.invariant in
     let room = kinds_have_room k.kinds.items k.ticketed.items k.slots c.args.self.now c.self.view_is was.3 c.requires.room in
     let pushed = c.push_back_reserved-in-OutOfRange.ensures in
-    let more = ap (λ (l : List LineKind). length l) pushed.items ∙ length_push k.kinds.items Outside in
-    let ticketed = ap (λ (l : List LineKind). ticketed_among l) pushed.items ∙ ticketed_among-append k.kinds.items (Outside ∷ []) in
+    let more = ap (λ (l : List LineKind). length l) pushed.items ∙ length_push k.kinds.items OutOfRangeKind in
+    let ticketed = ap (λ (l : List LineKind). ticketed_among l) pushed.items ∙ ticketed_among-append k.kinds.items (OutOfRangeKind ∷ []) in
     (omega (arith, was.0, pushed.capacity), was.1, omega (arith, more, room), omega (arith, ticketed, was.3), was.4)
 
 pub returns-in-NoMessage-clause-lines : goal.returns-in-NoMessage-clause-lines
 returns-in-NoMessage-clause-lines c =
     let k = c.self.inside in
     ap (λ (l : List LineKind). lines_of l k.ticketed.items) c.push_back_reserved.ensures.items
-    ∙ lines_of-plain k.kinds.items (Stray ∷ []) k.ticketed.items c.self.invariant.3
+    ∙ lines_of-plain k.kinds.items (NoMessageKind ∷ []) k.ticketed.items c.self.invariant.3
     ∙ ap (λ (v : ReorderBufferView). v.lines ++ NoMessage ∷ []) c.self.view_is
     ∙ ap (λ (l : Line). c.args.self.now.lines ++ l ∷ []) (sym c.in-NoMessage.is)
 
@@ -70,7 +70,7 @@ pub returns-in-OutOfRange-clause-lines : goal.returns-in-OutOfRange-clause-lines
 returns-in-OutOfRange-clause-lines c =
     let k = c.self.inside in
     ap (λ (l : List LineKind). lines_of l k.ticketed.items) c.push_back_reserved-in-OutOfRange.ensures.items
-    ∙ lines_of-plain k.kinds.items (Outside ∷ []) k.ticketed.items c.self.invariant.3
+    ∙ lines_of-plain k.kinds.items (OutOfRangeKind ∷ []) k.ticketed.items c.self.invariant.3
     ∙ ap (λ (v : ReorderBufferView). v.lines ++ OutOfRange ∷ []) c.self.view_is
     ∙ ap (λ (l : Line). c.args.self.now.lines ++ l ∷ []) (sym c.in-OutOfRange.is)
 

@@ -4,12 +4,12 @@ use Rattle.run_queue.proofs.Standing.{stand-free, free-view, free-past}
 use Rattle.run_queue.proofs.holders.Holders.free.Goals as goal
 
 pub invariant_of-self : goal.invariant_of-self
-invariant_of-self c = stand-free c.self.inside.places.items c.args.number c.self.invariant
+invariant_of-self c = stand-free c.self.inside.entries.items c.args.number c.self.invariant
 
 pub returns-then-number-len : goal.returns-then-number-len
-returns-then-number-len c = rw (← c.self.view_is) (free-view c.self.inside.places.items c.args.number c.self.invariant)
+returns-then-number-len c = rw (← c.self.view_is) (free-view c.self.inside.entries.items c.args.number c.self.invariant)
 
 pub returns-else-number-len : goal.returns-else-number-len
 returns-else-number-len c =
-    let past = free-past c.self.inside.places.items c.args.number c.self.invariant (omega arith) in
+    let past = free-past c.self.inside.entries.items c.args.number c.self.invariant (omega arith) in
     rw (← c.self.view_is) (rw past refl)

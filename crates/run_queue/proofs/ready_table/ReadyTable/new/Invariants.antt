@@ -1,4 +1,4 @@
--- No flag is set at the numbers so far.
+-- No entry is set at the numbers so far.
 use Rattle.std.proofs.Common.{◌≡◌, ◌≤◌, replicate, None, vec_capacity}
 use Rattle.run_queue.proofs.ready_table.ReadyTable.new.Given as goal
 

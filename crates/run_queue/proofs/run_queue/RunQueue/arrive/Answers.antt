@@ -1,14 +1,14 @@
--- The slot is a new one, so there is a seat. Where it is first in its queue, its ready flag is set if it is conflict-free.
+-- The message has a new slot, so there is room. If it is first in its queue, its ready entry is set if it is conflict-free.
 use Rattle.std.proofs.Common.{◌≡◌, ◌∙◌, ◌<◌, ◌++◌, ap, arith, sym, subst, refl, true, false, not, find, is_some}
 use Rattle.std.specs.List.{list_any}
 use Rattle.std.proofs.lemmas.Bool.{true≢false}
 use Rattle.affinity.specs.Interval.{IsAffinity}
 use Rattle.run_queue.specs.RunQueue.{RunQueueView, has_slot, has_number, CameBefore}
 use Rattle.run_queue.specs.Queues.{Waiting}
-use Rattle.run_queue.specs.ReadyTable.{IsFlagRight}
+use Rattle.run_queue.specs.ReadyTable.{IsEntryRight}
 use Rattle.run_queue.specs.Invariant.{AreQueued}
 use Rattle.run_queue.proofs.Nearby.{number-below}
-use Rattle.run_queue.proofs.Turning.{messages-arrived, room-for-arrived, kept-arrived}
+use Rattle.run_queue.proofs.QueueCalls.{messages-arrived, room-for-arrived, kept-arrived}
 use Rattle.run_queue.proofs.run_queue.RunQueue.arrive.Goals as goal
 
 pub push-requires-clause-number : goal.push-requires-clause-number
@@ -48,7 +48,7 @@ invariant_of-self c =
     (messages-arrived t c.self.invariant.rows placed later there new) in
     let number : c.from-number.result ≡ t.affinity.number = omega arith in
     kept-arrived t c.self.invariant rows c.push.ensures later c.update_ready.ensures.others
-    (λ none. subst (λ n. IsFlagRight c.self.inside.held.messages c.push.new.self.messages c.update_ready.new.ready_table n) number c.update_ready.ensures.right)
+    (λ none. subst (λ n. IsEntryRight c.self.inside.held.messages c.push.new.self.messages c.update_ready.new.ready_table n) number c.update_ready.ensures.right)
 
 pub invariant_of-self-else-is_first : goal.invariant_of-self-else-is_first
 invariant_of-self-else-is_first c =

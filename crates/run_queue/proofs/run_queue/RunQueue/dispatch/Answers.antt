@@ -2,7 +2,7 @@
 use Rattle.std.proofs.Common.{◌≡◌, arith, sym, subst, find, Some, refl}
 use Rattle.run_queue.specs.RunQueue.{RunQueueView, IsNext, has_number}
 use Rattle.run_queue.proofs.Nearby.{number-below}
-use Rattle.run_queue.proofs.Turning.{next-placed, next-first, next-free, rows-gone, kept-gone}
+use Rattle.run_queue.proofs.QueueCalls.{next-placed, next-first, next-free, rows-gone, kept-gone}
 use Rattle.run_queue.proofs.run_queue.RunQueue.dispatch.Goals as goal
 
 pub hold-requires-clause-number : goal.hold-requires-clause-number
@@ -10,7 +10,7 @@ hold-requires-clause-number c =
     let next = subst (λ (q : RunQueueView). IsNext q c.args.queued) (sym c.self.view_is) c.requires in
     let placed = next-placed c.self.inside.geometry c.self.inside.slots c.self.inside.waiting c.self.inside.held c.self.invariant.rows c.args.queued next.0 next.1 in
     let below = number-below c.self.inside.geometry c.args.queued.affinity placed in
-    let all = c.self.invariant.rows.places c.self.inside.geometry in
+    let all = c.self.invariant.rows.entries c.self.inside.geometry in
     omega (arith, below, all)
 
 pub hold-requires-clause-free : goal.hold-requires-clause-free

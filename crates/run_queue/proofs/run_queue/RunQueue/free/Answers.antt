@@ -1,4 +1,4 @@
--- What is held no longer leaves its seat, and the ready flags near it are set where there is no conflict now.
+-- The message is held no longer, and the ready entries at related affinities are set where there is no conflict now.
 use Rattle.std.proofs.Common.{◌≡◌, ◌∙◌, None, find, arith, sym, subst, refl}
 use Rattle.affinity.specs.Interval.{IsAffinity}
 use Rattle.run_queue.specs.RunQueue.{has_number}
@@ -6,7 +6,7 @@ use Rattle.run_queue.specs.Queues.{HeldMessages}
 use Rattle.run_queue.specs.Invariant.{AreQueued}
 use Rattle.run_queue.proofs.Clearing.{find-all}
 use Rattle.run_queue.proofs.Standing.{without-none}
-use Rattle.run_queue.proofs.Turning.{messages-freed, kept-freed}
+use Rattle.run_queue.proofs.QueueCalls.{messages-freed, kept-freed}
 use Rattle.run_queue.proofs.run_queue.RunQueue.free.Goals as goal
 
 pub update_ready_related-requires-clause-placed : goal.update_ready_related-requires-clause-placed

@@ -2,7 +2,7 @@
 use Rattle.std.proofs.Common.{◌≡◌, ◌∙◌, sym, subst, true, false, arith}
 use Rattle.std.specs.List.{list_any}
 use Rattle.run_queue.specs.RunQueue.{RunQueueView, has_number, holds_at}
-use Rattle.run_queue.proofs.Turning.{none-holds, one-holds}
+use Rattle.run_queue.proofs.QueueCalls.{none-holds, one-holds}
 use Rattle.run_queue.proofs.run_queue.RunQueue.holder.Goals as goal
 
 pub returns-in_err-queued-clause-none : goal.returns-in_err-queued-clause-none

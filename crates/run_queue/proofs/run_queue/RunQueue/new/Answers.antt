@@ -1,6 +1,6 @@
--- There is room for any geometry.
+-- The queue's tables have an entry for each affinity number of any geometry.
 use Rattle.std.proofs.Common.{arith}
-use Rattle.run_queue.proofs.Turning.{kept-start}
+use Rattle.run_queue.proofs.QueueCalls.{kept-start}
 use Rattle.run_queue.proofs.run_queue.RunQueue.new.Goals as goal
 
 pub invariant_of-result : goal.invariant_of-result

@@ -1,7 +1,7 @@
 -- No one waits and no one is held, so all are at affinities of any geometry.
 use Rattle.std.proofs.Common.{◌≡◌, [], subst, sym}
 use Rattle.run_queue.specs.RunQueue.{RunQueueView}
-use Rattle.run_queue.proofs.Turning.{messages-begun}
+use Rattle.run_queue.proofs.QueueCalls.{messages-begun}
 use Rattle.run_queue.proofs.run_queue.RunQueue.set_geometry.Goals as goal
 
 pub invariant_of-self : goal.invariant_of-self

@@ -4,8 +4,8 @@ use Rattle.run_queue.proofs.Chains.{start-waiting, start-queued}
 use Rattle.run_queue.proofs.waiting.Queues.new.Goals as goal
 
 pub invariant_of-result : goal.invariant_of-result
-invariant_of-result c = rw c.in_ok-with_capacity.ensures.row (start-queued c.args.capacity c.args.numbers
-    (rw c.in_ok-with_capacity.ensures.row at c.in_ok-with_capacity.ensures.parted))
+invariant_of-result c = rw c.in_ok-with_capacity.ensures.arena (start-queued c.args.capacity c.args.numbers
+    (rw c.in_ok-with_capacity.ensures.arena at c.in_ok-with_capacity.ensures.partitioned))
 
 pub returns : goal.returns
-returns c = rw (c.in_ok-with_capacity.ensures.row, start-waiting c.args.capacity c.args.numbers) (simp length-replicate)
+returns c = rw (c.in_ok-with_capacity.ensures.arena, start-waiting c.args.capacity c.args.numbers) (simp length-replicate)

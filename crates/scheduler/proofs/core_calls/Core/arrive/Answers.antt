@@ -2,11 +2,11 @@
 use Rattle.std.proofs.Common.{◌≡◌, ℕ, ◌+◌, ◌≤◌, Bool, [], ◌∷◌, ◌++◌, length, refl, sym, ap, subst, ◌∙◌}
 use Rattle.std.specs.Prelude.{vec_capacity}
 use Rattle.affinity.specs.Kind.{is_changing}
-use Rattle.arena.specs.ArenaView.{ArenaView, IsParted, after_move, after_put, capacity_of}
+use Rattle.arena.specs.ArenaView.{ArenaView, IsPartitioned, after_move, after_put, capacity_of}
 use Rattle.legal_runs.specs.Events.{arrive}
 use Rattle.legal_runs.specs.declared.outcomes.ArriveRefusal.TheVariants as arrivals
 use Rattle.legal_runs.specs.declared.outcomes.Outcome.TheVariants as outcomes
-use Rattle.scheduler.proofs.ArriveCall.{arrive_chains, arrive_core, arrive_later, arrive_new, arrive_ran, arrive_size, arrive_slot, arrive_state, full_row, full_state, not_this}
+use Rattle.scheduler.proofs.ArriveCall.{arrive_chains, arrive_core, arrive_later, arrive_new, arrive_ran, arrive_size, arrive_slot, arrive_state, full_arena, full_state, not_this}
 use Rattle.scheduler.proofs.Placing.{placed_of, range_of}
 use Rattle.scheduler.specs.CoreView.{CoreView, core_state_of}
 use Rattle.scheduler.specs.Parts.{IsCore, parts, core_state_in}
@@ -17,13 +17,13 @@ use Rattle.scheduler.proofs.core_calls.Core.arrive.Goals as goal
 
 pub invariant_of-self : goal.invariant_of-self
 invariant_of-self g c =
-    subst (λ (row : ArenaView Slot). HasChains row × IsCore g.D.Disk.keeps (parts row c.self.inside.replies.items c.self.inside.tree c.self.inside.journal
+    subst (λ (arena : ArenaView Slot). HasChains arena × IsCore g.D.Disk.keeps (parts arena c.self.inside.replies.items c.self.inside.tree c.self.inside.journal
     c.self.inside.queue c.self.inside.batch.items c.self.inside.next c.self.inside.unlogged c.self.inside.history.opened
-    c.self.inside.history.since)
-    × (capacity_of row ≤ vec_capacity c.self.inside.batch) × (length c.self.inside.replies.items ≡ capacity_of row) × (c.self.inside.ran ≡ length (slots_on row c.self.inside.replies.items 2)))
-    (sym (c.put.ensures.row ∙ full_row g.D.Disk.keeps c.self.inside.slots c.self.inside.replies.items c.self.inside.tree c.self.inside.journal
+    c.self.inside.history.since_open)
+    × (capacity_of arena ≤ vec_capacity c.self.inside.batch) × (length c.self.inside.replies.items ≡ capacity_of arena) × (c.self.inside.ran ≡ length (slots_on arena c.self.inside.replies.items 2)))
+    (sym (c.put.ensures.arena ∙ full_arena g.D.Disk.keeps c.self.inside.slots c.self.inside.replies.items c.self.inside.tree c.self.inside.journal
     c.self.inside.queue c.self.inside.batch.items c.self.inside.next c.self.inside.unlogged c.self.inside.history.opened
-    c.self.inside.history.since c.self.invariant.0 c.self.invariant.1
+    c.self.inside.history.since_open c.self.invariant.0 c.self.invariant.1
     (record { ticket = c.self.inside.next; message = c.args.m.now; affinity = c.in-Some.affinity }) c.in_default-put.field-0
     (sym c.put.ensures.answer ∙ c.in_default-put.is))) c.self.invariant
 
@@ -31,16 +31,16 @@ pub returns-in_default-put-clause-state_after : goal.returns-in_default-put-clau
 returns-in_default-put-clause-state_after g c =
     (λ i. (
       outcomes.ArriveRefused arrivals.Full,
-      core_state_in (parts ((c.put.ensures.row
-          ∙ full_row g.D.Disk.keeps c.self.inside.slots c.self.inside.replies.items c.self.inside.tree c.self.inside.journal c.self.inside.queue
-          c.self.inside.batch.items c.self.inside.next c.self.inside.unlogged c.self.inside.history.opened c.self.inside.history.since
+      core_state_in (parts ((c.put.ensures.arena
+          ∙ full_arena g.D.Disk.keeps c.self.inside.slots c.self.inside.replies.items c.self.inside.tree c.self.inside.journal c.self.inside.queue
+          c.self.inside.batch.items c.self.inside.next c.self.inside.unlogged c.self.inside.history.opened c.self.inside.history.since_open
           c.self.invariant.0 c.self.invariant.1 (record { ticket = c.self.inside.next; message = c.args.m.now; affinity = c.in-Some.affinity })
           c.in_default-put.field-0 (sym c.put.ensures.answer ∙ c.in_default-put.is)) i) c.self.inside.replies.items c.self.inside.tree
           c.self.inside.journal c.self.inside.queue c.self.inside.batch.items c.self.inside.next c.self.inside.unlogged c.self.inside.history.opened
-          c.self.inside.history.since),
+          c.self.inside.history.since_open),
     ))
     ∙ full_state g.D.Disk.keeps c.self.inside.slots c.self.inside.replies.items c.self.inside.tree c.self.inside.journal c.self.inside.queue
-    c.self.inside.batch.items c.self.inside.next c.self.inside.unlogged c.self.inside.history.opened c.self.inside.history.since
+    c.self.inside.batch.items c.self.inside.next c.self.inside.unlogged c.self.inside.history.opened c.self.inside.history.since_open
     c.self.invariant.0 c.self.invariant.1 (record { ticket = c.self.inside.next; message = c.args.m.now; affinity = c.in-Some.affinity })
     c.in_default-put.field-0 (sym c.put.ensures.answer ∙ c.in_default-put.is) (sym c.failed.ensures ∙ c.if-failed.false)
     (range_of c.geometry-g.result c.self.inside.journal.geometry c.args.m.now c.kind.result c.numbers.result c.geometry-g.ensures c.kind.ensures
@@ -50,37 +50,37 @@ returns-in_default-put-clause-state_after g c =
 pub arrive-requires-clause-later : goal.arrive-requires-clause-later
 arrive-requires-clause-later g c = arrive_later g.D.Disk.keeps c.self.inside.slots c.self.inside.replies.items c.self.inside.tree
     c.self.inside.journal c.self.inside.queue c.self.inside.batch.items c.self.inside.next c.self.inside.unlogged c.self.inside.history.opened
-    c.self.inside.history.since c.self.invariant.0 c.self.invariant.1 (record
+    c.self.inside.history.since_open c.self.invariant.0 c.self.invariant.1 (record
     { ticket = c.self.inside.next; message = c.args.m.now; affinity = c.in-Some.affinity }) c.in-Ok.slot (sym c.put.ensures.answer ∙ c.in-Ok.is)
 
 pub arrive-requires-clause-slot : goal.arrive-requires-clause-slot
 arrive-requires-clause-slot g c = arrive_slot g.D.Disk.keeps c.self.inside.slots c.self.inside.replies.items c.self.inside.tree
     c.self.inside.journal c.self.inside.queue c.self.inside.batch.items c.self.inside.next c.self.inside.unlogged c.self.inside.history.opened
-    c.self.inside.history.since c.self.invariant.0 c.self.invariant.1 (record
+    c.self.inside.history.since_open c.self.invariant.0 c.self.invariant.1 (record
     { ticket = c.self.inside.next; message = c.args.m.now; affinity = c.in-Some.affinity }) c.in-Ok.slot (sym c.put.ensures.answer ∙ c.in-Ok.is)
 
 pub arrive-requires-clause-new_slot : goal.arrive-requires-clause-new_slot
 arrive-requires-clause-new_slot g c = arrive_new g.D.Disk.keeps c.self.inside.slots c.self.inside.replies.items c.self.inside.tree
     c.self.inside.journal c.self.inside.queue c.self.inside.batch.items c.self.inside.next c.self.inside.unlogged c.self.inside.history.opened
-    c.self.inside.history.since c.self.invariant.0 c.self.invariant.1 (record
+    c.self.inside.history.since_open c.self.invariant.0 c.self.invariant.1 (record
     { ticket = c.self.inside.next; message = c.args.m.now; affinity = c.in-Some.affinity }) c.in-Ok.slot (sym c.put.ensures.answer ∙ c.in-Ok.is)
 
 pub invariant_of-self-2 : goal.invariant_of-self-2
 invariant_of-self-2 g c =
-    let rows = c.move_to.ensures.row ∙ ap (λ (r : ArenaView Slot). after_move r c.in-Ok.slot 0) c.put.ensures.row in
-    subst (λ (row : ArenaView Slot). HasChains row × IsCore g.D.Disk.keeps (parts row c.self.inside.replies.items c.self.inside.tree c.self.inside.journal
+    let rows = c.move_to.ensures.arena ∙ ap (λ (r : ArenaView Slot). after_move r c.in-Ok.slot 0) c.put.ensures.arena in
+    subst (λ (arena : ArenaView Slot). HasChains arena × IsCore g.D.Disk.keeps (parts arena c.self.inside.replies.items c.self.inside.tree c.self.inside.journal
     c.arrive.new.self c.self.inside.batch.items (c.self.inside.next + 1) c.self.inside.unlogged c.self.inside.history.opened
-    c.self.inside.history.since)
-    × (capacity_of row ≤ vec_capacity c.self.inside.batch) × (length c.self.inside.replies.items ≡ capacity_of row) × (c.self.inside.ran ≡ length (slots_on row c.self.inside.replies.items 2)))
+    c.self.inside.history.since_open)
+    × (capacity_of arena ≤ vec_capacity c.self.inside.batch) × (length c.self.inside.replies.items ≡ capacity_of arena) × (c.self.inside.ran ≡ length (slots_on arena c.self.inside.replies.items 2)))
     (sym rows) (
       arrive_chains g.D.Disk.keeps c.self.inside.slots c.self.inside.replies.items c.self.inside.tree c.self.inside.journal c.self.inside.queue
-          c.self.inside.batch.items c.self.inside.next c.self.inside.unlogged c.self.inside.history.opened c.self.inside.history.since
+          c.self.inside.batch.items c.self.inside.next c.self.inside.unlogged c.self.inside.history.opened c.self.inside.history.since_open
           c.self.invariant.0 c.self.invariant.1 (record { ticket = c.self.inside.next; message = c.args.m.now; affinity = c.in-Some.affinity })
-          c.in-Ok.slot (sym c.put.ensures.answer ∙ c.in-Ok.is) (subst IsParted rows c.move_to.ensures.parted),
+          c.in-Ok.slot (sym c.put.ensures.answer ∙ c.in-Ok.is) (subst IsPartitioned rows c.move_to.ensures.partitioned),
       subst (λ (q : RunQueueView). IsCore g.D.Disk.keeps (parts (after_move
           (after_put c.self.inside.slots (record { ticket = c.self.inside.next; message = c.args.m.now; affinity = c.in-Some.affinity }))
           c.in-Ok.slot 0) c.self.inside.replies.items c.self.inside.tree c.self.inside.journal q c.self.inside.batch.items (c.self.inside.next + 1)
-          c.self.inside.unlogged c.self.inside.history.opened c.self.inside.history.since))
+          c.self.inside.unlogged c.self.inside.history.opened c.self.inside.history.since_open))
           (sym (c.arrive.ensures ∙ ap (λ (b : Bool). record c.self.inside.queue {
             waiting = c.self.inside.queue.waiting ++ record {
               slot = c.in-Ok.slot;
@@ -91,7 +91,7 @@ invariant_of-self-2 g c =
             } ∷ [];
           }) (c.changing.ensures ∙ ap is_changing c.kind-2.ensures)))
           (arrive_core g.D.Disk.keeps c.self.inside.slots c.self.inside.replies.items c.self.inside.tree c.self.inside.journal c.self.inside.queue
-          c.self.inside.batch.items c.self.inside.next c.self.inside.unlogged c.self.inside.history.opened c.self.inside.history.since
+          c.self.inside.batch.items c.self.inside.next c.self.inside.unlogged c.self.inside.history.opened c.self.inside.history.since_open
           c.self.invariant.0 c.self.invariant.1 (record { ticket = c.self.inside.next; message = c.args.m.now; affinity = c.in-Some.affinity })
           c.in-Ok.slot (sym c.put.ensures.answer ∙ c.in-Ok.is) refl
           (record {
@@ -104,24 +104,24 @@ invariant_of-self-2 g c =
           })),
       subst (λ (n : ℕ). n ≤ vec_capacity c.self.inside.batch) (sym (arrive_size g.D.Disk.keeps c.self.inside.slots c.self.inside.replies.items
           c.self.inside.tree c.self.inside.journal c.self.inside.queue c.self.inside.batch.items c.self.inside.next c.self.inside.unlogged
-          c.self.inside.history.opened c.self.inside.history.since c.self.invariant.0 c.self.invariant.1
+          c.self.inside.history.opened c.self.inside.history.since_open c.self.invariant.0 c.self.invariant.1
           (record { ticket = c.self.inside.next; message = c.args.m.now; affinity = c.in-Some.affinity }) c.in-Ok.slot
           (sym c.put.ensures.answer ∙ c.in-Ok.is))) c.self.invariant.2,
       c.self.invariant.3 ∙ sym (arrive_size g.D.Disk.keeps c.self.inside.slots c.self.inside.replies.items c.self.inside.tree c.self.inside.journal
           c.self.inside.queue c.self.inside.batch.items c.self.inside.next c.self.inside.unlogged c.self.inside.history.opened
-          c.self.inside.history.since c.self.invariant.0 c.self.invariant.1
+          c.self.inside.history.since_open c.self.invariant.0 c.self.invariant.1
           (record { ticket = c.self.inside.next; message = c.args.m.now; affinity = c.in-Some.affinity }) c.in-Ok.slot
           (sym c.put.ensures.answer ∙ c.in-Ok.is)),
       c.self.invariant.4 ∙ sym (arrive_ran g.D.Disk.keeps c.self.inside.slots c.self.inside.replies.items c.self.inside.tree c.self.inside.journal
           c.self.inside.queue c.self.inside.batch.items c.self.inside.next c.self.inside.unlogged c.self.inside.history.opened
-          c.self.inside.history.since c.self.invariant.0 c.self.invariant.1
+          c.self.inside.history.since_open c.self.invariant.0 c.self.invariant.1
           (record { ticket = c.self.inside.next; message = c.args.m.now; affinity = c.in-Some.affinity }) c.in-Ok.slot
           (sym c.put.ensures.answer ∙ c.in-Ok.is)),
     )
 
 pub returns-clause-state_after : goal.returns-clause-state_after
 returns-clause-state_after g c =
-    let rows = c.move_to.ensures.row ∙ ap (λ (r : ArenaView Slot). after_move r c.in-Ok.slot 0) c.put.ensures.row in
+    let rows = c.move_to.ensures.arena ∙ ap (λ (r : ArenaView Slot). after_move r c.in-Ok.slot 0) c.put.ensures.arena in
     (λ i. (
       outcomes.Ticket c.self.inside.next,
       core_state_in (parts (rows i) c.self.inside.replies.items c.self.inside.tree c.self.inside.journal
@@ -134,10 +134,10 @@ returns-clause-state_after g c =
                   c.self.inside.next;
             } ∷ [];
           }) (c.changing.ensures ∙ ap is_changing c.kind-2.ensures)) i) c.self.inside.batch.items (c.self.inside.next + 1)
-          c.self.inside.unlogged c.self.inside.history.opened c.self.inside.history.since),
+          c.self.inside.unlogged c.self.inside.history.opened c.self.inside.history.since_open),
     ))
     ∙ arrive_state g.D.Disk.keeps c.self.inside.slots c.self.inside.replies.items c.self.inside.tree c.self.inside.journal c.self.inside.queue
-    c.self.inside.batch.items c.self.inside.next c.self.inside.unlogged c.self.inside.history.opened c.self.inside.history.since
+    c.self.inside.batch.items c.self.inside.next c.self.inside.unlogged c.self.inside.history.opened c.self.inside.history.since_open
     c.self.invariant.0 c.self.invariant.1 (record { ticket = c.self.inside.next; message = c.args.m.now; affinity = c.in-Some.affinity })
     c.in-Ok.slot (sym c.put.ensures.answer ∙ c.in-Ok.is) refl (record {
       affinity = placed_of c.geometry-g.result c.self.inside.journal.geometry c.args.m.now c.kind.result c.numbers.result c.in-Some.affinity

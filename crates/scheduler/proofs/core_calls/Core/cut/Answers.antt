@@ -1,7 +1,7 @@
 -- No message is held, so the tree is whole and has the committed state; the dirty pieces are left to write.
 use Rattle.std.proofs.Common.{◌≡◌, ℕ, ◌+◌, ◌≤◌, [], false, None, Some, refl, sym, ap, subst, ◌∙◌, rules}
 use Rattle.std.specs.Prelude.{if◌then◌else◌, is_err}
-use Rattle.disk.specs.Moments.{CrashImagesAre, moment}
+use Rattle.disk.specs.Moments.{CrashImagesAre, moment_number}
 use Rattle.image.specs.Pieces.{piece_count}
 use Rattle.journal.specs.Journal.{JournalView, RecoversWithPrefix}
 use Rattle.journal.specs.DirtyPieces.{count_dirty}
@@ -23,27 +23,27 @@ returns-in-Some-clause-any_moment g c = λ keep.
     subst (λ (o : CoreView). RecoversThroughout [] o o) c.self.view_is
     (still_standing g.D.Disk.keeps (parts c.self.inside.slots c.self.inside.replies.items c.self.inside.tree c.self.inside.journal
     c.self.inside.queue c.self.inside.batch.items c.self.inside.next c.self.inside.unlogged c.self.inside.history.opened
-    c.self.inside.history.since) c.self.invariant.1 keep [] (core_view_of
+    c.self.inside.history.since_open) c.self.invariant.1 keep [] (core_view_of
     (parts c.self.inside.slots c.self.inside.replies.items c.self.inside.tree c.self.inside.journal c.self.inside.queue
-    c.self.inside.batch.items c.self.inside.next c.self.inside.unlogged c.self.inside.history.opened c.self.inside.history.since)) refl)
+    c.self.inside.batch.items c.self.inside.next c.self.inside.unlogged c.self.inside.history.opened c.self.inside.history.since_open)) refl)
 
 pub cut-requires-clause-whole : goal.cut-requires-clause-whole
 cut-requires-clause-whole g c = point_whole g.D.Disk.keeps (parts c.self.inside.slots c.self.inside.replies.items c.self.inside.tree
     c.self.inside.journal c.self.inside.queue c.self.inside.batch.items c.self.inside.next c.self.inside.unlogged c.self.inside.history.opened
-    c.self.inside.history.since) c.self.invariant.1 (ap (λ (o : CoreView). point_refusal (core_state_of o)) c.self.view_is
+    c.self.inside.history.since_open) c.self.invariant.1 (ap (λ (o : CoreView). point_refusal (core_state_of o)) c.self.view_is
     ∙ sym c.point_refusal.ensures ∙ c.in_default.is)
 
 pub cut-requires-clause-state : goal.cut-requires-clause-state
 cut-requires-clause-state g c = point_state g.D.Disk.keeps (parts c.self.inside.slots c.self.inside.replies.items c.self.inside.tree
     c.self.inside.journal c.self.inside.queue c.self.inside.batch.items c.self.inside.next c.self.inside.unlogged c.self.inside.history.opened
-    c.self.inside.history.since) c.self.invariant.1 (ap (λ (o : CoreView). point_refusal (core_state_of o)) c.self.view_is
+    c.self.inside.history.since_open) c.self.invariant.1 (ap (λ (o : CoreView). point_refusal (core_state_of o)) c.self.view_is
     ∙ sym c.point_refusal.ensures ∙ c.in_default.is)
 
 pub invariant_of-self : goal.invariant_of-self
 invariant_of-self g c = (
   c.self.invariant.0,
   cut_core g.D.Disk.keeps (parts c.self.inside.slots c.self.inside.replies.items c.self.inside.tree c.self.inside.journal c.self.inside.queue
-      c.self.inside.batch.items c.self.inside.next c.self.inside.unlogged c.self.inside.history.opened c.self.inside.history.since) c.self.invariant.1
+      c.self.inside.batch.items c.self.inside.next c.self.inside.unlogged c.self.inside.history.opened c.self.inside.history.since_open) c.self.invariant.1
       c.cut.new.self c.cut.ensures.any_moment c.cut.result (ap (λ (o : CoreView). point_refusal (core_state_of o)) c.self.view_is
       ∙ sym c.point_refusal.ensures ∙ c.in_default.is) c.cut.ensures.committed c.cut.ensures.begun c.cut.ensures.few c.cut.ensures.broken,
   c.self.invariant.2,
@@ -55,17 +55,17 @@ pub returns-then-is_err-clause-any_moment : goal.returns-then-is_err-clause-any_
 returns-then-is_err-clause-any_moment g c = λ keep.
     subst (λ (o : CoreView). CrashImagesAre o.medium c.cut.new.self.medium (RecoversWithPrefix o.geometry (core_state_of o).committed (if o.failed then o.doubt else []))) c.self.view_is
     (step_moment g.D.Disk.keeps (parts c.self.inside.slots c.self.inside.replies.items c.self.inside.tree c.self.inside.journal c.self.inside.queue
-    c.self.inside.batch.items c.self.inside.next c.self.inside.unlogged c.self.inside.history.opened c.self.inside.history.since)
+    c.self.inside.batch.items c.self.inside.next c.self.inside.unlogged c.self.inside.history.opened c.self.inside.history.since_open)
     c.self.invariant.1 (point_works g.D.Disk.keeps (parts c.self.inside.slots c.self.inside.replies.items c.self.inside.tree
     c.self.inside.journal c.self.inside.queue c.self.inside.batch.items c.self.inside.next c.self.inside.unlogged c.self.inside.history.opened
-    c.self.inside.history.since) c.self.invariant.1 (ap (λ (o : CoreView). point_refusal (core_state_of o)) c.self.view_is
+    c.self.inside.history.since_open) c.self.invariant.1 (ap (λ (o : CoreView). point_refusal (core_state_of o)) c.self.view_is
     ∙ sym c.point_refusal.ensures ∙ c.in_default.is)) c.cut.new.self c.cut.ensures.any_moment keep)
 
 pub invariant_of-self-2 : goal.invariant_of-self-2
 invariant_of-self-2 g c = (
   c.self.invariant.0,
   cut_core g.D.Disk.keeps (parts c.self.inside.slots c.self.inside.replies.items c.self.inside.tree c.self.inside.journal c.self.inside.queue
-      c.self.inside.batch.items c.self.inside.next c.self.inside.unlogged c.self.inside.history.opened c.self.inside.history.since) c.self.invariant.1
+      c.self.inside.batch.items c.self.inside.next c.self.inside.unlogged c.self.inside.history.opened c.self.inside.history.since_open) c.self.invariant.1
       c.cut.new.self c.cut.ensures.any_moment c.cut.result (ap (λ (o : CoreView). point_refusal (core_state_of o)) c.self.view_is
       ∙ sym c.point_refusal.ensures ∙ c.in_default.is) c.cut.ensures.committed c.cut.ensures.begun c.cut.ensures.few c.cut.ensures.broken,
   c.self.invariant.2,
@@ -77,10 +77,10 @@ pub returns-clause-any_moment : goal.returns-clause-any_moment
 returns-clause-any_moment g c = λ keep.
     subst (λ (o : CoreView). CrashImagesAre o.medium c.cut.new.self.medium (RecoversWithPrefix o.geometry (core_state_of o).committed (if o.failed then o.doubt else []))) c.self.view_is
     (step_moment g.D.Disk.keeps (parts c.self.inside.slots c.self.inside.replies.items c.self.inside.tree c.self.inside.journal c.self.inside.queue
-    c.self.inside.batch.items c.self.inside.next c.self.inside.unlogged c.self.inside.history.opened c.self.inside.history.since)
+    c.self.inside.batch.items c.self.inside.next c.self.inside.unlogged c.self.inside.history.opened c.self.inside.history.since_open)
     c.self.invariant.1 (point_works g.D.Disk.keeps (parts c.self.inside.slots c.self.inside.replies.items c.self.inside.tree
     c.self.inside.journal c.self.inside.queue c.self.inside.batch.items c.self.inside.next c.self.inside.unlogged c.self.inside.history.opened
-    c.self.inside.history.since) c.self.invariant.1 (ap (λ (o : CoreView). point_refusal (core_state_of o)) c.self.view_is
+    c.self.inside.history.since_open) c.self.invariant.1 (ap (λ (o : CoreView). point_refusal (core_state_of o)) c.self.view_is
     ∙ sym c.point_refusal.ensures ∙ c.in_default.is)) c.cut.new.self c.cut.ensures.any_moment keep)
 
 pub returns-clause-state_after : goal.returns-clause-state_after
@@ -90,10 +90,10 @@ returns-clause-state_after g c =
     let few = on_ok c.cut.result _ made c.cut.ensures.few in
     let new : JournalView → CoreState = λ j. core_state_in (parts c.self.inside.slots c.self.inside.replies.items c.self.inside.tree j
     c.self.inside.queue c.self.inside.batch.items c.self.inside.next c.self.inside.unlogged c.self.inside.history.opened
-    c.self.inside.history.since) in
+    c.self.inside.history.since_open) in
     subst (λ (o : CoreView). (point_refusal (core_state_of o) ≡ None) × ((n : ℕ) × (n ≤ piece_count o.geometry)
-    × (new c.cut.new.self ≡ record (core_state_of o) { room = o.geometry.half; left = Some n }))) c.self.view_is
-    (ap (λ (o : CoreView). point_refusal (core_state_of o)) c.self.view_is ∙ sym c.point_refusal.ensures ∙ c.in_default.is, (count_dirty c.self.inside.journal.dirty.others, few, ap new begun))
+    × (new c.cut.new.self ≡ record (core_state_of o) { room = o.geometry.half; pieces_left = Some n }))) c.self.view_is
+    (ap (λ (o : CoreView). point_refusal (core_state_of o)) c.self.view_is ∙ sym c.point_refusal.ensures ∙ c.in_default.is, (count_dirty c.self.inside.journal.dirty.other, few, ap new begun))
 
 pub returns-in-Some-clause-beyond : goal.returns-in-Some-clause-beyond
 returns-in-Some-clause-beyond g c = λ keep. beyond_none (layout_of c.args.self.now.geometry) c.args.self.now.medium
@@ -111,10 +111,10 @@ returns-in-Some-clause-costs g c = λ keep. none_taken c.args.self.now.medium 4
 
 pub returns-then-is_err-clause-costs : goal.returns-then-is_err-clause-costs
 returns-then-is_err-clause-costs g c = λ keep.
-    subst (λ (o : CoreView). moment c.cut.new.self.medium ≤ moment o.medium + 4) c.self.view_is
+    subst (λ (o : CoreView). moment_number c.cut.new.self.medium ≤ moment_number o.medium + 4) c.self.view_is
     (broken_takes c.cut.result _ _ _ (sym c.is_err.ensures.value ∙ c.if-is_err.true) (c.cut.ensures.costs keep))
 
 pub returns-clause-costs : goal.returns-clause-costs
 returns-clause-costs g c = λ keep.
-    subst (λ (o : CoreView). moment c.cut.new.self.medium ≡ moment o.medium + 4) c.self.view_is
+    subst (λ (o : CoreView). moment_number c.cut.new.self.medium ≡ moment_number o.medium + 4) c.self.view_is
     (made_takes c.cut.result _ _ _ (sym c.is_err.ensures.value ∙ c.if-is_err.false) (c.cut.ensures.costs keep))

@@ -1,7 +1,7 @@
 -- A refusal touches nothing; the flip keeps the committed state at each moment, and ends the point.
 use Rattle.std.proofs.Common.{◌≡◌, ◌≤◌, ◌+◌, [], refl, sym, subst, ◌∙◌}
 use Rattle.std.specs.Prelude.{if◌then◌else◌}
-use Rattle.disk.specs.Moments.{CrashImagesAre, moment}
+use Rattle.disk.specs.Moments.{CrashImagesAre, moment_number}
 use Rattle.journal.specs.Journal.{RecoversWithPrefix}
 use Rattle.oplog.proofs.Beyond.{beyond_none}
 use Rattle.oplog.specs.Beyond.{KeepsBeyond}
@@ -18,33 +18,33 @@ returns-then-failed-clause-any_moment g c = λ keep.
     subst (λ (o : CoreView). RecoversThroughout [] o o) c.self.view_is
     (still_standing g.D.Disk.keeps (parts c.self.inside.slots c.self.inside.replies.items c.self.inside.tree c.self.inside.journal
     c.self.inside.queue c.self.inside.batch.items c.self.inside.next c.self.inside.unlogged c.self.inside.history.opened
-    c.self.inside.history.since) c.self.invariant.1 keep [] (core_view_of
+    c.self.inside.history.since_open) c.self.invariant.1 keep [] (core_view_of
     (parts c.self.inside.slots c.self.inside.replies.items c.self.inside.tree c.self.inside.journal c.self.inside.queue
-    c.self.inside.batch.items c.self.inside.next c.self.inside.unlogged c.self.inside.history.opened c.self.inside.history.since)) refl)
+    c.self.inside.batch.items c.self.inside.next c.self.inside.unlogged c.self.inside.history.opened c.self.inside.history.since_open)) refl)
 
 pub returns-in_default-clause-any_moment : goal.returns-in_default-clause-any_moment
 returns-in_default-clause-any_moment g c = λ keep.
     subst (λ (o : CoreView). RecoversThroughout [] o o) c.self.view_is
     (still_standing g.D.Disk.keeps (parts c.self.inside.slots c.self.inside.replies.items c.self.inside.tree c.self.inside.journal
     c.self.inside.queue c.self.inside.batch.items c.self.inside.next c.self.inside.unlogged c.self.inside.history.opened
-    c.self.inside.history.since) c.self.invariant.1 keep [] (core_view_of
+    c.self.inside.history.since_open) c.self.invariant.1 keep [] (core_view_of
     (parts c.self.inside.slots c.self.inside.replies.items c.self.inside.tree c.self.inside.journal c.self.inside.queue
-    c.self.inside.batch.items c.self.inside.next c.self.inside.unlogged c.self.inside.history.opened c.self.inside.history.since)) refl)
+    c.self.inside.batch.items c.self.inside.next c.self.inside.unlogged c.self.inside.history.opened c.self.inside.history.since_open)) refl)
 
-pub returns-then-left-gt0-clause-any_moment : goal.returns-then-left-gt0-clause-any_moment
-returns-then-left-gt0-clause-any_moment g c = λ keep.
+pub returns-then-pieces_left-gt0-clause-any_moment : goal.returns-then-pieces_left-gt0-clause-any_moment
+returns-then-pieces_left-gt0-clause-any_moment g c = λ keep.
     subst (λ (o : CoreView). RecoversThroughout [] o o) c.self.view_is
     (still_standing g.D.Disk.keeps (parts c.self.inside.slots c.self.inside.replies.items c.self.inside.tree c.self.inside.journal
     c.self.inside.queue c.self.inside.batch.items c.self.inside.next c.self.inside.unlogged c.self.inside.history.opened
-    c.self.inside.history.since) c.self.invariant.1 keep [] (core_view_of
+    c.self.inside.history.since_open) c.self.invariant.1 keep [] (core_view_of
     (parts c.self.inside.slots c.self.inside.replies.items c.self.inside.tree c.self.inside.journal c.self.inside.queue
-    c.self.inside.batch.items c.self.inside.next c.self.inside.unlogged c.self.inside.history.opened c.self.inside.history.since)) refl)
+    c.self.inside.batch.items c.self.inside.next c.self.inside.unlogged c.self.inside.history.opened c.self.inside.history.since_open)) refl)
 
 pub invariant_of-self : goal.invariant_of-self
 invariant_of-self g c = (
   c.self.invariant.0,
   flip_core g.D.Disk.keeps (parts c.self.inside.slots c.self.inside.replies.items c.self.inside.tree c.self.inside.journal c.self.inside.queue
-      c.self.inside.batch.items c.self.inside.next c.self.inside.unlogged c.self.inside.history.opened c.self.inside.history.since) c.self.invariant.1
+      c.self.inside.batch.items c.self.inside.next c.self.inside.unlogged c.self.inside.history.opened c.self.inside.history.since_open) c.self.invariant.1
       c.flip.new.self c.flip.ensures.any_moment c.flip.result (sym c.failed.ensures ∙ c.if-failed.false) c.flip.ensures.committed
       c.flip.ensures.after,
   c.self.invariant.2,
@@ -56,14 +56,14 @@ pub returns-then-is_err-clause-any_moment : goal.returns-then-is_err-clause-any_
 returns-then-is_err-clause-any_moment g c = λ keep.
     subst (λ (o : CoreView). CrashImagesAre o.medium c.flip.new.self.medium (RecoversWithPrefix o.geometry (core_state_of o).committed (if o.failed then o.doubt else []))) c.self.view_is
     (step_moment g.D.Disk.keeps (parts c.self.inside.slots c.self.inside.replies.items c.self.inside.tree c.self.inside.journal c.self.inside.queue
-    c.self.inside.batch.items c.self.inside.next c.self.inside.unlogged c.self.inside.history.opened c.self.inside.history.since)
+    c.self.inside.batch.items c.self.inside.next c.self.inside.unlogged c.self.inside.history.opened c.self.inside.history.since_open)
     c.self.invariant.1 (sym c.failed.ensures ∙ c.if-failed.false) c.flip.new.self c.flip.ensures.any_moment keep)
 
 pub invariant_of-self-2 : goal.invariant_of-self-2
 invariant_of-self-2 g c = (
   c.self.invariant.0,
   flip_core g.D.Disk.keeps (parts c.self.inside.slots c.self.inside.replies.items c.self.inside.tree c.self.inside.journal c.self.inside.queue
-      c.self.inside.batch.items c.self.inside.next c.self.inside.unlogged c.self.inside.history.opened c.self.inside.history.since) c.self.invariant.1
+      c.self.inside.batch.items c.self.inside.next c.self.inside.unlogged c.self.inside.history.opened c.self.inside.history.since_open) c.self.invariant.1
       c.flip.new.self c.flip.ensures.any_moment c.flip.result (sym c.failed.ensures ∙ c.if-failed.false) c.flip.ensures.committed
       c.flip.ensures.after,
   c.self.invariant.2,
@@ -75,7 +75,7 @@ pub returns-clause-any_moment : goal.returns-clause-any_moment
 returns-clause-any_moment g c = λ keep.
     subst (λ (o : CoreView). CrashImagesAre o.medium c.flip.new.self.medium (RecoversWithPrefix o.geometry (core_state_of o).committed (if o.failed then o.doubt else []))) c.self.view_is
     (step_moment g.D.Disk.keeps (parts c.self.inside.slots c.self.inside.replies.items c.self.inside.tree c.self.inside.journal c.self.inside.queue
-    c.self.inside.batch.items c.self.inside.next c.self.inside.unlogged c.self.inside.history.opened c.self.inside.history.since)
+    c.self.inside.batch.items c.self.inside.next c.self.inside.unlogged c.self.inside.history.opened c.self.inside.history.since_open)
     c.self.invariant.1 (sym c.failed.ensures ∙ c.if-failed.false) c.flip.new.self c.flip.ensures.any_moment keep)
 
 pub returns-then-failed-clause-beyond : goal.returns-then-failed-clause-beyond
@@ -84,8 +84,8 @@ returns-then-failed-clause-beyond g c = λ keep. beyond_none (layout_of c.args.s
 pub returns-in_default-clause-beyond : goal.returns-in_default-clause-beyond
 returns-in_default-clause-beyond g c = λ keep. beyond_none (layout_of c.args.self.now.geometry) c.args.self.now.medium
 
-pub returns-then-left-gt0-clause-beyond : goal.returns-then-left-gt0-clause-beyond
-returns-then-left-gt0-clause-beyond g c = λ keep. beyond_none (layout_of c.args.self.now.geometry) c.args.self.now.medium
+pub returns-then-pieces_left-gt0-clause-beyond : goal.returns-then-pieces_left-gt0-clause-beyond
+returns-then-pieces_left-gt0-clause-beyond g c = λ keep. beyond_none (layout_of c.args.self.now.geometry) c.args.self.now.medium
 
 pub returns-then-is_err-clause-beyond : goal.returns-then-is_err-clause-beyond
 returns-then-is_err-clause-beyond g c = λ keep.
@@ -101,15 +101,15 @@ returns-then-failed-clause-costs g c = λ keep. none_taken c.args.self.now.mediu
 pub returns-in_default-clause-costs : goal.returns-in_default-clause-costs
 returns-in_default-clause-costs g c = λ keep. none_taken c.args.self.now.medium 3
 
-pub returns-then-left-gt0-clause-costs : goal.returns-then-left-gt0-clause-costs
-returns-then-left-gt0-clause-costs g c = λ keep. none_taken c.args.self.now.medium 3
+pub returns-then-pieces_left-gt0-clause-costs : goal.returns-then-pieces_left-gt0-clause-costs
+returns-then-pieces_left-gt0-clause-costs g c = λ keep. none_taken c.args.self.now.medium 3
 
 pub returns-then-is_err-clause-costs : goal.returns-then-is_err-clause-costs
 returns-then-is_err-clause-costs g c = λ keep.
-    subst (λ (o : CoreView). moment c.flip.new.self.medium ≤ moment o.medium + 3) c.self.view_is
+    subst (λ (o : CoreView). moment_number c.flip.new.self.medium ≤ moment_number o.medium + 3) c.self.view_is
     (broken_takes c.flip.result _ _ _ (sym c.is_err.ensures.value ∙ c.if-is_err.true) (c.flip.ensures.costs keep))
 
 pub returns-clause-costs : goal.returns-clause-costs
 returns-clause-costs g c = λ keep.
-    subst (λ (o : CoreView). moment c.flip.new.self.medium ≡ moment o.medium + 3) c.self.view_is
+    subst (λ (o : CoreView). moment_number c.flip.new.self.medium ≡ moment_number o.medium + 3) c.self.view_is
     (made_takes c.flip.result _ _ _ (sym c.is_err.ensures.value ∙ c.if-is_err.false) (c.flip.ensures.costs keep))

@@ -33,34 +33,34 @@ invariant_of-result g c =
     let same = c.in_ok-journal.ensures.tree.0 in
     let whole = c.in_ok-journal.ensures.tree.1 in
     let holds : keeps → (committed journal ≡ Some (state_in tree)) × IsRecoverable journal = λ k. let o = c.in_ok-journal.ensures.opened k in (o.is, o.recoverable) in
-    let row = c.in-Ok.ensures.row in
+    let arena = c.in-Ok.ensures.arena in
     let queue = c.set_geometry.ensures ∙ ap (λ (q : RunQueueView). queue_at_start c.geometry.result q.slots) c.in-Ok.ensures.queue
     ∙ ap (λ (h : Geometry). queue_at_start h c.args.slots) c.geometry.ensures in
-    let size = opened_size keeps c.args.slots replies tree journal same whole holds memory.slots row in (
-      opened_chains keeps c.args.slots replies tree journal same whole holds memory.slots row c.in-Ok.ensures.parted,
-      opened_parts keeps c.args.slots replies tree journal same whole holds memory.slots row c.set_geometry.new.self memory.batch.items
-          c.begun.result.opened c.begun.result.since queue c.in-Ok.ensures.batch c.begun.ensures.0 c.begun.ensures.1,
+    let size = opened_size keeps c.args.slots replies tree journal same whole holds memory.slots arena in (
+      opened_chains keeps c.args.slots replies tree journal same whole holds memory.slots arena c.in-Ok.ensures.partitioned,
+      opened_parts keeps c.args.slots replies tree journal same whole holds memory.slots arena c.set_geometry.new.self memory.batch.items
+          c.begun.result.opened c.begun.result.since_open queue c.in-Ok.ensures.batch c.begun.ensures.0 c.begun.ensures.1,
       subst (λ (n : ℕ). n ≤ vec_capacity memory.batch) (sym size) c.in-Ok.ensures.room,
       c.in-Ok.ensures.replies ∙ sym size,
-      opened_ran keeps c.args.slots replies tree journal same whole holds memory.slots row,
+      opened_ran keeps c.args.slots replies tree journal same whole holds memory.slots arena,
     )
 
 pub returns-in_err-journal-clause-opens : goal.returns-in_err-journal-clause-opens
 returns-in_err-journal-clause-opens g c =
     let p = err_from_is_err_and c.from_residual.result c.from_residual.ensures.1 in
     let m = g.D.Disk.medium c.args.d in
-    rw (p.1, p.2) (λ h x k stood told. recovers_or_refused m.now h x c.in_err-journal.field-0.0.fault (g.met.D.Disk.bytes c.args.d) stood told (c.in_err-journal.ensures.refused k))
+    rw (p.1, p.2) (λ h x k stood shown. recovers_or_refused m.now h x c.in_err-journal.field-0.0.fault (g.met.D.Disk.bytes c.args.d) stood shown (c.in_err-journal.ensures.refused k))
 
 pub returns-in_err-journal-clause-exact : goal.returns-in_err-journal-clause-exact
 returns-in_err-journal-clause-exact g c =
     let p = err_from_is_err_and c.from_residual.result c.from_residual.ensures.1 in
     let m = g.D.Disk.medium c.args.d in
-    rw (p.1, p.2) (λ fault k also also_told told. one_fault m.now c.in_err-journal.field-0.0.fault fault told (c.in_err-journal.ensures.refused k) also_told also)
+    rw (p.1, p.2) (λ fault k also also_shown shown. one_fault m.now c.in_err-journal.field-0.0.fault fault shown (c.in_err-journal.ensures.refused k) also_shown also)
 
 pub returns-clause-exact : goal.returns-clause-exact
-returns-clause-exact g c = λ fault k also told.
+returns-clause-exact g c = λ fault k also shown.
     let o = c.in_ok-journal.ensures.opened k in
-    opened_or_refused (g.D.Disk.medium c.args.d).now c.in_ok-journal.journal.geometry fault o.header o.accepted told also
+    opened_or_refused (g.D.Disk.medium c.args.d).now c.in_ok-journal.journal.geometry fault o.header o.accepted shown also
 
 pub returns-in_default-clause-beyond : goal.returns-in_default-clause-beyond
 returns-in_default-clause-beyond g c = λ k h header. beyond_none (layout_of h) (g.D.Disk.medium c.args.d)

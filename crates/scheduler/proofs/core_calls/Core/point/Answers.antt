@@ -1,7 +1,7 @@
 -- No message is held, so the tree is whole and has the committed state, and the point keeps that state.
 use Rattle.std.proofs.Common.{◌≤◌, ◌+◌, [], arith, refl, sym, ap, subst, ◌∙◌}
 use Rattle.std.specs.Prelude.{if◌then◌else◌}
-use Rattle.disk.specs.Moments.{CrashImagesAre, moment}
+use Rattle.disk.specs.Moments.{CrashImagesAre, moment_number}
 use Rattle.journal.specs.Costs.{longest_point}
 use Rattle.journal.specs.Journal.{RecoversWithPrefix}
 use Rattle.legal_runs.specs.Events.{point_refusal}
@@ -20,27 +20,27 @@ returns-in-Some-clause-any_moment g c = λ keep.
     subst (λ (o : CoreView). RecoversThroughout [] o o) c.self.view_is
     (still_standing g.D.Disk.keeps (parts c.self.inside.slots c.self.inside.replies.items c.self.inside.tree c.self.inside.journal
     c.self.inside.queue c.self.inside.batch.items c.self.inside.next c.self.inside.unlogged c.self.inside.history.opened
-    c.self.inside.history.since) c.self.invariant.1 keep [] (core_view_of
+    c.self.inside.history.since_open) c.self.invariant.1 keep [] (core_view_of
     (parts c.self.inside.slots c.self.inside.replies.items c.self.inside.tree c.self.inside.journal c.self.inside.queue
-    c.self.inside.batch.items c.self.inside.next c.self.inside.unlogged c.self.inside.history.opened c.self.inside.history.since)) refl)
+    c.self.inside.batch.items c.self.inside.next c.self.inside.unlogged c.self.inside.history.opened c.self.inside.history.since_open)) refl)
 
 pub point-requires-clause-whole : goal.point-requires-clause-whole
 point-requires-clause-whole g c = point_whole g.D.Disk.keeps (parts c.self.inside.slots c.self.inside.replies.items c.self.inside.tree
     c.self.inside.journal c.self.inside.queue c.self.inside.batch.items c.self.inside.next c.self.inside.unlogged c.self.inside.history.opened
-    c.self.inside.history.since) c.self.invariant.1 (ap (λ (o : CoreView). point_refusal (core_state_of o)) c.self.view_is
+    c.self.inside.history.since_open) c.self.invariant.1 (ap (λ (o : CoreView). point_refusal (core_state_of o)) c.self.view_is
     ∙ sym c.point_refusal.ensures ∙ c.in_default.is)
 
 pub point-requires-clause-state : goal.point-requires-clause-state
 point-requires-clause-state g c = point_state g.D.Disk.keeps (parts c.self.inside.slots c.self.inside.replies.items c.self.inside.tree
     c.self.inside.journal c.self.inside.queue c.self.inside.batch.items c.self.inside.next c.self.inside.unlogged c.self.inside.history.opened
-    c.self.inside.history.since) c.self.invariant.1 (ap (λ (o : CoreView). point_refusal (core_state_of o)) c.self.view_is
+    c.self.inside.history.since_open) c.self.invariant.1 (ap (λ (o : CoreView). point_refusal (core_state_of o)) c.self.view_is
     ∙ sym c.point_refusal.ensures ∙ c.in_default.is)
 
 pub invariant_of-self : goal.invariant_of-self
 invariant_of-self g c = (
   c.self.invariant.0,
   point_core g.D.Disk.keeps (parts c.self.inside.slots c.self.inside.replies.items c.self.inside.tree c.self.inside.journal c.self.inside.queue
-      c.self.inside.batch.items c.self.inside.next c.self.inside.unlogged c.self.inside.history.opened c.self.inside.history.since) c.self.invariant.1
+      c.self.inside.batch.items c.self.inside.next c.self.inside.unlogged c.self.inside.history.opened c.self.inside.history.since_open) c.self.invariant.1
       c.point.new.self c.point.ensures.any_moment c.point.result (ap (λ (o : CoreView). point_refusal (core_state_of o)) c.self.view_is
       ∙ sym c.point_refusal.ensures ∙ c.in_default.is) c.point.ensures.committed c.point.ensures.after,
   c.self.invariant.2,
@@ -52,17 +52,17 @@ pub returns-then-is_err-clause-any_moment : goal.returns-then-is_err-clause-any_
 returns-then-is_err-clause-any_moment g c = λ keep.
     subst (λ (o : CoreView). CrashImagesAre o.medium c.point.new.self.medium (RecoversWithPrefix o.geometry (core_state_of o).committed (if o.failed then o.doubt else []))) c.self.view_is
     (step_moment g.D.Disk.keeps (parts c.self.inside.slots c.self.inside.replies.items c.self.inside.tree c.self.inside.journal c.self.inside.queue
-    c.self.inside.batch.items c.self.inside.next c.self.inside.unlogged c.self.inside.history.opened c.self.inside.history.since)
+    c.self.inside.batch.items c.self.inside.next c.self.inside.unlogged c.self.inside.history.opened c.self.inside.history.since_open)
     c.self.invariant.1 (point_works g.D.Disk.keeps (parts c.self.inside.slots c.self.inside.replies.items c.self.inside.tree
     c.self.inside.journal c.self.inside.queue c.self.inside.batch.items c.self.inside.next c.self.inside.unlogged c.self.inside.history.opened
-    c.self.inside.history.since) c.self.invariant.1 (ap (λ (o : CoreView). point_refusal (core_state_of o)) c.self.view_is
+    c.self.inside.history.since_open) c.self.invariant.1 (ap (λ (o : CoreView). point_refusal (core_state_of o)) c.self.view_is
     ∙ sym c.point_refusal.ensures ∙ c.in_default.is)) c.point.new.self c.point.ensures.any_moment keep)
 
 pub invariant_of-self-2 : goal.invariant_of-self-2
 invariant_of-self-2 g c = (
   c.self.invariant.0,
   point_core g.D.Disk.keeps (parts c.self.inside.slots c.self.inside.replies.items c.self.inside.tree c.self.inside.journal c.self.inside.queue
-      c.self.inside.batch.items c.self.inside.next c.self.inside.unlogged c.self.inside.history.opened c.self.inside.history.since) c.self.invariant.1
+      c.self.inside.batch.items c.self.inside.next c.self.inside.unlogged c.self.inside.history.opened c.self.inside.history.since_open) c.self.invariant.1
       c.point.new.self c.point.ensures.any_moment c.point.result (ap (λ (o : CoreView). point_refusal (core_state_of o)) c.self.view_is
       ∙ sym c.point_refusal.ensures ∙ c.in_default.is) c.point.ensures.committed c.point.ensures.after,
   c.self.invariant.2,
@@ -74,10 +74,10 @@ pub returns-clause-any_moment : goal.returns-clause-any_moment
 returns-clause-any_moment g c = λ keep.
     subst (λ (o : CoreView). CrashImagesAre o.medium c.point.new.self.medium (RecoversWithPrefix o.geometry (core_state_of o).committed (if o.failed then o.doubt else []))) c.self.view_is
     (step_moment g.D.Disk.keeps (parts c.self.inside.slots c.self.inside.replies.items c.self.inside.tree c.self.inside.journal c.self.inside.queue
-    c.self.inside.batch.items c.self.inside.next c.self.inside.unlogged c.self.inside.history.opened c.self.inside.history.since)
+    c.self.inside.batch.items c.self.inside.next c.self.inside.unlogged c.self.inside.history.opened c.self.inside.history.since_open)
     c.self.invariant.1 (point_works g.D.Disk.keeps (parts c.self.inside.slots c.self.inside.replies.items c.self.inside.tree
     c.self.inside.journal c.self.inside.queue c.self.inside.batch.items c.self.inside.next c.self.inside.unlogged c.self.inside.history.opened
-    c.self.inside.history.since) c.self.invariant.1 (ap (λ (o : CoreView). point_refusal (core_state_of o)) c.self.view_is
+    c.self.inside.history.since_open) c.self.invariant.1 (ap (λ (o : CoreView). point_refusal (core_state_of o)) c.self.view_is
     ∙ sym c.point_refusal.ensures ∙ c.in_default.is)) c.point.new.self c.point.ensures.any_moment keep)
 
 pub returns-in-Some-clause-beyond : goal.returns-in-Some-clause-beyond
@@ -97,9 +97,9 @@ returns-in-Some-clause-costs g c = λ keep. none_taken c.args.self.now.medium (l
 pub returns-then-is_err-clause-costs : goal.returns-then-is_err-clause-costs
 returns-then-is_err-clause-costs g c = λ keep.
     let took = broken_takes c.point.result _ _ _ (sym c.is_err.ensures.value ∙ c.if-is_err.true) (c.point.ensures.costs keep) in
-    subst (λ (o : CoreView). moment c.point.new.self.medium ≤ moment o.medium + longest_point o.geometry) c.self.view_is (omega (arith, took, c.point.ensures.few))
+    subst (λ (o : CoreView). moment_number c.point.new.self.medium ≤ moment_number o.medium + longest_point o.geometry) c.self.view_is (omega (arith, took, c.point.ensures.few))
 
 pub returns-clause-costs : goal.returns-clause-costs
 returns-clause-costs g c = λ keep.
     let took = made_takes c.point.result _ _ _ (sym c.is_err.ensures.value ∙ c.if-is_err.false) (c.point.ensures.costs keep) in
-    subst (λ (o : CoreView). moment c.point.new.self.medium ≤ moment o.medium + longest_point o.geometry) c.self.view_is (omega (arith, took, c.point.ensures.few))
+    subst (λ (o : CoreView). moment_number c.point.new.self.medium ≤ moment_number o.medium + longest_point o.geometry) c.self.view_is (omega (arith, took, c.point.ensures.few))

@@ -1,4 +1,4 @@
--- It keeps its invariant.
+-- The session's invariant holds after the core's `flip`, and (`-2`) after its `piece`.
 use Rattle.std.proofs.Common.{refl}
 use Rattle.scheduler.proofs.Called.{flip_called, piece_called}
 use Rattle.scheduler.specs.CoreView.{core_state_of}

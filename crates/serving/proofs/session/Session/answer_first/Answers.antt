@@ -5,7 +5,7 @@ use Rattle.runs.proofs.Events.{answer_step}
 use Rattle.messages.specs.declared.Reply.{Reply}
 use Rattle.scheduler.specs.Calls.{answer_outcome}
 use Rattle.scheduler.specs.CoreView.{core_state_of}
-use Rattle.serving.specs.Runs.{with_lent}
+use Rattle.serving.specs.Runs.{machine_with_jobs}
 use Rattle.serving.specs.Session.{SessionView}
 use Rattle.serving.proofs.Answering.{IsAnswered, answered_state, fewer_logged, is_answered_so, none_answered, none_logged}
 use Rattle.serving.proofs.Invariant.{holds_of, on_answer, on_machine}
@@ -30,13 +30,13 @@ invariant_of-self-2 g c =
     (answer_step g.D.Disk.keeps old new c.know_recovery.ensures.no_doubt c.know_recovery.ensures.now c.answer-first.ensures.geometry c.answer-first.ensures.untouched
     c.answer-first.result c.answer-first.ensures.state_after) _ (holds_of g.D.Disk.keeps _ _ c.self.invariant.0) in (
       on_answer g.D.Disk.keeps _ _ c.self.invariant.0 _ _ _ _
-          (subst (λ (o : Option (ℕ × Reply)). IsAnswered g.D.Disk.keeps (with_lent old c.self.inside.dispatch_seat.lent) (with_lent new c.self.inside.dispatch_seat.lent) o)
+          (subst (λ (o : Option (ℕ × Reply)). IsAnswered g.D.Disk.keeps (machine_with_jobs old c.self.inside.dispatch_seat.lent) (machine_with_jobs new c.self.inside.dispatch_seat.lent) o)
           c.in-Some.is so) c.answer.ensures.lines c.answer.ensures.slots,
       c.self.invariant.1,
     )
 
 pub returns-in_default-clause-as_before : goal.returns-in_default-clause-as_before
-returns-in_default-clause-as_before g c = (ap (λ (p : SessionView). p.stop) c.self.view_is, ap (λ (p : SessionView). p.output_failed) c.self.view_is)
+returns-in_default-clause-as_before g c = (ap (λ (p : SessionView). p.read_end) c.self.view_is, ap (λ (p : SessionView). p.output_failed) c.self.view_is)
 
 pub returns-in_default-clause-state_after : goal.returns-in_default-clause-state_after
 returns-in_default-clause-state_after g c =
@@ -53,7 +53,7 @@ returns-in_default-clause-none g c is =
     (subst (λ (o : Option (ℕ × Reply)). (answer_outcome o, core_state_of new) ≡ answer (core_state_of old) old.logged) c.in_default.is c.answer-first.ensures.state_after) refl
 
 pub returns-clause-as_before : goal.returns-clause-as_before
-returns-clause-as_before g c = (ap (λ (p : SessionView). p.stop) c.self.view_is, ap (λ (p : SessionView). p.output_failed) c.self.view_is)
+returns-clause-as_before g c = (ap (λ (p : SessionView). p.read_end) c.self.view_is, ap (λ (p : SessionView). p.output_failed) c.self.view_is)
 
 pub returns-clause-state_after : goal.returns-clause-state_after
 returns-clause-state_after g c =

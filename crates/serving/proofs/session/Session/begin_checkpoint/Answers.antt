@@ -17,13 +17,13 @@ invariant_of-self g c =
     (cut_called old.geometry (core_state_of old) (core_state_of new) c.cut-cut.result c.cut-cut.ensures.state_after) c.cut-cut.ensures.counts in
     (on_machine g.D.Disk.keeps _ _ c.self.invariant.0 _ _ (quiet _ (holds_of g.D.Disk.keeps _ _ c.self.invariant.0)) refl refl, c.self.invariant.1)
 
-pub returns-clause-moves : goal.returns-clause-moves
-returns-clause-moves g c =
+pub returns-clause-session_step : goal.returns-clause-session_step
+returns-clause-session_step g c =
     let old = c.self.inside.core in
     let new = c.cut-cut.new.self in
-    let left = ap (λ (p : SessionView). p.core.left) c.self.view_is ∙ c.requires.none in (
-      ap (λ (p : SessionView). p.stop) c.self.view_is,
-      halts (core_state_of old) left (core_state_of new) _ (c.self.inside.output_failed ≡ false) c.cut-cut.result c.note_cut.result
+    let pieces_left = ap (λ (p : SessionView). p.core.pieces_left) c.self.view_is ∙ c.requires.none in (
+      ap (λ (p : SessionView). p.read_end) c.self.view_is,
+      halts (core_state_of old) pieces_left (core_state_of new) _ (c.self.inside.output_failed ≡ false) c.cut-cut.result c.note_cut.result
           c.cut-cut.ensures.state_after c.note_cut.ensures (ap (λ (p : SessionView). p.output_failed) c.self.view_is),
     )
 
@@ -31,6 +31,6 @@ pub returns-clause-begun : goal.returns-clause-begun
 returns-clause-begun g c =
     let old = c.self.inside.core in
     let new = c.cut-cut.new.self in
-    let left = ap (λ (p : SessionView). p.core.left) c.self.view_is ∙ c.requires.none in
-    begins (core_state_of old) left (core_state_of new) _ {begun = (n : ℕ) × (new.left ≡ Some n)} (λ m. (m.0, ap (λ (w : CoreState). w.left) m.2))
+    let pieces_left = ap (λ (p : SessionView). p.core.pieces_left) c.self.view_is ∙ c.requires.none in
+    begins (core_state_of old) pieces_left (core_state_of new) _ {begun = (n : ℕ) × (new.pieces_left ≡ Some n)} (λ m. (m.0, ap (λ (w : CoreState). w.pieces_left) m.2))
     c.cut-cut.result c.note_cut.result c.cut-cut.ensures.state_after c.note_cut.ensures

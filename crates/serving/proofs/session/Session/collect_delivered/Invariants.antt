@@ -1,12 +1,12 @@
 -- Where the session and the batch are; and at how many places it has not looked.
 use Rattle.std.proofs.Common.{◌≡◌, ◌<◌, ◌≤◌, ◌-◌, length}
 use Rattle.std.specs.Prelude.{IsTrue}
-use Rattle.serving.specs.Session.{KeepsStopAndOutputFailed}
+use Rattle.serving.specs.Session.{KeepsReadEndAndOutputFailed}
 use Rattle.serving.proofs.session.Session.collect_delivered.Given as goal
 
 abbrev pub invariant-loop-k : goal.invariant-loop-k
 invariant-loop-k g l = record {
-  as_before : KeepsStopAndOutputFailed l.initial.self l.self;
+  as_before : KeepsReadEndAndOutputFailed l.initial.self l.self;
   places : length l.self.dispatch_seat.lent ≡ length l.initial.self.dispatch_seat.lent;
   failed : l.self.core.failed ≡ l.initial.self.core.failed;
   budget : l.batch.budget ≤ l.initial.batch.budget;

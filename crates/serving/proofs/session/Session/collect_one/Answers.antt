@@ -1,7 +1,7 @@
 -- What was collected is given to the core, and the session keeps its invariant.
 use Rattle.std.proofs.Common.{◌<◌, List, Option, None, ap, length, sym, subst, ◌∙◌}
 use Rattle.parcel.specs.Run.{JobView}
-use Rattle.serving.specs.Runs.{IsInternal, with_lent}
+use Rattle.serving.specs.Runs.{IsInternal, machine_with_jobs}
 use Rattle.serving.specs.Session.{SessionView}
 use Rattle.serving.proofs.Returning.{came_back, gives_back, set-length}
 use Rattle.serving.proofs.Invariant.{holds_of, on_machine}
@@ -21,7 +21,7 @@ invariant_of-self-2 g c =
     let old = c.self.inside in
     let place = subst (λ (p : SessionView). c.args.k < length p.dispatch_seat.lent) (sym c.self.view_is) c.requires.place in
     let back = c.give_back.ensures.state_after in
-    let quiet = subst (λ (lent : List (Option JobView)). IsInternal g.D.Disk.keeps (with_lent old.core old.dispatch_seat.lent) (with_lent c.give_back.new.self lent))
+    let quiet = subst (λ (lent : List (Option JobView)). IsInternal g.D.Disk.keeps (machine_with_jobs old.core old.dispatch_seat.lent) (machine_with_jobs c.give_back.new.self lent))
     (sym s.3)
     (gives_back g.D.Disk.keeps old.core old.dispatch_seat.lent c.know_recovery.ensures.no_doubt c.know_recovery.ensures.now (holds_of g.D.Disk.keeps _ _ c.self.invariant.0)
     c.args.k place s.0 c.in-Some.done s.1 s.2 c.give_back.new.self c.give_back.ensures.geometry c.give_back.ensures.untouched

@@ -1,10 +1,10 @@
 -- Meanwhile no line is read, and the output does not fail; and how many places are free.
 use Rattle.std.specs.Prelude.{count_by, is_none}
-use Rattle.serving.specs.Session.{KeepsStopAndOutputFailed}
+use Rattle.serving.specs.Session.{KeepsReadEndAndOutputFailed}
 use Rattle.serving.proofs.session.Session.dispatch_all.Given as goal
 
 abbrev pub invariant-loop-k : goal.invariant-loop-k
-invariant-loop-k g l = KeepsStopAndOutputFailed l.initial.self l.self
+invariant-loop-k g l = KeepsReadEndAndOutputFailed l.initial.self l.self
 
 -- the places where nothing is lent
 abbrev pub decreases-loop-k : goal.decreases-loop-k

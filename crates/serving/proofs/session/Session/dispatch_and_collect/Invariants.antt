@@ -1,10 +1,10 @@
 -- How many more messages may be collected, and how often it looks for each.
 use Rattle.std.proofs.Common.{◌≤◌, ◌+◌, ◌-◌, ◌*◌}
-use Rattle.serving.specs.Session.{KeepsStopAndOutputFailed}
+use Rattle.serving.specs.Session.{KeepsReadEndAndOutputFailed}
 use Rattle.serving.proofs.session.Session.dispatch_and_collect.Given as goal
 
 abbrev pub invariant-loop-polls : goal.invariant-loop-polls
-invariant-loop-polls g l = KeepsStopAndOutputFailed l.fn.self l.self × (l.polls ≤ 16384)
+invariant-loop-polls g l = KeepsReadEndAndOutputFailed l.fn.self l.self × (l.polls ≤ 16384)
 
 abbrev pub decreases-loop-polls : goal.decreases-loop-polls
 decreases-loop-polls g l = l.batch.budget * 16385 + (16384 - l.polls)

@@ -32,8 +32,8 @@ invariant_of-self g c =
       c.offer_granted.ensures.bench ∙ c.self.invariant.1,
     )
 
-pub returns-clause-goes : goal.returns-clause-goes
-returns-clause-goes g c =
+pub returns-clause-dispatches : goal.returns-clause-dispatches
+returns-clause-dispatches g c =
     let new = c.grant-granted.new.self in
     subst (λ (p : SessionView). DispatchesTo p.core.geometry c.args.k (core_state_of p.core) p.dispatch_seat.lent (core_state_of new) c.offer_granted.new.dispatch_seat.lent c.offer_granted.result)
     c.self.view_is (goes_to c.args.k _ _ _ _ _ (core_state_of new) _ c.grant-granted.ensures.state_after c.offer_granted.ensures.lends)

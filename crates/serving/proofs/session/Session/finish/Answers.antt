@@ -17,16 +17,16 @@ invariant_of-self g c =
     (point_called old.geometry (core_state_of old) (core_state_of new) c.point.result c.point.ensures.state_after) c.point.ensures.counts in
     (on_machine g.D.Disk.keeps _ _ c.self-2.invariant.0 _ _ (quiet _ (holds_of g.D.Disk.keeps _ _ c.self-2.invariant.0)) refl refl, c.self-2.invariant.1)
 
-pub returns-in-EndOfInput-clause-moves : goal.returns-in-EndOfInput-clause-moves
-returns-in-EndOfInput-clause-moves g c =
+pub returns-in-EndOfInput-clause-session_step : goal.returns-in-EndOfInput-clause-session_step
+returns-in-EndOfInput-clause-session_step g c =
     let sent = c.in_ok-flush_replies.ensures in
     let all_retired = ap (λ (r : ReorderBufferView). r.lines) sent.same.1 ∙ c.requires.all_retired in
     let idle = idle_of g.D.Disk.keeps _ _ c.self-2.invariant.0 (ap (λ (p : SessionView). p.reorder_buffer.lines) c.self-2.view_is ∙ all_retired) in
-    let left = ap (λ (p : SessionView). p.core.left) c.self-2.view_is ∙ ap (λ (k : CoreView). k.left) sent.same.0 ∙ c.requires.none in
-    let output_failed = ap (λ (p : SessionView). p.output_failed) c.self-2.view_is ∙ sent.moves.1 in (
-      ap (λ (p : SessionView). p.stop) c.self-2.view_is ∙ sent.moves.0,
+    let pieces_left = ap (λ (p : SessionView). p.core.pieces_left) c.self-2.view_is ∙ ap (λ (k : CoreView). k.pieces_left) sent.same.0 ∙ c.requires.none in
+    let output_failed = ap (λ (p : SessionView). p.output_failed) c.self-2.view_is ∙ sent.session_step.1 in (
+      ap (λ (p : SessionView). p.read_end) c.self-2.view_is ∙ sent.session_step.0,
       halts_so c.point.result c.or_halt.result _ _ _ c.or_halt.ensures output_failed
-          (point_fails (core_state_of c.self-2.inside.core) left (core_state_of c.point.new.self)
+          (point_fails (core_state_of c.self-2.inside.core) pieces_left (core_state_of c.point.new.self)
           (core_state_of c.point.new.self ≡ record (core_state_of c.self-2.inside.core) { room = c.self-2.inside.core.geometry.half }) idle.none_held c.point.result
           c.point.ensures.state_after),
     )

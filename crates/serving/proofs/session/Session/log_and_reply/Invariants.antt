@@ -1,10 +1,10 @@
 -- The messages so far were answered; and how many are still logged.
 use Rattle.std.proofs.Common.{length}
-use Rattle.serving.specs.Session.{KeepsStopAndOutputFailed}
+use Rattle.serving.specs.Session.{KeepsReadEndAndOutputFailed}
 use Rattle.serving.proofs.session.Session.log_and_reply.Given as goal
 
 abbrev pub invariant-loop-self : goal.invariant-loop-self
-invariant-loop-self g l = KeepsStopAndOutputFailed l.initial.self l.self
+invariant-loop-self g l = KeepsReadEndAndOutputFailed l.initial.self l.self
 
 abbrev pub decreases-loop-self : goal.decreases-loop-self
 decreases-loop-self g l = length l.self.core.logged

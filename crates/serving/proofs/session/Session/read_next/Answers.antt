@@ -13,7 +13,7 @@ use Rattle.serving.specs.declared.session.ReadEnd.{ReadEnd}
 use Rattle.serving.specs.declared.session.ReadEnd.TheVariants as ends_of_reading
 use Rattle.serving.proofs.Stopping.{gives, stops_at_refusal}
 use Rattle.serving.proofs.Taken.{at_end, has_sent_end, none_left, still, takes_none}
-use Rattle.serving.proofs.Invariant.{follows, has_place, has_slot, holds_of, knows_of, on_line, on_long_line, on_stop}
+use Rattle.serving.proofs.Invariant.{follows, has_place, has_slot, holds_of, knows_of, on_line, on_long_line, on_read_end}
 use Rattle.serving.proofs.session.Session.read_next.Goals as goal
 
 pub take-requires-clause-room : goal.take-requires-clause-room
@@ -26,7 +26,7 @@ push-requires-clause-room g c =
 
 pub take-requires-clause-order : goal.take-requires-clause-order
 take-requires-clause-order g c =
-    follows g.D.Disk.keeps _ _ (ap (λ (p : SessionView). p.stop) c.self.view_is ∙ c.requires.reads) c.self.invariant.0
+    follows g.D.Disk.keeps _ _ (ap (λ (p : SessionView). p.read_end) c.self.view_is ∙ c.requires.reads) c.self.invariant.0
 
 pub invariant_of-self : goal.invariant_of-self
 invariant_of-self g c =
@@ -34,10 +34,10 @@ invariant_of-self g c =
     let may = subst (λ (p : SessionView). p.outstanding < p.reorder_buffer.slots) (sym c.self.view_is) c.requires.room in
     let rest = g.R.Read.remaining in
     let u = c.self.invariant.0 in
-    let none = ap (λ (p : SessionView). p.stop) c.self.view_is ∙ c.requires.reads in
+    let none = ap (λ (p : SessionView). p.read_end) c.self.view_is ∙ c.requires.reads in
     let drained = sym c.if-is_drained.ensures.value in
     let knows = knows_of g.D.Disk.keeps _ _ u in (
-      on_stop g.D.Disk.keeps _ f.core f.reorder_buffer f.outstanding (unread rest f.line_reader) (is_drained f.line_reader) (has_ended f.line_reader) (rest (source f.line_reader))
+      on_read_end g.D.Disk.keeps _ f.core f.reorder_buffer f.outstanding (unread rest f.line_reader) (is_drained f.line_reader) (has_ended f.line_reader) (rest (source f.line_reader))
           none refl refl (omega (arith, may)) knows _ ends_of_reading.EndOfInput u (still g.D.Disk.keeps _ (holds_of g.D.Disk.keeps _ _ u)) refl
           (none_left (unread rest f.line_reader) (c.if-is_drained.ensures.nothing refl), knows (has_sent_end _ _ drained)),
       c.self.invariant.1,
@@ -49,7 +49,7 @@ invariant_of-self-in-Ok g c =
     let n = c.next_line.new.self in
     let rest = g.R.Read.remaining in
     let u = c.self.invariant.0 in
-    let none = ap (λ (p : SessionView). p.stop) c.self.view_is ∙ c.requires.reads in
+    let none = ap (λ (p : SessionView). p.read_end) c.self.view_is ∙ c.requires.reads in
     let going = sym c.if-is_drained.ensures.value in
     let knows = c.next_line.ensures.at_end (knows_of g.D.Disk.keeps _ _ u) in
     let was_unread = unread rest f.line_reader in
@@ -72,7 +72,7 @@ invariant_of-self-in-Err-take g c =
     let n = c.next_line.new.self in
     let rest = g.R.Read.remaining in
     let u = c.self.invariant.0 in
-    let none = ap (λ (p : SessionView). p.stop) c.self.view_is ∙ c.requires.reads in
+    let none = ap (λ (p : SessionView). p.read_end) c.self.view_is ∙ c.requires.reads in
     let going = sym c.if-is_drained.ensures.value in
     let knows = c.next_line.ensures.at_end (knows_of g.D.Disk.keeps _ _ u) in
     let was_unread = unread rest f.line_reader in
@@ -80,7 +80,7 @@ invariant_of-self-in-Err-take g c =
     let room = has_place g.D.Disk.keeps _ _ u may in
     let found = gives c.line.result.now was_unread (unread rest n) (subst (λ (l : List ℕ). IfSome was_unread (λ bs. GivesLine l bs (unread rest n))) (sym c.line.ensures)
     (subst (λ (x : Found). Finds (Ok x) was_unread (line_of n) (unread rest n)) c.in-Ok-Line.field-0-is c.in-Ok-Line.ensures.found)) in
-    subst (λ (stop : ReadEnd). SessionInvariantFrom g.D.Disk.keeps g.L.ReplySink.start (record {
+    subst (λ (read_end : ReadEnd). SessionInvariantFrom g.D.Disk.keeps g.L.ReplySink.start (record {
       core = c.take.new.core;
       dispatch_seat = f.dispatch_seat;
       reorder_buffer = c.take.new.reorder_buffer;
@@ -88,13 +88,13 @@ invariant_of-self-in-Err-take g c =
       sent = g.L.ReplySink.sent f.sink;
       outstanding = f.outstanding;
       output_failed = f.output_failed;
-      stop = Some stop;
+      read_end = Some read_end;
       unread = unread rest n;
       drained = is_drained n;
       ended = has_ended n;
       remaining = rest (source n);
     }) × (f.dispatch_seat.bench ≡ f.bench.now)) (sym took.4) (
-      on_stop g.D.Disk.keeps _ c.take.new.core c.take.new.reorder_buffer f.outstanding (unread rest n) (is_drained n) (has_ended n) (rest (source n)) none
+      on_read_end g.D.Disk.keeps _ c.take.new.core c.take.new.reorder_buffer f.outstanding (unread rest n) (is_drained n) (has_ended n) (rest (source n)) none
           c.in-Err-take.ensures.slots (omega (arith, ap length took.5)) (omega (arith, may)) knows
           _ (read_end_of took.1) u took.3.quiet took.5
           (stops_at_refusal was_unread (rest (source n)) (is_drained f.line_reader) c.line.result.now took.2 found took.3 (has_slot g.D.Disk.keeps _ _ took.0 none u room)),
@@ -107,7 +107,7 @@ invariant_of-self-in-Ok-TooLong g c =
     let n = c.next_line.new.self in
     let rest = g.R.Read.remaining in
     let u = c.self.invariant.0 in
-    let none = ap (λ (p : SessionView). p.stop) c.self.view_is ∙ c.requires.reads in
+    let none = ap (λ (p : SessionView). p.read_end) c.self.view_is ∙ c.requires.reads in
     let going = sym c.if-is_drained.ensures.value in
     let knows = c.next_line.ensures.at_end (knows_of g.D.Disk.keeps _ _ u) in
     let may = subst (λ (p : SessionView). p.outstanding < p.reorder_buffer.slots) (sym c.self.view_is) c.requires.room in
@@ -128,12 +128,12 @@ invariant_of-self-in-Ok-End g c =
     let n = c.next_line.new.self in
     let rest = g.R.Read.remaining in
     let u = c.self.invariant.0 in
-    let none = ap (λ (p : SessionView). p.stop) c.self.view_is ∙ c.requires.reads in
+    let none = ap (λ (p : SessionView). p.read_end) c.self.view_is ∙ c.requires.reads in
     let going = sym c.if-is_drained.ensures.value in
     let knows = c.next_line.ensures.at_end (knows_of g.D.Disk.keeps _ _ u) in
     let was_unread = unread rest f.line_reader in
     let found = subst (λ (x : Found). Finds (Ok x) was_unread (line_of n) (unread rest n)) c.in-Ok-End.field-0-is c.in-Ok-End.ensures.found in (
-      on_stop g.D.Disk.keeps _ f.core f.reorder_buffer f.outstanding (unread rest n) (is_drained n) (has_ended n) (rest (source n)) none refl refl (omega (arith, may)) knows
+      on_read_end g.D.Disk.keeps _ f.core f.reorder_buffer f.outstanding (unread rest n) (is_drained n) (has_ended n) (rest (source n)) none refl refl (omega (arith, may)) knows
           _ ends_of_reading.EndOfInput u (still g.D.Disk.keeps _ (holds_of g.D.Disk.keeps _ _ u)) refl
           (at_end was_unread (unread rest n) found, knows (c.next_line.ensures.end (c.in-Ok-End.is ∙ ap Ok c.in-Ok-End.field-0-is))),
       c.self.invariant.1,
@@ -146,11 +146,11 @@ invariant_of-self-in-Err g c =
     let n = c.next_line.new.self in
     let rest = g.R.Read.remaining in
     let u = c.self.invariant.0 in
-    let none = ap (λ (p : SessionView). p.stop) c.self.view_is ∙ c.requires.reads in
+    let none = ap (λ (p : SessionView). p.read_end) c.self.view_is ∙ c.requires.reads in
     let going = sym c.if-is_drained.ensures.value in
     let knows = c.next_line.ensures.at_end (knows_of g.D.Disk.keeps _ _ u) in
     let was_unread = unread rest f.line_reader in (
-      on_stop g.D.Disk.keeps _ f.core f.reorder_buffer f.outstanding (unread rest n) (is_drained n) (has_ended n) (rest (source n)) none refl refl (omega (arith, may)) knows
+      on_read_end g.D.Disk.keeps _ f.core f.reorder_buffer f.outstanding (unread rest n) (is_drained n) (has_ended n) (rest (source n)) none refl refl (omega (arith, may)) knows
           _ ends_of_reading.ReadFailed u (still g.D.Disk.keeps _ (holds_of g.D.Disk.keeps _ _ u)) refl
           (going, subst (λ (l : Option (List ℕ)). IfSome was_unread (λ bs. LosesFront bs l)) c.in-Err.ensures.lost c.in-Err.ensures.found),
       c.self.invariant.1,

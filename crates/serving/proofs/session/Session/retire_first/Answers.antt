@@ -9,10 +9,10 @@ invariant_of-self g c =
     let retired = c.retire_front-retired.ensures in
     (on_retire_front g.D.Disk.keeps _ _ c.self.invariant.0 _ _ _ retired.next retired.retired retired.lines retired.slots, c.self.invariant.1)
 
-pub returns-clause-moves : goal.returns-clause-moves
-returns-clause-moves g c =
-    let sent = c.in_ok-flush_if_full.ensures.moves in
-    (ap (λ (p : SessionView). p.stop) c.self.view_is ∙ sent.0, ap (λ (p : SessionView). p.output_failed) c.self.view_is ∙ sent.1)
+pub returns-clause-session_step : goal.returns-clause-session_step
+returns-clause-session_step g c =
+    let sent = c.in_ok-flush_if_full.ensures.session_step in
+    (ap (λ (p : SessionView). p.read_end) c.self.view_is ∙ sent.0, ap (λ (p : SessionView). p.output_failed) c.self.view_is ∙ sent.1)
 
 pub returns-clause-same : goal.returns-clause-same
 returns-clause-same g c =

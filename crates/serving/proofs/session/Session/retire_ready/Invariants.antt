@@ -1,11 +1,11 @@
 -- The lines so far wait to be sent; and how many are in the reorder buffer still.
 use Rattle.std.proofs.Common.{◌≡◌, length}
-use Rattle.serving.specs.Session.{KeepsStopAndOutputFailed}
+use Rattle.serving.specs.Session.{KeepsReadEndAndOutputFailed}
 use Rattle.serving.proofs.session.Session.retire_ready.Given as goal
 
 abbrev pub invariant-loop : goal.invariant-loop
 invariant-loop g l = record {
-  as_before : KeepsStopAndOutputFailed l.initial.self l.self;
+  as_before : KeepsReadEndAndOutputFailed l.initial.self l.self;
   same : (l.self.core ≡ l.initial.self.core) × (l.self.dispatch_seat ≡ l.initial.self.dispatch_seat);
 }
 

@@ -7,5 +7,5 @@ pub returns-in-Some-ended : goal.returns-in-Some-ended
 returns-in-Some-ended g c =
     let done = c.finish.ensures in
     record {
-      served = finished g.D.Disk.keeps _ _ c.finish.result (done.moves.0 ∙ c.in-Some-ended.ensures.0) done.all done.works done.emptied done.moves.1;
+      served = finished g.D.Disk.keeps _ _ c.finish.result (done.session_step.0 ∙ c.in-Some-ended.ensures.0) done.all done.works done.emptied done.session_step.1;
     }

@@ -11,7 +11,7 @@ overflow_add-n c =
 
 pub returns-in-Ok-clause-holds : goal.returns-in-Ok-clause-holds
 returns-in-Ok-clause-holds c =
-    rw c.cut.ensures (record {
+    rw c.remove_blocks.ensures (record {
       quota = refl;
       content = λ i j. rw add-one (content-cleared c.args.self.now.entries c.args.f c.args.b c.in-Ok.n c.in-Ok.ensures.kept.ascending c.in-Ok.ensures.found i j);
     })
@@ -20,7 +20,7 @@ pub returns-in-Ok-clause-kept : goal.returns-in-Ok-clause-kept
 returns-in-Ok-clause-kept c =
     let fewer = length-removed c.args.self.now.entries c.in-Ok.n (c.in-Ok.n + 1) (omega arith) in
     let fits : length c.args.self.now.entries ≤ c.args.self.now.quota = c.in-Ok.ensures.kept.within in
-    rw c.cut.ensures (record {
+    rw c.remove_blocks.ensures (record {
       ascending = ascending-removed c.args.self.now.entries c.in-Ok.n (c.in-Ok.n + 1) (omega arith) c.in-Ok.ensures.kept.ascending;
       within = omega arith;
     })

@@ -4,8 +4,8 @@ use Rattle.stripe.specs.Index.{IsSplit}
 use Rattle.stripe.proofs.EntryLemmas.{run-order, content-file, ascending-removed, length-removed}
 use Rattle.stripe.proofs.blocks.StripeParcel.drop_file.Goals as goal
 
-pub cut-requires-clause-order : goal.cut-requires-clause-order
-cut-requires-clause-order c =
+pub remove_blocks-requires-clause-order : goal.remove_blocks-requires-clause-order
+remove_blocks-requires-clause-order c =
     let low : IsSplit c.args.self.now.entries c.args.f 0 c.split-first.result = rw c.from.ensures at c.split-first.ensures.parts in
     let high : IsSplit c.args.self.now.entries (c.args.f + 1) 0 c.split-end.result = rw c.from-2.ensures at c.split-end.ensures.parts in
     run-order c.args.self.now.entries c.args.f c.split-first.result c.split-end.result low.within low.before high.behind
@@ -14,7 +14,7 @@ pub returns-clause-holds : goal.returns-clause-holds
 returns-clause-holds c =
     let low : IsSplit c.args.self.now.entries c.args.f 0 c.split-first.result = rw c.from.ensures at c.split-first.ensures.parts in
     let high : IsSplit c.args.self.now.entries (c.args.f + 1) 0 c.split-end.result = rw c.from-2.ensures at c.split-end.ensures.parts in
-    rw c.cut.ensures (record {
+    rw c.remove_blocks.ensures (record {
       quota = refl;
       content = content-file c.args.self.now.entries c.args.f c.split-first.result c.split-end.result low high;
     })
@@ -26,7 +26,7 @@ returns-clause-kept c =
     let order = run-order c.args.self.now.entries c.args.f c.split-first.result c.split-end.result low.within low.before high.behind in
     let fewer = length-removed c.args.self.now.entries c.split-first.result c.split-end.result order in
     let fits : length c.args.self.now.entries ≤ c.args.self.now.quota = c.split-first.ensures.kept.within in
-    rw c.cut.ensures (record {
+    rw c.remove_blocks.ensures (record {
       ascending = ascending-removed c.args.self.now.entries c.split-first.result c.split-end.result order c.split-first.ensures.kept.ascending;
       within = omega arith;
     })

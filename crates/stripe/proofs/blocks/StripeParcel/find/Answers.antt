@@ -3,7 +3,7 @@ use Rattle.std.proofs.Common.{◌≡◌, ap, sym, ◌∙◌, slice_index_or}
 use Rattle.stripe.specs.Stripe.{StripePart, BlockEntry}
 use Rattle.stripe.specs.Index.{IsSplit, entries_of}
 use Rattle.stripe.proofs.EntryLemmas.{gap-from_split}
-use Rattle.stripe.proofs.IndexLemmas.{place-entry}
+use Rattle.stripe.proofs.IndexLemmas.{index_entry-entry}
 use Rattle.stripe.proofs.blocks.StripeParcel.find.Goals as goal
 
 pub returns-in_default-clause-found : goal.returns-in_default-clause-found
@@ -11,10 +11,10 @@ returns-in_default-clause-found c =
     let index = c.self.inside.index.items in
     let same : entries_of _ index ≡ c.args.self.now.entries = ap (λ (s : StripePart). s.entries) c.self.view_is in
     let split : IsSplit c.args.self.now.entries c.args.f c.args.b c.split-n.result = rw (c.from.ensures, c.from-2.ensures) at c.split-n.ensures.parts in
-    let here : c.in-Some.place.now ≡ slice_index_or index c.split-n.result c.in-Some.place.now = rw c.deref.ensures.value at c.in-Some.ensures.lookup.1 in
+    let here : c.in-Some.index_entry.now ≡ slice_index_or index c.split-n.result c.in-Some.index_entry.now = rw c.deref.ensures.value at c.in-Some.ensures.lookup.1 in
     gap-from_split c.args.self.now.entries c.args.f c.args.b c.split-n.result c.split-n.ensures.kept.ascending split
-    (λ within file block. c.if-place-b.false
-    (ap (λ (e : BlockEntry). e.block) (sym (place-entry _ index c.split-n.result c.in-Some.place.now (rw (← same) at within) here))
+    (λ within file block. c.if-index_entry-b.false
+    (ap (λ (e : BlockEntry). e.block) (sym (index_entry-entry _ index c.split-n.result c.in-Some.index_entry.now (rw (← same) at within) here))
     ∙ rw (← same) at block))
 
 pub returns-in_default-2-clause-found : goal.returns-in_default-2-clause-found
@@ -22,8 +22,8 @@ returns-in_default-2-clause-found c =
     let index = c.self.inside.index.items in
     let same : entries_of _ index ≡ c.args.self.now.entries = ap (λ (s : StripePart). s.entries) c.self.view_is in
     let split : IsSplit c.args.self.now.entries c.args.f c.args.b c.split-n.result = rw (c.from.ensures, c.from-2.ensures) at c.split-n.ensures.parts in
-    let here : c.in-Some.place.now ≡ slice_index_or index c.split-n.result c.in-Some.place.now = rw c.deref.ensures.value at c.in-Some.ensures.lookup.1 in
+    let here : c.in-Some.index_entry.now ≡ slice_index_or index c.split-n.result c.in-Some.index_entry.now = rw c.deref.ensures.value at c.in-Some.ensures.lookup.1 in
     gap-from_split c.args.self.now.entries c.args.f c.args.b c.split-n.result c.split-n.ensures.kept.ascending split
-    (λ within file block. c.if-place-f.false
-    (ap (λ (e : BlockEntry). e.file) (sym (place-entry _ index c.split-n.result c.in-Some.place.now (rw (← same) at within) here))
+    (λ within file block. c.if-index_entry-f.false
+    (ap (λ (e : BlockEntry). e.file) (sym (index_entry-entry _ index c.split-n.result c.in-Some.index_entry.now (rw (← same) at within) here))
     ∙ rw (← same) at file))

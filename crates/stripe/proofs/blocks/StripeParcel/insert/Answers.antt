@@ -6,8 +6,8 @@ use Rattle.stripe.specs.Index.{IsGap, entries_of}
 use Rattle.stripe.proofs.IndexLemmas.{slot-small, length-put, entries-put, stored-put, part_same}
 use Rattle.stripe.proofs.blocks.StripeParcel.insert.Goals as goal
 
-pub overflow_cast-place : goal.overflow_cast-place
-overflow_cast-place c =
+pub overflow_cast-index_entry : goal.overflow_cast-index_entry
+overflow_cast-index_entry c =
     let answer : put_answer c.self.inside.blocks c.args.content.now ≡ Ok c.in-Ok.slot = sym c.in-Ok.ensures.answer in
     let small = slot-small c.self.inside.blocks c.self.inside.index.items c.in-Ok.slot c.args.content.now c.self.invariant.0 answer in
     omega arith
@@ -20,15 +20,15 @@ invariant_of-self c =
     let long = length-put c.self.inside.blocks c.self.inside.index.items c.in-Ok.slot c.args.content.now c.self.invariant.0 answer in
     let room : length c.self.inside.blocks.values ≤ vec_capacity c.self.inside.index = c.self.invariant.1 in
     let more = c.in-Ok-insert.ensures.capacity in
-    rw (c.in-Ok-insert.ensures.items, c.in-Ok.ensures.row) (
+    rw (c.in-Ok-insert.ensures.items, c.in-Ok.ensures.arena) (
       stored-put c.self.inside.blocks c.self.inside.index.items c.in-Ok.slot c.args.content.now c.self.invariant.0 answer c.args.n c.args.f c.args.b gap
-          (rw c.in-Ok.ensures.row at c.in-Ok.ensures.parted),
+          (rw c.in-Ok.ensures.arena at c.in-Ok.ensures.partitioned),
       omega arith,
     )
 
 pub returns : goal.returns
 returns c =
     let answer : put_answer c.self.inside.blocks c.args.content.now ≡ Ok c.in-Ok.slot = sym c.in-Ok.ensures.answer in
-    rw (← c.self.view_is, c.in-Ok-insert.ensures.items, c.in-Ok.ensures.row)
+    rw (← c.self.view_is, c.in-Ok-insert.ensures.items, c.in-Ok.ensures.arena)
     (part_same _ _ _ _ (length-put c.self.inside.blocks c.self.inside.index.items c.in-Ok.slot c.args.content.now c.self.invariant.0 answer)
     (entries-put c.self.inside.blocks c.self.inside.index.items c.in-Ok.slot c.args.content.now c.self.invariant.0 answer c.args.n c.args.f c.args.b))

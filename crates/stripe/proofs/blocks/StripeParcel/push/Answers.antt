@@ -3,7 +3,7 @@ use Rattle.std.proofs.Common.{◌≡◌, ◌-◌, ◌≤◌, ℕ, true, List, ap
 use Rattle.std.specs.List.{AllByRecursion, insert}
 use Rattle.std.proofs.lemmas.List.{get_or-drop, length-drop, take_all}
 use Rattle.std.proofs.lemmas.List.Edits.{insert_end}
-use Rattle.stripe.specs.Entries.{entry_in, can_stand}
+use Rattle.stripe.specs.Entries.{entry_in, fits_stripe}
 use Rattle.stripe.specs.Index.{PrecedesEntry}
 use Rattle.stripe.specs.Stripe.{BlockEntry}
 use Rattle.stripe.proofs.EntryReading.{row_spelled}
@@ -12,7 +12,7 @@ use Rattle.stripe.proofs.blocks.StripeParcel.push.Goals as goal
 pub returns-clause-pushed : goal.returns-clause-pushed
 returns-clause-pushed c is =
     let blank = c.is_blank_between.ensures.0 c.if-not-is_blank_between.false in
-    let stands : c.can_stand.result ≡ true = c.if-not-can_stand.false in
+    let stands : c.fits_stripe.result ≡ true = c.if-not-fits_stripe.false in
     let before = c.ends_before.ensures.0 c.if-not-ends_before.false in
     let file_is : c.from-file.result ≡ (entry_in c.args.row.now).file = c.from-file.ensures in
     let block_is : c.from_le_bytes-block.result ≡ (entry_in c.args.row.now).block = omega (arith, c.from_le_bytes-block.ensures, get_or-drop 2 c.args.row.now 0 0, get_or-drop 2 c.args.row.now 1 0) in
@@ -20,7 +20,7 @@ returns-clause-pushed c is =
     let content_is : c.copy_from_slice.new.self ≡ drop 8 c.args.row.now = c.copy_from_slice.ensures.after ∙ take_all (length c.args.row.now - 8) (drop 8 c.args.row.now) rest in (
       record {
         spelled = row_spelled c.args.row.now c.requires.row c.requires.marked blank (c.type_inv.row 2).fits (c.type_inv.row 3).fits;
-        fits = (λ i. can_stand c.args.g.now c.args.files c.args.s (sym file_is i) (sym block_is i)) ∙ sym c.can_stand.ensures ∙ stands;
+        fits = (λ i. fits_stripe c.args.g.now c.args.files c.args.s (sym file_is i) (sym block_is i)) ∙ sym c.fits_stripe.ensures ∙ stands;
         behind = subst (λ (f : ℕ). AllByRecursion (λ e. PrecedesEntry e.file e.block f (entry_in c.args.row.now).block) c.args.self.now.entries) file_is
             (subst (λ (b : ℕ). AllByRecursion (λ e. PrecedesEntry e.file e.block c.from-file.result b) c.args.self.now.entries) block_is before);
       },

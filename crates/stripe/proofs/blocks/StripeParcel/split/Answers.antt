@@ -1,13 +1,13 @@
 -- The entries ascend, so the search finds the point between those before and those behind.
 use Rattle.std.proofs.Common.{rules}
 use Rattle.std.proofs.lemmas.List.Sorted.{IsPartitionPoint-from_clause}
-use Rattle.stripe.proofs.IndexLemmas.{is_before, is_before-parted, split-from_point, length-stored}
+use Rattle.stripe.proofs.IndexLemmas.{is_before, is_before-partitioned, split-from_point, length-stored}
 use Rattle.stripe.proofs.blocks.StripeParcel.split.Goals as goal
 
 pub returns-clause-parts : goal.returns-clause-parts
 returns-clause-parts c =
     let index = c.self.inside.index.items in
-    let parted = is_before-parted c.self.inside.blocks.values index c.args.f c.args.b c.self.invariant.0.ascending in
+    let parted = is_before-partitioned c.self.inside.blocks.values index c.args.f c.args.b c.self.invariant.0.ascending in
     let point = IsPartitionPoint-from_clause (λ p. is_before p c.args.f c.args.b) index c.partition_point.result
     (rw c.deref.ensures.value at c.partition_point.ensures.partitioned) parted (λ a r q k. search rules) in
     rw (← c.self.view_is) (split-from_point c.self.inside.blocks.values index c.args.f c.args.b c.partition_point.result (rw c.deref.ensures.value at c.partition_point.ensures.bound) point)

@@ -1,4 +1,4 @@
--- The seats that are left are of this bench; and how many there are.
+-- The seats that are left are of this bench; their number falls with each round.
 use Rattle.std.proofs.Common.{◌≡◌, All, vec_len}
 use Rattle.workers.proofs.bench.Bench.start_all.Given as goal
 

@@ -1,0 +1,220 @@
+//! Worked examples of logs, points and cuts.
+use crate::common::{SMALL, holds};
+use crate::journal_trials::{FLAT, act_all, left_by_acts};
+use affinity::Geometry;
+use checkpoint::{Shown, inspect};
+use disk::MemDisk;
+use harness::{
+    Act, MIXED, OLD, OpenedDevice, Questions, Server, Wrong, device_with, expected, find,
+    messages_of, torn,
+};
+use message::Reply;
+use std::alloc::Global;
+use std::process::Abort;
+use std::test::Fail;
+
+/// The device that these acts leave of a new one, after a crash that leaves what was synced.
+fn left_by(alloc: Global, numbers: [u16; 8], acts: &[Act]) -> Result<MemDisk, Wrong> {
+    let device = left_by_acts(alloc, device_with(alloc, numbers, &[])?, acts)?;
+    Ok(device.crash(torn(alloc, OLD)?))
+}
+
+/// What is reported of a device: the area, how many records are in force, and how many volumes, files and blocks there are.
+fn is_shown(rt: &impl Abort, shown: &Shown, area: usize, records: usize, summary: [u32; 3]) {
+    let [volumes, files, blocks] = summary;
+    holds(rt, shown.area == area && shown.records == records);
+    let summary = Reply::Summary {
+        volumes,
+        files,
+        blocks,
+    };
+    holds(rt, shown.summary == summary);
+}
+
+/// The device holds what these lines lead to. Gives it once it was opened.
+fn is_found(
+    rt: &impl Abort,
+    alloc: Global,
+    numbers: [u16; 8],
+    device: MemDisk,
+    lines: &[&str],
+) -> Result<MemDisk, Wrong> {
+    let Ok(g) = Geometry::new(numbers) else {
+        return Err(Wrong::Unfit);
+    };
+    let questions = Questions::new(alloc, &g)?;
+    let (found, device) = find(alloc, device, &questions)?;
+    holds(
+        rt,
+        found == OpenedDevice::Answers(expected(alloc, &g, lines, &questions)?),
+    );
+    Ok(device)
+}
+
+/// What is shown of a device.
+fn shown_of(alloc: Global, device: MemDisk) -> Result<(Shown, MemDisk), Wrong> {
+    match inspect(alloc, device) {
+        Ok(shown) => Ok(shown),
+        Err(_) => Err(Wrong::Unfit),
+    }
+}
+
+/// A record after a cut, which goes to the other half.
+const BEHIND: [Act; 3] = [
+    Act::Log(&["makevol 0 0"]),
+    Act::Cut,
+    Act::Log(&["create 0 0 0"]),
+];
+
+/// The same, and the cut is ended.
+const ENDED: [Act; 4] = [
+    Act::Log(&["makevol 0 0"]),
+    Act::Cut,
+    Act::Log(&["create 0 0 0"]),
+    Act::End,
+];
+
+/// What a crash after these acts leaves is shown so, with one volume and one file; both are there once it is opened, and
+/// that area is named.
+fn behind_a_cut(
+    rt: &impl Abort,
+    alloc: Global,
+    acts: &[Act],
+    area: usize,
+    records: usize,
+    opened: usize,
+) -> Result<(), Wrong> {
+    let device = left_by(alloc, SMALL, acts)?;
+    let (shown, device) = shown_of(alloc, device)?;
+    is_shown(rt, &shown, area, records, [1, 1, 0]);
+    let lines = ["makevol 0 0", "create 0 0 0"];
+    let device = is_found(rt, alloc, SMALL, device, &lines)?;
+    let (shown, _) = shown_of(alloc, device)?;
+    is_shown(rt, &shown, opened, 0, [1, 1, 0]);
+    Ok(())
+}
+
+#[test]
+fn records_behind_a_cut_are_there(rt: HostRuntime) -> Result<(), Fail> {
+    // The cut is ended into area 0, and the last point goes into area 1.
+    behind_a_cut(&rt, rt.alloc(), &BEHIND, 1, 2, 1)?;
+    behind_a_cut(&rt, rt.alloc(), &ENDED, 0, 1, 1)?;
+    Ok(())
+}
+
+/// A file of four blocks in a volume.
+const FILE: [Act; 3] = [
+    Act::Log(&["makevol 0 0"]),
+    Act::Log(&["create 0 0 0"]),
+    Act::Point,
+];
+
+const WRITES: [&str; 3] = ["write 0 0 0 0 61", "write 0 0 0 1 62", "write 0 0 0 2 63"];
+
+/// How many calls opening a new flat device and making the file take.
+fn calls_of_file(alloc: Global) -> Result<u64, Wrong> {
+    let device = left_by_acts(alloc, device_with(alloc, FLAT, &[])?, &FILE)?;
+    Ok(device.calls())
+}
+
+/// What is left of this device where the file is made and the writes are not logged, as it has failed.
+fn left_unlogged(alloc: Global, device: MemDisk) -> Result<MemDisk, Wrong> {
+    let messages = messages_of(alloc, &WRITES)?;
+    let Ok(mut server) = Server::open(alloc, device) else {
+        return Err(Wrong::Unfit);
+    };
+    let is_made = act_all(alloc, &mut server, &FILE).is_ok();
+    let is_unlogged = server.log(messages.as_slice()).is_err() && server.failed();
+    let (device, _) = server.into_device();
+    if is_made && is_unlogged {
+        Ok(device)
+    } else {
+        Err(Wrong::Unfit)
+    }
+}
+
+/// What three writes to a file leave where the device stopped at the write of their gates, which were torn: they are open,
+/// shut and open.
+fn torn_writes(alloc: Global) -> Result<MemDisk, Wrong> {
+    let mut device = device_with(alloc, FLAT, &[])?;
+    device.stop_at(calls_of_file(alloc)?.saturating_add(3));
+    let device = left_unlogged(alloc, device)?;
+    Ok(device.crash(torn(alloc, MIXED)?))
+}
+
+#[test]
+fn a_torn_batch_leaves_its_beginning(rt: HostRuntime) -> Result<(), Fail> {
+    let alloc = rt.alloc();
+    let lines = ["makevol 0 0", "create 0 0 0", "write 0 0 0 0 61"];
+    let device = is_found(&rt, alloc, FLAT, torn_writes(alloc)?, &lines)?;
+    let more = [
+        Act::Log(&["punch 0 0 0 0"]),
+        Act::Log(&["write 0 0 0 3 64"]),
+    ];
+    let device = left_by_acts(alloc, device, &more)?;
+    // What lies after the gates of the first incarnation is not in force.
+    let device = device.crash(torn(alloc, OLD)?);
+    let lines = ["makevol 0 0", "create 0 0 0", "write 0 0 0 3 64"];
+    is_found(&rt, alloc, FLAT, device, &lines)?;
+    Ok(())
+}
+
+/// Cuts, and how many pieces are left after each act, where one is in progress.
+const PIECES: [(Act, Option<usize>); 22] = [
+    // Into area 0, of which nothing is known.
+    (Act::Cut, Some(3)),
+    (Act::Piece, Some(2)),
+    (Act::Piece, Some(1)),
+    (Act::Piece, Some(0)),
+    (Act::End, None),
+    (Act::Log(&["makevol 0 0"]), None),
+    (Act::Cut, Some(1)),
+    (Act::Piece, Some(0)),
+    (Act::End, None),
+    (Act::Log(&["create 0 0 0"]), None),
+    (Act::Log(&["write 0 0 0 0 61"]), None),
+    // Into area 0, which lacks the volume too.
+    (Act::Cut, Some(2)),
+    (Act::Piece, Some(1)),
+    (Act::Piece, Some(0)),
+    (Act::End, None),
+    // Nothing has changed, but area 1 lacks the file and its block.
+    (Act::Cut, Some(2)),
+    (Act::Piece, Some(1)),
+    (Act::Piece, Some(0)),
+    (Act::End, None),
+    // Area 0 lacks nothing.
+    (Act::Cut, Some(0)),
+    (Act::Piece, Some(0)),
+    (Act::End, None),
+];
+
+/// Whether this act leaves this many pieces. With none left, a piece doesn't call the device.
+fn leaves_pieces(
+    alloc: Global,
+    server: &mut Server<MemDisk>,
+    act: Act,
+    pieces_left: Option<usize>,
+) -> bool {
+    let (before, was_left) = (server.counts(), server.pieces_left());
+    let is_done = act_all(alloc, server, &[act]).is_ok();
+    let is_idle = was_left == Some(0) && pieces_left == Some(0);
+    is_done && server.pieces_left() == pieces_left && (!is_idle || server.counts() == before)
+}
+
+#[test]
+fn pieces_that_changed_are_left(rt: HostRuntime) -> Result<(), Fail> {
+    let alloc = rt.alloc();
+    let Ok(mut server) = Server::open(alloc, device_with(alloc, SMALL, &[])?) else {
+        return Err(Wrong::Unfit.into());
+    };
+    for &(act, pieces_left) in &PIECES {
+        holds(&rt, leaves_pieces(alloc, &mut server, act, pieces_left));
+    }
+    let (device, _) = server.into_device();
+    let (shown, device) = shown_of(alloc, device.crash(torn(alloc, OLD)?))?;
+    is_shown(&rt, &shown, 0, 0, [1, 1, 1]);
+    let lines = ["makevol 0 0", "create 0 0 0", "write 0 0 0 0 61"];
+    is_found(&rt, alloc, SMALL, device, &lines)?;
+    Ok(())
+}

@@ -1,0 +1,119 @@
+//! Incarnations of a server, which the device ends at any call.
+use crate::common::{SMALL, equals};
+use crate::journal_trials::{Play, Script};
+use harness::{Act, Wrong, sweep};
+use std::alloc::Global;
+use std::process::Abort;
+use std::test::Fail;
+
+/// Whatever call of the device fails, the changes that were answered are there, and some of the next,
+/// the first ones. There are `calls` calls.
+fn survives(rt: &impl Abort, alloc: Global, script: &Script, calls: u64) -> Result<(), Wrong> {
+    let play = Play::new(alloc, script)?;
+    equals(rt, sweep(alloc, &play)?, calls);
+    Ok(())
+}
+
+/// Opening syncs, reads the header, the area, the head of an image, three pieces, a chain byte and the gates, and makes a
+/// point.
+const OPENING: u64 = 9 + POINT;
+
+/// A batch is two writes and two syncs.
+const BATCH: u64 = 4;
+
+/// A point is three writes and three syncs.
+const POINT: u64 = 6;
+
+/// The beginning of a cut is two writes and two syncs.
+const CUT: u64 = 4;
+
+/// A piece is one write.
+const PIECE: u64 = 1;
+
+/// The end of a cut is a sync, a write and a sync.
+const FLIP: u64 = 3;
+
+/// Batches and points (the whole image in one call).
+const POINTS: Script = Script {
+    numbers: SMALL,
+    patches: &[],
+    before: &[],
+    acts: &[
+        Act::Log(&["makevol 0 0"]),
+        Act::Log(&["create 0 0 0", "write 0 0 0 0 61", "setlabel 0 0 07"]),
+        Act::Point,
+        Act::Log(&["write 0 0 0 1 62"]),
+        Act::Point,
+    ],
+};
+
+#[test]
+fn points_survive(rt: HostRuntime) -> Result<(), Fail> {
+    let calls = OPENING + 3 * BATCH + 2 * POINT;
+    Ok(survives(&rt, rt.alloc(), &POINTS, calls)?)
+}
+
+/// Cuts with batches between their pieces: of the first one all three pieces are written, and of the second one those of
+/// the volume and of both stripes.
+const CUTS: Script = Script {
+    numbers: SMALL,
+    patches: &[],
+    before: &[],
+    acts: &[
+        Act::Log(&["makevol 0 0"]),
+        Act::Cut,
+        Act::Log(&["create 0 0 0", "write 0 0 0 1 61"]),
+        Act::Piece,
+        Act::Log(&["setlabel 0 0 07"]),
+        Act::End,
+        Act::Log(&["delete 0 0 0"]),
+        Act::Cut,
+        Act::End,
+        Act::Log(&["seal 0 0"]),
+    ],
+};
+
+#[test]
+fn cuts_survive(rt: HostRuntime) -> Result<(), Fail> {
+    let calls = OPENING + 5 * BATCH + 2 * (CUT + 3 * PIECE + FLIP);
+    Ok(survives(&rt, rt.alloc(), &CUTS, calls)?)
+}
+
+/// A device with a cut in progress, whose named image, of version 1, has a volume: half 0 has file 0 of it, and half 1
+/// after it a block of that file.
+const INTERRUPTED: Script = Script {
+    numbers: SMALL,
+    patches: &[
+        (4424, 1),
+        (4488, 1),
+        (128, 1),
+        (192, 1),
+        (196, 3),
+        (2340, 1),
+        (2344, 7),
+        (2352, 0x61),
+    ],
+    before: &["makevol 0 0", "create 0 0 0", "write 0 0 0 0 61"],
+    acts: &[Act::Log(&["setlabel 0 0 07"])],
+};
+
+#[test]
+fn an_interrupted_cut_of_version_1_survives(rt: HostRuntime) -> Result<(), Fail> {
+    // A record of each half and the other chain byte and gates are read too, and the cut is ended by two writes and two
+    // syncs.
+    let calls = OPENING + 4 + 4 + BATCH;
+    Ok(survives(&rt, rt.alloc(), &INTERRUPTED, calls)?)
+}
+
+/// A device whose named image, of version 1, has a volume.
+const VERSION_1: Script = Script {
+    numbers: SMALL,
+    patches: &[(4424, 1), (4488, 1)],
+    before: &["makevol 0 0"],
+    acts: &[],
+};
+
+#[test]
+fn an_image_of_version_1_survives_its_opening(rt: HostRuntime) -> Result<(), Fail> {
+    Ok(survives(&rt, rt.alloc(), &VERSION_1, OPENING)?)
+}

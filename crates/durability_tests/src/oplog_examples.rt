@@ -1,0 +1,172 @@
+//! Worked examples on a device of 8,840 bytes.
+use crate::common::{equals, holds};
+use crate::oplog_common::{Server, Step, Way, answers, finds, reads};
+use affinity::Geometry;
+use disk::Disk;
+use message::Msg;
+use oplog::{Halves, LogFault};
+use std::process::Abort;
+use std::test::Fail;
+
+/// The byte that names an area, the room, the half that is named and the one that records are appended to.
+fn recovers(rt: &impl Abort, server: &Server, want: [u64; 4]) {
+    let [root, room, named, current] = want;
+    equals(rt, server.byte(64), root);
+    equals(rt, server.log.room() as u64, room);
+    equals(rt, server.log.named() as u64, named);
+    equals(rt, server.log.current() as u64, current);
+}
+
+/// Makes these calls, and looks at the server after each.
+fn goes(rt: &impl Abort, server: &mut Server, rows: &[(Step, [u64; 4])]) {
+    for (step, want) in rows {
+        answers(rt, server.does(*step), Ok(()));
+        recovers(rt, server, *want);
+    }
+}
+
+/// Half 1 is cleared and named: it has room for four records.
+const ROOM: [(Step, [u64; 4]); 2] = [(Step::Clear, [0, 0, 0, 0]), (Step::Flip, [1, 4, 1, 1])];
+
+/// A chain is opened to half 1, which is named then.
+const CHAIN: [(Step, [u64; 4]); 2] = [(Step::Chain, [0, 4, 0, 1]), (Step::Flip, [1, 4, 1, 1])];
+
+/// A half has room where it was cleared before it was named, and not since.
+const CHANGES: [(Step, [u64; 4]); 8] = [
+    (Step::Flip, [1, 0, 1, 1]),
+    (Step::Clear, [1, 0, 1, 1]),
+    (Step::Flip, [0, 4, 0, 0]),
+    (Step::Flip, [1, 0, 1, 1]),
+    (Step::Flip, [0, 0, 0, 0]),
+    (Step::Clear, [0, 0, 0, 0]),
+    (Step::Name(1), [0, 0, 1, 1]),
+    (Step::Flip, [0, 0, 0, 0]),
+];
+
+const WALKS: [&[(Step, [u64; 4])]; 3] = [&ROOM, &CHAIN, &CHANGES];
+
+#[test]
+fn a_half_that_was_cleared_has_room(rt: HostRuntime) -> Result<(), Fail> {
+    for &rows in &WALKS {
+        goes(&rt, &mut Server::new(rt.alloc(), 4)?, rows);
+    }
+    Ok(())
+}
+
+#[test]
+fn a_record_is_appended_and_read(rt: HostRuntime) -> Result<(), Fail> {
+    let mut server = Server::new(rt.alloc(), 4)?;
+    equals(&rt, server.disk.len(), 8840);
+    recovers(&rt, &server, [0, 0, 0, 0]);
+    holds(&rt, server.takes(Way::Named, &[Msg::MakeVol(0, 0)]));
+    holds(&rt, !server.log.failed());
+    recovers(&rt, &server, [1, 3, 1, 1]);
+    // The root byte, the gate, and the first byte of the record.
+    equals(&rt, server.byte(2340), 1);
+    equals(&rt, server.byte(2344), 1);
+    equals(&rt, server.nonzero(), 3);
+    finds(&rt, server.front(1), 1);
+    reads(&rt, server.record(1, 0), Ok(Msg::MakeVol(0, 0)));
+    Ok(())
+}
+
+#[test]
+fn zeros_are_no_record(rt: HostRuntime) -> Result<(), Fail> {
+    let mut server = Server::new(rt.alloc(), 4)?;
+    holds(&rt, server.takes(Way::Named, &[Msg::MakeVol(0, 0)]));
+    holds(&rt, server.writes(2341, &[1]));
+    finds(&rt, server.front(1), 2);
+    reads(&rt, server.record(1, 0), Ok(Msg::MakeVol(0, 0)));
+    reads(&rt, server.record(1, 1), Err(LogFault::BadRecord(1, 1)));
+    Ok(())
+}
+
+/// Kind 1 makes a volume, 5 seals one, 13 labels one, 9 reads a block, 10 lists the files, and 14 asks for the label.
+/// There is no volume 1, and no kind 15.
+const RECORDS: [([u8; 3], Result<Msg, LogFault>); 8] = [
+    ([1, 0, 0], Ok(Msg::MakeVol(0, 0))),
+    ([5, 0, 0], Ok(Msg::Seal(0, 0))),
+    ([13, 0, 0], Ok(Msg::SetLabel(0, 0, [0; 32]))),
+    ([9, 0, 0], Err(LogFault::BadRecord(0, 3))),
+    ([10, 0, 0], Err(LogFault::BadRecord(0, 3))),
+    ([14, 0, 0], Err(LogFault::BadRecord(0, 3))),
+    ([1, 0, 1], Err(LogFault::BadRecord(0, 3))),
+    ([15, 0, 0], Err(LogFault::BadRecord(0, 3))),
+];
+
+#[test]
+fn no_message_that_changes_nothing_is_read(rt: HostRuntime) -> Result<(), Fail> {
+    for &(front, wanted) in &RECORDS {
+        let mut server = Server::new(rt.alloc(), 4)?;
+        holds(&rt, server.writes(196 + 3 * 520, &front));
+        reads(&rt, server.record(0, 3), wanted);
+    }
+    Ok(())
+}
+
+/// The gates of a half, and how many records its open front has.
+const GATES: [([u8; 4], usize); 4] = [
+    ([1, 77, 1, 0], 1),
+    ([0, 1, 1, 1], 0),
+    ([1, 1, 1, 1], 4),
+    ([1, 1, 0, 1], 2),
+];
+
+#[test]
+fn the_front_ends_at_a_gate_that_is_not_open(rt: HostRuntime) -> Result<(), Fail> {
+    for &(gates, wanted) in &GATES {
+        let mut server = Server::new(rt.alloc(), 4)?;
+        holds(&rt, server.writes(2340, &gates));
+        finds(&rt, server.front(1), wanted);
+        finds(&rt, server.front(0), 0);
+    }
+    Ok(())
+}
+
+#[test]
+fn clearing_keeps_the_records(rt: HostRuntime) -> Result<(), Fail> {
+    let mut server = Server::new(rt.alloc(), 4)?;
+    // Half 1, and not a byte beside it.
+    holds(&rt, server.writes(2276, &[7; 2148]));
+    answers(&rt, server.does(Step::Clear), Ok(()));
+    // The chain zone and the gates are 68 bytes.
+    equals(&rt, server.nonzero(), 2080);
+    equals(&rt, server.byte(2276), 0);
+    equals(&rt, server.byte(2343), 0);
+    equals(&rt, server.byte(2344), 7);
+    Ok(())
+}
+
+/// It passes too where any one request for memory is refused.
+#[test]
+fn a_refused_log_is_made_at_the_next_try(rt: HostRuntime) -> Result<(), Fail> {
+    let g = Geometry::default();
+    let log = match Halves::new(rt.alloc(), &g) {
+        Ok(log) => log,
+        Err(_) => Halves::new(rt.alloc(), &g)?,
+    };
+    equals(&rt, log.room() as u64, 0);
+    holds(&rt, !log.failed());
+    Ok(())
+}
+
+/// Which call of the device fails, and which call of a new log it fails in.
+const FAULTS: [(u64, Step); 5] = [
+    (1, Step::Clear),
+    (2, Step::Flip),
+    // Two calls clear the other half.
+    (3, Step::Chain),
+    (1, Step::Front(0)),
+    (1, Step::Record(0, 0)),
+];
+
+#[test]
+fn a_failed_log_says_so(rt: HostRuntime) -> Result<(), Fail> {
+    for &(n, step) in &FAULTS {
+        let mut server = Server::new(rt.alloc(), 4)?;
+        server.fails_at(n, false);
+        answers(&rt, server.does(step), Err(LogFault::Device));
+        holds(&rt, server.log.failed());
+    }
+    Ok(())
+}

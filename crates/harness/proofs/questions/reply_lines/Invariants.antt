@@ -1,0 +1,10 @@
+-- From question to question the tree stays whole, and keeps its geometry.
+use Rattle.std.proofs.Common.{◌≡◌}
+use Rattle.parcel.specs.Tree.{IsWholeTree}
+use Rattle.harness.proofs.questions.reply_lines.Given as goal
+
+abbrev pub invariant-loop-m : goal.invariant-loop-m
+invariant-loop-m l = record {
+  whole : IsWholeTree l.tree;
+  geometry : l.tree.geometry ≡ l.initial.tree.geometry;
+}

@@ -1,0 +1,45 @@
+-- All pieces are dirty, so the snapshot is the image of the whole state, and is written in one run.
+use Rattle.std.proofs.Common.{Bool, List, length, sym, ◌∙◌, ap, subst, arith, true≢false}
+use Rattle.std.proofs.lemmas.Result.{err_from_is_err_and}
+use Rattle.affinity.specs.declared.geometry.Geometry.{Geometry}
+use Rattle.image.specs.Image.{image_of, read}
+use Rattle.image.proofs.Reading.{read_again}
+use Rattle.journal.specs.Costs.{count_runs}
+use Rattle.journal.specs.Extents.{AreAllDirty}
+use Rattle.journal.proofs.Costs.{one_run}
+use Rattle.journal.proofs.Rows.{whole_put}
+use Rattle.journal.proofs.Saving.{all_right}
+use Rattle.parcel.specs.Tree.{state_in}
+use Rattle.meaning.specs.State.{IsState}
+use Rattle.journal.proofs.opening.checkpoint_recovered.Goals as goal
+
+pub point_on-requires-clause-image : goal.point_on-requires-clause-image
+point_on-requires-clause-image g c = λ k.
+    let p = c.args.parts.now in
+    let x = state_in p.tree in
+    let geometry = p.halves.geometry in
+    let all = subst (λ (l : List Bool). AreAllDirty geometry l) (sym c.deref.ensures.value) c.requires.loaded.all in
+    let right = all_right p.tree.geometry geometry x c.deref.result.now c.deref_mut.result.now c.requires.loaded.geometry all in
+    let snapshot = whole_put p.snapshot.len c.update_snapshot.new.bytes p.snapshot.items (c.update_snapshot.ensures.size ∙ ap length c.deref_mut.ensures.value)
+    (c.update_snapshot.ensures.size ∙ c.deref_mut.ensures.len) in
+    let spelled = c.deref-2.ensures.value ∙ snapshot ∙ c.update_snapshot.ensures.image right ∙ ap (λ (h : Geometry). image_of 2 h x) c.requires.loaded.geometry in
+    ap (read geometry) spelled ∙ read_again geometry x (subst (λ (h : Geometry). IsState h x) c.requires.loaded.geometry c.requires.loaded.tree.state)
+    ∙ sym (c.requires.recovers k)
+
+pub point_on-requires-clause-clean : goal.point_on-requires-clause-clean
+point_on-requires-clause-clean g c = λ k n few clean.
+    let all = subst (λ (l : List Bool). AreAllDirty c.args.parts.now.halves.geometry l) (sym c.deref-3.ensures.value) c.requires.loaded.all in
+    absurd (true≢false (sym (all n few) ∙ clean))
+
+pub returns-in_err-point_on-clause-costs : goal.returns-in_err-point_on-clause-costs
+returns-in_err-point_on-clause-costs g c =
+    let p = err_from_is_err_and c.from_residual.result c.from_residual.ensures.1 in
+    rw p.1
+    (λ k.
+    let one = ap count_runs c.deref-3.ensures.value ∙ one_run c.args.parts.now.halves.geometry c.args.parts.now.other_dirty.items c.requires.loaded.other_dirty c.requires.loaded.all in
+    omega (arith, one, c.in_err-point_on.ensures.costs k))
+
+pub returns-clause-costs : goal.returns-clause-costs
+returns-clause-costs g c = λ k.
+    let one = ap count_runs c.deref-3.ensures.value ∙ one_run c.args.parts.now.halves.geometry c.args.parts.now.other_dirty.items c.requires.loaded.other_dirty c.requires.loaded.all in
+    omega (arith, one, c.in_ok-point_on.ensures.costs k)

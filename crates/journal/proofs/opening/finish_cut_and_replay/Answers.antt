@@ -1,0 +1,170 @@
+-- The cut is finished, and then the records behind it are run; a bad one refuses the device as it did before.
+use Rattle.std.proofs.Common.{◌≡◌, ℕ, List, Option, Some, refl, sym, ◌∙◌, ap, subst, arith}
+use Rattle.std.proofs.lemmas.Result.{err_from_is_err_and}
+use Rattle.checkpoint.specs.declared.fault.OpenFault.{OpenFault}
+use Rattle.checkpoint.specs.Loading.{IsConsistentFault, records_fault}
+use Rattle.checkpoint.specs.Recovery.{decoding}
+use Rattle.checkpoint.specs.Refusals.{first_bad_record}
+use Rattle.checkpoint.proofs.Replays.{same_bytes}
+use Rattle.disk.proofs.Leaves.{itself}
+use Rattle.disk.proofs.Moments.{leaves_now, same}
+use Rattle.image.specs.Image.{read}
+use Rattle.journal.specs.Opening.{area_state}
+use Rattle.journal.specs.Steps.{RecoversByNamedAlone}
+use Rattle.journal.proofs.Costs.{no_call}
+use Rattle.journal.proofs.Loaded.{are_loaded, behind_fine, behind_holds, behind_refused}
+use Rattle.journal.proofs.Opened.{alone_finished, bad_half, still_synced}
+use Rattle.oplog.specs.Front.{front}
+use Rattle.device_map.specs.Layout.{image_part, layout_of, other, part_bytes}
+use Rattle.oplog.specs.Log.{Log}
+use Rattle.oplog.proofs.Beyond.{beyond_read, beyond_then}
+use Rattle.oplog.specs.Recovery.{named_area, run}
+use Rattle.parcel.specs.Tree.{state_in}
+use Rattle.journal.proofs.opening.finish_cut_and_replay.Goals as goal
+
+pub returns-in_err-replay-clause-any_moment : goal.returns-in_err-replay-clause-any_moment
+returns-in_err-replay-clause-any_moment g c = λ k. same _ _ _ _ (c.finish_cut.ensures.any_moment k) (c.replay.ensures.untouched k)
+
+pub returns-in_err-replay-clause-alike : goal.returns-in_err-replay-clause-alike
+returns-in_err-replay-clause-alike g c = λ k. same _ _ _ _ (c.finish_cut.ensures.alike k) (c.replay.ensures.untouched k)
+
+pub returns-in_err-replay-clause-refused : goal.returns-in_err-replay-clause-refused
+returns-in_err-replay-clause-refused g c =
+    let p = err_from_is_err_and c.from_residual-in_err-replay.result c.from_residual-in_err-replay.ensures.1 in
+    rw (p.1, p.2)
+    (λ k.
+    let x = state_in c.args.parts.now.tree in
+    let w1 = (g.D.Disk.medium c.finish_cut.new.disk).now in
+    let log : c.finish_cut.new.parts.halves.geometry ≡ c.args.parts.now.halves.geometry = ap (λ (l : Log). l.geometry) c.in_ok-finish_cut.ensures.log in
+    let half = ap other c.named-behind.ensures.named in
+    let held' : state_in c.finish_cut.new.parts.tree ≡ x = ap state_in c.finish_cut.ensures.tree in
+    let geometry : c.finish_cut.new.parts.tree.geometry ≡ c.args.parts.now.halves.geometry = (λ i. (c.finish_cut.ensures.tree i).geometry) ∙ c.requires.loaded.geometry in
+    behind_refused c.args.parts.now.halves.geometry (g.D.Disk.medium c.args.disk.now).now c.args.parts.now.halves.named x (c.requires.recovers k) _
+    (subst (λ (rs : List (List ℕ)). IsConsistentFault (records_fault c.args.parts.now.halves.geometry x (other c.args.parts.now.halves.named) rs)
+    c.in_err-replay.field-0.0) (c.in_ok-finish_cut.ensures.finished k).front
+    (subst (λ (o : Option OpenFault). IsConsistentFault o c.in_err-replay.field-0.0)
+    (λ i. records_fault (geometry i) (held' i) (half i) (front (layout_of (log i)) (half i) w1)) (c.in_err-replay.ensures.refused k))))
+
+pub returns-in_err-replay-clause-behind : goal.returns-in_err-replay-clause-behind
+returns-in_err-replay-clause-behind g c =
+    let p = err_from_is_err_and c.from_residual-in_err-replay.result c.from_residual-in_err-replay.ensures.1 in
+    rw (p.1, p.2)
+    (λ k.
+    let x = state_in c.args.parts.now.tree in
+    let w1 = (g.D.Disk.medium c.finish_cut.new.disk).now in
+    let w0 = g.D.Disk.medium c.args.disk.now in
+    let w2 = g.D.Disk.medium c.replay.new.disk in
+    let log : c.finish_cut.new.parts.halves.geometry ≡ c.args.parts.now.halves.geometry = ap (λ (l : Log). l.geometry) c.in_ok-finish_cut.ensures.log in
+    let half = ap other c.named-behind.ensures.named in
+    let held' : state_in c.finish_cut.new.parts.tree ≡ x = ap state_in c.finish_cut.ensures.tree in
+    let geometry : c.finish_cut.new.parts.tree.geometry ≡ c.args.parts.now.halves.geometry = (λ i. (c.finish_cut.ensures.tree i).geometry) ∙ c.requires.loaded.geometry in
+    let rs = front (layout_of c.finish_cut.new.parts.halves.geometry) (other c.named-behind.result) w1 in
+    let finished = c.in_ok-finish_cut.ensures.finished k in
+    let only = c.replay.ensures.untouched k in
+    let bytes = same_bytes (g.D.Disk.medium c.finish_cut.new.disk) w2 only in
+    let fault = c.in_err-replay.ensures.refused k in
+    let why = behind_refused c.args.parts.now.halves.geometry w0.now c.args.parts.now.halves.named x (c.requires.recovers k) c.in_err-replay.field-0.0
+    (subst (λ (rs : List (List ℕ)). IsConsistentFault (records_fault c.args.parts.now.halves.geometry x (other c.args.parts.now.halves.named) rs) c.in_err-replay.field-0.0) finished.front
+    (subst (λ (o : Option OpenFault). IsConsistentFault o c.in_err-replay.field-0.0) (λ i. records_fault (geometry i) (held' i) (half i) (front (layout_of (log i)) (half i) w1)) fault)) in
+    let alike = leaves_now w0 w2 _ (same _ _ _ _ (c.finish_cut.ensures.alike k) only) w2.now (itself w2.now w2.unsynced (g.met.D.Disk.bytes c.replay.new.disk)) in
+    bad_half (first_bad_record c.args.parts.now.tree.geometry 0 (Some x) rs) _ c.in_err-replay.ensures.never_out_of_memory
+    (subst (λ (o : Option OpenFault). IsConsistentFault o c.in_err-replay.field-0.0) (λ i. records_fault (c.finish_cut.ensures.tree i).geometry (held' i) (half i) rs) fault)
+    (c.requires.recovers k).header why
+    (record {
+      alike = alike;
+      named = ap (λ (l : List ℕ). named_area (layout_of c.args.parts.now.halves.geometry) l) bytes ∙ finished.named;
+      image = ap (λ (l : List ℕ). read c.args.parts.now.halves.geometry (part_bytes (layout_of c.args.parts.now.halves.geometry) (image_part (other c.args.parts.now.halves.named)) l)) bytes
+          ∙ finished.reads ∙ ap (λ (n : ℕ). area_state c.args.parts.now.halves.geometry n w0.now) (c.requires.recovers k).named;
+      synced = still_synced (g.D.Disk.medium c.finish_cut.new.disk) w2 only finished.synced;
+    }))
+
+pub returns-clause-any_moment : goal.returns-clause-any_moment
+returns-clause-any_moment g c = λ k. same _ _ _ _ (c.finish_cut.ensures.any_moment k) (c.replay.ensures.untouched k)
+
+pub returns-clause-alike : goal.returns-clause-alike
+returns-clause-alike g c = λ k. same _ _ _ _ (c.finish_cut.ensures.alike k) (c.replay.ensures.untouched k)
+
+pub returns-clause-alone : goal.returns-clause-alone
+returns-clause-alone g c = λ k.
+    let x = state_in c.args.parts.now.tree in
+    let w1 = (g.D.Disk.medium c.finish_cut.new.disk).now in
+    let log : c.finish_cut.new.parts.halves.geometry ≡ c.args.parts.now.halves.geometry = ap (λ (l : Log). l.geometry) c.in_ok-finish_cut.ensures.log in
+    let half = ap other c.named-behind.ensures.named in
+    let held' : state_in c.finish_cut.new.parts.tree ≡ x = ap state_in c.finish_cut.ensures.tree in
+    let geometry : c.finish_cut.new.parts.tree.geometry ≡ c.args.parts.now.halves.geometry = (λ i. (c.finish_cut.ensures.tree i).geometry) ∙ c.requires.loaded.geometry in
+    let more = ap (λ (rs : List (List ℕ)). run (decoding c.args.parts.now.halves.geometry) (Some x) rs) (sym (c.in_ok-finish_cut.ensures.finished k).front)
+    ∙ sym (λ i. run (decoding (geometry i)) (Some (held' i)) (front (layout_of (log i)) (half i) w1)) ∙ c.in_ok-replay.ensures.done k in
+    let held = behind_holds c.args.parts.now.halves.geometry (g.D.Disk.medium c.args.disk.now).now c.args.parts.now.halves.named x (c.requires.recovers k) (state_in c.replay.new.tree) more in
+    subst (λ (l : Log). RecoversByNamedAlone l (g.D.Disk.medium c.replay.new.disk)) (sym (c.in_ok-replay.ensures.log ∙ c.in_ok-finish_cut.ensures.log))
+    (alone_finished (g.met.D.Disk.bytes c.replay.new.disk)
+    (same _ _ _ _ (c.finish_cut.ensures.any_moment k) (c.replay.ensures.untouched k)) held (c.in_ok-finish_cut.ensures.finished k) (c.replay.ensures.untouched k))
+
+pub returns-clause-was : goal.returns-clause-was
+returns-clause-was g c = λ k.
+    let x = state_in c.args.parts.now.tree in
+    let w1 = (g.D.Disk.medium c.finish_cut.new.disk).now in
+    let log : c.finish_cut.new.parts.halves.geometry ≡ c.args.parts.now.halves.geometry = ap (λ (l : Log). l.geometry) c.in_ok-finish_cut.ensures.log in
+    let half = ap other c.named-behind.ensures.named in
+    let held' : state_in c.finish_cut.new.parts.tree ≡ x = ap state_in c.finish_cut.ensures.tree in
+    let geometry : c.finish_cut.new.parts.tree.geometry ≡ c.args.parts.now.halves.geometry = (λ i. (c.finish_cut.ensures.tree i).geometry) ∙ c.requires.loaded.geometry in
+    let more = ap (λ (rs : List (List ℕ)). run (decoding c.args.parts.now.halves.geometry) (Some x) rs) (sym (c.in_ok-finish_cut.ensures.finished k).front)
+    ∙ sym (λ i. run (decoding (geometry i)) (Some (held' i)) (front (layout_of (log i)) (half i) w1)) ∙ c.in_ok-replay.ensures.done k in
+    behind_holds c.args.parts.now.halves.geometry (g.D.Disk.medium c.args.disk.now).now c.args.parts.now.halves.named x (c.requires.recovers k) (state_in c.replay.new.tree) more
+
+pub returns-clause-sound : goal.returns-clause-sound
+returns-clause-sound g c = λ k.
+    let x = state_in c.args.parts.now.tree in
+    let w1 = (g.D.Disk.medium c.finish_cut.new.disk).now in
+    let log : c.finish_cut.new.parts.halves.geometry ≡ c.args.parts.now.halves.geometry = ap (λ (l : Log). l.geometry) c.in_ok-finish_cut.ensures.log in
+    let half = ap other c.named-behind.ensures.named in
+    let held' : state_in c.finish_cut.new.parts.tree ≡ x = ap state_in c.finish_cut.ensures.tree in
+    let geometry : c.finish_cut.new.parts.tree.geometry ≡ c.args.parts.now.halves.geometry = (λ i. (c.finish_cut.ensures.tree i).geometry) ∙ c.requires.loaded.geometry in
+    let more = ap (λ (rs : List (List ℕ)). run (decoding c.args.parts.now.halves.geometry) (Some x) rs) (sym (c.in_ok-finish_cut.ensures.finished k).front)
+    ∙ sym (λ i. run (decoding (geometry i)) (Some (held' i)) (front (layout_of (log i)) (half i) w1)) ∙ c.in_ok-replay.ensures.done k in
+    behind_fine c.args.parts.now.halves.geometry (g.D.Disk.medium c.args.disk.now).now c.args.parts.now.halves.named x (c.requires.recovers k) (state_in c.replay.new.tree) more
+
+pub returns-clause-loaded : goal.returns-clause-loaded
+returns-clause-loaded g c =
+    let before = c.requires.loaded in
+    let log = c.in_ok-replay.ensures.log ∙ c.in_ok-finish_cut.ensures.log in
+    let geometry = c.in_ok-replay.ensures.geometry ∙ (λ i. (c.finish_cut.ensures.tree i).geometry) ∙ before.geometry in
+    let room = c.finish_cut.ensures.room in
+    are_loaded {p = c.args.parts.now} log before.not_failed refl c.in_ok-replay.ensures.whole geometry
+    (record { snapshot = room.snapshot; named_dirty = room.named_dirty; other_dirty = room.other_dirty; pending = room.pending })
+    (record { snapshot = before.snapshot; named_dirty = before.named_dirty; other_dirty = before.other_dirty; all = before.all })
+    (omega (arith, before.long_enough, c.finish_cut.ensures.call.1, c.replay.ensures.call.1))
+
+pub returns-clause-room : goal.returns-clause-room
+returns-clause-room g c =
+    let room = c.finish_cut.ensures.room in
+    record { snapshot = room.snapshot; named_dirty = room.named_dirty; other_dirty = room.other_dirty; pending = room.pending }
+
+pub returns-clause-geometry : goal.returns-clause-geometry
+returns-clause-geometry g c = ap (λ (l : Log). l.geometry) (c.in_ok-replay.ensures.log ∙ c.in_ok-finish_cut.ensures.log)
+
+pub returns-in_err-replay-clause-beyond : goal.returns-in_err-replay-clause-beyond
+returns-in_err-replay-clause-beyond g c = λ k.
+    let l = layout_of c.args.parts.now.halves.geometry in
+    beyond_then l _ _ _ (c.finish_cut.ensures.beyond k) (beyond_read l _ _ (c.replay.ensures.untouched k))
+
+pub returns-clause-beyond : goal.returns-clause-beyond
+returns-clause-beyond g c = λ k.
+    let l = layout_of c.args.parts.now.halves.geometry in
+    beyond_then l _ _ _ (c.finish_cut.ensures.beyond k) (beyond_read l _ _ (c.replay.ensures.untouched k))
+
+pub returns-in_err-finish_cut-clause-costs : goal.returns-in_err-finish_cut-clause-costs
+returns-in_err-finish_cut-clause-costs g c =
+    let p = err_from_is_err_and c.from_residual.result c.from_residual.ensures.1 in
+    rw p.1 (λ k. c.in_err-finish_cut.ensures.costs k)
+
+pub returns-in_err-replay-clause-costs : goal.returns-in_err-replay-clause-costs
+returns-in_err-replay-clause-costs g c =
+    let p = err_from_is_err_and c.from_residual-in_err-replay.result c.from_residual-in_err-replay.ensures.1 in
+    rw p.1
+    (λ k.
+    let read = no_call (g.D.Disk.medium c.finish_cut.new.disk) (g.D.Disk.medium c.replay.new.disk) (c.replay.ensures.untouched k) in
+    omega (arith, read, c.in_ok-finish_cut.ensures.costs k))
+
+pub returns-clause-costs : goal.returns-clause-costs
+returns-clause-costs g c = λ k.
+    no_call (g.D.Disk.medium c.finish_cut.new.disk) (g.D.Disk.medium c.replay.new.disk) (c.replay.ensures.untouched k) ∙ c.in_ok-finish_cut.ensures.costs k

@@ -1,0 +1,262 @@
+-- Header, memory, load and last point, one after the other: a refusal is that of the bytes, a crash recovers to the same.
+use Rattle.std.proofs.Common.{◌≡◌, ◌≤◌, Bool, List, ℕ, length, sym, ◌∙◌, ap, subst, arith}
+use Rattle.std.proofs.lemmas.Result.{err_from_is_err_and}
+use Rattle.affinity.specs.declared.geometry.Geometry.{Geometry}
+use Rattle.checkpoint.specs.declared.fault.OpenFault.{OpenFault}
+use Rattle.checkpoint.specs.Header.{HasHeader}
+use Rattle.checkpoint.specs.Loading.{IsOfHalf}
+use Rattle.checkpoint.specs.Recovery.{recovered_state}
+use Rattle.checkpoint.specs.Refusals.{refused}
+use Rattle.checkpoint.proofs.OneGeometry.{same_geometry}
+use Rattle.checkpoint.proofs.Refusing.{behind_header, header_half, never_out_of_memory}
+use Rattle.checkpoint.proofs.Replays.{same_bytes}
+use Rattle.journal.specs.Costs.{finish_cost}
+use Rattle.journal.specs.Parts.{IsMadeOf}
+use Rattle.journal.specs.Steps.{RecoversStill}
+use Rattle.journal.specs.Extents.{AreAllDirty}
+use Rattle.journal.proofs.Costs.{finish_few, no_call}
+use Rattle.journal.proofs.Loaded.{made, made_of}
+use Rattle.journal.proofs.Opened.{all_unwritten, alike_after, as_alike, as_before, as_still, still_after, still_now, still_synced, still_then, unread, unwritten_from, unwritten_then}
+use Rattle.oplog.specs.Beyond.{KeepsBeyond}
+use Rattle.device_map.specs.Layout.{device_size, layout_of}
+use Rattle.oplog.specs.Log.{Log}
+use Rattle.oplog.proofs.Beyond.{beyond_read, beyond_then}
+use Rattle.oplog.specs.Recovery.{named_area}
+use Rattle.parcel.specs.Tree.{TreeView, state_in}
+use Rattle.meaning.specs.State.{IsState}
+use Rattle.journal.proofs.opening.open_synced.Goals as goal
+
+pub returns-in_err-g-clause-any_moment : goal.returns-in_err-g-clause-any_moment
+returns-in_err-g-clause-any_moment g c = λ k. as_before _ _ (c.requires.synced k) (c.read_header.ensures.untouched k)
+
+pub returns-in_err-g-clause-unwritten : goal.returns-in_err-g-clause-unwritten
+returns-in_err-g-clause-unwritten g c =
+    let p = err_from_is_err_and c.from_residual.result c.from_residual.ensures.1 in
+    rw (p.1, p.2) (λ k. all_unwritten _ _ _ (unread _ _ (c.read_header.ensures.untouched k)) (λ h. header_half _ _ c.in_err-g.ensures.by_header))
+
+pub returns-in_err-parts-clause-any_moment : goal.returns-in_err-parts-clause-any_moment
+returns-in_err-parts-clause-any_moment g c = λ k. as_before _ _ (c.requires.synced k) (c.read_header.ensures.untouched k)
+
+pub returns-in_err-parts-clause-unwritten : goal.returns-in_err-parts-clause-unwritten
+returns-in_err-parts-clause-unwritten g c =
+    let p = err_from_is_err_and c.from_residual-in_err-parts.result c.from_residual-in_err-parts.ensures.1 in
+    rw (p.1, p.2)
+    (λ k.
+    all_unwritten _ _ _ (unread _ _ (c.read_header.ensures.untouched k))
+    (λ h. subst (λ (e : OpenFault). IsOfHalf (named_area (layout_of h) (g.D.Disk.medium c.args.disk.now).now) e) (sym c.in_err-parts.ensures.fault) tt))
+
+pub returns-in_err-load_in_order-clause-any_moment : goal.returns-in_err-load_in_order-clause-any_moment
+returns-in_err-load_in_order-clause-any_moment g c = λ k.
+    let w0 = g.D.Disk.medium c.args.disk.now in
+    let w1 = g.D.Disk.medium c.read_header.new.disk in
+    let w2 = g.D.Disk.medium c.load_in_order.new.disk in
+    let t = c.in_ok-parts.parts.tree.geometry in
+    let only = c.read_header.ensures.untouched k in
+    let head = subst (λ (h : Geometry). HasHeader h w0.now) (sym c.in_ok-parts.ensures.geometry) (c.in_ok-g.ensures.header k) in
+    let fits = subst (λ (h : Geometry). device_size (layout_of h) ≤ length w0.now) (sym c.in_ok-parts.ensures.geometry) c.in_ok-g.ensures.long_enough in
+    as_alike t w0 w2 head fits (still_after t w0 w1 w2 (c.requires.synced k) only (c.load_in_order.ensures.any_moment k))
+    (alike_after t w0 w1 w2 head (c.requires.synced k) only (c.load_in_order.ensures.alike k))
+
+pub returns-in_err-load_in_order-clause-unwritten : goal.returns-in_err-load_in_order-clause-unwritten
+returns-in_err-load_in_order-clause-unwritten g c =
+    let p = err_from_is_err_and c.from_residual-in_err-load_in_order.result c.from_residual-in_err-load_in_order.ensures.1 in
+    rw (p.1, p.2)
+    (λ k.
+    let w0 = g.D.Disk.medium c.args.disk.now in
+    let w1 = g.D.Disk.medium c.read_header.new.disk in
+    let w2 = g.D.Disk.medium c.load_in_order.new.disk in
+    let only = c.read_header.ensures.untouched k in
+    unwritten_from _ w0 w1 w2 (same_bytes w0 w1 only)
+    (unwritten_then w0 w1 w2 (g.met.D.Disk.bytes c.args.disk.now) (still_synced w0 w1 only (c.requires.synced k)) (same_bytes w0 w1 only) (unread w0 w1 only).later)
+    (c.in_err-load_in_order.ensures.unwritten k))
+
+pub checkpoint_recovered-requires-clause-recovers : goal.checkpoint_recovered-requires-clause-recovers
+checkpoint_recovered-requires-clause-recovers g c = λ k.
+    let w1 = g.D.Disk.medium c.read_header.new.disk in
+    let w2 = g.D.Disk.medium c.load_in_order.new.disk in
+    let t = c.in_ok-parts.parts.tree.geometry in
+    ap (λ (h : Geometry). recovered_state h w2.now) c.in_ok-load_in_order.ensures.geometry
+    ∙ still_now t w1 w2 (g.met.D.Disk.bytes c.load_in_order.new.disk) (c.load_in_order.ensures.any_moment k) ∙ c.in_ok-load_in_order.ensures.was k
+
+pub returns-in_err-checkpoint_recovered-clause-any_moment : goal.returns-in_err-checkpoint_recovered-clause-any_moment
+returns-in_err-checkpoint_recovered-clause-any_moment g c = λ k.
+    let w0 = g.D.Disk.medium c.args.disk.now in
+    let w1 = g.D.Disk.medium c.read_header.new.disk in
+    let w2 = g.D.Disk.medium c.load_in_order.new.disk in
+    let t = c.in_ok-parts.parts.tree.geometry in
+    let only = c.read_header.ensures.untouched k in
+    let head = subst (λ (h : Geometry). HasHeader h w0.now) (sym c.in_ok-parts.ensures.geometry) (c.in_ok-g.ensures.header k) in
+    let fits = subst (λ (h : Geometry). device_size (layout_of h) ≤ length w0.now) (sym c.in_ok-parts.ensures.geometry) c.in_ok-g.ensures.long_enough in
+    let w3 = g.D.Disk.medium c.checkpoint_recovered.new.disk in
+    let fine = sym (ap (λ (l : List ℕ). refused t l) (same_bytes w0 w1 only)) ∙ c.in_ok-load_in_order.ensures.sound k in
+    let later = subst (λ (h : Geometry). RecoversStill h w2 w3) c.in_ok-load_in_order.ensures.geometry (c.checkpoint_recovered.ensures.any_moment k) in
+    as_still t w0 w3 head fits fine (still_after t w0 w1 w3 (c.requires.synced k) only
+    (still_then t w1 w2 w3 (g.met.D.Disk.bytes c.load_in_order.new.disk) (c.load_in_order.ensures.any_moment k) later))
+
+pub returns-clause-any_moment : goal.returns-clause-any_moment
+returns-clause-any_moment g c = λ k.
+    let w0 = g.D.Disk.medium c.args.disk.now in
+    let w1 = g.D.Disk.medium c.read_header.new.disk in
+    let w2 = g.D.Disk.medium c.load_in_order.new.disk in
+    let t = c.in_ok-parts.parts.tree.geometry in
+    let only = c.read_header.ensures.untouched k in
+    let head = subst (λ (h : Geometry). HasHeader h w0.now) (sym c.in_ok-parts.ensures.geometry) (c.in_ok-g.ensures.header k) in
+    let fits = subst (λ (h : Geometry). device_size (layout_of h) ≤ length w0.now) (sym c.in_ok-parts.ensures.geometry) c.in_ok-g.ensures.long_enough in
+    let w3 = g.D.Disk.medium c.checkpoint_recovered.new.disk in
+    let fine = sym (ap (λ (l : List ℕ). refused t l) (same_bytes w0 w1 only)) ∙ c.in_ok-load_in_order.ensures.sound k in
+    let later = subst (λ (h : Geometry). RecoversStill h w2 w3) c.in_ok-load_in_order.ensures.geometry (c.checkpoint_recovered.ensures.any_moment k) in
+    as_still t w0 w3 head fits fine (still_after t w0 w1 w3 (c.requires.synced k) only
+    (still_then t w1 w2 w3 (g.met.D.Disk.bytes c.load_in_order.new.disk) (c.load_in_order.ensures.any_moment k) later))
+
+pub returns-clause-made : goal.returns-clause-made
+returns-clause-made g c =
+    made c.in_ok-parts.ensures.taken c.in_ok-load_in_order.ensures.geometry c.in_ok-load_in_order.ensures.room c.in_ok-load_in_order.ensures.loaded c.checkpoint_recovered.ensures.room
+    c.checkpoint_recovered.ensures.tree c.in_ok-checkpoint_recovered.ensures.log c.checkpoint_recovered.ensures.call.1
+
+pub returns-clause-made_of : goal.returns-clause-made_of
+returns-clause-made_of g c = λ k.
+    let w0 = g.D.Disk.medium c.args.disk.now in
+    let w1 = g.D.Disk.medium c.read_header.new.disk in
+    let w2 = g.D.Disk.medium c.load_in_order.new.disk in
+    let w3 = g.D.Disk.medium c.checkpoint_recovered.new.disk in
+    let t = c.in_ok-parts.parts.tree.geometry in
+    let only = c.read_header.ensures.untouched k in
+    let loaded = c.load_in_order.new.parts in
+    let last = c.checkpoint_recovered.new.parts in
+    let log : loaded.halves.geometry ≡ t = c.in_ok-load_in_order.ensures.geometry in
+    let geometry : loaded.tree.geometry ≡ t = c.in_ok-load_in_order.ensures.loaded.geometry ∙ log in
+    let head = subst (λ (h : Geometry). HasHeader h w0.now) (sym (geometry ∙ c.in_ok-parts.ensures.geometry)) (c.in_ok-g.ensures.header k) in
+    let fine = ap (λ (h : Geometry). refused h w0.now) geometry ∙ sym (ap (λ (l : List ℕ). refused t l) (same_bytes w0 w1 only)) ∙ c.in_ok-load_in_order.ensures.sound k in
+    let was = ap (λ (h : Geometry). recovered_state h w0.now) geometry ∙ sym (ap (λ (l : List ℕ). recovered_state t l) (same_bytes w0 w1 only)) ∙ c.in_ok-load_in_order.ensures.was k in
+    let held = ap (λ (h : Geometry). recovered_state h w2.now) log
+    ∙ still_now t w1 w2 (g.met.D.Disk.bytes c.load_in_order.new.disk) (c.load_in_order.ensures.any_moment k) ∙ c.in_ok-load_in_order.ensures.was k in
+    let is_state = subst (λ (h : Geometry). IsState h (state_in loaded.tree)) c.in_ok-load_in_order.ensures.loaded.geometry c.in_ok-load_in_order.ensures.loaded.tree.state in
+    let all = subst (λ (row : List Bool). AreAllDirty loaded.halves.geometry row) (sym (λ i. (c.checkpoint_recovered.ensures.room.other_dirty i).items)) c.in_ok-load_in_order.ensures.loaded.all in
+    subst (λ (tree : TreeView). IsMadeOf w0.now (record last { tree = tree }) w3) (sym c.checkpoint_recovered.ensures.tree)
+    (made_of (g.met.D.Disk.bytes c.checkpoint_recovered.new.disk) (record { header = head; accepted = fine; was = was }) c.in_ok-checkpoint_recovered.ensures.log
+    c.in_ok-load_in_order.ensures.loaded.geometry c.checkpoint_recovered.ensures.snapshot all
+    (record { alone = c.in_ok-load_in_order.ensures.alone k; is = held; state = is_state }) (c.in_ok-checkpoint_recovered.ensures.pointed k))
+
+pub returns-in_err-g-clause-memory : goal.returns-in_err-g-clause-memory
+returns-in_err-g-clause-memory g c =
+    let p = err_from_is_err_and c.from_residual.result c.from_residual.ensures.1 in
+    rw (p.1, p.2) (λ is. absurd (never_out_of_memory c.in_err-g.field-0.0 c.in_err-g.ensures.by_header is))
+
+pub returns-in_err-parts-clause-memory : goal.returns-in_err-parts-clause-memory
+returns-in_err-parts-clause-memory g c =
+    behind_header _ g.D.Disk.keeps (g.D.Disk.medium c.args.disk.now).now (λ k. record { geometry = c.in_ok-g.g; header = c.in_ok-g.ensures.header k; parts = c.in_ok-g.ensures.long_enough })
+
+pub returns-in_err-load_in_order-clause-memory : goal.returns-in_err-load_in_order-clause-memory
+returns-in_err-load_in_order-clause-memory g c =
+    behind_header _ g.D.Disk.keeps (g.D.Disk.medium c.args.disk.now).now (λ k. record { geometry = c.in_ok-g.g; header = c.in_ok-g.ensures.header k; parts = c.in_ok-g.ensures.long_enough })
+
+pub returns-in_err-checkpoint_recovered-clause-memory : goal.returns-in_err-checkpoint_recovered-clause-memory
+returns-in_err-checkpoint_recovered-clause-memory g c =
+    behind_header _ g.D.Disk.keeps (g.D.Disk.medium c.args.disk.now).now (λ k. record { geometry = c.in_ok-g.g; header = c.in_ok-g.ensures.header k; parts = c.in_ok-g.ensures.long_enough })
+
+pub returns-in_err-g-clause-synced : goal.returns-in_err-g-clause-synced
+returns-in_err-g-clause-synced g c =
+    let p = err_from_is_err_and c.from_residual.result c.from_residual.ensures.1 in
+    rw p.1 (λ other k. still_synced (g.D.Disk.medium c.args.disk.now) (g.D.Disk.medium c.read_header.new.disk) (c.read_header.ensures.untouched k) (c.requires.synced k))
+
+pub returns-in_err-parts-clause-synced : goal.returns-in_err-parts-clause-synced
+returns-in_err-parts-clause-synced g c =
+    let p = err_from_is_err_and c.from_residual-in_err-parts.result c.from_residual-in_err-parts.ensures.1 in
+    rw p.1 (λ other k. still_synced (g.D.Disk.medium c.args.disk.now) (g.D.Disk.medium c.read_header.new.disk) (c.read_header.ensures.untouched k) (c.requires.synced k))
+
+pub returns-in_err-checkpoint_recovered-clause-synced : goal.returns-in_err-checkpoint_recovered-clause-synced
+returns-in_err-checkpoint_recovered-clause-synced g c =
+    let p = err_from_is_err_and c.from_residual-in_err-checkpoint_recovered.result c.from_residual-in_err-checkpoint_recovered.ensures.1 in
+    rw (p.1, p.2) (λ other k. absurd (other c.in_err-checkpoint_recovered.ensures.device))
+
+pub returns-in_err-g-clause-beyond : goal.returns-in_err-g-clause-beyond
+returns-in_err-g-clause-beyond g c = λ k h head.
+    beyond_read (layout_of h) _ _ (c.read_header.ensures.untouched k)
+
+pub returns-in_err-parts-clause-beyond : goal.returns-in_err-parts-clause-beyond
+returns-in_err-parts-clause-beyond g c = λ k h head.
+    beyond_read (layout_of h) _ _ (c.read_header.ensures.untouched k)
+
+pub returns-in_err-load_in_order-clause-beyond : goal.returns-in_err-load_in_order-clause-beyond
+returns-in_err-load_in_order-clause-beyond g c = λ k h head.
+    let w0 = g.D.Disk.medium c.args.disk.now in
+    let w1 = g.D.Disk.medium c.read_header.new.disk in
+    let w2 = g.D.Disk.medium c.load_in_order.new.disk in
+    let t = c.in_ok-parts.parts.tree.geometry in
+    let own = subst (λ (x : Geometry). HasHeader x w0.now) (sym c.in_ok-parts.ensures.geometry) (c.in_ok-g.ensures.header k) in
+    let loaded = beyond_then (layout_of t) w0 w1 w2 (beyond_read (layout_of t) w0 w1 (c.read_header.ensures.untouched k)) (c.load_in_order.ensures.beyond k) in
+    subst (λ (x : Geometry). KeepsBeyond (layout_of x) w0 w2) (same_geometry t h (sym own ∙ head)) loaded
+
+pub returns-in_err-checkpoint_recovered-clause-beyond : goal.returns-in_err-checkpoint_recovered-clause-beyond
+returns-in_err-checkpoint_recovered-clause-beyond g c = λ k h head.
+    let w0 = g.D.Disk.medium c.args.disk.now in
+    let w1 = g.D.Disk.medium c.read_header.new.disk in
+    let w2 = g.D.Disk.medium c.load_in_order.new.disk in
+    let t = c.in_ok-parts.parts.tree.geometry in
+    let own = subst (λ (x : Geometry). HasHeader x w0.now) (sym c.in_ok-parts.ensures.geometry) (c.in_ok-g.ensures.header k) in
+    let loaded = beyond_then (layout_of t) w0 w1 w2 (beyond_read (layout_of t) w0 w1 (c.read_header.ensures.untouched k)) (c.load_in_order.ensures.beyond k) in
+    let w3 = g.D.Disk.medium c.checkpoint_recovered.new.disk in
+    let last = subst (λ (x : Geometry). KeepsBeyond (layout_of x) w2 w3) c.in_ok-load_in_order.ensures.geometry (c.checkpoint_recovered.ensures.beyond k) in
+    subst (λ (x : Geometry). KeepsBeyond (layout_of x) w0 w3) (same_geometry t h (sym own ∙ head)) (beyond_then (layout_of t) w0 w2 w3 loaded last)
+
+pub returns-clause-beyond : goal.returns-clause-beyond
+returns-clause-beyond g c = λ k h head.
+    let w0 = g.D.Disk.medium c.args.disk.now in
+    let w1 = g.D.Disk.medium c.read_header.new.disk in
+    let w2 = g.D.Disk.medium c.load_in_order.new.disk in
+    let t = c.in_ok-parts.parts.tree.geometry in
+    let own = subst (λ (x : Geometry). HasHeader x w0.now) (sym c.in_ok-parts.ensures.geometry) (c.in_ok-g.ensures.header k) in
+    let loaded = beyond_then (layout_of t) w0 w1 w2 (beyond_read (layout_of t) w0 w1 (c.read_header.ensures.untouched k)) (c.load_in_order.ensures.beyond k) in
+    let w3 = g.D.Disk.medium c.checkpoint_recovered.new.disk in
+    let last = subst (λ (x : Geometry). KeepsBeyond (layout_of x) w2 w3) c.in_ok-load_in_order.ensures.geometry (c.checkpoint_recovered.ensures.beyond k) in
+    subst (λ (x : Geometry). KeepsBeyond (layout_of x) w0 w3) (same_geometry t h (sym own ∙ head)) (beyond_then (layout_of t) w0 w2 w3 loaded last)
+
+pub returns-in_err-g-clause-costs : goal.returns-in_err-g-clause-costs
+returns-in_err-g-clause-costs g c =
+    let p = err_from_is_err_and c.from_residual.result c.from_residual.ensures.1 in
+    rw p.1
+    (λ k.
+    let read = no_call (g.D.Disk.medium c.args.disk.now) (g.D.Disk.medium c.read_header.new.disk) (c.read_header.ensures.untouched k) in
+    omega (arith, read))
+
+pub returns-in_err-parts-clause-costs : goal.returns-in_err-parts-clause-costs
+returns-in_err-parts-clause-costs g c =
+    let p = err_from_is_err_and c.from_residual-in_err-parts.result c.from_residual-in_err-parts.ensures.1 in
+    rw p.1
+    (λ k.
+    let read = no_call (g.D.Disk.medium c.args.disk.now) (g.D.Disk.medium c.read_header.new.disk) (c.read_header.ensures.untouched k) in
+    omega (arith, read))
+
+pub returns-in_err-load_in_order-clause-costs : goal.returns-in_err-load_in_order-clause-costs
+returns-in_err-load_in_order-clause-costs g c =
+    let p = err_from_is_err_and c.from_residual-in_err-load_in_order.result c.from_residual-in_err-load_in_order.ensures.1 in
+    rw p.1
+    (λ k.
+    let read = no_call (g.D.Disk.medium c.args.disk.now) (g.D.Disk.medium c.read_header.new.disk) (c.read_header.ensures.untouched k) in
+    let few = finish_few c.in_ok-parts.parts.tree.geometry (g.D.Disk.medium c.read_header.new.disk).now in
+    omega (arith, read, few, c.in_err-load_in_order.ensures.costs k))
+
+pub returns-in_err-checkpoint_recovered-clause-costs : goal.returns-in_err-checkpoint_recovered-clause-costs
+returns-in_err-checkpoint_recovered-clause-costs g c =
+    let p = err_from_is_err_and c.from_residual-in_err-checkpoint_recovered.result c.from_residual-in_err-checkpoint_recovered.ensures.1 in
+    rw p.1
+    (λ k.
+    let read = no_call (g.D.Disk.medium c.args.disk.now) (g.D.Disk.medium c.read_header.new.disk) (c.read_header.ensures.untouched k) in
+    let few = finish_few c.in_ok-parts.parts.tree.geometry (g.D.Disk.medium c.read_header.new.disk).now in
+    omega (arith, read, few, c.in_ok-load_in_order.ensures.costs k, c.in_err-checkpoint_recovered.ensures.costs k))
+
+pub returns-clause-costs : goal.returns-clause-costs
+returns-clause-costs g c = λ k.
+    let w0 = g.D.Disk.medium c.args.disk.now in
+    let w1 = g.D.Disk.medium c.read_header.new.disk in
+    let only = c.read_header.ensures.untouched k in
+    let read = no_call w0 w1 only in
+    let geometry : c.checkpoint_recovered.new.parts.halves.geometry ≡ c.in_ok-parts.parts.tree.geometry = ap (λ (l : Log). l.geometry) c.in_ok-checkpoint_recovered.ensures.log
+    ∙ c.in_ok-load_in_order.ensures.geometry in
+    let is : finish_cost c.in_ok-parts.parts.tree.geometry w1.now ≡ finish_cost c.checkpoint_recovered.new.parts.halves.geometry w0.now = λ i. finish_cost (sym geometry i) (same_bytes w0 w1 only i) in
+    omega (arith, read, is, c.in_ok-load_in_order.ensures.costs k, c.in_ok-checkpoint_recovered.ensures.costs k)
+
+pub returns-in_err-load_in_order-clause-synced : goal.returns-in_err-load_in_order-clause-synced
+returns-in_err-load_in_order-clause-synced g c =
+    let p = err_from_is_err_and c.from_residual-in_err-load_in_order.result c.from_residual-in_err-load_in_order.ensures.1 in
+    rw (p.1, p.2) (λ other k. c.in_err-load_in_order.ensures.synced other k)

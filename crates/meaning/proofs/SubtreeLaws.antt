@@ -1,0 +1,79 @@
+-- Subtrees as values: where two states have the same subtree at a path, they agree there and below.
+use Rattle.std.proofs.Common.{◌≡◌, Bool, true, false, Option, refl, ap, sym}
+use Rattle.std.specs.Prelude.{◌&&◌, ◌||◌, not, if◌then◌else◌, None}
+use Rattle.std.proofs.lemmas.Bool.{and_from, or_left, true≢false}
+use Rattle.affinity.specs.declared.geometry.Geometry.{Geometry}
+use Rattle.affinity.specs.Path.{Path, is_prefix, are_related}
+use Rattle.messages.specs.declared.Msg.{Msg}
+use Rattle.messages.specs.Messages.{path_of}
+use Rattle.meaning.specs.State.{State}
+use Rattle.meaning.specs.Subtrees.{AgreeOn, restricted, subtree, standing, path_of_volume, path_of_file, path_of_block, path_of_label}
+use Rattle.meaning.specs.Laws.{outside, RunAlike}
+use Rattle.meaning.proofs.Agree.{agree_within, agree_everywhere, agree_either}
+use Rattle.meaning.proofs.Frame.{reads_only}
+
+-- ---- a part as a value: two states have the same part exactly where they agree on it
+
+same_and : (t b c : Bool) → (t ≡ true → b ≡ c) → (t && b) ≡ (t && c)
+same_and true b c h = h refl
+same_and false b c h = refl
+
+and_same : (t b c : Bool) → t ≡ true → (t && b) ≡ (t && c) → b ≡ c
+and_same true b c r h = h
+and_same false b c r h = absurd (true≢false (sym r))
+
+same_if : {X : Type 0} (t : Bool) (o p : Option X) → (t ≡ true → o ≡ p) → (if t then o else None) ≡ (if t then p else None)
+same_if true o p h = h refl
+same_if false o p h = refl
+
+if_same : {X : Type 0} (t : Bool) (o p : Option X) → t ≡ true → (if t then o else None) ≡ (if t then p else None) → o ≡ p
+if_same true o p r h = h
+if_same false o p r h = absurd (true≢false (sym r))
+
+module _ (g : Geometry) (R : Path → Bool) where
+  pub part_from_agree : (x y : State) → AgreeOn g R x y → restricted g R x ≡ restricted g R y
+  part_from_agree x y h i = record {
+    made = λ k. same_and (R (path_of_volume k)) _ _ (h.made k) i;
+    sealed = λ k. same_and (R (path_of_volume k)) _ _ (h.sealed k) i;
+    files = λ k. same_and (R (path_of_file k)) _ _ (h.files k) i;
+    blocks = λ k. same_if (R (path_of_block g k)) _ _ (h.blocks k) i;
+    labels = λ k. same_if (R (path_of_label k)) _ _ (h.labels k) i;
+  }
+
+  pub agree_from_part : (x y : State) → restricted g R x ≡ restricted g R y → AgreeOn g R x y
+  agree_from_part x y e = record {
+    made = λ k r. and_same (R (path_of_volume k)) _ _ r (ap (λ z. z.made k) e);
+    sealed = λ k r. and_same (R (path_of_volume k)) _ _ r (ap (λ z. z.sealed k) e);
+    files = λ k r. and_same (R (path_of_file k)) _ _ r (ap (λ z. z.files k) e);
+    blocks = λ k r. if_same (R (path_of_block g k)) _ _ r (ap (λ z. z.blocks k) e);
+    labels = λ k r. if_same (R (path_of_label k)) _ _ r (ap (λ z. z.labels k) e);
+  }
+
+-- what is at a path or below, and what is above it, is all that is related to it
+shared_or_above : (p q : Path) → are_related p q ≡ true → (is_prefix p q || (is_prefix q p && not (is_prefix p q))) ≡ true
+shared_or_above p q h = elim (is_prefix p q) as (λ b. (b || is_prefix q p) ≡ true → (b || (is_prefix q p && not b)) ≡ true) [
+  | true ↦ λ h. refl
+  | false ↦ λ h. and_from (is_prefix q p) true h refl
+] h
+
+-- Two states with the same subtree and the same standing at a path agree at all that is related to it.
+pub agree_from_subtree : (g : Geometry) (p : Path) (x y : State) → subtree g p x ≡ subtree g p y → standing g p x ≡ standing g p y → AgreeOn g (are_related p) x y
+agree_from_subtree g p x y s t = agree_within (λ q. shared_or_above p q)
+    (agree_either (agree_from_part g (is_prefix p) x y s) (agree_from_part g (λ q. is_prefix q p && not (is_prefix p q)) x y t))
+
+-- What a message is answered, and the subtree that it leaves, depend on nothing but the subtree and the standing at its path.
+pub run_from_subtree : (g : Geometry) (x y : State) (m : Msg) → subtree g (path_of g m) x ≡ subtree g (path_of g m) y → standing g (path_of g m) x ≡ standing g (path_of g m) y → RunAlike g x y m
+run_from_subtree g x y m s t =
+    let p = path_of g m in
+    let both = reads_only g (are_related p) x y m (agree_from_subtree g p x y s t) (λ q r. r) in
+    record { reply = both.0; subtree_after = part_from_agree g (is_prefix p) _ _ (agree_within (λ q r. or_left (is_prefix p q) (is_prefix q p) r) both.1) }
+
+-- ---- a path and what lies outside it
+
+each : (b : Bool) → (b || not b) ≡ true
+each true = refl
+each false = refl
+
+-- two states that agree at a path and below, and outside it, are one
+pub agree_in_and_out : (g : Geometry) (p : Path) (x y : State) → AgreeOn g (is_prefix p) x y → AgreeOn g (outside p) x y → x ≡ y
+agree_in_and_out g p x y h j = agree_everywhere {g = g} {R = λ q. is_prefix p q || outside p q} (λ q. each (is_prefix p q)) (agree_either h j)

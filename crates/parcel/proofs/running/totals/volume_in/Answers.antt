@@ -1,9 +1,0 @@
--- A volume that is not in counts as zeros.
-use Rattle.std.proofs.Common.{ap, sym, ◌∙◌}
-use Rattle.parcel.specs.Shown.{by_child, volume_facts}
-use Rattle.parcel.specs.Totals.{totals_of}
-use Rattle.parcel.proofs.StripeTotals.{no_totals}
-use Rattle.parcel.proofs.running.totals.volume_in.Goals as goal
-
-pub returns-in-None : goal.returns-in-None
-returns-in-None c = let g = c.args.g.now in no_totals g ∙ ap (λ o. totals_of g (by_child (volume_facts g) o)) (sym c.in-None.is)

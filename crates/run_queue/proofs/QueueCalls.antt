@@ -1,0 +1,263 @@
+-- What each call does to those that wait and those that are held.
+use Rattle.std.proofs.Common.{◌≡◌, ◌∙◌, ℕ, ◌+◌, ◌*◌, ◌<◌, ◌≤◌, Bool, true, false, not, ◌&&◌, List, [], ◌∷◌, ◌++◌, find, Option, Some, None, refl, ap, sym, subst, inl, inr, arith, length}
+use Rattle.std.specs.Prelude.{replicate}
+use Rattle.std.specs.List.{list_any, AllByRecursion}
+use Rattle.std.proofs.lemmas.Bool.{eq-eqb, eqb-true, cases_Bool, and_parts, and_from, true≢false}
+use Rattle.std.proofs.lemmas.Bool.Decides.{eqb_tells}
+use Rattle.std.proofs.lemmas.List.{length-replicate}
+use Rattle.std.proofs.lemmas.Nat.{mul-le}
+use Rattle.affinity.specs.Interval.{IsAffinity, server_size}
+use Rattle.affinity.specs.declared.geometry.Geometry.{Geometry}
+use Rattle.run_queue.specs.RunQueue.{IsNext, are_related_intervals, is_free_of, has_room, has_slot, has_number, holds_at, without_slot, without_number, next_queued, CameBefore}
+use Rattle.run_queue.specs.Slots.{count_in_slot}
+use Rattle.run_queue.specs.Order.{is_conflict_free}
+use Rattle.run_queue.specs.Queues.{Waiting, HeldMessages, IsBetween, IsFirstGone}
+use Rattle.run_queue.specs.ReadyTable.{IsEntryRight, StayRight, AreRelatedRight}
+use Rattle.run_queue.specs.Invariant.{AreQueued, AreEntriesRight, QueueInvariant}
+use Rattle.run_queue.specs.declared.queued_message.QueuedMessage.{QueuedMessage}
+use Rattle.run_queue.proofs.ByTicket.{next_is_first}
+use Rattle.run_queue.proofs.SlotCounts.{limit-most, count_in_slot-append, count_in_slot-cons_is, count_in_slot-cons_other, in_slots-arrived, room-arrived, in_slots-gone, in_slots-freed}
+use Rattle.run_queue.proofs.Sorting.{all-filter, all-last, ascend-filter, ascend-last}
+use Rattle.run_queue.proofs.Clearing.{find-cons, find-skip, find-all, find-passes, any-found}
+use Rattle.run_queue.proofs.Earliest.{own_overlap, clear-first}
+use Rattle.run_queue.proofs.Passing.{next_waits}
+use Rattle.run_queue.proofs.Ready.{none-ready, right-arrived, right-gone, right-freed}
+
+-- ---- the start
+
+-- a geometry has at most 357 affinities (`MOST_AFFINITIES`): so many queues are enough for any
+all_below : (g : Geometry) → server_size g ≤ 357
+all_below g =
+    let volumes : g.volumes * (3 + g.stripes) ≤ 8 * 11 = mul-le g.volumes (3 + g.stripes) 8 11 g.volumes_range.1 (let most = g.stripes_range.1 in omega (arith, most)) in
+    let aggregates : g.aggregates * (1 + g.volumes * (3 + g.stripes)) ≤ 4 * 89 = mul-le g.aggregates (1 + g.volumes * (3 + g.stripes)) 4 89 g.aggregates_range.1 (omega (arith, volumes)) in
+    omega (arith, aggregates)
+
+pub kept-start : (g : Geometry) (slots numbers : ℕ) → 357 ≤ numbers
+    → QueueInvariant g slots (record { numbers = numbers; capacity = slots; messages = [] }) (record { numbers = numbers; messages = [] }) (replicate numbers None)
+kept-start g slots numbers most = record {
+  rows = record {
+    queues = λ any. (let all = all_below any in omega (arith, all, most));
+    entries = λ any. (let all = all_below any in omega (arith, all, most));
+    capacity = refl;
+    in_slots = λ s. omega arith;
+    ascends = tt;
+    waiting_placed = tt;
+    held_placed = tt;
+  };
+  right = record {
+    numbers = λ any. (let all = all_below any in omega (arith, all, most, length-replicate {A = Option QueuedMessage} numbers None));
+    right = λ n. none-ready numbers n;
+  };
+}
+
+pub messages-begun : (g next : Geometry) (slots : ℕ) (w : Waiting) (h : HeldMessages) → AreQueued g slots w h → w.messages ≡ [] → h.messages ≡ [] → AreQueued next slots w h
+messages-begun g next slots w h are none_waits none_held = record {
+  queues = are.queues;
+  entries = are.entries;
+  capacity = are.capacity;
+  in_slots = are.in_slots;
+  ascends = are.ascends;
+  waiting_placed = rw none_waits tt;
+  held_placed = rw none_held tt;
+}
+
+-- ---- one that arrives
+
+pub messages-arrived : {g : Geometry} {slots : ℕ} {w : Waiting} {h : HeldMessages} (t : QueuedMessage) → AreQueued g slots w h → IsAffinity g t.affinity
+    → CameBefore t.ticket w.messages → t.slot < slots → list_any (has_slot t.slot) (w.messages ++ h.messages) ≡ false
+    → AreQueued g slots (record w { messages = w.messages ++ t ∷ [] }) h
+messages-arrived {g} {slots} {w} {h} t are placed later there new = record {
+  queues = are.queues;
+  entries = are.entries;
+  capacity = are.capacity;
+  in_slots = in_slots-arrived slots w.messages h.messages t are.in_slots there new;
+  ascends = ascend-last w.messages t are.ascends later;
+  waiting_placed = all-last (λ d. IsAffinity g d.affinity) w.messages t are.waiting_placed placed;
+  held_placed = are.held_placed;
+}
+
+pub room-for-arrived : {g : Geometry} {slots : ℕ} {w : Waiting} {h : HeldMessages} (t : QueuedMessage) → AreQueued g slots w h → t.slot < slots
+    → list_any (has_slot t.slot) (w.messages ++ h.messages) ≡ false → length w.messages < w.capacity
+room-for-arrived {g} {slots} {w} {h} t are there new =
+    let room = room-arrived slots w.messages h.messages t are.in_slots there new in
+    let all = are.capacity in
+    omega (arith, room, all)
+
+pub kept-arrived : {g : Geometry} {slots : ℕ} {w v : Waiting} {h : HeldMessages} (t : QueuedMessage) {before after : List (Option QueuedMessage)}
+    → QueueInvariant g slots w h before → AreQueued g slots v h → v ≡ record w { messages = w.messages ++ t ∷ [] } → CameBefore t.ticket w.messages
+    → StayRight h.messages v.messages before after
+    → (find (has_number t.affinity.number) w.messages ≡ None → IsEntryRight h.messages v.messages after t.affinity.number) → QueueInvariant g slots v h after
+kept-arrived {w} {v} {h} t {before} {after} are rows came later stay here = record {
+  rows = rows;
+  right = record {
+    numbers = λ any. (let all = are.right.numbers any in let same = stay.0 in omega (arith, all, same));
+    right = λ n. subst (λ (ts : List QueuedMessage). IsEntryRight h.messages ts after n) (sym is)
+        (right-arrived h.messages w.messages t later before after are.right.right
+        (subst (λ (ts : List QueuedMessage). StayRight h.messages ts before after) is stay)
+        (λ none. subst (λ (ts : List QueuedMessage). IsEntryRight h.messages ts after t.affinity.number) is (here none)) n);
+  };
+}
+  where
+    is : v.messages ≡ w.messages ++ t ∷ []
+    is = ap (λ (x : Waiting). x.messages) came
+
+-- ---- what is freed
+
+pub messages-freed : {g : Geometry} {slots : ℕ} {w : Waiting} {h : HeldMessages} (n : ℕ) → AreQueued g slots w h
+    → AreQueued g slots w (record h { messages = without_number n h.messages })
+messages-freed {g} {slots} {w} {h} n are = record {
+  queues = are.queues;
+  entries = are.entries;
+  capacity = are.capacity;
+  in_slots = in_slots-freed slots w.messages h.messages (λ t. not (has_number n t)) are.in_slots;
+  ascends = are.ascends;
+  waiting_placed = are.waiting_placed;
+  held_placed = all-filter (λ d. IsAffinity g d.affinity) (λ t. not (has_number n t)) h.messages are.held_placed;
+}
+
+pub kept-freed : {g : Geometry} {slots : ℕ} {w : Waiting} {h k : HeldMessages} {t : QueuedMessage} (n : ℕ) {before after : List (Option QueuedMessage)}
+    → QueueInvariant g slots w h before → find (has_number n) h.messages ≡ Some t → k ≡ record h { messages = without_number n h.messages }
+    → AreRelatedRight g t.affinity k.messages w.messages after → StayRight k.messages w.messages before after → QueueInvariant g slots w k after
+kept-freed {g} {slots} {w} {h} {k} {t} n {before} {after} are found freed near stay = record {
+  rows = subst (λ (x : HeldMessages). AreQueued g slots w x) (sym freed) (messages-freed n are.rows);
+  right = record {
+    numbers = λ any. (let all = are.right.numbers any in let same = stay.0 in omega (arith, all, same));
+    right = λ m. subst (λ (ts : List QueuedMessage). IsEntryRight ts w.messages after m) (sym is)
+        (right-freed g t (find-all (λ d. IsAffinity g d.affinity) (has_number n) h.messages t are.rows.held_placed found)
+        h.messages w.messages are.rows.held_placed are.rows.waiting_placed before after are.right.right
+        (subst (λ (ts : List QueuedMessage). AreRelatedRight g t.affinity ts w.messages after) is near)
+        (subst (λ (ts : List QueuedMessage). StayRight ts w.messages before after) is stay) m);
+  };
+}
+  where
+    number : n ≡ t.affinity.number
+    number = sym (eqb-true t.affinity.number n (find-passes (has_number n) h.messages t found))
+
+    is : k.messages ≡ without_number t.affinity.number h.messages
+    is = ap (λ (x : HeldMessages). x.messages) freed ∙ ap (λ m. without_number m h.messages) number
+
+-- ---- the one that goes next
+
+module _ (g : Geometry) (slots : ℕ) (w : Waiting) (h : HeldMessages) (are : AreQueued g slots w h) (t : QueuedMessage) (room : Bool)
+    (next : next_queued room h.messages w.messages ≡ Some t) where
+  found : find (λ u. has_room room u && is_conflict_free h.messages w.messages u) w.messages ≡ Some t
+  found = sym (next_is_first room h.messages w.messages are.ascends) ∙ next
+
+  pub next-clear : is_conflict_free h.messages w.messages t ≡ true
+  next-clear = (and_parts (has_room room t) _ (find-passes (λ u. has_room room u && is_conflict_free h.messages w.messages u) w.messages t found)).1
+
+  pub next-placed : IsAffinity g t.affinity
+  next-placed = find-all (λ d. IsAffinity g d.affinity) (λ u. has_room room u && is_conflict_free h.messages w.messages u) w.messages t are.waiting_placed found
+
+  pub next-first : find (has_number t.affinity.number) w.messages ≡ Some t
+  next-first = clear-first g h.messages w.messages (λ u. has_room room u && is_conflict_free h.messages w.messages u) are.waiting_placed are.ascends found next-clear
+
+  -- no other one that waits has its slot
+  pub next-once : count_in_slot t.slot w.messages ≤ 1
+  next-once = omega (arith, are.in_slots t.slot, limit-most t.slot slots)
+
+  not_true : (b : Bool) → not b ≡ true → b ≡ false
+  not_true true k = absurd (true≢false (sym k))
+  not_true false k = refl
+
+  pub next-free : find (has_number t.affinity.number) h.messages ≡ None
+  next-free = by (find (has_number t.affinity.number) h.messages) refl
+    where
+      none : list_any (λ other. are_related_intervals t.affinity other.affinity) h.messages ≡ false
+      none = not_true _ (and_parts (is_free_of h.messages t) _ next-clear).0
+
+      by : (o : Option QueuedMessage) → find (has_number t.affinity.number) h.messages ≡ o → find (has_number t.affinity.number) h.messages ≡ None
+      by None is = is
+      by (Some d) is =
+          let at = eqb-true d.affinity.number t.affinity.number (find-passes (has_number t.affinity.number) h.messages d is) in
+          let near = own_overlap g t d next-placed (sym at) in
+          absurd (true≢false
+          (sym (any-found (has_number t.affinity.number) (λ other. are_related_intervals t.affinity other.affinity) h.messages d is near) ∙ none))
+
+all-between : (P : QueuedMessage → Type 0) (low high : List QueuedMessage) (t : QueuedMessage) → AllByRecursion P (low ++ high) → P t → AllByRecursion P (low ++ t ∷ high)
+all-between P [] high t all here = (here, all)
+all-between P (d ∷ low) high t all here = (all.0, all-between P low high t all.1 here)
+
+count_in_slot-between : (s : ℕ) (low high : List QueuedMessage) (t : QueuedMessage) → count_in_slot s (low ++ t ∷ high) ≡ count_in_slot s ((low ++ high) ++ t ∷ [])
+count_in_slot-between s low high t = elim (eqb_tells t.slot s) [
+  | inl e ↦ omega (
+    arith,
+    count_in_slot-append s low (t ∷ high),
+    count_in_slot-append s (low ++ high) (t ∷ []),
+    count_in_slot-append s low high,
+    count_in_slot-cons_is s t high e.1,
+    count_in_slot-cons_is s t [] e.1,
+  )
+  | inr n ↦ omega (
+    arith,
+    count_in_slot-append s low (t ∷ high),
+    count_in_slot-append s (low ++ high) (t ∷ []),
+    count_in_slot-append s low high,
+    count_in_slot-cons_other s t high n.1,
+    count_in_slot-cons_other s t [] n.1,
+  )
+]
+
+pub messages-gone : {g : Geometry} {slots : ℕ} {w : Waiting} {h k : HeldMessages} (t : QueuedMessage) → AreQueued g slots w h → IsAffinity g t.affinity
+    → list_any (has_slot t.slot) w.messages ≡ true → k ≡ record h { messages = k.messages } → IsBetween t h.messages k.messages
+    → AreQueued g slots (record w { messages = without_slot t.slot w.messages }) k
+messages-gone {g} {slots} {w} {h} {k} t are placed waits same between = record {
+  queues = are.queues;
+  entries = subst (λ (l : HeldMessages). (any : Geometry) → server_size any ≤ l.numbers) (sym same) are.entries;
+  capacity = are.capacity;
+  in_slots = λ s.
+      let all = in_slots-gone slots w.messages h.messages t are.in_slots waits s in
+      let count = ap (λ (ts : List QueuedMessage). count_in_slot s ts) between.3 ∙ count_in_slot-between s between.0 between.1 t
+      ∙ ap (λ (ts : List QueuedMessage). count_in_slot s (ts ++ t ∷ [])) (sym between.2) in
+      omega (arith, all, count);
+  ascends = ascend-filter (λ d. not (has_slot t.slot d)) w.messages are.ascends;
+  waiting_placed = all-filter (λ d. IsAffinity g d.affinity) (λ d. not (has_slot t.slot d)) w.messages are.waiting_placed;
+  held_placed = subst (λ (ts : List QueuedMessage). AllByRecursion (λ d. IsAffinity g d.affinity) ts) (sym between.3)
+      (all-between (λ d. IsAffinity g d.affinity) between.0 between.1 t
+      (subst (λ (ts : List QueuedMessage). AllByRecursion (λ d. IsAffinity g d.affinity) ts) between.2 are.held_placed) placed);
+}
+
+module _ (g : Geometry) (slots : ℕ) (w v : Waiting) (h k : HeldMessages) (t : QueuedMessage) (are : AreQueued g slots w h)
+    (next : IsNext (record { geometry = g; waiting = w.messages; held = h.messages; slots = slots }) t) (n : ℕ) (number : n ≡ t.affinity.number)
+    (popped : IsFirstGone n w v) (same : k ≡ record h { messages = k.messages }) (joined : IsBetween t h.messages k.messages) where
+  first : find (has_number t.affinity.number) w.messages ≡ Some t
+  first = next-first g slots w h are t next.0 next.1
+
+  gone : v ≡ record w { messages = without_slot t.slot w.messages }
+  gone = popped t (subst (λ m. find (has_number m) w.messages ≡ Some t) (sym number) first)
+
+  pub rows-gone : AreQueued g slots v k
+  rows-gone = subst (λ (x : Waiting). AreQueued g slots x k) (sym gone)
+      (messages-gone t are (next-placed g slots w h are t next.0 next.1)
+      (next_waits (record { geometry = g; waiting = w.messages; held = h.messages; slots = slots }) t next) same joined)
+
+  pub kept-gone : (before after : List (Option QueuedMessage)) → AreEntriesRight h.messages w.messages before → StayRight k.messages v.messages before after
+      → IsEntryRight k.messages v.messages after n → QueueInvariant g slots v k after
+  kept-gone before after right stay here = record {
+    rows = rows-gone;
+    right = record {
+      numbers = λ any. (let all = right.numbers any in let count = stay.0 in omega (arith, all, count));
+      right = λ m. subst (λ (ts : List QueuedMessage). IsEntryRight k.messages ts after m) (sym is)
+          (right-gone h.messages k.messages w.messages t joined are.ascends (next-once g slots w h are t next.0 next.1) first
+          (next-clear g slots w h are t next.0 next.1) before after right.right
+          (subst (λ (ts : List QueuedMessage). StayRight k.messages ts before after) is stay)
+          (subst (λ i. IsEntryRight k.messages (without_slot t.slot w.messages) after i) number
+          (subst (λ (ts : List QueuedMessage). IsEntryRight k.messages ts after n) is here)) m);
+    };
+  }
+    where
+      is : v.messages ≡ without_slot t.slot w.messages
+      is = ap (λ (x : Waiting). x.messages) gone
+
+-- ---- who holds
+
+pub none-holds : (p : QueuedMessage → Bool) (ts : List QueuedMessage) → find p ts ≡ None → list_any p ts ≡ false
+none-holds p [] none = refl
+none-holds p (t ∷ ts) none = elim (cases_Bool (p t)) [
+  | inl k ↦ absurd (let is = sym (find-cons p t ts k) ∙ none in cc)
+  | inr k ↦ rw k (none-holds p ts (sym (find-skip p t ts k) ∙ none))
+]
+
+pub one-holds : (n : ℕ) (ts : List QueuedMessage) (t : QueuedMessage) → find (has_number n) ts ≡ Some t → list_any (holds_at n t.slot) ts ≡ true
+one-holds n ts t found =
+    any-found (has_number n) (holds_at n t.slot) ts t found (and_from _ _ (eq-eqb t.slot t.slot refl) (find-passes (has_number n) ts t found))

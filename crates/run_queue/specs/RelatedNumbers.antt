@@ -1,0 +1,26 @@
+-- Inner: Which affinities are related, by numbers alone.
+use Rattle.std.specs.Prelude.{◌≡◌, ℕ, Bool, ◌||◌, ◌==◌, nat_lt, is_some, List, [], ◌∷◌, Option, Some, None, false, take}
+use Rattle.std.specs.List.{list_any, find}
+use Rattle.affinity.specs.Path.{Path}
+use Rattle.affinity.specs.Interval.{Interval, IsAffinity, contains, number}
+use Rattle.affinity.specs.declared.geometry.Geometry.{Geometry}
+use Rattle.run_queue.specs.RunQueue.{are_related_intervals, has_number}
+use Rattle.run_queue.specs.declared.queued_message.QueuedMessage.{QueuedMessage}
+
+-- the numbers of the affinities above the one with this path, and, where they are fewer than four, its own
+abbrev pub numbers_above : Geometry → Path → List ℕ
+numbers_above g p = number g (take 0 p) ∷ number g (take 1 p) ∷ number g (take 2 p) ∷ number g (take 3 p) ∷ []
+
+-- Related to affinity a are exactly a itself, the affinities below it, and those with the numbers `above`.
+abbrev pub AreAbove : Geometry → Interval → List ℕ → Type 0
+AreAbove g a above = (b : Interval) → IsAffinity g b
+    → are_related_intervals a b ≡ (contains a b.number || list_any (λ n. n == b.number) above)
+
+-- whether there is a message, and it came before this ticket
+abbrev pub is_before : ℕ → Option QueuedMessage → Bool
+is_before ticket None = false
+is_before ticket (Some t) = nat_lt t.ticket ticket
+
+-- whether a message at number n is held, or waits with a smaller ticket: so it keeps back one with this ticket at a related affinity
+abbrev pub conflicts_at : List QueuedMessage → List QueuedMessage → ℕ → ℕ → Bool
+conflicts_at held waiting ticket n = is_some (find (has_number n) held) || is_before ticket (find (has_number n) waiting)

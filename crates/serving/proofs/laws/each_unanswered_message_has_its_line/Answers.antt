@@ -1,0 +1,6 @@
+-- The lemma on what is inside.
+use Rattle.serving.proofs.Inside.{few_inside}
+use Rattle.serving.proofs.laws.each_unanswered_message_has_its_line.Goals as goal
+
+pub returns : goal.returns
+returns g c start now unsent input unread ended before written idle h = few_inside idle h

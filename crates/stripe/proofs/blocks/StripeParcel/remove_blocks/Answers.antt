@@ -1,0 +1,49 @@
+-- The slots of the run are freed, and the index loses the run.
+use Rattle.std.proofs.Common.{◌≡◌, ◌-◌, ◌≤◌, ap, ◌∙◌, arith, length}
+use Rattle.stripe.specs.Stripe.{StripePart}
+use Rattle.stripe.proofs.IndexLemmas.{IsTaken, run_of, taken-none, taken-next, entries-cut, stored-cut, part_same, length-entries, length-run}
+use Rattle.stripe.proofs.blocks.StripeParcel.remove_blocks.Goals as goal
+
+pub loop-index_entry-init : goal.loop-index_entry-init
+loop-index_entry-init c = taken-none c.self.inside.blocks _ c.self.invariant.0.partitioned
+
+pub loop-index_entry-preserved : goal.loop-index_entry-preserved
+loop-index_entry-preserved c =
+    rw (c.take.ensures.arena, c.from.ensures, c.deref.ensures.value)
+    (taken-next c.args.from c.args.end (record { file = 0; block = 0; slot = 0 }) c.self.invariant.0 c.requires.order
+    (rw c.deref.ensures.value at c.loop-index_entry.invariant)
+    (rw c.deref.ensures.value at c.loop-index_entry-test.true)
+    (rw (c.take.ensures.arena, c.from.ensures, c.deref.ensures.value) at c.take.ensures.partitioned))
+
+pub invariant_of-self : goal.invariant_of-self
+invariant_of-self c =
+    let same = ap (λ (s : StripePart). s.entries) c.self.view_is in
+    let within : c.args.end ≤ length c.self.inside.index.items =
+    (let full = rw (← same) at c.requires.within in let long = length-entries c.self.inside.blocks.values c.self.inside.index.items in omega arith) in
+    let run = length-run c.self.inside.index.items c.args.from c.args.end c.requires.order within in
+    let all = rw c.deref.ensures.value at c.loop-index_entry-test.false in
+    let most = rw c.deref.ensures.value at c.loop-index_entry.auto.index_entry-index-end in
+    let count : c.loop-index_entry.index_entry-index ≡ c.args.end - c.args.from = omega arith in
+    let taken : IsTaken c.self.inside.blocks c.loop-index_entry.self-inside.1.0 (run_of c.self.inside.index.items c.args.from c.args.end) (c.args.end - c.args.from) =
+    rw (c.deref.ensures.value, count) at c.loop-index_entry.invariant in
+    rw (c.drop-drain.ensures.items, c.drain.ensures.kept) (
+      stored-cut c.self.inside.blocks c.loop-index_entry.self-inside.1.0 c.self.inside.index.items c.args.from (c.args.end - c.args.from) c.args.end c.self.invariant.0
+          (omega arith) within taken,
+      rw (c.drop-drain.ensures.capacity ∙ c.drain.ensures.capacity, taken.long) c.self.invariant.1,
+    )
+
+pub returns : goal.returns
+returns c =
+    let same = ap (λ (s : StripePart). s.entries) c.self.view_is in
+    let within : c.args.end ≤ length c.self.inside.index.items =
+    (let full = rw (← same) at c.requires.within in let long = length-entries c.self.inside.blocks.values c.self.inside.index.items in omega arith) in
+    let run = length-run c.self.inside.index.items c.args.from c.args.end c.requires.order within in
+    let all = rw c.deref.ensures.value at c.loop-index_entry-test.false in
+    let most = rw c.deref.ensures.value at c.loop-index_entry.auto.index_entry-index-end in
+    let count : c.loop-index_entry.index_entry-index ≡ c.args.end - c.args.from = omega arith in
+    let taken : IsTaken c.self.inside.blocks c.loop-index_entry.self-inside.1.0 (run_of c.self.inside.index.items c.args.from c.args.end) (c.args.end - c.args.from) =
+    rw (c.deref.ensures.value, count) at c.loop-index_entry.invariant in
+    rw (← c.self.view_is, c.drop-drain.ensures.items, c.drain.ensures.kept)
+    (part_same _ _ _ _ taken.long
+    (entries-cut c.self.inside.blocks c.loop-index_entry.self-inside.1.0 c.self.inside.index.items c.args.from (c.args.end - c.args.from) c.args.end c.self.invariant.0
+    (omega arith) within taken))

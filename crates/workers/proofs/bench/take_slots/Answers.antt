@@ -1,0 +1,26 @@
+-- The slot that is taken next comes before the others, so that they end up in order.
+use Rattle.std.proofs.Common.{◌≡◌, ◌+◌, ◌-◌, ◌∷◌, ap, ◌∙◌, replicate, None, arith}
+use Rattle.std.proofs.lemmas.List.{get_or-replicate}
+use Rattle.workers.specs.Steps.{SeatState}
+use Rattle.workers.specs.Seats.{empty_slots, lent_of}
+use Rattle.workers.specs.declared.seats.SeatRole.TheVariants.{Dispatcher}
+use Rattle.workers.proofs.Turning.{slot_taken}
+use Rattle.workers.proofs.bench.take_slots.Goals as goal
+
+pub take_slot-requires-clause-untaken : goal.take_slot-requires-clause-untaken
+take_slot-requires-clause-untaken c = let n = c.args.places in let k = c.loop-k.k in let up = c.loop-k.invariant.1 in let more = c.loop-k-test.true in let e : k ≡ k - 1 + 1 = omega arith in (
+  replicate n None,
+  empty_slots k (replicate (n - k) None),
+  c.loop-k.invariant.2
+      ∙ ap (λ j. (Dispatcher j (replicate n None), empty_slots k (replicate (n - k) None))) e,
+  get_or-replicate n (k - 1) None None (omega arith),
+)
+
+pub loop-k-preserved : goal.loop-k-preserved
+loop-k-preserved c = let n = c.args.places in let k = c.loop-k.k in let up = c.loop-k.invariant.1 in let more = c.loop-k-test.true in
+    let e : k ≡ k - 1 + 1 = omega arith in let f : n - (k - 1) ≡ n - k + 1 = omega arith in (
+      c.take_slot.ensures.bench ∙ c.loop-k.invariant.0,
+      omega arith,
+      c.take_slot.ensures.take_slot ∙ (ap (λ (m : SeatState). (Dispatcher (k - 1) (lent_of m.0), (k - 1, None) ∷ m.1)) c.loop-k.invariant.2
+          ∙ λ i. (Dispatcher (k - 1) (replicate n None), slot_taken (k - 1) k (n - k) (n - (k - 1)) e f i)),
+    )
