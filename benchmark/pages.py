@@ -6,7 +6,7 @@ from datetime import date
 from statistics import median
 
 from figures_file import EVERY, GEOMETRIES, MORE_READS, OF_WAFFD, ORDINARY, PATH, PIPED, PLAIN, SLOTS, WORKERS, Figures, Missing, served
-from marks import marks
+from targets import targets
 from programs import TOP
 
 COLUMNS = 140
@@ -111,7 +111,8 @@ def of_others(figures):
            f"stop {shown['records']} records in force, and {shown['ms']} ms to the next first reply.")
     lines = [f"{mix} {number(figures.median({'part': 'plain', 'mix': mix}, 'waffd', 'cpu us'))} "
              f"({figures.ratio({'part': 'plain', 'mix': mix}, 'serial', 'waffd', 'cpu us'):.2f})" for mix in PLAIN]
-    yield f"- `plain`, processor time a line in microseconds (its speed in multiples of that of `benchmark/serial.rs`): {listed(lines)}."
+    yield ("- `plain`, on mixes of its own (`benchmark/lines.rs`; metadata: no block data; churn: writes among deletes), processor time a line "
+           f"in microseconds (its speed in multiples of that of `benchmark/serial.rs`): {listed(lines)}.")
     trips = [f"{number(figures.median({'part': 'bench', 'workers': n}, 'waffd', 'us'))} "
              f"({figures.ratio({'part': 'bench', 'workers': n}, 'waffd', 'mutex', 'us'):.2f})" for n in WORKERS]
     yield (f"- A job's round trip through the bench with {listed([str(n) for n in WORKERS])} workers, microseconds by the clock (times "
@@ -119,19 +120,19 @@ def of_others(figures):
 
 
 def of_missed(figures):
-    """Each mark that is not met, of both geometries together where the bound is the same."""
+    """Each target that is not met, of both geometries together where the bound is the same."""
     found = {}
-    for mark, geometry in marks(figures):
-        found.setdefault(mark.said(), []).append((mark, geometry))
-    missed = {said: of_mark for said, of_mark in found.items() if any(mark.missed() for mark, _ in of_mark)}
-    yield f"{len(found) - len(missed)} of {len(found)} marks are met." + " Not these (the worst value, and how many miss):" * bool(missed)
+    for target, geometry in targets(figures):
+        found.setdefault(target.said(), []).append((target, geometry))
+    missed = {said: of_target for said, of_target in found.items() if any(target.missed() for target, _ in of_target)}
+    yield f"{len(found) - len(missed)} of {len(found)} targets (`benchmark/targets.py`) are met." + " Missed (the worst value, and how many miss):" * bool(missed)
     if missed:
         yield ""
-    for said, of_mark in missed.items():
-        values = [(value, ", ".join(filter(None, (geometry, of)))) for mark, geometry in of_mark for value, of in mark.missed()]
-        worst, of = max(values) if of_mark[0][0].is_most else min(values)
-        tried = sum(len(mark.values) for mark, _ in of_mark)
-        shown = number(worst) if number(worst) != number(of_mark[0][0].bound) else f"{worst:.4g}"
+    for said, of_target in missed.items():
+        values = [(value, ", ".join(filter(None, (geometry, of)))) for target, geometry in of_target for value, of in target.missed()]
+        worst, of = max(values) if of_target[0][0].is_most else min(values)
+        tried = sum(len(target.values) for target, _ in of_target)
+        shown = number(worst) if number(worst) != number(of_target[0][0].bound) else f"{worst:.4g}"
         yield f"- {said}: {shown}" + f" ({of}), {len(values)} of {tried}" * bool(of)
 
 
@@ -144,7 +145,7 @@ def of_speed(figures):
     sync = figures.median({"part": "disk"}, "disk", "us")
     quick = QUICK * figures.told["is_quick"]
     return [f"{quick}With 64 or 256 lines outstanding, {span([round(speed, -3) for speed in speeds])} writes of full blocks a second, and "
-            f"{span(syncs)} syncs for 1,000 of them; a sync takes {number(sync)} microseconds. An ordinary unproved Rust server is {batch} "
+            f"{span(syncs)} syncs for 1,000 of them; writing and syncing a record takes {number(sync)} microseconds. An ordinary unproved Rust server is {batch} "
             f"times as fast; {twice} times, if it locks and syncs as `waffd` does."]
 
 

@@ -1,4 +1,4 @@
-"""The marks: what is wanted of the figures, and which of it is not met."""
+"""The targets: what is wanted of the figures, and which of it is missed."""
 from figures_file import GEOMETRIES, OF_WAFFD, PLAIN, SLOTS, WORKERS, served
 
 # Syncs for 1,000 writes, by slots.
@@ -11,7 +11,7 @@ MANY = 16  # slots from which lines are beside each other
 BY = {"lines/s": "by the clock", "cpu us": "by processor time"}
 
 
-class Mark:
+class Target:
     """What is wanted: its words, its bound, and the values that it is of, each with what it is of."""
 
     def __init__(self, words, bound, values, is_most=True):
@@ -43,32 +43,32 @@ def of_writes(figures, geometry):
     for slots, bound in SYNCS[geometry].items():
         row = served(geometry, "write", slots)
         values = [(figures.median(row, program, "syncs"), workers_of(program)) for program in OF_WAFFD]
-        yield Mark(f"syncs for 1,000 writes with {slots} slot{'s' * (slots > 1)}", bound, values)
-    yield Mark("bytes a change", BYTES[geometry], (
+        yield Target(f"syncs for 1,000 writes with {slots} slot{'s' * (slots > 1)}", bound, values)
+    yield Target("bytes a change", BYTES[geometry], (
         (figures.median(served(geometry, "write", slots), program, "bytes"), f"{workers_of(program)}, {slots} slots")
         for slots in SLOTS["write"] for program in OF_WAFFD))
 
 
 def of_memory(figures, geometry):
-    yield Mark("peak of memory in MB", PEAK[geometry], (
+    yield Target("peak of memory in MB", PEAK[geometry], (
         (figures.median(served(geometry, mix, slots), program, "peak MB"), f"{mix}, {slots} slots")
         for mix in SLOTS for slots in SLOTS[mix] for program in OF_WAFFD))
     opening = {"part": "opening", "geometry": geometry}
-    yield Mark("first reply, in floors of an opening", FIRST[geometry], (
+    yield Target("first reply, in floors of an opening", FIRST[geometry], (
         (figures.ratio(opening, program, "floor", "ms"), workers_of(program)) for program in OF_WAFFD))
 
 
 def of_speed(figures, geometry):
     rows = {slots: served(geometry, "read", slots) for slots in (16, 1024)}
-    yield Mark("processor time of a read, 1,024 slots against 16", 2, (
+    yield Target("processor time of a read, 1,024 slots against 16", 2, (
         (figures.median(rows[1024], program, "cpu us") / figures.median(rows[16], program, "cpu us"), workers_of(program))
         for program in OF_WAFFD))
-    yield Mark("speed, 4 workers against 1", 1, (
+    yield Target("speed, 4 workers against 1", 1, (
         (figures.ratio(served(geometry, mix, slots), "waffd 4", "waffd 1", "lines/s"), f"{mix}, {slots} slots")
         for mix in SLOTS for slots in many(mix)), is_most=False)
     for mix, other, bound in (("write", "twice", 0.8), ("read", "batch", 0.5)):
         for what, how in BY.items():
-            yield Mark(f"{mix}s against `{other}`, {how}", bound, (
+            yield Target(f"{mix}s against `{other}`, {how}", bound, (
                 (speed(figures, served(geometry, mix, slots), program, other, what), f"{workers_of(program)}, {slots} slots")
                 for slots in many(mix) for program in OF_WAFFD), is_most=False)
 
@@ -76,16 +76,16 @@ def of_speed(figures, geometry):
 def of_parts(figures):
     for mix in PLAIN:
         ratio = figures.ratio({"part": "plain", "mix": mix}, "serial", "waffd", "cpu us")
-        yield Mark(f"`plain` against `serial.rs`, {mix}", PARTS[mix], [(ratio, "")], is_most=False)
+        yield Target(f"`plain` against `serial.rs`, {mix}", PARTS[mix], [(ratio, "")], is_most=False)
     for what, how in (("us", BY["lines/s"]), ("cpu us", BY["cpu us"])):
-        yield Mark(f"round trip of the bench against a mutex's, {how}", 1, (
+        yield Target(f"round trip of the bench against a mutex's, {how}", 1, (
             (figures.ratio({"part": "bench", "workers": workers}, "waffd", "mutex", what), workers_of(f"waffd {workers}"))
             for workers in WORKERS))
 
 
-def marks(figures):
+def targets(figures):
     """All of them, each with its geometry, or without one."""
     for geometry in GEOMETRIES:
         for part in (of_writes, of_memory, of_speed):
-            yield from ((mark, geometry) for mark in part(figures, geometry))
-    yield from ((mark, None) for mark in of_parts(figures))
+            yield from ((target, geometry) for target in part(figures, geometry))
+    yield from ((target, None) for target in of_parts(figures))
