@@ -41,10 +41,10 @@ struct Parts {
     /// Room for the image of a state.
     snapshot: Vec<u8>,
 
-    /// Which pieces of the named image are out of date: none.
+    /// The dirty flags of the image that the opening's checkpoint will name: none.
     named_dirty: Vec<bool>,
 
-    /// The same of the other image: all, since nothing is known of it.
+    /// Those of the other image: all, since nothing is known of it.
     other_dirty: Vec<bool>,
 
     /// Which pieces of a cut are still to be written.

@@ -9,7 +9,7 @@ use Rattle.messages.specs.declared.Msg.TheVariants.{MakeVol, DropVol, Create, De
 use Rattle.messages.specs.Messages.{kind, four_numbers}
 use Rattle.messages.specs.Grammar.{all_kinds}
 
--- the number that stands for a kind, the first byte of a record
+-- the code of a kind, which is the first byte of a record
 abbrev pub kind_number : Kind → ℕ
 kind_number kinds.MakeVol = 1
 kind_number kinds.DropVol = 2

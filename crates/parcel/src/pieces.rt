@@ -76,8 +76,8 @@ pub fn write_piece(t: &Tree, n: usize, out: &mut [u8])
     }
 }
 
-// Writes the piece of a volume, or of one of its stripes. It is that piece in every state with a
-// volume of the same content.
+// Writes the piece of a volume, or of one of its stripes. The bytes depend on this volume's content
+// alone: the clause says so of every state that has it.
 fn write_part(volume: &Vol, g: &Geometry, part: usize, out: &mut [u8])
     requires fits { FitsVolume g.now volume.now }
     requires whole { IsWholeVolume volume.now }

@@ -25,7 +25,7 @@ use Rattle.run_queue.proofs.Ready.{none-ready, right-arrived, right-gone, right-
 
 -- ---- the start
 
--- a geometry has at most 357 affinities (`MOST_AFFINITIES`): so many queues are enough for any
+-- a geometry has at most 357 affinities (`MOST_AFFINITIES`), so 357 queues serve any geometry
 all_below : (g : Geometry) → server_size g ≤ 357
 all_below g =
     let volumes : g.volumes * (3 + g.stripes) ≤ 8 * 11 = mul-le g.volumes (3 + g.stripes) 8 11 g.volumes_range.1 (let most = g.stripes_range.1 in omega (arith, most)) in

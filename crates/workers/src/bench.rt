@@ -1,8 +1,8 @@
 //! The bench: its table, and what the dispatcher does there.
 //!
-//! The table has a word (its state) and a slot (a job cell) for each place. A slot lies in the table or belongs to one seat. Clauses
-//! see of a seat its table (`table_id`) and `me`: what it knows (`me.0`; in `Dispatcher n lent`, n slots not yet taken from the table, and
-//! the jobs that are lent) and the slots that it has, the one taken last first (`me.1`).
+//! The table has a word (its state) and a slot (a job cell) for each place. A slot lies in the table or belongs to one seat.
+//! In clauses a seat has its table (`table_id`) and `me`. `me.0` is its role: `Dispatcher n lent` says that n slots are still to be taken
+//! from the table, and which jobs are lent. `me.1` are the slots that it has, the one taken last first.
 ghost use Rattle.std.specs.Prelude.{◌≡◌, ◌+◌, ◌<◌, ◌≤◌, [], ◌∷◌, map, replicate, is_some, slice_set, Option, None, Some, IfOk, IfSome, IfNone, All, MatchOption, IsTrue, IsFalse, length, vec_len, Ok, Err};
 ghost use Rattle.atomic_table.specs.Table.{rest};
 ghost use Rattle.parcel.specs.Run.{JobView, IsJobRun};

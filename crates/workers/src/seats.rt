@@ -130,8 +130,8 @@ impl WorkSeat {
     }
 }
 
-// Rotates the dispatcher's list of slots: it began with those of the places from `from` on, and then begins with
-// those from `to` on. A seat can reach only the first slot of its list.
+// Rotates the dispatcher's list of slots: before the call it begins with the slots of the places from `from` on,
+// and after it with those from `to` on. A seat can reach only the first slot of its list.
 pub fn rotate_to(seat: &mut Seat, lent: &[bool], from: usize, to: usize)
     requires places { (from ≤ to) × (to ≤ length lent.now) }
     requires flags { lent.now ≡ map is_some (lent_of seat.old.me.0) }

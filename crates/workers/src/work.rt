@@ -43,6 +43,7 @@ impl Bench {
                 break;
             }
             match serve_round(words, &mut worker_seat, places, gate) {
+                // A worker that woke the dispatcher doesn't spin: beside busy threads one that yields would wait for their time slices.
                 Round::Idle if last == Round::Woke => {
                     sleep(words, &mut worker_seat, rt, seen);
                     last = Round::Idle;

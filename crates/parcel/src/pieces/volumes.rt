@@ -70,8 +70,8 @@ impl VolumePiece {
         }
     }
 
-    /// Bytes decoded as a volume's piece, whatever else they spell. Of the files those of the
-    /// geometry are looked at.
+    /// Decodes a volume's piece. The bytes that it doesn't use aren't checked, and bits of files that
+    /// the geometry doesn't have are dropped.
     fn decoded(g: &Geometry, version: u8, bytes: &[u8]) -> VolumePiece
         requires size { length bytes.now ≡ 64 }
         ensures { result ≡ decoded_piece version g.now bytes.now }

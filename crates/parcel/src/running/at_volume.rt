@@ -1,5 +1,5 @@
 //! Messages at a volume: they seal and unseal it, and ask how much it holds.
-//! In clauses `Msg.Seal 0 0` stands for a `seal` of any volume: its checks and its step are the same for each.
+//! Clauses write `Msg.Seal 0 0` for a `seal` of any volume: its checks and its step are the same for each.
 
 ghost use Rattle.std.specs.Prelude.{◌≡◌};
 ghost use Rattle.affinity.specs.declared.geometry.Geometry.{Geometry};
