@@ -1,6 +1,6 @@
 -- Worked examples of the definitions.
 use Rattle.std.proofs.Common.{lit≤, ◌≡◌, true, false, [], ◌∷◌, map, refl}
-use Rattle.affinity.specs.Geometry.{small, standard, stripe_of}
+use Rattle.affinity.specs.Geometry.{small, default_geometry, stripe_of}
 use Rattle.affinity.specs.Interval.{interval}
 use Rattle.affinity.specs.Kind.{number_count}
 use Rattle.affinity.specs.declared.geometry.Geometry.{Geometry}
@@ -8,7 +8,7 @@ use Rattle.affinity.specs.Path.{are_related, serial, aggregate, volume, logical,
 use Rattle.affinity.specs.Place.{is_in_range, path_of_kind}
 use Rattle.affinity.specs.declared.kinds.Kind.TheVariants.{MakeVol, DropVol, Create, Delete, Seal, Unseal, Write, Punch, Read, List as ListFiles, Usage, Summary, SetLabel, Label}
 
--- the stripes of a small server's blocks, and of the standard one's
+-- the stripes of a small server's blocks, and of the default one's
 first_block : stripe_of small 0 0 ≡ 0
 first_block = refl
 
@@ -18,13 +18,13 @@ second_block = refl
 second_file : stripe_of small 1 0 ≡ 1
 second_file = refl
 
-end_of_run : stripe_of standard 0 3 ≡ 0
+end_of_run : stripe_of default_geometry 0 3 ≡ 0
 end_of_run = refl
 
-next_run : stripe_of standard 0 4 ≡ 1
+next_run : stripe_of default_geometry 0 4 ≡ 1
 next_run = refl
 
-round_again : stripe_of standard 3 7 ≡ 0
+round_again : stripe_of default_geometry 3 7 ≡ 0
 round_again = refl
 
 -- the block is out of range, and the numbers that a kind doesn't have may be

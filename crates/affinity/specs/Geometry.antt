@@ -13,8 +13,8 @@ abbrev pub stripe_of : Geometry → ℕ → ℕ → ℕ
 stripe_of g f b = (f + b / g.width) % g.stripes
 
 -- the default geometry, of which the options change single numbers
-abbrev pub standard : Geometry
-standard = record {
+abbrev pub default_geometry : Geometry
+default_geometry = record {
   aggregates = 1;
   volumes = 4;
   stripes = 4;

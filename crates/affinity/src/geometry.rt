@@ -116,9 +116,9 @@ impl Geometry {
 /// each, and log halves of 256 records.
 impl Default for Geometry {
     ghost use Rattle.std.specs.Prelude.{◌≡◌};
-    ghost use Rattle.affinity.specs.Geometry.{standard};
+    ghost use Rattle.affinity.specs.Geometry.{default_geometry};
 
-    ghost is_default = { λ g. g ≡ standard };
+    ghost is_default = { λ g. g ≡ default_geometry };
 
     fn default() -> Self {
         Geometry {

@@ -1,6 +1,6 @@
 -- What words that are written out ask for. The program's own name is any text.
 use Rattle.std.proofs.Common.{◌≡◌, ℕ, List, [], ◌∷◌, Option, Some, codes, refl, ap, sym, subst, lit≤, arith, ◌≤◌}
-use Rattle.affinity.specs.Geometry.{standard}
+use Rattle.affinity.specs.Geometry.{default_geometry}
 use Rattle.clap.proofs.OnLiterals.{clap_on_literals}
 use Rattle.arguments.specs.Arguments.{AsksFormat, AsksHelp, AsksNoCommand, AsksOutOfRange, AsksPlain, AsksServeWith, AsksShow, AsksVersion, IsWrong}
 
@@ -13,18 +13,18 @@ first_letter _ = 0
 plain_is_another : ◌≡◌ {A = ℕ} 112 115 → ⊥
 plain_is_another letter = absurd (omega (arith, letter))
 
-pub asks_plain : (program : List ℕ) → AsksPlain (program ∷ codes "plain" ∷ []) standard
+pub asks_plain : (program : List ℕ) → AsksPlain (program ∷ codes "plain" ∷ []) default_geometry
 unfolding clap_on_literals
 asks_plain program = (refl, (λ e. cc, λ e. cc, λ e. plain_is_another (ap first_letter e)), refl)
 
-pub asks_alone : (words : List (List ℕ)) (program : List ℕ) → words ≡ program ∷ codes "plain" ∷ [] → AsksPlain words standard
-asks_alone words program are = subst (λ (ws : List (List ℕ)). AsksPlain ws standard) (sym are) (asks_plain program)
+pub asks_alone : (words : List (List ℕ)) (program : List ℕ) → words ≡ program ∷ codes "plain" ∷ [] → AsksPlain words default_geometry
+asks_alone words program are = subst (λ (ws : List (List ℕ)). AsksPlain ws default_geometry) (sym are) (asks_plain program)
 
-pub asks_two_files : (program : List ℕ) → AsksPlain (program ∷ codes "plain" ∷ codes "--files" ∷ codes "2" ∷ []) (record standard { files = 2; files_range = (lit≤ tt, lit≤ tt) })
+pub asks_two_files : (program : List ℕ) → AsksPlain (program ∷ codes "plain" ∷ codes "--files" ∷ codes "2" ∷ []) (record default_geometry { files = 2; files_range = (lit≤ tt, lit≤ tt) })
 unfolding clap_on_literals
 asks_two_files program = (refl, (λ e. cc, λ e. cc, λ e. plain_is_another (ap first_letter e)), refl)
 
-pub asks_two_files_at_once : (program : List ℕ) → AsksPlain (program ∷ codes "plain" ∷ codes "--files=2" ∷ []) (record standard { files = 2; files_range = (lit≤ tt, lit≤ tt) })
+pub asks_two_files_at_once : (program : List ℕ) → AsksPlain (program ∷ codes "plain" ∷ codes "--files=2" ∷ []) (record default_geometry { files = 2; files_range = (lit≤ tt, lit≤ tt) })
 unfolding clap_on_literals
 asks_two_files_at_once program = (refl, (λ e. cc, λ e. cc, λ e. plain_is_another (ap first_letter e)), refl)
 
@@ -69,12 +69,12 @@ pub large_number_is_wrong : (program : List ℕ) → IsWrong (program ∷ codes 
 unfolding clap_on_literals
 large_number_is_wrong program = (λ e. cc, refl)
 
-pub asks_format : (program : List ℕ) → AsksFormat (program ∷ codes "format" ∷ codes "d" ∷ []) (codes "d") standard
+pub asks_format : (program : List ℕ) → AsksFormat (program ∷ codes "format" ∷ codes "d" ∷ []) (codes "d") default_geometry
 unfolding clap_on_literals
 asks_format program = (refl, refl, refl, refl)
 
 pub asks_format_behind_an_option : (program : List ℕ)
-    → AsksFormat (program ∷ codes "format" ∷ codes "--files=2" ∷ codes "d" ∷ []) (codes "d") (record standard { files = 2; files_range = (lit≤ tt, lit≤ tt) })
+    → AsksFormat (program ∷ codes "format" ∷ codes "--files=2" ∷ codes "d" ∷ []) (codes "d") (record default_geometry { files = 2; files_range = (lit≤ tt, lit≤ tt) })
 unfolding clap_on_literals
 asks_format_behind_an_option program = (refl, refl, refl, refl)
 

@@ -4,7 +4,7 @@ use Rattle.std.specs.Char.{digit_value}
 use Rattle.std.specs.List.{list_all}
 use Rattle.std.specs.Str.Parse.{digits_value, without_leading_plus}
 use Rattle.affinity.specs.declared.geometry.Geometry.{Geometry}
-use Rattle.affinity.specs.Geometry.{numbers_of, standard}
+use Rattle.affinity.specs.Geometry.{numbers_of, default_geometry}
 use Rattle.affinity.specs.Limits.{AreInRange}
 use Rattle.clap.specs.Words.{App, Kinds, IsAmong, Row, Rule, Text, fault_of, first_of, kind_of, new_app, new_rule, subcommand_of, with_rule, with_subcommand}
 use Rattle.clap.specs.Simple.{on_top}
@@ -83,21 +83,21 @@ number_of text =
     if nat_lt 0 (length digits) && list_all (λ d. nat_lt (digit_value d) 10) digits
     && nat_lt (digits_value 10 digits) 65536 then Some (digits_value 10 digits) else None
 
--- the number of an option among those that were given, or the standard one
+-- the number of an option among those that were given, or the default
 abbrev pub number_in : List Row → Text → ℕ → ℕ
 number_in rows name default = unwrap_or (option_and_then number_of (one_of name rows)) default
 
 -- the eight numbers of the geometry, by the options that were given
 abbrev pub numbers_in : List Row → List ℕ
 numbers_in rows =
-    number_in rows (codes "aggregates") standard.aggregates
-    ∷ number_in rows (codes "volumes") standard.volumes
-    ∷ number_in rows (codes "stripes") standard.stripes
-    ∷ number_in rows (codes "width") standard.width
-    ∷ number_in rows (codes "files") standard.files
-    ∷ number_in rows (codes "blocks") standard.blocks
-    ∷ number_in rows (codes "quota") standard.quota
-    ∷ number_in rows (codes "half") standard.half
+    number_in rows (codes "aggregates") default_geometry.aggregates
+    ∷ number_in rows (codes "volumes") default_geometry.volumes
+    ∷ number_in rows (codes "stripes") default_geometry.stripes
+    ∷ number_in rows (codes "width") default_geometry.width
+    ∷ number_in rows (codes "files") default_geometry.files
+    ∷ number_in rows (codes "blocks") default_geometry.blocks
+    ∷ number_in rows (codes "quota") default_geometry.quota
+    ∷ number_in rows (codes "half") default_geometry.half
     ∷ []
 
 -- the options of `serve` in their order: workers, slots, and after how many records a checkpoint is made
@@ -140,7 +140,7 @@ IsPlain command = (¬ (IsNamed (codes "format") command)) × (¬ (IsNamed (codes
 
 -- the numbers that the options of the command give
 abbrev pub numbers_at : Option (Text × List Row) → List ℕ
-numbers_at None = numbers_of standard
+numbers_at None = numbers_of default_geometry
 numbers_at (Some command) = numbers_in command.1
 
 -- the options of `serve` that the command line gives

@@ -255,28 +255,28 @@ fn commands<'a>(alloc: Global) -> Result<Command<'a>, AllocError>
     with_commands(alloc, &COMMANDS)
 }
 
-/// The number that was given to an option, or else `standard`, the default. In clauses `rows_of` gives the options that `clap` found, each
+/// The number that was given to an option, or else `default_value`. In clauses `rows_of` gives the options that `clap` found, each
 /// with its values.
-fn number_given(options: &ArgMatches<'_>, name: &str, standard: u16) -> u16
-    ensures { result ≡ number_in (rows_of (found_of options.now)) name.now standard }
+fn number_given(options: &ArgMatches<'_>, name: &str, default_value: u16) -> u16
+    ensures { result ≡ number_in (rows_of (found_of options.now)) name.now default_value }
 {
-    options.get_one::<u16>(name).unwrap_or(standard)
+    options.get_one::<u16>(name).unwrap_or(default_value)
 }
 
 /// The eight numbers of the geometry that the options ask for.
 fn numbers_given(options: &ArgMatches<'_>) -> [u16; 8]
     ensures { result ≡ numbers_in (rows_of (found_of options.now)) }
 {
-    let standard = Geometry::default();
+    let default = Geometry::default();
     [
-        number_given(options, "aggregates", standard.aggregates),
-        number_given(options, "volumes", standard.volumes),
-        number_given(options, "stripes", standard.stripes),
-        number_given(options, "width", standard.width),
-        number_given(options, "files", standard.files),
-        number_given(options, "blocks", standard.blocks),
-        number_given(options, "quota", standard.quota),
-        number_given(options, "half", standard.half),
+        number_given(options, "aggregates", default.aggregates),
+        number_given(options, "volumes", default.volumes),
+        number_given(options, "stripes", default.stripes),
+        number_given(options, "width", default.width),
+        number_given(options, "files", default.files),
+        number_given(options, "blocks", default.blocks),
+        number_given(options, "quota", default.quota),
+        number_given(options, "half", default.half),
     ]
 }
 

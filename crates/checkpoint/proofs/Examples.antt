@@ -2,7 +2,7 @@
 -- hold two blocks each, and four records in a half. Its device has 8,840 bytes.
 use Rattle.std.proofs.Common.{◌≡◌, ℕ, ◌+◌, ◌%◌, List, ◌∷◌, ◌++◌, take, drop, get_or, replicate, Option, Some, None, refl, ap, arith, lit≤}
 use Rattle.affinity.specs.declared.geometry.Geometry.{Geometry}
-use Rattle.affinity.specs.Geometry.{small, standard}
+use Rattle.affinity.specs.Geometry.{small, default_geometry}
 use Rattle.checkpoint.specs.declared.fault.OpenFault.{OpenFault}
 use Rattle.checkpoint.specs.declared.fault.OpenFault.TheVariants.{TooShort, BadVersion, BadPiece, BadChain, BadRecord}
 use Rattle.checkpoint.specs.Header.{header_of}
@@ -19,9 +19,9 @@ use Rattle.meaning.specs.State.{State}
 header_of_small : header_of small ≡ 1 ∷ 87 ∷ 65 ∷ 70 ∷ 70 ∷ 83 ∷ 82 ∷ 86 ∷ 1 ∷ 0 ∷ 1 ∷ 0 ∷ 2 ∷ 0 ∷ 1 ∷ 0 ∷ 2 ∷ 0 ∷ 4 ∷ 0 ∷ 2 ∷ 0 ∷ 4 ∷ 0 ∷ replicate 40 0
 header_of_small = refl
 
-size_of_the_standard : device_size (layout_of standard) ≡ 1332608
+size_of_the_default : device_size (layout_of default_geometry) ≡ 1332608
 unfolding image_size
-size_of_the_standard = refl
+size_of_the_default = refl
 
 -- each number as great as it may be
 abbrev greatest : Geometry

@@ -17,7 +17,7 @@ abbrev pub first_bad : (ℕ → Bool) → ℕ → ℕ → Option ℕ
 first_bad is_good i zero = None
 first_bad is_good i (suc n) = if is_good i then first_bad is_good (suc i) n else Some i
 
--- the least piece of an image that isn't the one of what the image decodes to
+-- the first piece of an image whose bytes are not those that its decoded state has there
 abbrev pub first_bad_piece : Geometry → List ℕ → Option ℕ
 first_bad_piece g bytes = first_bad (is_good g bytes) 0 (piece_count g)
 

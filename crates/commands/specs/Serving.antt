@@ -144,8 +144,8 @@ pub record HasServedBy (keeps : Type 0) (s : ServeOptions) (old new : Medium) (e
   pub served : ServePromise keeps s.workers start (now, end) input remaining before written
   pub leaves : keeps → RecoversNow now
   pub given_back : new ≡ now.medium
-  pub incarnation : keeps → let behind = legal_run_of keeps (machine_at_start s start) now input before written end served.run
-      in IsIncarnation s start old new behind.1
+  pub incarnation : keeps → let run = legal_run_of keeps (machine_at_start s start) now input before written end served.run
+      in IsIncarnation s start old new run.1
 
 -- `HasServedBy` holds; or the device could not be opened. A crash during the opening leaves bytes that recover to the same state, or are
 -- refused for the same fault.
@@ -176,7 +176,7 @@ pub record HasNotBegun (end : Result (Unit {0}) Fault) (input remaining before w
   pub unread : remaining ≡ input
   pub unwritten : written ≡ before
 
--- If files keep their bytes as a device does, the service ran on a device with the file's bytes.
+-- If files keep their bytes as a device does, the service ran on some device: contracts don't know the bytes of a file.
 pub record HasServedFile (s : ServeOptions) (end : Result (Unit {0}) Fault)
     (input remaining before written : Option (List ℕ)) : Type 0 where
   pub old : Medium
@@ -184,7 +184,7 @@ pub record HasServedFile (s : ServeOptions) (end : Result (Unit {0}) Fault)
   pub ends : EndsOnDevice FileKeeps s old new end input remaining before written
   pub crash_safe : CrashesSafely FileKeeps s old new end input remaining before written
 
--- How a service on the device in a file ends: it did not begin, or it ran on a device with the file's bytes.
+-- How a service on the device in a file ends: it did not begin, or it ran on some device.
 abbrev pub EndsInFile : ServeOptions → Result (Unit {0}) Fault
     → Option (List ℕ) → Option (List ℕ) → Option (List ℕ) → Option (List ℕ) → Type 0
 EndsInFile s end input remaining before written =

@@ -1,6 +1,6 @@
 //! The program over a reader and two writers.
 ghost use Rattle.std.specs.Prelude.{◌≡◌, ◌⊎◌, ℕ, List, [], ◌∷◌, codes, map, string_bytes};
-ghost use Rattle.affinity.specs.Geometry.{standard};
+ghost use Rattle.affinity.specs.Geometry.{default_geometry};
 ghost use Rattle.commands.specs.Calls.{Ends, ExitsFormat, ExitsHelp, ExitsPlain, ExitsRefused, ExitsServe, ExitsShow, status_of_refusal};
 ghost use Rattle.commands.specs.Services.{AsksServe, with_at_most_64_workers};
 ghost use Rattle.arguments.specs.Arguments.{AsksFormat, AsksHelp, AsksNoCommand, AsksPlain, AsksShow, AsksVersion, AreRefused, service_numbers};
@@ -23,7 +23,8 @@ use std::rt::Files;
 use std::sync::Wait;
 use std::thread::Threads;
 
-/// The options of `serve` with these numbers (workers, slots, and after how many records a checkpoint is due), but 64 workers at most.
+/// The options of `serve` with these numbers: workers, but 64 at most; slots, i.e. lines that may be outstanding; and after how many
+/// records a checkpoint is due.
 fn service_of(numbers: ServiceNumbers) -> ServeOptions
     ensures { options_in_order result ≡ with_at_most_64_workers (service_numbers numbers) }
 {
@@ -69,7 +70,7 @@ fn report_refusal<E: Write>(refusal: ArgumentRefusal, e: &mut E) -> u8
     }
 }
 
-/// Reads the arguments, the program's own name first, does what they ask for from `r` to `w`, prints a fault on `e`, and answers the exit
+/// Reads the arguments, the program's own name first, does what they ask for from `r` to `w`, prints a fault on `e`, and returns the exit
 /// status. Files are those of `rt`.
 pub fn command<T: Files<File = File> + Threads + Wait + Sync, R: Read, W: Write, E: Write>(
     rt: &T,
@@ -83,7 +84,7 @@ pub fn command<T: Files<File = File> + Threads + Wait + Sync, R: Read, W: Write,
         → ExitsPlain g result (R.remaining r.old) (R.remaining r.new)
         (W.contents w.old) (W.contents w.new) }
     ensures plain { (program : List ℕ) → map string_bytes arguments.now ≡ program ∷ codes "plain" ∷ []
-        → ExitsPlain standard result (R.remaining r.old) (R.remaining r.new)
+        → ExitsPlain default_geometry result (R.remaining r.old) (R.remaining r.new)
         (W.contents w.old) (W.contents w.new) }
     ensures formatted { (path : List ℕ) → (g : Geometry) → AsksFormat (map string_bytes arguments.now) path g
         → ExitsFormat g result (W.contents w.old) (W.contents w.new)

@@ -47,6 +47,7 @@ fn serve_core<T: Threads + Wait + Sync, R: Read, W: Write, D: Disk + Drop>(
 {
     let workers = usize::from(service.workers);
     let every = u64::from(service.every);
+    // `OpenGate`: no test holds the workers up.
     match serve(rt, alloc, core, r, w, workers, every, &OpenGate) {
         Ok(core) => (core, Ok(())),
         Err(ServeError { core, fault }) => (core, Err(fault)),

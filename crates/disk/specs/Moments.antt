@@ -19,5 +19,5 @@ left_since m t c = LeftByMoments (moments m) t c
 pub record CrashImagesAre (old new : Medium) (P : List ℕ → Type 0) : Type 0 where
   pub later : moment_number old ≤ moment_number new
   pub each : (c : List ℕ) → left_since new (moment_number old) c → P c
-  -- A crash since an earlier moment t leaves what one up to `old` might have left, or what has P.
+  -- A crash since an earlier moment t leaves what a crash from t to `old` could have left, or what has P.
   pub before : (t : ℕ) (c : List ℕ) → t ≤ moment_number old → left_since new t c → left_since old t c ⊎ P c

@@ -1,4 +1,4 @@
-//! What contracts know of a device, though it takes no memory: its moments so far, and how often it failed.
+//! What contracts know of a device's past, at no cost in memory: its moments so far, and how often it failed.
 ghost use Rattle.std.specs.Prelude.{◌≡◌, []};
 ghost use Rattle.disk.specs.Device.{fresh_synced};
 ghost use Rattle.disk.specs.GhostDevice.{medium_after, bytes_of};

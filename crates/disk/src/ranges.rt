@@ -1,4 +1,4 @@
-//! Writes over a range of a list, and the test whether a device has the range.
+//! Overwrites a range of bytes, marks one as unsynced, and tests whether a device has one.
 ghost use Rattle.std.specs.Prelude.{◌≡◌, false, ◌+◌, ◌-◌, ◌<◌, ◌≤◌, ◌↔◌, length, replicate, IfOk, IsErrOf};
 ghost use Rattle.disk.specs.declared.fault.DiskFault.TheVariants.{OutOfRange, Device};
 ghost use Rattle.disk.specs.Device.{SameOutside, overlaid, marked};

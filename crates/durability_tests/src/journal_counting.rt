@@ -80,7 +80,7 @@ fn each_act_takes_few_calls(rt: HostRuntime) -> Result<(), Fail> {
     Ok(())
 }
 
-/// What opening a device with these changes takes: reads, then writes, syncs and bytes.
+/// What opening a device with these patches takes: reads, then writes, syncs and bytes.
 fn opening_cost(
     rt: &impl Abort,
     alloc: Global,
@@ -107,8 +107,8 @@ fn opening_takes_few_calls(rt: HostRuntime) -> Result<(), Fail> {
     // A sync, and a checkpoint of the whole image. It reads the header, the root byte, the image's head and its three pieces, the chain
     // byte and the gates.
     opening_cost(&rt, rt.alloc(), &[], 8, [3, 4, 68 + 2208 + 1])?;
-    // Byte 128, the chain byte of half 0, says that a cut was in progress: it is finished before, by an image and the root byte. The
-    // chain byte and the gates of the other half are read too.
+    // Byte 128, the chain byte of half 0, says that a cut was in progress: opening finishes it first, by writing an image and the
+    // root byte. The chain byte and the gates of the other half are read too.
     let ended = 2 * (2208 + 1) + 68;
     opening_cost(&rt, rt.alloc(), &[(128, 1)], 10, [5, 6, ended])?;
     Ok(())
@@ -152,7 +152,7 @@ fn logged_until(alloc: Global, messages: &[Msg], n: u64) -> Result<(bool, MemDis
     }
 }
 
-/// Where the device stops at the n-th call of a log of these messages, this many of them are in force after a crash of
+/// Where the device stops at the n-th device call of one `log` of `count` messages, `records` of them are in force after a crash of
 /// this kind.
 fn leaves(
     rt: &impl Abort,

@@ -25,7 +25,7 @@ const STANDING: Standing = Standing {
     files: 1,
 };
 
-// The job that reads the block of volume k, where it was written before.
+// Writes the first block of volume k, and returns the job that reads it.
 fn reading(tree: &mut Tree, k: u16) -> Option<Job>
     ensures tree { tree.new.geometry ≡ tree.old.geometry }
     ensures job { IfSome result (λ job. job.geometry ≡ tree.old.geometry) }
@@ -54,7 +54,7 @@ fn offer(bench: &Bench, dispatch_seat: &mut DispatchSeat, k: usize, job: Job)
     }
 }
 
-// Offers a job at each place, with what lies there in a new tree. Returns whether there is one for each.
+// Offers at each place k the job that reads a block of volume k, on parcels of a new tree. Returns whether there is one for each.
 fn offer_first(
     alloc: Global,
     bench: &Bench,
@@ -136,7 +136,7 @@ fn go_round<R: Wait>(
     }
 }
 
-/// Makes `trips` round trips, by as many workers as places. False where there can't be as many.
+/// Makes `trips` round trips with `workers` workers and as many places. False where that is 0 or too many, or a job can't be made.
 pub fn make_trips<R: Threads + Wait + Sync>(
     rt: &R,
     alloc: Global,

@@ -1,6 +1,6 @@
 -- Worked examples of the definitions, on a small server: one volume of two files of four blocks, in two stripes that hold two blocks each.
 use Rattle.std.proofs.Common.{◌≡◌, ℕ, ◌+◌, List, [], ◌∷◌, ◌++◌, length, take, drop, replicate, Bool, true, false, Option, Some, None, refl}
-use Rattle.affinity.specs.Geometry.{small, standard}
+use Rattle.affinity.specs.Geometry.{small, default_geometry}
 use Rattle.messages.specs.declared.Block.{Block}
 use Rattle.messages.specs.declared.Msg.{Msg}
 use Rattle.messages.specs.declared.Msg.TheVariants.{MakeVol, DropVol, Create, Delete, Seal, Unseal, Write, Punch, Read, List as ListFiles, Usage as AskUsage, Summary as AskSummary, SetLabel, Label as AskLabel}
@@ -184,9 +184,9 @@ questions_touch_nothing : touched_in_small (Read 0 0 1 1) ++ touched_in_small (L
     ++ touched_in_small AskSummary ++ touched_in_small (AskLabel 0 0) ≡ replicate 15 false
 questions_touch_nothing = refl
 
--- pieces 4, 5, 9 and 10 of the standard server: the second of its four volumes has five pieces, behind the five of the first one
-abbrev touched_in_standard : Msg → List Bool
-touched_in_standard m = may_change standard m 4 ∷ may_change standard m 5 ∷ may_change standard m 9 ∷ may_change standard m 10 ∷ []
+-- pieces 4, 5, 9 and 10 of the default server: the second of its four volumes has five pieces, behind the five of the first one
+abbrev touched_in_default : Msg → List Bool
+touched_in_default m = may_change default_geometry m 4 ∷ may_change default_geometry m 5 ∷ may_change default_geometry m 9 ∷ may_change default_geometry m 10 ∷ []
 
-drop_touches_its_volume : touched_in_standard (DropVol 0 1) ≡ false ∷ true ∷ true ∷ false ∷ []
+drop_touches_its_volume : touched_in_default (DropVol 0 1) ≡ false ∷ true ∷ true ∷ false ∷ []
 drop_touches_its_volume = refl

@@ -15,7 +15,7 @@ use Rattle.image.proofs.Untouched.{piece_stays}
 use Rattle.meaning.proofs.Kept.{step_kept}
 use Rattle.std.specs.List.{AllByRecursion}
 use Rattle.journal.specs.Journal.{AreCarriedOut, RecoversWithPrefix, IsRecoverable, records_in}
-use Rattle.journal.specs.Keeping.{IsCutOr, IsUpToDate, IsCutState, IsSoundJournal, image_after_cut, journal_view_of}
+use Rattle.journal.specs.Keeping.{IsCutIfRunning, IsUpToDate, IsCutState, IsSoundJournal, image_after_cut, journal_view_of}
 use Rattle.journal.specs.DirtyPieces.{AreBothTouched, DirtiesTouched}
 use Rattle.journal.specs.Steps.{RecoversByArea, run_on}
 use Rattle.journal.specs.Extents.{AgreeOnClean, image_in, extent_of}
@@ -113,8 +113,8 @@ pub sound_along : {log log' : Log} {snapshot snapshot' : List ℕ} {named named'
 sound_along {pending} {m} log bytes row row' pieces_left sound = subst (λ (t : Type 0). t) (sym (λ i. IsSoundJournal (log i) (bytes i) (row i) (row' i) pending (pieces_left i) m)) sound
 
 -- how many records there are is no fact of a cut
-cut_used : (log : Log) (used : ℕ) (snapshot : List ℕ) (pending : List Bool) (pieces_left : Option ℕ) (m : Medium) → IsCutOr log snapshot pending pieces_left m
-    → IsCutOr (record log { used = used }) snapshot pending pieces_left m
+cut_used : (log : Log) (used : ℕ) (snapshot : List ℕ) (pending : List Bool) (pieces_left : Option ℕ) (m : Medium) → IsCutIfRunning log snapshot pending pieces_left m
+    → IsCutIfRunning (record log { used = used }) snapshot pending pieces_left m
 cut_used log used snapshot pending None m cut = tt
 cut_used log used snapshot pending (Some k) m cut = record { behind = cut.behind; written = cut.written; version = cut.version }
 
@@ -181,7 +181,7 @@ module _ {log : Log} {snapshot : List ℕ} {named others pending : List Bool} {p
     still_coming None = images (other log.named) (omega arith)
     still_coming (Some k) = refl
 
-    cut_more : (pieces_left : Option ℕ) → IsCutState log pending pieces_left → IsCutOr log snapshot pending pieces_left w0 → IsCutOr log snapshot pending pieces_left w1
+    cut_more : (pieces_left : Option ℕ) → IsCutState log pending pieces_left → IsCutIfRunning log snapshot pending pieces_left w0 → IsCutIfRunning log snapshot pending pieces_left w1
     cut_more None placed cut = tt
     cut_more (Some k) placed cut = record {
       behind =

@@ -16,7 +16,7 @@ use Rattle.meaning.specs.State.{State, IsState}
 
 -- ---- dirty flags
 
--- Each clean extent of these bytes is that of the state x, if x is one.
+-- If there is a state x: each clean extent of these bytes (a piece, the first with the image's head) is that of x.
 abbrev pub IsUpToDate : Geometry → Option State → List Bool → List ℕ → Type 0
 IsUpToDate g x dirty bytes = (y : State) → x ≡ Some y → AreCleanPiecesOf g y dirty bytes
 
@@ -27,7 +27,7 @@ abbrev pub AreCleanBefore : ℕ → List Bool → Type 0
 AreCleanBefore n dirty = (i : ℕ) → i < n → get_or dirty i false ≡ false
 
 -- A cut is in progress: its image, with the records of the other half run on it, leads to what the device recovers to, and
--- each of its extents that isn't pending is on the device. Its image is one of version 2.
+-- each of its extents that isn't pending is on the device. Its image has version 2, the version that is written.
 pub record IsCut (log : Log) (snapshot : List ℕ) (pending : List Bool) (m : Medium) : Type 0 where
   pub behind : run_on log.geometry (read log.geometry snapshot) (front (layout_of log.geometry) (other log.named) m.now)
       ≡ recovered_state log.geometry m.now
@@ -35,16 +35,16 @@ pub record IsCut (log : Log) (snapshot : List ℕ) (pending : List Bool) (m : Me
   pub version : version_in snapshot ≡ 2
 
 -- While a cut is in progress, its snapshot and records lead to what the device recovers to (`IsCut`).
-abbrev pub IsCutOr : Log → List ℕ → List Bool → Option ℕ → Medium → Type 0
-IsCutOr log snapshot pending None m = Unit {0}
-IsCutOr log snapshot pending (Some pieces_left) m = IsCut log snapshot pending m
+abbrev pub IsCutIfRunning : Log → List ℕ → List Bool → Option ℕ → Medium → Type 0
+IsCutIfRunning log snapshot pending None m = Unit {0}
+IsCutIfRunning log snapshot pending (Some pieces_left) m = IsCut log snapshot pending m
 
 -- which half is current, and how many extents are pending
 abbrev pub IsCutState : Log → List Bool → Option ℕ → Type 0
 IsCutState log pending None = log.current ≡ log.named
 IsCutState log pending (Some pieces_left) = (log.current ≡ other log.named) × (count_dirty pending ≡ pieces_left)
 
--- the image that the area that isn't named has, or will have once the cut is written
+-- the image of the area that isn't named: the one it has, or while a cut is in progress the one it will have
 abbrev pub image_after_cut : Log → List ℕ → Option ℕ → Medium → List ℕ
 image_after_cut log snapshot None m = image_in log.geometry (other log.named) m
 image_after_cut log snapshot (Some pieces_left) m = snapshot
@@ -65,7 +65,7 @@ pub record IsSoundJournal (log : Log) (snapshot : List ℕ) (named others pendin
   -- while no cut is in progress, the last snapshot is the named image, so that the same flags hold of it
   pub snapshot_up_to_date : pieces_left ≡ None → IsUpToDate log.geometry (recovered_state log.geometry m.now) named snapshot
   pub other_up_to_date : IsUpToDate log.geometry (recovered_state log.geometry m.now) others (image_after_cut log snapshot pieces_left m)
-  pub by_cut : IsCutOr log snapshot pending pieces_left m
+  pub by_cut : IsCutIfRunning log snapshot pending pieces_left m
 
 abbrev pub journal_view_of : Log → List Bool → List Bool → Option ℕ → Bool → Medium → JournalView
 journal_view_of log named others pieces_left failed m = record {

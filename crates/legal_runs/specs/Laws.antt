@@ -59,7 +59,7 @@ pub record IsSoundCoreState (g : Geometry) (w : CoreState) : Type 0 where
   pub replied : HaveRepliesAt g w.committed w.ran
   -- the waiting messages are in the order of their tickets
   pub ascending : AreAscending w.waiting
-  -- no two messages in flight or waiting have one ticket, and each is below the next one
+  -- no two messages in flight or waiting have one ticket, and each ticket is below the next one to be given
   pub once : HaveDistinctTickets (w.in_flight ++ w.waiting)
   pub given : AllByRecursion (λ e. e.0 < w.next) (w.in_flight ++ w.waiting)
   -- the log has room for all changing messages that are in flight or ran

@@ -6,8 +6,8 @@ use Rattle.legal_runs.specs.Events.{Empty, Hand}
 use Rattle.legal_runs.specs.Laws.{IsSoundCoreState}
 use Rattle.legal_runs.specs.CoreState.{CoreState}
 use Rattle.runs.specs.Machine.{HoldsJobs, IsHandOf, hand_at, hand_of, ticket_in}
-use Rattle.runs.specs.declared.hands.Holding.{Holding}
-use Rattle.runs.specs.declared.hands.Holding.TheVariants as has
+use Rattle.runs.specs.declared.hands.HandContent.{HandContent}
+use Rattle.runs.specs.declared.hands.HandContent.TheVariants as has
 
 empty_at : (n i : ℕ) → hand_at (replicate n has.Empty) i ≡ has.Empty
 empty_at zero zero = refl
@@ -22,6 +22,6 @@ all_empty (suc n) = ap (λ (hs : List Hand). Empty ∷ hs) (all_empty n)
 pub empty_hold : (g : Geometry) (w : CoreState) (n : ℕ) → IsSoundCoreState g w → HoldsJobs g w (replicate n has.Empty)
 empty_hold g w n sound = record {
   sound = sound;
-  each = λ i. subst (λ (h : Holding). IsHandOf g w h) (sym (empty_at n i)) tt;
+  each = λ i. subst (λ (h : HandContent). IsHandOf g w h) (sym (empty_at n i)) tt;
   once = λ i k ticket it_has other. absurd (none-some ticket (sym (ap ticket_in (empty_at n i)) ∙ it_has));
 }

@@ -5,53 +5,53 @@ ghost use Rattle.runs.specs.Hands.{IsTakenFrom, IsRunIn};
 ghost use Rattle.runs.specs.Machine.{hand_of};
 
 use parcel::{Done, run};
-use runs::Holding;
+use runs::HandContent;
 use std::mem;
 
 /// The least empty hand.
-pub(crate) fn first_empty(hands: &[Holding]) -> Option<usize>
+pub(crate) fn first_empty(hands: &[HandContent]) -> Option<usize>
     ensures { result ≡ position (λ h. is_empty (hand_of h)) hands.now }
 {
     hands.iter().position(|hand| is_vacant(hand))
 }
 
-fn is_vacant(hand: &Holding) -> bool
+fn is_vacant(hand: &HandContent) -> bool
     ensures { result ≡ is_empty (hand_of hand.now) }
 {
     match hand {
-        Holding::Empty => true,
-        Holding::Job(_) => false,
-        Holding::Result(_) => false,
+        HandContent::Empty => true,
+        HandContent::Job(_) => false,
+        HandContent::Result(_) => false,
     }
 }
 
 /// Runs the job that the hand has, and returns whether it has one.
-pub(crate) fn run_in(hand: &mut Holding) -> bool
+pub(crate) fn run_in(hand: &mut HandContent) -> bool
     ensures { IsRunIn hand.old hand.new result }
 {
-    match mem::replace(hand, Holding::Empty) {
-        Holding::Empty => false,
-        Holding::Job(job) => {
-            *hand = Holding::Result(run(job));
+    match mem::replace(hand, HandContent::Empty) {
+        HandContent::Empty => false,
+        HandContent::Job(job) => {
+            *hand = HandContent::Result(run(job));
             true
         }
-        Holding::Result(done) => {
-            *hand = Holding::Result(done);
+        HandContent::Result(done) => {
+            *hand = HandContent::Result(done);
             false
         }
     }
 }
 
 /// Takes the result that the hand has, if it has one.
-pub(crate) fn take_result(hand: &mut Holding) -> Option<Done>
+pub(crate) fn take_result(hand: &mut HandContent) -> Option<Done>
     ensures { IsTakenFrom hand.old hand.new result }
 {
-    match mem::replace(hand, Holding::Empty) {
-        Holding::Empty => None,
-        Holding::Job(job) => {
-            *hand = Holding::Job(job);
+    match mem::replace(hand, HandContent::Empty) {
+        HandContent::Empty => None,
+        HandContent::Job(job) => {
+            *hand = HandContent::Job(job);
             None
         }
-        Holding::Result(done) => Some(done),
+        HandContent::Result(done) => Some(done),
     }
 }

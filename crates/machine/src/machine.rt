@@ -2,13 +2,13 @@
 ghost use Rattle.std.specs.Prelude.{◌≡◌, IfErr, IfOk, length, replicate};
 ghost use Rattle.legal_runs.specs.Events.{Empty};
 ghost use Rattle.runs.specs.Machine.{HasRun, machine_of};
-ghost use Rattle.runs.specs.declared.hands.Holding.TheVariants as has;
+ghost use Rattle.runs.specs.declared.hands.HandContent.TheVariants as has;
 ghost use Rattle.scheduler.specs.CoreView.{core_state_of};
 
 use crate::stepping::make_step;
 use disk::Disk;
 use legal_runs::{Outcome, Step};
-use runs::Holding;
+use runs::HandContent;
 use scheduler::Core;
 use std::alloc::{AllocError, Global};
 use std::marker::Model;
@@ -17,7 +17,7 @@ use std::marker::Model;
 #[derive(Drop)]
 pub struct Machine<D: Disk> {
     core: Core<D>,
-    hands: Vec<Holding>,
+    hands: Vec<HandContent>,
 }
 
 /// There was no memory for the hands. The core is as it was.
@@ -77,12 +77,12 @@ impl<D: Disk> Machine<D> {
 }
 
 // A row of empty hands.
-fn empty_hands(alloc: Global, count: usize) -> Result<Vec<Holding>, AllocError>
+fn empty_hands(alloc: Global, count: usize) -> Result<Vec<HandContent>, AllocError>
     ensures { IfOk result (λ hands. hands.items ≡ replicate count has.Empty) }
 {
     let mut hands = Vec::with_capacity(alloc, count)?;
     for _ in 0..count {
-        hands.push(Holding::Empty)?;
+        hands.push(HandContent::Empty)?;
     }
     Ok(hands)
 }

@@ -10,11 +10,11 @@ use crate::hands::{first_empty, run_in, take_result};
 use disk::Disk;
 use legal_runs::{Outcome, Step};
 use messages::Msg;
-use runs::Holding;
+use runs::HandContent;
 use scheduler::{Core, Granted};
 
 /// Makes one step, and returns its outcome.
-pub(crate) fn make_step<D: Disk>(core: &mut Core<D>, hands: &mut [Holding], step: &Step) -> Outcome
+pub(crate) fn make_step<D: Disk>(core: &mut Core<D>, hands: &mut [HandContent], step: &Step) -> Outcome
     requires { HoldsJobs core.old.geometry (core_state_of core.old) hands.old }
     ensures step { IsMachineStep D.keeps (record { core = core.old; hands = hands.old })
         (record { core = core.new; hands = hands.new }) step.now result }
@@ -38,7 +38,7 @@ pub(crate) fn make_step<D: Disk>(core: &mut Core<D>, hands: &mut [Holding], step
 // ---- with the hands
 
 // Grants the eligible message with the least ticket to the least empty hand.
-fn grant<D: Disk>(core: &mut Core<D>, hands: &mut [Holding]) -> Outcome
+fn grant<D: Disk>(core: &mut Core<D>, hands: &mut [HandContent]) -> Outcome
     requires { HoldsJobs core.old.geometry (core_state_of core.old) hands.old }
     ensures step { IsMachineStep D.keeps (record { core = core.old; hands = hands.old })
         (record { core = core.new; hands = hands.new }) steps.Grant result }
@@ -52,7 +52,7 @@ fn grant<D: Disk>(core: &mut Core<D>, hands: &mut [Holding]) -> Outcome
     match core.grant() {
         Granted::Job(job) => {
             let ticket = job.ticket();
-            hands[hand] = Holding::Job(job);
+            hands[hand] = HandContent::Job(job);
             Outcome::Granted(hand, ticket)
         }
         Granted::NoneEligible => Outcome::NoneEligible,
@@ -62,7 +62,7 @@ fn grant<D: Disk>(core: &mut Core<D>, hands: &mut [Holding]) -> Outcome
 }
 
 // Runs the job in a hand. The core is left alone.
-fn run_job<D: Disk>(core: &Core<D>, hands: &mut [Holding], hand: usize) -> Outcome
+fn run_job<D: Disk>(core: &Core<D>, hands: &mut [HandContent], hand: usize) -> Outcome
     requires { HoldsJobs core.now.geometry (core_state_of core.now) hands.old }
     ensures step { IsMachineStep D.keeps (record { core = core.now; hands = hands.old })
         (record { core = core.now; hands = hands.new }) (steps.Run hand) result }
@@ -80,7 +80,7 @@ fn run_job<D: Disk>(core: &Core<D>, hands: &mut [Holding], hand: usize) -> Outco
 }
 
 // Gives back the result in a hand.
-fn give_back<D: Disk>(core: &mut Core<D>, hands: &mut [Holding], hand: usize) -> Outcome
+fn give_back<D: Disk>(core: &mut Core<D>, hands: &mut [HandContent], hand: usize) -> Outcome
     requires { HoldsJobs core.old.geometry (core_state_of core.old) hands.old }
     ensures step { IsMachineStep D.keeps (record { core = core.old; hands = hands.old })
         (record { core = core.new; hands = hands.new }) (steps.Back hand) result }

@@ -1,7 +1,7 @@
 -- Worked examples, by computing: what a small server answers to a list of messages.
 use Rattle.std.proofs.Common.{◌≡◌, ℕ, true, false, List, [], ◌∷◌, refl}
 use Rattle.std.specs.Prelude.{replicate}
-use Rattle.affinity.specs.Geometry.{small, standard}
+use Rattle.affinity.specs.Geometry.{small, default_geometry}
 use Rattle.messages.specs.declared.Block.{Block}
 use Rattle.messages.specs.declared.Msg.{Msg}
 use Rattle.messages.specs.declared.Msg.TheVariants.{MakeVol, DropVol, Create, Delete, Seal, Unseal, Write, Punch, Read, List as ListFiles, Usage as AskUsage, Summary as AskSummary, SetLabel, Label as AskLabel}
@@ -95,12 +95,12 @@ counts x = refl
 counts_of_nothing : answers (ListFiles 0 0 ∷ AskSummary ∷ []) ≡ Refused Volume ∷ Summary 0 0 0 ∷ []
 counts_of_nothing = refl
 
-counts_of_two_volumes : (x : Block) → replies standard empty (MakeVol 0 1 ∷ MakeVol 0 3 ∷ Create 0 1 5 ∷ Create 0 3 0 ∷ Create 0 3 15
+counts_of_two_volumes : (x : Block) → replies default_geometry empty (MakeVol 0 1 ∷ MakeVol 0 3 ∷ Create 0 1 5 ∷ Create 0 3 0 ∷ Create 0 3 15
     ∷ Write 0 3 15 63 x ∷ Write 0 3 0 7 x ∷ Seal 0 3 ∷ ListFiles 0 3 ∷ AskUsage 0 3 ∷ AskUsage 0 1 ∷ AskSummary ∷ []) ≡ Done ∷ Done ∷ Done ∷ Done
     ∷ Done ∷ Done ∷ Done ∷ Done ∷ Files 32769 ∷ Usage 2 2 true ∷ Usage 1 0 false ∷ Summary 2 3 2 ∷ []
 counts_of_two_volumes x = refl
 
-the_last_block_is_in_range : (x : Block) → replies standard (state_after_all standard empty (one_block x))
+the_last_block_is_in_range : (x : Block) → replies default_geometry (state_after_all default_geometry empty (one_block x))
     (Read 0 0 0 63 ∷ Read 0 0 0 64 ∷ Read 0 0 0 65535 ∷ AskUsage 0 0 ∷ []) ≡ Hole ∷ Refused Range ∷ Refused Range ∷ Usage 1 1 false ∷ []
 the_last_block_is_in_range x = refl
 

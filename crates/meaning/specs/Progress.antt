@@ -8,7 +8,8 @@ use Rattle.messages.specs.Lines.{lines}
 use Rattle.meaning.specs.State.{State}
 use Rattle.meaning.specs.Output.{state_after_lines, output_lines, joined, with_newlines, HasNoNewline}
 
--- These lines were taken of the input and the rest is left of it, unless the input is drained (its end was seen, and nothing is held).
+-- These lines were taken of the input, and the rest is left of it. If the input is drained (its end was seen, and nothing is buffered), the
+-- last line may lack its newline.
 pub record AreTaken (input rest : List ℕ) (drained : Bool) (taken : List (List ℕ)) : Type 0 where
   pub to_come : lines input ≡ taken ++ lines rest
   pub are_lines : AllByRecursion HasNoNewline taken

@@ -26,8 +26,7 @@ kind_number kinds.Summary = 12
 kind_number kinds.SetLabel = 13
 kind_number kinds.Label = 14
 
--- what comes before the data: a byte for the kind and for the aggregate, the volume and the file, two for the block with the lower one
--- first, and two zeros
+-- what comes before the data: one byte each for kind, aggregate, volume and file, two for the block, the lower one first, and two zeros
 abbrev pub head_with : ℕ → List ℕ → List ℕ
 head_with k (a ∷ v ∷ f ∷ b ∷ []) = k ∷ a ∷ v ∷ f ∷ [] ++ little_bytes 2 b ++ 0 ∷ 0 ∷ []
 head_with k _ = []
@@ -77,7 +76,7 @@ assembled kinds.Summary a v f b bytes = Summary
 assembled kinds.SetLabel a v f b bytes = SetLabel a v (take 32 bytes)
 assembled kinds.Label a v f b bytes = Label a v
 
--- the message that the fields of 520 bytes encode, whatever is in those that it doesn't have
+-- the message that the fields of 520 bytes encode; fields that its kind doesn't use are ignored
 unfoldable pub message_in_fields : List ℕ → Option Msg
 message_in_fields bytes =
     option_map (λ k. assembled k (slice_index bytes 1) (slice_index bytes 2) (slice_index bytes 3) (little_number 2 (take 2 (drop 4 bytes)))

@@ -1,7 +1,6 @@
 //! Reads and writes the language of the server: messages as input lines, replies as output lines, and records.
 #![tactic(auto)]
 
-mod carried;
 mod decoding;
 mod heads;
 mod lent_reader;
@@ -10,10 +9,10 @@ mod printing;
 mod reading;
 mod records;
 mod reply_buffer;
+mod sizes;
 
-pub use carried::{know_block, know_message};
 pub use heads::{Head, decode_block, head_of_line};
-// A reader that is lent to a `LineReader`; a `Loan` names which one.
+// A reader that is lent to a `LineReader`; its type parameter, a `Loan`, says which one it is.
 pub use lent_reader::{LentReader, Loan};
 pub use messages::{Block, Msg, Refusal, Reply};
 pub use parsing::parse_line;
@@ -21,6 +20,7 @@ pub use printing::{no_message_line, write_reply};
 pub use reading::{Found, LineReader, ReadFault};
 pub use records::{decode, encode};
 pub use reply_buffer::{REPLY_BUFFER_SIZE, ReplyBuffer, WriteFault};
+pub use sizes::{know_block, know_message};
 
 /// How many bytes a line of the input may have, its newline not counted. A longer one is no message.
 pub const LONGEST_LINE: usize = 1100;

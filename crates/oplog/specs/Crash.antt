@@ -1,6 +1,6 @@
--- Statement for engineers: What a device recovers to after a crash, for the layer above: in its words no place of a byte occurs. Each law
--- takes `CrashRecovers` of the device before a sequence of calls and gives `RecoversBy` of whatever a crash leaves during it, so that what
--- one law gives is what the next one takes.
+-- Statement for engineers: What a device recovers to after a crash, for the layer above, without the places of bytes. Each law takes
+-- `CrashRecovers` of the device before a sequence of calls and gives `RecoversBy` of whatever a crash leaves during it, so that what one
+-- law gives is what the next one takes.
 use Rattle.std.specs.Prelude.{◌≡◌, ◌≢◌, ◌<◌, ◌≤◌, ℕ, List, [], length, take, Option}
 use Rattle.disk.specs.Device.{Medium, IsCrashImage}
 use Rattle.disk.specs.Moments.{CrashImagesAre}

@@ -1,4 +1,4 @@
--- Format for operators: What a half holds: its chain byte, its gates, and the records that its gates put in force.
+-- Format for operators: What a half holds: its chain byte, its gates, its records, and its front: those before the first gate that isn't 1.
 use Rattle.std.specs.Prelude.{◌≡◌, ℕ, zero, suc, ◌+◌, ◌-◌, ◌*◌, ◌==◌, List, [], ◌∷◌, take, drop, get_or, replicate}
 use Rattle.std.specs.List.{prefix_len}
 use Rattle.device_map.specs.Layout.{Layout, slice, part_bytes, half_part, chain_zone_size, record_size}
@@ -21,7 +21,7 @@ chain_in h = get_or h 0 0
 abbrev pub gates_in : ℕ → List ℕ → List ℕ
 gates_in capacity h = slice h chain_zone_size capacity
 
--- the open front: the records, each as its bytes, before the first gate that isn't 1
+-- the front: the records, each as its bytes, before the first gate that isn't 1
 abbrev pub front_in : ℕ → List ℕ → List (List ℕ)
 front_in capacity h = rows record_size (count_open (gates_in capacity h)) (drop (chain_zone_size + capacity) h)
 
@@ -31,7 +31,7 @@ record_in capacity i h = slice h (chain_zone_size + capacity + i * record_size) 
 
 -- ---- of the bytes of a device
 
--- the chain byte, the gates, the open front and record i of half h
+-- the chain byte, the gates, the front and record i of half h
 abbrev pub chain : Layout → ℕ → List ℕ → ℕ
 chain l h c = chain_in (part_bytes l (half_part h) c)
 

@@ -2,9 +2,9 @@
 //! function here does anything; its contract is the law.
 //!
 //! What a device recovers to comes from the layer above, as a `Decoding`: `read` gives the state that
-//! an image holds, `apply` what a record makes of a state, and `is_header` recognizes a header. Each
-//! law takes what a device recovers to before a sequence of calls, with the area that it names and its
-//! current half, and gives the same of whatever a crash leaves. The calls named below are those of `Halves`.
+//! an image holds, `apply` what a record makes of a state, and `is_header` recognizes the device's header.
+//! Given to which state a device recovers before some calls, which area it names, and which half is current,
+//! each law says these three of whatever a crash leaves. The calls named below are those of `Halves`.
 
 ghost use Rattle.std.specs.Prelude.{◌≡◌, ◌<◌, ℕ, [], List, get_or, length};
 ghost use Rattle.oplog.specs.Crash.{AllRecover, AppendRecovers, ChainRecovers, ChainedRecovers, ClearRecovers, FlipRecovers, ImageRecovers, TornRootRecovers};
@@ -20,23 +20,22 @@ pub fn appended_records_recover<S>()
     ensures all { (decoding : Decoding S) → AllRecover decoding }
 {}
 
-/// While the other half is cleared and isn't current, or the other image is written, whatever a crash
-/// leaves recovers to the same.
+/// While the half that isn't named is cleared, and the named one is current, or while the image that isn't named
+/// is written, whatever a crash leaves recovers to the same state.
 pub fn the_other_area_may_be_torn<S>()
     ensures half { (decoding : Decoding S) → ClearRecovers decoding }
     ensures image { (decoding : Decoding S) → ImageRecovers decoding }
 {}
 
 /// While the chain byte of the named half is written, with the other half empty, whatever a crash
-/// leaves recovers to the same; once `open_chain` is done, with the other half as its current one.
+/// leaves recovers to the same state; once `open_chain` is done, the other half is current.
 pub fn a_torn_chain_does_no_harm<S>()
     ensures torn { (decoding : Decoding S) → ChainRecovers decoding }
     ensures chained { (decoding : Decoding S) → ChainedRecovers decoding }
 {}
 
-/// Where both areas recover to the same, a crash while one is being named leaves a device that recovers
-/// to it. Once `flip_root` is done, it recovers to what it would have recovered to before by the area
-/// that it names then.
+/// Where both areas recover to the same state, so does whatever a crash leaves while one is being named. Once
+/// `flip_root` is done, the device recovers to what the area that is named now held before.
 pub fn a_torn_root_does_no_harm<S>()
     ensures torn { (decoding : Decoding S) → TornRootRecovers decoding }
     ensures flipped { (decoding : Decoding S) → FlipRecovers decoding }

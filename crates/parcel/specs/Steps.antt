@@ -20,7 +20,8 @@ guard passes why later = if not passes then Some why else later
 abbrev pub guard_open : Bool → Bool → Option Refusal → Option Refusal
 guard_open made sealed later = guard made Volume (guard (not sealed) Sealed later)
 
--- Where one volume alone has anything, the message's serial step changes its facts from `old` to `new`, whichever volume it is.
+-- In a state with one volume and nothing else, the message's serial step changes that volume's facts from `old` to `new`, whichever volume
+-- it is.
 abbrev pub IsStepWithin : Geometry → (ℕ → ℕ → Msg) → VolumeFacts → Reply → VolumeFacts → Type 0
 IsStepWithin g m old given new = (a v : ℕ) → is_in_range g (m a v) ≡ true
     → IsSerialStep g (one_volume a v old) (m a v) given (one_volume a v new)

@@ -37,7 +37,7 @@ impl Model for Job {
 impl Job {
     ghost use Rattle.parcel.specs.Run.{JobView};
 
-    /// The job of a message that is in range, on the parcels of its place, with what the message sees of those above.
+    /// The job of a message that is in range, on the parcels of its place, with its standing: what it sees of the nodes above.
     pub fn new(g: Geometry, ticket: u64, msg: Msg, s: Standing, p: Parcels) -> Job
         requires { IsRunnable g msg p }
         ensures { result ≡ record { geometry = g; ticket = ticket; message = msg; standing = s; parcels = p } }

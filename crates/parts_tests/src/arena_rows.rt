@@ -103,7 +103,7 @@ const REFUSED: [Call; 16] = [
 
 /// What the calls of an arena show, how many slots and chains it has, and the calls.
 const ROWS: [(&str, u8, u8, &[Call]); 4] = [
-    ("no slot holds nothing", 0, 1, &NO_SLOT),
+    ("an arena without slots", 0, 1, &NO_SLOT),
     ("a chain that is not there", 3, 2, &NO_CHAIN),
     ("the middle of a chain and the free list", 4, 2, &MIDDLE),
     ("what is refused", 2, 1, &REFUSED),

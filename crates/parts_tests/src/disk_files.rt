@@ -57,7 +57,7 @@ impl TestFile {
     }
 }
 
-/// Whether the system may write this file.
+/// Whether the system lets this process open the file for writing.
 fn may_write(rt: &HostRuntime, path: &str) -> bool {
     OpenOptions::new()
         .read(true)
@@ -66,7 +66,7 @@ fn may_write(rt: &HostRuntime, path: &str) -> bool {
         .is_ok()
 }
 
-/// The system refused it.
+/// It was refused with `Device`.
 fn is_fault(rt: &impl Abort, made: Result<FileDisk, FileFault>) {
     holds(rt, matches!(made, Err(FileFault::Device)));
 }
@@ -165,7 +165,7 @@ fn a_write_out_of_range_changes_nothing(rt: HostRuntime) -> Result<(), Fail> {
 
 /// The system opens this file and refuses to sync it.
 #[test]
-fn a_file_that_is_not_synced_is_a_fault(rt: HostRuntime) {
+fn a_file_that_cannot_be_synced_is_a_fault(rt: HostRuntime) {
     let path = "/dev/null";
     holds(&rt, may_write(&rt, path));
     is_fault(&rt, FileDisk::open(&rt, path));
@@ -179,7 +179,7 @@ const READ_ONLY_CALLS: [Call; 4] = [
     Call::Write(3, b"xy"),
 ];
 
-/// Also the administrator, whom no permission keeps from writing, writes nothing.
+/// Root, whom no permission keeps from writing, can't write either.
 #[test]
 fn a_file_opened_for_reading_takes_no_write(rt: HostRuntime) -> Result<(), Fail> {
     let place = TestFile::new(&rt, "for_reading")?;
@@ -197,7 +197,7 @@ fn a_file_opened_for_reading_takes_no_write(rt: HostRuntime) -> Result<(), Fail>
     place.remove(&rt)
 }
 
-/// The system refuses to sync this file, and here also to write it.
+/// The system refuses to sync this file, and unlike `/dev/null` also to write it.
 #[test]
 fn a_file_opened_for_reading_is_not_synced(rt: HostRuntime) {
     let path = "/proc/version";

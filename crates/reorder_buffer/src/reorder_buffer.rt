@@ -169,7 +169,7 @@ impl ReorderBuffer {
         }
     }
 
-    /// Whether the oldest line is completed, so that it is the next one of the output.
+    /// Whether the reply to the oldest line is known, so that it is the next one of the output.
     fn can_retire(&self) -> bool
         ensures { result ≡ can_retire self.now.lines }
     {

@@ -35,7 +35,7 @@ all_below g =
 pub kept-start : (g : Geometry) (slots numbers : ℕ) → 357 ≤ numbers
     → QueueInvariant g slots (record { numbers = numbers; capacity = slots; messages = [] }) (record { numbers = numbers; messages = [] }) (replicate numbers None)
 kept-start g slots numbers most = record {
-  rows = record {
+  queued = record {
     queues = λ any. (let all = all_below any in omega (arith, all, most));
     entries = λ any. (let all = all_below any in omega (arith, all, most));
     capacity = refl;
@@ -87,8 +87,8 @@ pub kept-arrived : {g : Geometry} {slots : ℕ} {w v : Waiting} {h : HeldMessage
     → QueueInvariant g slots w h before → AreQueued g slots v h → v ≡ record w { messages = w.messages ++ t ∷ [] } → CameBefore t.ticket w.messages
     → StayRight h.messages v.messages before after
     → (find (has_number t.affinity.number) w.messages ≡ None → IsEntryRight h.messages v.messages after t.affinity.number) → QueueInvariant g slots v h after
-kept-arrived {w} {v} {h} t {before} {after} are rows came later stay here = record {
-  rows = rows;
+kept-arrived {w} {v} {h} t {before} {after} are queued came later stay here = record {
+  queued = queued;
   right = record {
     numbers = λ any. (let all = are.right.numbers any in let same = stay.0 in omega (arith, all, same));
     right = λ n. subst (λ (ts : List QueuedMessage). IsEntryRight h.messages ts after n) (sym is)
@@ -119,12 +119,12 @@ pub kept-freed : {g : Geometry} {slots : ℕ} {w : Waiting} {h k : HeldMessages}
     → QueueInvariant g slots w h before → find (has_number n) h.messages ≡ Some t → k ≡ record h { messages = without_number n h.messages }
     → AreRelatedRight g t.affinity k.messages w.messages after → StayRight k.messages w.messages before after → QueueInvariant g slots w k after
 kept-freed {g} {slots} {w} {h} {k} {t} n {before} {after} are found freed near stay = record {
-  rows = subst (λ (x : HeldMessages). AreQueued g slots w x) (sym freed) (messages-freed n are.rows);
+  queued = subst (λ (x : HeldMessages). AreQueued g slots w x) (sym freed) (messages-freed n are.queued);
   right = record {
     numbers = λ any. (let all = are.right.numbers any in let same = stay.0 in omega (arith, all, same));
     right = λ m. subst (λ (ts : List QueuedMessage). IsEntryRight ts w.messages after m) (sym is)
-        (right-freed g t (find-all (λ d. IsAffinity g d.affinity) (has_number n) h.messages t are.rows.held_placed found)
-        h.messages w.messages are.rows.held_placed are.rows.waiting_placed before after are.right.right
+        (right-freed g t (find-all (λ d. IsAffinity g d.affinity) (has_number n) h.messages t are.queued.held_placed found)
+        h.messages w.messages are.queued.held_placed are.queued.waiting_placed before after are.right.right
         (subst (λ (ts : List QueuedMessage). AreRelatedRight g t.affinity ts w.messages after) is near)
         (subst (λ (ts : List QueuedMessage). StayRight ts w.messages before after) is stay) m);
   };
@@ -226,15 +226,15 @@ module _ (g : Geometry) (slots : ℕ) (w v : Waiting) (h k : HeldMessages) (t : 
   gone : v ≡ record w { messages = without_slot t.slot w.messages }
   gone = popped t (subst (λ m. find (has_number m) w.messages ≡ Some t) (sym number) first)
 
-  pub rows-gone : AreQueued g slots v k
-  rows-gone = subst (λ (x : Waiting). AreQueued g slots x k) (sym gone)
+  pub queued-gone : AreQueued g slots v k
+  queued-gone = subst (λ (x : Waiting). AreQueued g slots x k) (sym gone)
       (messages-gone t are (next-placed g slots w h are t next.0 next.1)
       (next_waits (record { geometry = g; waiting = w.messages; held = h.messages; slots = slots }) t next) same joined)
 
   pub kept-gone : (before after : List (Option QueuedMessage)) → AreEntriesRight h.messages w.messages before → StayRight k.messages v.messages before after
       → IsEntryRight k.messages v.messages after n → QueueInvariant g slots v k after
   kept-gone before after right stay here = record {
-    rows = rows-gone;
+    queued = queued-gone;
     right = record {
       numbers = λ any. (let all = right.numbers any in let count = stay.0 in omega (arith, all, count));
       right = λ m. subst (λ (ts : List QueuedMessage). IsEntryRight k.messages ts after m) (sym is)

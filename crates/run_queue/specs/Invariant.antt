@@ -9,7 +9,7 @@ use Rattle.run_queue.specs.Slots.{AreInSlots}
 use Rattle.run_queue.specs.ReadyTable.{IsEntryRight}
 use Rattle.run_queue.specs.declared.queued_message.QueuedMessage.{QueuedMessage}
 
--- There is a queue and a place for each affinity of any geometry, and each has its own slot.
+-- There is a queue and an entry for each affinity of any geometry, and each message has a slot of its own.
 pub record AreQueued (g : Geometry) (slots : ℕ) (waiting : Waiting) (held : HeldMessages) : Type 0 where
   pub queues : (any : Geometry) → server_size any ≤ waiting.numbers
   pub entries : (any : Geometry) → server_size any ≤ held.numbers
@@ -27,5 +27,5 @@ pub record AreEntriesRight (held waiting : List QueuedMessage) (ready_table : Li
 -- What a `RunQueue` keeps.
 pub record QueueInvariant (g : Geometry) (slots : ℕ) (waiting : Waiting) (held : HeldMessages)
     (ready_table : List (Option QueuedMessage)) : Type 0 where
-  pub rows : AreQueued g slots waiting held
+  pub queued : AreQueued g slots waiting held
   pub right : AreEntriesRight held.messages waiting.messages ready_table

@@ -1,4 +1,5 @@
-//! How the ready table follows waiting and held messages: each affinity number has an entry, its first waiting message if conflict-free.
+//! How the ready table follows waiting and held messages. It has an entry for each affinity, by number: the affinity's first waiting
+//! message, if that is free of conflicts.
 ghost use Rattle.std.specs.Prelude.{◌≡◌, ◌≤◌, ◌==◌, ℕ, true, length};
 ghost use Rattle.std.specs.List.{list_any, AllByRecursion};
 ghost use Rattle.affinity.specs.Interval.{IsAffinity, contains, server_size};

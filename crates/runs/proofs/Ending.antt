@@ -15,10 +15,10 @@ use Rattle.runs.proofs.Events.{some_of}
 use Rattle.runs.proofs.Running.{RecoversSince, recovers_for_run}
 use Rattle.runs.specs.Machine.{MachineView, machine_of}
 use Rattle.runs.specs.DeviceEvents.{RecoversForRun}
-use Rattle.runs.specs.declared.hands.Holding.{Holding}
+use Rattle.runs.specs.declared.hands.HandContent.{HandContent}
 use Rattle.scheduler.specs.CoreView.{CoreView, RecoversNow, core_state_of}
 
-module _ (start : MachineView) (new : CoreView) (hands : List Holding) (events : List Event)
+module _ (start : MachineView) (new : CoreView) (hands : List HandContent) (events : List Event)
     (legal : IsLegal start.core.geometry (machine_of start) events) (sound : IsSoundCoreState start.core.geometry (core_state_of start.core))
     (ends : end_state (machine_of start) events ≡ machine_of (record { core = new; hands = hands })) (same : new.geometry ≡ start.core.geometry)
     (none : new.failed ≡ false → new.doubt ≡ []) (recovers : RecoversNow new) (c : List ℕ) (left : IsCrashImage new.medium c) where

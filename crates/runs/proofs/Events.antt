@@ -30,8 +30,8 @@ use Rattle.runs.proofs.Jobs.{job_ran}
 use Rattle.runs.specs.Hands.{IsRunIn, IsTakenFrom}
 use Rattle.runs.specs.Machine.{HoldsJobs, IsHandOf, hand_at, hand_of, machine_of, ticket_in}
 use Rattle.runs.specs.Steps.{IsCoreStep, IsMachineStep}
-use Rattle.runs.specs.declared.hands.Holding.{Holding}
-use Rattle.runs.specs.declared.hands.Holding.TheVariants as has
+use Rattle.runs.specs.declared.hands.HandContent.{HandContent}
+use Rattle.runs.specs.declared.hands.HandContent.TheVariants as has
 use Rattle.messages.specs.declared.Msg.{Msg}
 use Rattle.messages.specs.declared.Reply.{Reply}
 use Rattle.parcel.specs.Run.{JobView, IsJobRun}
@@ -89,7 +89,7 @@ module _ (keeps : Type 0) (old new : CoreView) (none : old.failed ≡ false → 
 
 -- ---- steps of the core
 
-module _ (keeps : Type 0) (old new : CoreView) (hands : List Holding) (step : Step) (outcome : Outcome)
+module _ (keeps : Type 0) (old new : CoreView) (hands : List HandContent) (step : Step) (outcome : Outcome)
     (h : HoldsJobs old.geometry (core_state_of old) hands) (k : IsCoreStep keeps old new step outcome) where
   pub core_step : IsMachineStep keeps (record { core = old; hands = hands }) (record { core = new; hands = hands }) step outcome
   core_step = record {
@@ -118,7 +118,7 @@ module _ (keeps : Type 0) (old new : CoreView) (hands : List Holding) (step : St
 -- ---- steps with the hands
 
 -- Such a step was carried out while the device was left alone.
-module _ (keeps : Type 0) (old new : CoreView) (hands after : List Holding) (step : Step) (outcome : Outcome)
+module _ (keeps : Type 0) (old new : CoreView) (hands after : List HandContent) (step : Step) (outcome : Outcome)
     (none : old.failed ≡ false → old.doubt ≡ []) (recovers : keeps → RecoversNow old) (geometry : new.geometry ≡ old.geometry)
     (same : new.medium ≡ old.medium) where
   pub quiet_step : apply_step old.geometry 0 (machine_of (record { core = old; hands = hands })) step
@@ -132,24 +132,24 @@ module _ (keeps : Type 0) (old new : CoreView) (hands after : List Holding) (ste
     any_moment = λ keeps. quiet_moments old new (to_append (core_state_of old) step) none (recovers keeps) same;
   }
 
-map-set : (hands : List Holding) (i : ℕ) (h : Holding) → map hand_of (set hands i h) ≡ set (map hand_of hands) i (hand_of h)
+map-set : (hands : List HandContent) (i : ℕ) (h : HandContent) → map hand_of (set hands i h) ≡ set (map hand_of hands) i (hand_of h)
 map-set [] zero h = refl
 map-set [] (suc i) h = refl
 map-set (x ∷ hands) zero h = refl
 map-set (x ∷ hands) (suc i) h = ap (λ (l : List Hand). hand_of x ∷ l) (map-set hands i h)
 
 -- the least empty hand of the definitions is that of the machine
-position_map : (hands : List Holding) → position is_empty (map hand_of hands) ≡ position (λ h. is_empty (hand_of h)) hands
+position_map : (hands : List HandContent) → position is_empty (map hand_of hands) ≡ position (λ h. is_empty (hand_of h)) hands
 position_map hands = λ i. of (at hands i) (length-map hands hand_of i)
   where
     of : ℕ → ℕ → Option ℕ
     of n m = if nat_lt n m then Some n else None
 
-    at : (hands : List Holding) → position_or_len is_empty (map hand_of hands) ≡ position_or_len (λ h. is_empty (hand_of h)) hands
+    at : (hands : List HandContent) → position_or_len is_empty (map hand_of hands) ≡ position_or_len (λ h. is_empty (hand_of h)) hands
     at [] = refl
     at (x ∷ hands) = ap (λ (n : ℕ). if not (is_empty (hand_of x)) then 1 + n else 0) (at hands)
 
-pub position_within : (hands : List Holding) (hand : ℕ) → position (λ h. is_empty (hand_of h)) hands ≡ Some hand → hand < length hands
+pub position_within : (hands : List HandContent) (hand : ℕ) → position (λ h. is_empty (hand_of h)) hands ≡ Some hand → hand < length hands
 position_within hands hand at = (position-Some (λ h. is_empty (hand_of h)) hands hand has.Empty at).0
 
 -- ---- a grant
@@ -183,13 +183,13 @@ module _ (g : Geometry) (n : ℕ) (w : MachineState) where
       ≡ (outcomes.Granted hand found.0.0, record { core = grant w.core found; hands = set w.hands hand (JobIn found.0.0) })
   grant_one hand found at works first = grant_at hand false at works ∙ ap (grant_to g w (Some hand)) first
 
-module _ (keeps : Type 0) (old new : CoreView) (hands : List Holding)
+module _ (keeps : Type 0) (old new : CoreView) (hands : List HandContent)
     (none : old.failed ≡ false → old.doubt ≡ []) (recovers : keeps → RecoversNow old) (geometry : new.geometry ≡ old.geometry)
     (same : new.medium ≡ old.medium) where
-  abbrev Holds : List Holding → Type 0
+  abbrev Holds : List HandContent → Type 0
   Holds after = HoldsJobs new.geometry (core_state_of new) after
 
-  abbrev StepsTo : List Holding → Step → Outcome → Type 0
+  abbrev StepsTo : List HandContent → Step → Outcome → Type 0
   StepsTo after step outcome = IsMachineStep keeps (record { core = old; hands = hands }) (record { core = new; hands = after }) step outcome
 
   abbrev w : MachineState
@@ -253,10 +253,10 @@ module _ (keeps : Type 0) (old new : CoreView) (hands : List Holding)
         some_same : {a b : ℕ} → ◌≡◌ {A = Option ℕ} (Some a) (Some b) → a ≡ b
         some_same e = cc
 
-        of : (x : Holding) (ticket : ℕ) → IsHandOf old.geometry (core_state_of old) x → ticket_in x ≡ Some ticket → (m : Msg) × Contains old.in_flight (ticket, m)
+        of : (x : HandContent) (ticket : ℕ) → IsHandOf old.geometry (core_state_of old) x → ticket_in x ≡ Some ticket → (m : Msg) × Contains old.in_flight (ticket, m)
         of has.Empty ticket is e = cc
-        of (has.Job j) ticket is e = (j.message, subst (λ (t : ℕ). Contains old.in_flight (t, j.message)) (some_same e) is.is_out)
-        of (has.Result d) ticket is e = (d.message, subst (λ (t : ℕ). Contains old.in_flight (t, d.message)) (some_same e) is.is_out)
+        of (has.Job j) ticket is e = (j.message, subst (λ (t : ℕ). Contains old.in_flight (t, j.message)) (some_same e) is.in_flight)
+        of (has.Result d) ticket is e = (d.message, subst (λ (t : ℕ). Contains old.in_flight (t, d.message)) (some_same e) is.in_flight)
 
         fresh : HoldsJobs old.geometry (core_state_of old) hands → (i ticket : ℕ) → IsHandOf old.geometry (core_state_of old) (hand_at hands i)
             → ticket_in (hand_at hands i) ≡ Some ticket → job.ticket ≡ ticket → ⊥
@@ -267,7 +267,7 @@ module _ (keeps : Type 0) (old new : CoreView) (hands : List Holding)
 
 -- ---- a hand that isn't there
 
-module _ (g : Geometry) (n : ℕ) (core : CoreState) (hands : List Holding) (i : ℕ) where
+module _ (g : Geometry) (n : ℕ) (core : CoreState) (hands : List HandContent) (i : ℕ) where
   abbrev at_i : MachineState
   at_i = record { core = core; hands = map hand_of hands }
 
@@ -280,7 +280,7 @@ module _ (g : Geometry) (n : ℕ) (core : CoreState) (hands : List Holding) (i :
   back_past : length hands ≤ i → apply_step g n at_i (steps.Back i) ≡ (outcomes.Idle, at_i)
   back_past over = ap (λ (h : Option Hand). back_from g at_i i (result_in core h)) (past over)
 
-module _ (keeps : Type 0) (core : CoreView) (hands : List Holding) (none : core.failed ≡ false → core.doubt ≡ []) (recovers : keeps → RecoversNow core)
+module _ (keeps : Type 0) (core : CoreView) (hands : List HandContent) (none : core.failed ≡ false → core.doubt ≡ []) (recovers : keeps → RecoversNow core)
     (i : ℕ) where
   abbrev StaysAt : Step → Type 0
   StaysAt step = IsMachineStep keeps (record { core = core; hands = hands }) (record { core = core; hands = hands }) step outcomes.Idle
@@ -295,7 +295,7 @@ module _ (keeps : Type 0) (core : CoreView) (hands : List Holding) (none : core.
 
 -- ---- in one hand
 
-module _ (hands : List Holding) (i : ℕ) (x : Holding) (read : slice_get hands i ≡ Some x) where
+module _ (hands : List HandContent) (i : ℕ) (x : HandContent) (read : slice_get hands i ≡ Some x) where
   pub it_has : hand_at hands i ≡ x
   it_has = get_or_from_slice_get hands i x has.Empty read
 
@@ -305,10 +305,10 @@ module _ (hands : List Holding) (i : ℕ) (x : Holding) (read : slice_get hands 
   shown : slice_get (map hand_of hands) i ≡ Some (hand_of x)
   shown = slice_get-map hand_of hands i ∙ ap (option_map hand_of) read
 
-  put_back : (new : Holding) → new ≡ x → set hands i new ≡ hands
+  put_back : (new : HandContent) → new ≡ x → set hands i new ≡ hands
   put_back new same = ap (set hands i) (same ∙ sym it_has) ∙ set-get_or hands i has.Empty
 
-module _ (keeps : Type 0) (core : CoreView) (hands : List Holding) (none : core.failed ≡ false → core.doubt ≡ []) (recovers : keeps → RecoversNow core)
+module _ (keeps : Type 0) (core : CoreView) (hands : List HandContent) (none : core.failed ≡ false → core.doubt ≡ []) (recovers : keeps → RecoversNow core)
     (h : HoldsJobs core.geometry (core_state_of core) hands) (i : ℕ) where
   abbrev g : Geometry
   g = core.geometry
@@ -316,24 +316,24 @@ module _ (keeps : Type 0) (core : CoreView) (hands : List Holding) (none : core.
   abbrev held_now : MachineState
   held_now = machine_of (record { core = core; hands = hands })
 
-  abbrev Moves : List Holding → Step → Outcome → Type 0
+  abbrev Moves : List HandContent → Step → Outcome → Type 0
   Moves after step outcome = IsMachineStep keeps (record { core = core; hands = hands }) (record { core = core; hands = after }) step outcome
       × HoldsJobs g (core_state_of core) after
 
   -- the hands are as they were
-  in_place : (x new : Holding) → slice_get hands i ≡ Some x → new ≡ x → (step : Step) → apply_step g 0 held_now step ≡ (outcomes.Idle, held_now)
+  in_place : (x new : HandContent) → slice_get hands i ≡ Some x → new ≡ x → (step : Step) → apply_step g 0 held_now step ≡ (outcomes.Idle, held_now)
       → Moves (set hands i new) step outcomes.Idle
-  in_place x new read same step does = subst (λ (after : List Holding). Moves after step outcomes.Idle) (sym (put_back hands i x read new same))
+  in_place x new read same step does = subst (λ (after : List HandContent). Moves after step outcomes.Idle) (sym (put_back hands i x read new same))
       (quiet_step keeps core core hands hands step outcomes.Idle none recovers refl refl does, h)
 
-  pub no_job : (x new : Holding) (ran : Bool) → slice_get hands i ≡ Some x → IsRunIn x new ran → ran ≡ false
+  pub no_job : (x new : HandContent) (ran : Bool) → slice_get hands i ≡ Some x → IsRunIn x new ran → ran ≡ false
       → Moves (set hands i new) (steps.Run i) outcomes.Idle
   no_job has.Empty new ran read k e = in_place has.Empty new read k.1 (steps.Run i) (ap (run_hand held_now i) (shown hands i has.Empty read))
   no_job (has.Job job) new ran read k e = absurd (true≢false (sym k.0 ∙ e))
   no_job (has.Result done) new ran read k e = in_place (has.Result done) new read k.1 (steps.Run i)
       (ap (run_hand held_now i) (shown hands i (has.Result done) read))
 
-  pub no_result : (x new : Holding) → slice_get hands i ≡ Some x → IsTakenFrom x new None
+  pub no_result : (x new : HandContent) → slice_get hands i ≡ Some x → IsTakenFrom x new None
       → Moves (set hands i new) (steps.Back i) outcomes.Idle
   no_result has.Empty new read k = in_place has.Empty new read k.1 (steps.Back i)
       (ap (λ (o : Option Hand). back_from g held_now i (result_in held_now.core o)) (shown hands i has.Empty read))
@@ -346,7 +346,7 @@ module _ (keeps : Type 0) (core : CoreView) (hands : List Holding) (none : core.
 
   -- a job that runs
   module _ (job : JobView) (done : Done) (read : slice_get hands i ≡ Some (has.Job job)) (run : IsJobRun job done) where
-    abbrev ran_hands : List Holding
+    abbrev ran_hands : List HandContent
     ran_hands = set hands i (has.Result done)
 
     ran_does : apply_step g 0 held_now (steps.Run i) ≡ (outcomes.Ran, machine_of (record { core = core; hands = ran_hands }))
@@ -364,15 +364,15 @@ module _ (keeps : Type 0) (core : CoreView) (hands : List Holding) (none : core.
     ran_moves : Moves ran_hands (steps.Run i) outcomes.Ran
     ran_moves = (quiet_step keeps core core hands ran_hands (steps.Run i) outcomes.Ran none recovers refl refl ran_does, ran_holds)
 
-  pub a_job : (x new : Holding) (ran : Bool) → slice_get hands i ≡ Some x → IsRunIn x new ran → ran ≡ true
+  pub a_job : (x new : HandContent) (ran : Bool) → slice_get hands i ≡ Some x → IsRunIn x new ran → ran ≡ true
       → Moves (set hands i new) (steps.Run i) outcomes.Ran
   a_job has.Empty new ran read k e = absurd (true≢false (sym e ∙ k.0))
-  a_job (has.Job job) new ran read k e = subst (λ (y : Holding). Moves (set hands i y) (steps.Run i) outcomes.Ran) (sym k.1.1)
+  a_job (has.Job job) new ran read k e = subst (λ (y : HandContent). Moves (set hands i y) (steps.Run i) outcomes.Ran) (sym k.1.1)
       (ran_moves job k.1.0 read k.1.2)
   a_job (has.Result done) new ran read k e = absurd (true≢false (sym e ∙ k.0))
 
   -- a result that is taken
-  pub taken : (x new : Holding) (done : Done) → IsTakenFrom x new (Some done) → (x ≡ has.Result done) × (new ≡ has.Empty)
+  pub taken : (x new : HandContent) (done : Done) → IsTakenFrom x new (Some done) → (x ≡ has.Result done) × (new ≡ has.Empty)
   taken has.Empty new done k = cc
   taken (has.Job job) new done k = cc
   taken (has.Result result) new done k = (ap (λ (d : Done). has.Result d) (sym (some_same k.0)), k.1)
@@ -381,7 +381,7 @@ module _ (keeps : Type 0) (core : CoreView) (hands : List Holding) (none : core.
     pub was_result : IsResultOf g (core_state_of core) done
     was_result = subst (IsHandOf g (core_state_of core)) (it_has hands i (has.Result done) read) (h.each i)
 
-    abbrev emptied : List Holding
+    abbrev emptied : List HandContent
     emptied = set hands i has.Empty
 
     module _ (new : CoreView) (geometry : new.geometry ≡ core.geometry) (same : new.medium ≡ core.medium) (found : Entry × List Entry)

@@ -16,8 +16,8 @@ use Rattle.legal_runs.specs.Laws.{IsSoundCoreState}
 use Rattle.legal_runs.specs.CoreState.{Entry, CoreState}
 use Rattle.runs.proofs.Jobs.{SeesSame, job_stays, result_stays}
 use Rattle.runs.specs.Machine.{HoldsJobs, IsHandOf, hand_at, ticket_in}
-use Rattle.runs.specs.declared.hands.Holding.{Holding}
-use Rattle.runs.specs.declared.hands.Holding.TheVariants as has
+use Rattle.runs.specs.declared.hands.HandContent.{HandContent}
+use Rattle.runs.specs.declared.hands.HandContent.TheVariants as has
 use Rattle.messages.specs.declared.Msg.{Msg}
 
 -- two numbers are one, or not
@@ -29,19 +29,19 @@ one_or_other i k = elim (i == k) as (λ b. (i == k) ≡ b → (i ≡ k) ⊎ (i �
 
 module _ (g : Geometry) where
   -- The message of a ticket that the hand has stays dispatched.
-  abbrev StaysOut : CoreState → CoreState → Holding → Type 0
+  abbrev StaysOut : CoreState → CoreState → HandContent → Type 0
   StaysOut old new h = (ticket : ℕ) (m : Msg) → ticket_in h ≡ Some ticket → Contains old.in_flight (ticket, m) → Contains new.in_flight (ticket, m)
 
-  hand_stays : (old new : CoreState) (h : Holding) → IsHandOf g old h → StaysOut old new h
+  hand_stays : (old new : CoreState) (h : HandContent) → IsHandOf g old h → StaysOut old new h
       → ((e : Entry) → Contains old.in_flight e → SeesSame g old new e.1) → IsHandOf g new h
   hand_stays old new has.Empty is stays sees = tt
-  hand_stays old new (has.Job job) is stays sees = job_stays g old new job is (sees (job.ticket, job.message) is.is_out)
-      (stays job.ticket job.message refl is.is_out)
-  hand_stays old new (has.Result done) is stays sees = result_stays g old new done is (sees (done.ticket, done.message) is.is_out)
-      (stays done.ticket done.message refl is.is_out)
+  hand_stays old new (has.Job job) is stays sees = job_stays g old new job is (sees (job.ticket, job.message) is.in_flight)
+      (stays job.ticket job.message refl is.in_flight)
+  hand_stays old new (has.Result done) is stays sees = result_stays g old new done is (sees (done.ticket, done.message) is.in_flight)
+      (stays done.ticket done.message refl is.in_flight)
 
   -- The hands are as they were, and the messages that they have stay dispatched.
-  pub hands_stay : (old new : CoreState) (hands : List Holding) → HoldsJobs g old hands → IsSoundCoreState g new
+  pub hands_stay : (old new : CoreState) (hands : List HandContent) → HoldsJobs g old hands → IsSoundCoreState g new
       → ((e : Entry) → Contains old.in_flight e → SeesSame g old new e.1) → ((i : ℕ) → StaysOut old new (hand_at hands i))
       → HoldsJobs g new hands
   hands_stay old new hands h sound sees stays = record {
@@ -51,7 +51,7 @@ module _ (g : Geometry) where
   }
 
   -- One hand has something else, of a message that no other hand has.
-  module _ (w : CoreState) (hands : List Holding) (h : HoldsJobs g w hands) (k : ℕ) (within : k < length hands) (new : Holding)
+  module _ (w : CoreState) (hands : List HandContent) (h : HoldsJobs g w hands) (k : ℕ) (within : k < length hands) (new : HandContent)
       (is : IsHandOf g w new)
       (fresh : (i ticket : ℕ) → i ≢ k → ticket_in (hand_at hands i) ≡ Some ticket → ticket_in new ≡ Some ticket → ⊥) where
     there : hand_at (set hands k new) k ≡ new

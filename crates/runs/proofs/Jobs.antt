@@ -23,7 +23,7 @@ module _ (g : Geometry) where
       let k = serial_run job done w.committed run h.lent in
       let same : ◌≡◌ {A = Geometry × Msg} (job.geometry, job.message) (g, done.message) = λ i. (h.geometry i, sym run.message i) in
       record {
-        is_out = subst (λ (e : Entry). Contains w.in_flight e) (λ i. (sym run.ticket i, sym run.message i)) h.is_out;
+        in_flight = subst (λ (e : Entry). Contains w.in_flight e) (λ i. (sym run.ticket i, sym run.message i)) h.in_flight;
         runnable = subst (λ (p : Geometry × Msg). IsRunnable p.0 p.1 done.parcels) same run.runnable;
         reply = k.reply ∙ ap (λ (p : Geometry × Msg). reply_to p.0 w.committed p.1) same;
         standing = job.standing;
@@ -38,14 +38,14 @@ module _ (g : Geometry) where
       → Contains new.in_flight (job.ticket, job.message) → IsJobOf g new job
   job_stays old new job h same out =
       let there = subst (λ (y : Geometry). AgreeOn y (are_related (path_of y job.message)) new.committed old.committed) (sym h.geometry) same in
-      record { geometry = h.geometry; is_out = out; lent = agree-trans h.lent (agree-sym there) }
+      record { geometry = h.geometry; in_flight = out; lent = agree-trans h.lent (agree-sym there) }
 
   pub result_stays : (old new : CoreState) (done : Done) → IsResultOf g old done → SeesSame old new done.message
       → Contains new.in_flight (done.ticket, done.message) → IsResultOf g new done
   result_stays old new done h same out =
       let k = reads_only g (are_related (path_of g done.message)) new.committed old.committed done.message same (λ q r. r) in
       record {
-        is_out = out;
+        in_flight = out;
         runnable = h.runnable;
         reply = h.reply ∙ sym k.0;
         standing = h.standing;

@@ -28,7 +28,7 @@ use Rattle.runs.specs.Steps.{IsMachineStep}
 use Rattle.messages.specs.declared.Msg.{Msg}
 use Rattle.meaning.specs.Serial.{state_after_all}
 use Rattle.scheduler.specs.Calls.{CountsFailure}
-use Rattle.runs.specs.declared.hands.Holding.{Holding}
+use Rattle.runs.specs.declared.hands.HandContent.{HandContent}
 use Rattle.scheduler.specs.CoreView.{CoreView, RecoversNow, core_state_of}
 
 -- ---- what a crash of a run leaves
@@ -222,14 +222,14 @@ has_run {old} {new} sound h none recovers =
     }
 
 -- The next step of a list, whose hands are these by another name.
-pub next_device_events : {keeps : Type 0} {old : MachineView} {core : CoreView} {hands lent : List Holding} {new : MachineView} (asked : List Step) {i : ℕ} (d : Step)
+pub next_device_events : {keeps : Type 0} {old : MachineView} {core : CoreView} {hands lent : List HandContent} {new : MachineView} (asked : List Step) {i : ℕ} (d : Step)
     (came : List Outcome) {outcome : Outcome} → lent ≡ hands → (i < length asked) × (i < length came)
     → HasDeviceEvents keeps old (record { core = core; hands = hands }) (take i asked) (take i came)
     → IsMachineStep keeps (record { core = core; hands = lent }) new (get_or asked i d) outcome
     → (touches_device (core_state_of core) (get_or asked i d) ≡ false → new.core.medium ≡ core.medium)
     → HasDeviceEvents keeps old new (take (i + 1) asked) (take (i + 1) (set came i outcome))
 next_device_events {keeps} {old} {core} {new} asked {i} d came {outcome} same within h k quiet =
-    let step = subst (λ (l : List Holding). IsMachineStep keeps (record { core = core; hands = l }) new (get_or asked i d) outcome) same k in
+    let step = subst (λ (l : List HandContent). IsMachineStep keeps (record { core = core; hands = l }) new (get_or asked i d) outcome) same k in
     subst (λ (ss : List Step). HasDeviceEvents keeps old new ss (take (i + 1) (set came i outcome))) (sym (take_more asked i d within.0))
     (subst (λ (os : List Outcome). HasDeviceEvents keeps old new (take i asked ++ get_or asked i d ∷ []) os) (sym (take_more_set came i outcome within.1))
     (more_device_events h step quiet))

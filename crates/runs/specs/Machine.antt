@@ -10,8 +10,8 @@ use Rattle.legal_runs.specs.CoreState.{CoreState, entries, held}
 use Rattle.legal_runs.specs.declared.outcomes.Outcome.{Outcome}
 use Rattle.legal_runs.specs.declared.outcomes.Step.{Step}
 use Rattle.runs.specs.DeviceEvents.{DeviceEvent, AreSafe, RecoversForRun, AgreeWithDevice, device_after, events_of}
-use Rattle.runs.specs.declared.hands.Holding.{Holding}
-use Rattle.runs.specs.declared.hands.Holding.TheVariants as has
+use Rattle.runs.specs.declared.hands.HandContent.{HandContent}
+use Rattle.runs.specs.declared.hands.HandContent.TheVariants as has
 use Rattle.messages.specs.declared.Reply.{Reply}
 use Rattle.meaning.specs.Order.{by_ticket, serial_replies}
 use Rattle.scheduler.specs.Jobs.{IsJobOf, IsResultOf}
@@ -20,10 +20,10 @@ use Rattle.scheduler.specs.CoreView.{CoreView, RecoversNow, core_state_of}
 -- what contracts see of a machine
 pub record MachineView : Type 0 where
   pub core : CoreView
-  pub hands : List Holding
+  pub hands : List HandContent
 
 -- a hand of `legal_runs`, which knows a job and a result by the ticket
-abbrev pub hand_of : Holding → Hand
+abbrev pub hand_of : HandContent → Hand
 hand_of has.Empty = Empty
 hand_of (has.Job job) = Job job.ticket
 hand_of (has.Result done) = Result done.ticket
@@ -35,23 +35,23 @@ machine_of m = record { core = core_state_of m.core; hands = map hand_of m.hands
 -- ---- the invariant of a machine
 
 -- The hand is empty, or has the job of a message in flight, or its result.
-abbrev pub IsHandOf : Geometry → CoreState → Holding → Type 0
+abbrev pub IsHandOf : Geometry → CoreState → HandContent → Type 0
 IsHandOf g w has.Empty = Unit {0}
 IsHandOf g w (has.Job job) = IsJobOf g w job
 IsHandOf g w (has.Result done) = IsResultOf g w done
 
 -- the ticket of the message whose job or result a hand has
-abbrev pub ticket_in : Holding → Option ℕ
+abbrev pub ticket_in : HandContent → Option ℕ
 ticket_in has.Empty = None
 ticket_in (has.Job job) = Some job.ticket
 ticket_in (has.Result done) = Some done.ticket
 
 -- hand number i; one that isn't there counts as empty
-abbrev pub hand_at : List Holding → ℕ → Holding
+abbrev pub hand_at : List HandContent → ℕ → HandContent
 hand_at hands i = slice_index_or hands i has.Empty
 
 -- The core state is sound, and each hand that isn't empty has the job of a message in flight, or its result.
-pub record HoldsJobs (g : Geometry) (w : CoreState) (hands : List Holding) : Type 0 where
+pub record HoldsJobs (g : Geometry) (w : CoreState) (hands : List HandContent) : Type 0 where
   pub sound : IsSoundCoreState g w
   pub each : (i : ℕ) → IsHandOf g w (hand_at hands i)
   -- no message is in two hands
@@ -94,7 +94,7 @@ pub record HasRun (keeps : Type 0) (old new : MachineView) (asked : List Step) (
 -- A run has ended: these events led from one machine to another, which has this core.
 pub record IsEndOfRun (start : MachineView) (events : List Event) (new : CoreView) : Type 0 where
   pub legal : IsLegal start.core.geometry (machine_of start) events
-  pub hands : List Holding
+  pub hands : List HandContent
   pub ends : end_state (machine_of start) events ≡ machine_of (record { core = new; hands = hands })
   pub geometry : new.geometry ≡ start.core.geometry
   -- what `Core::know_recovery` promises of it

@@ -4,7 +4,7 @@ use parcel::{Done, Job};
 
 /// What a hand has.
 #[derive(Drop)]
-pub enum Holding {
+pub enum HandContent {
     Empty,
     Job(Job),
     Result(Done),

@@ -8,4 +8,4 @@
 mod hands;
 pub mod laws;
 
-pub use hands::Holding;
+pub use hands::HandContent;

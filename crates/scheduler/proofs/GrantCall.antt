@@ -192,7 +192,7 @@ module _ (keeps : Type 0) (arena : ArenaView Slot) (replies : List Reply) (tree 
         state_after = grant_call_state;
         is_job = record {
           geometry = refl;
-          is_out = subst (λ (w : CoreState). Contains w.in_flight (slot.ticket, slot.message)) (sym grant_call_state)
+          in_flight = subst (λ (w : CoreState). Contains w.in_flight (slot.ticket, slot.message)) (sym grant_call_state)
               (Contains-append_right (core_state_in p).in_flight (entry_of x ∷ []) (slot.ticket, slot.message) (0, omega arith, job_same));
           lent = subst (λ (m : Msg). Shows journal.geometry (path_of journal.geometry m) standing parcels (core_state_in p).committed) (ap (λ (s : Slot). s.message) (grant_slot slot value))
               (grant_shows journal.geometry (core_state_in p) k.sound found chosen.picked (tree_nodes tree) k.tree standing parcels (tree_nodes lent) lends_place);

@@ -190,7 +190,7 @@ module _ (keeps : Type 0) (arena : ArenaView Slot) (replies : List Reply) (tree 
   p = parts arena replies tree journal queue batch next unlogged opened since_open
 
   recovers : Recovers (done.ticket, done.message) p.phases.in_flight
-  recovers = recovers_in (done.ticket, done.message) p.phases.in_flight result.is_out
+  recovers = recovers_in (done.ticket, done.message) p.phases.in_flight result.in_flight
 
   abbrev x : SlotView
   x = recovers.at

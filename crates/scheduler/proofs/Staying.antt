@@ -27,7 +27,7 @@ event_leaves g e old event allowed sound there = event_sees g old event e allowe
 
 pub ran_gives : (g : Geometry) (w : CoreState) (job : JobView) (done : Done) → IsJobOf g w job → IsJobRun job done → IsResultOf g w done
 ran_gives g w job done is ran = subst (λ (h : Geometry). IsResultOf h w done) is.geometry (record {
-  is_out = subst (λ e. Contains w.in_flight e) (λ i. (sym ran.ticket i, sym ran.message i)) is.is_out;
+  in_flight = subst (λ e. Contains w.in_flight e) (λ i. (sym ran.ticket i, sym ran.message i)) is.in_flight;
   runnable = subst (λ m. IsRunnable job.geometry m done.parcels) (sym ran.message) ran.runnable;
   reply = serial.reply ∙ ap (reply_to job.geometry w.committed) (sym ran.message);
   standing = job.standing;
@@ -41,16 +41,16 @@ pub job_stays : (g : Geometry) (old : MachineState) (event : Event) (job : JobVi
     → Contains event.state_after.core.in_flight (job.ticket, job.message) → IsJobOf g event.state_after.core job
 job_stays g old event job allowed sound is there = record {
   geometry = is.geometry;
-  is_out = there;
+  in_flight = there;
   lent = agree-trans is.lent
       (subst (λ (h : Geometry). AgreeOn h (are_related (path_of h job.message)) old.core.committed event.state_after.core.committed) (sym is.geometry)
-      (agree-sym (event_leaves g (job.ticket, job.message) old event allowed sound is.is_out)));
+      (agree-sym (event_leaves g (job.ticket, job.message) old event allowed sound is.in_flight)));
 }
 
 pub result_stays : (g : Geometry) (old : MachineState) (event : Event) (done : Done) → IsAllowed g old event → IsSoundCoreState g old.core → IsResultOf g old.core done
     → Contains event.state_after.core.in_flight (done.ticket, done.message) → IsResultOf g event.state_after.core done
 result_stays g old event done allowed sound is there = record {
-  is_out = there;
+  in_flight = there;
   runnable = is.runnable;
   reply = is.reply ∙ same.0;
   standing = is.standing;
@@ -60,4 +60,4 @@ result_stays g old event done allowed sound is there = record {
     same : (reply_to g old.core.committed done.message ≡ reply_to g event.state_after.core.committed done.message)
         × AgreeOn g (are_related (path_of g done.message)) (next_state g old.core.committed done.message) (next_state g event.state_after.core.committed done.message)
     same = reads_only g (are_related (path_of g done.message)) old.core.committed event.state_after.core.committed done.message
-        (agree-sym (event_leaves g (done.ticket, done.message) old event allowed sound is.is_out)) (λ q r. r)
+        (agree-sym (event_leaves g (done.ticket, done.message) old event allowed sound is.in_flight)) (λ q r. r)

@@ -12,4 +12,4 @@ pub record HistoryView : Type 0 where
 -- the messages of all batches, the oldest first
 abbrev pub messages_in : Appended → List Msg
 messages_in Nothing = []
-messages_in (After' batch shape before) = messages_in before ++ batch.value.items
+messages_in (After' batch _ before) = messages_in before ++ batch.value.items

@@ -14,12 +14,12 @@ use Rattle.meaning.specs.Serial.{next_state, reply_to}
 -- The job is of a message in flight, and it shows what the committed state has at the message's place.
 pub record IsJobOf (g : Geometry) (w : CoreState) (job : JobView) : Type 0 where
   pub geometry : job.geometry ≡ g
-  pub is_out : Contains w.in_flight (job.ticket, job.message)
+  pub in_flight : Contains w.in_flight (job.ticket, job.message)
   pub lent : IsLentOf job w.committed
 
 -- The message is in flight, and `done` is its result if it runs in the committed state: the reply, and the parcels after it.
 pub record IsResultOf (g : Geometry) (w : CoreState) (done : Done) : Type 0 where
-  pub is_out : Contains w.in_flight (done.ticket, done.message)
+  pub in_flight : Contains w.in_flight (done.ticket, done.message)
   pub runnable : IsRunnable g done.message done.parcels
   pub reply : done.reply ≡ reply_to g w.committed done.message
   pub standing : Standing

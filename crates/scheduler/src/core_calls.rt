@@ -65,10 +65,10 @@ pub struct Core<D: Disk> {
     /// The ticket of the next message.
     next: u64,
 
-    /// How many changing messages are in flight or ran.
+    /// How many changing messages are in flight, or ran and are not logged yet.
     unlogged: usize,
 
-    /// How many messages ran.
+    /// How many messages ran and are not logged yet.
     ran: usize,
     history: History,
 }
@@ -122,7 +122,7 @@ impl<D: Disk> Core<D> {
         ensures emptied { IfOk result (λ core. D.keeps → in_force (layout_of core.geometry)
             (named_area (layout_of core.geometry) core.medium.now) core.medium.now ≡ []) }
 
-        // Until the first sync of the call is over, a crash leaves what one just before the call might have left. After it, what a
+        // Until the first sync of the call is over, a crash leaves what a crash just before the call could have left. After it, what a
         // crash leaves recovers to the same state, or is refused for the same fault.
         ensures any_moment { D.keeps → MatchResult result
             (λ core. OpeningCrashImages (D.medium d) core.medium)
@@ -138,10 +138,12 @@ impl<D: Disk> Core<D> {
             (λ core. moment_number core.medium ≡ moment_number (D.medium d) + opening_cost core.geometry (D.medium d).now)
             (λ e. moment_number (D.medium e.disk) ≤ moment_number (D.medium d) + 11) }
         ensures refused { IfErr result (λ e. D.keeps → IsRefused (D.medium d).now e.fault) }
+
+        // A refusal writes nothing, unless the device fails, or a record behind a cut is bad: then the cut was finished first.
         ensures unwritten { IfErr result (λ e. D.keeps → IsRefusedUnwritten (D.medium d) e.fault (D.medium e.disk)) }
 
-        // What recovers to a state is opened, and what is to be refused is refused for its one fault, unless the device fails
-        // or `OutOfMemory` is reported.
+        // A device that recovers to a state is opened, and one whose bytes call for a refusal is refused with just that fault,
+        // unless the device fails or `OutOfMemory` is reported.
         ensures opens { (g : Geometry) (x : State) → D.keeps → recovered_state g (D.medium d).now ≡ Some x
             → IfErr result (λ e. IsShownByBytes e.fault → ⊥) }
         ensures exact { (fault : OpenFault) → D.keeps → IsRefused (D.medium d).now fault → IsShownByBytes fault

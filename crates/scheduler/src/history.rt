@@ -1,4 +1,5 @@
-//! What contracts know of a core, though it takes no memory: the tree when it was opened, and what was appended to its log since.
+//! What contracts know of a core's past: the tree when it was opened, and the batches appended to its log since. These are snapshots,
+//! which exist in proofs alone, so they take no memory.
 ghost use Rattle.std.specs.Prelude.{◌≡◌, ◌++◌, []};
 
 use messages::Msg;
@@ -7,7 +8,7 @@ use std::marker::Model;
 use std::mem;
 use std::snapshot::Snapshot;
 
-/// What was appended so far, and the last batch of it.
+/// The batches appended so far: none, or the last one and those before it.
 #[derive(Drop)]
 pub(crate) enum Appended {
     Nothing,

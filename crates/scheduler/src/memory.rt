@@ -1,6 +1,6 @@
 //! The memory of a core, all of which is taken before a device is touched.
 ghost use Rattle.std.specs.Prelude.{◌≡◌, ◌≤◌, [], IfOk, length, vec_capacity};
-ghost use Rattle.affinity.specs.Geometry.{standard};
+ghost use Rattle.affinity.specs.Geometry.{default_geometry};
 ghost use Rattle.arena.specs.ArenaView.{IsPartitioned, empty_arena};
 ghost use Rattle.run_queue.specs.RunQueue.{queue_at_start};
 
@@ -24,13 +24,13 @@ pub(crate) struct CoreMemory {
     pub(crate) batch: Vec<Msg>,
 }
 
-/// Room for `slots` messages, of which there is none yet. The device's geometry isn't known yet: the queue begins with the default
-/// one (`standard` in clauses), which `set_geometry` replaces, and has room for any. `AllocError` where there is no memory.
+/// Room for `slots` messages; it is empty. The device's geometry isn't known yet: the queue begins with the default
+/// one (`default_geometry` in clauses), which `set_geometry` replaces, and has room for any. `AllocError` where there is no memory.
 pub(crate) fn take_memory(alloc: Global, slots: usize) -> Result<CoreMemory, AllocError>
     ensures arena { IfOk result (λ m. m.slots ≡ empty_arena slots 4) }
     ensures partitioned { IfOk result (λ m. IsPartitioned m.slots) }
     ensures replies { IfOk result (λ m. length m.replies.items ≡ slots) }
-    ensures queue { IfOk result (λ m. m.queue ≡ queue_at_start standard slots) }
+    ensures queue { IfOk result (λ m. m.queue ≡ queue_at_start default_geometry slots) }
     ensures batch { IfOk result (λ m. m.batch.items ≡ []) }
     ensures room { IfOk result (λ m. slots ≤ vec_capacity m.batch) }
 {

@@ -3,7 +3,7 @@
 use affinity::Affinity;
 use messages::Msg;
 
-/// How many chains there are.
+/// How many chains there are: linked lists of the arena's slots.
 pub(crate) const CHAINS: usize = 4;
 
 /// The chain of waiting messages.

@@ -77,6 +77,7 @@ const DEFAULT_LIMITS: [(&str, &str); 6] = [
     ("read 0 0 0 64", "error range"),
 ];
 
+// Stripe 0 holds two blocks: of file 0 the even ones, of file 1 the odd ones.
 const FULL_STRIPE: [(&str, &str); 13] = [
     ("makevol 0 0", "done"),
     ("create 0 0 0", "done"),
@@ -93,7 +94,7 @@ const FULL_STRIPE: [(&str, &str); 13] = [
     ("read 0 0 1 1", "block 61"),
 ];
 
-const FIRST_TESTS: [(&str, &str); 14] = [
+const FIRST_CHECKS: [(&str, &str); 14] = [
     ("makevol 0 1", "error range"),
     ("makevol 65535 0", "error range"),
     ("create 0 0 2", "error range"),
@@ -187,7 +188,7 @@ const COUNTS: [(&str, &str); 10] = [
     ("usage 0 1", "error range"),
 ];
 
-/// The serial server answers them so, and a tree that lends what each message asks for.
+/// The serial server gives these replies, and so does a tree that lends each message the parcels of its place.
 pub(crate) const SESSIONS: [Session<'static>; 15] = [
     ("each kind of message", SMALL, &EACH_KIND),
     ("a block is read back", SMALL, &READ_BACK),
@@ -209,7 +210,7 @@ pub(crate) const SESSIONS: [Session<'static>; 15] = [
         SMALL,
         &FULL_STRIPE,
     ),
-    ("the first test counts", SMALL, &FIRST_TESTS),
+    ("the first check that fails counts", SMALL, &FIRST_CHECKS),
     ("a sealed volume stays as it is", SMALL, &SEALED_VOLUME),
     ("a label stays until another is set", SMALL, &LABELS),
     ("what is removed makes room", SMALL, &ROOM_AGAIN),

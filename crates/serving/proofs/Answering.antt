@@ -14,7 +14,7 @@ use Rattle.legal_runs.specs.declared.outcomes.Step.TheVariants as steps
 use Rattle.runs.proofs.Events.{core_holds, core_step}
 use Rattle.runs.specs.Machine.{MachineView}
 use Rattle.runs.specs.Steps.{IsCoreStep}
-use Rattle.runs.specs.declared.hands.Holding.{Holding}
+use Rattle.runs.specs.declared.hands.HandContent.{HandContent}
 use Rattle.messages.specs.Grammar.{message_of}
 use Rattle.messages.specs.declared.Msg.{Msg}
 use Rattle.messages.specs.declared.Reply.{Reply}
@@ -117,7 +117,7 @@ IsAnswered keeps old new None = IsInternal keeps old new
 IsAnswered keeps old new (Some reply_pairs) = HandsHaveJobs new × RunsBetween keeps old new [] (reply_pairs ∷ [])
 
 pub is_answered_so : (keeps : Type 0) (old new : CoreView) (r : Option (ℕ × Reply)) → IsCoreStep keeps old new steps.Answer (answer_outcome r)
-    → (hands : List Holding) → HandsHaveJobs (record { core = old; hands = hands })
+    → (hands : List HandContent) → HandsHaveJobs (record { core = old; hands = hands })
     → IsAnswered keeps (record { core = old; hands = hands }) (record { core = new; hands = hands }) r
 is_answered_so keeps old new None k hands h = core_is_quiet steps.Answer outcomes.Idle k refl refl refl h
 is_answered_so keeps old new (Some a) k hands h =

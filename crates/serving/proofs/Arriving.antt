@@ -14,7 +14,7 @@ use Rattle.legal_runs.specs.declared.outcomes.Step.TheVariants as steps
 use Rattle.runs.proofs.Events.{core_holds, core_step}
 use Rattle.runs.specs.DeviceEvents.{events_of}
 use Rattle.runs.specs.Steps.{IsCoreStep}
-use Rattle.runs.specs.declared.hands.Holding.{Holding}
+use Rattle.runs.specs.declared.hands.HandContent.{HandContent}
 use Rattle.messages.specs.Messages.{is_in_range}
 use Rattle.scheduler.specs.Calls.{arrive_outcome as arrived_so}
 use Rattle.scheduler.specs.CoreView.{CoreView, core_state_of}
@@ -136,7 +136,7 @@ module _ (k : ℕ) (w x : CoreState) where
   is_refused false true false true new e = let o : outcomes.ArriveRefused arrivals.Range ≡ outcomes.ArriveRefused arrivals.Full = ap (λ (z : Outcome × CoreState). z.0) e in cc
   is_refused false true false false new e = let o : outcomes.ArriveRefused arrivals.Range ≡ outcomes.Ticket k = ap (λ (z : Outcome × CoreState). z.0) e in cc
 
-module _ (keeps : Type 0) (old new : CoreView) (m : Msg) (hands : List Holding) (h : HandsHaveJobs (record { core = old; hands = hands })) where
+module _ (keeps : Type 0) (old new : CoreView) (m : Msg) (hands : List HandContent) (h : HandsHaveJobs (record { core = old; hands = hands })) where
   abbrev was : MachineView
   was = record { core = old; hands = hands }
 

@@ -10,8 +10,8 @@ use Rattle.legal_runs.specs.declared.outcomes.Step.TheVariants as steps
 use Rattle.runs.proofs.Events.{a_job, back_holds, back_step, was_result}
 use Rattle.runs.specs.Machine.{MachineView}
 use Rattle.runs.specs.Steps.{IsMachineStep}
-use Rattle.runs.specs.declared.hands.Holding.{Holding}
-use Rattle.runs.specs.declared.hands.Holding.TheVariants as has
+use Rattle.runs.specs.declared.hands.HandContent.{HandContent}
+use Rattle.runs.specs.declared.hands.HandContent.TheVariants as has
 use Rattle.parcel.specs.Run.{JobView, IsJobRun}
 use Rattle.parcel.specs.declared.job.Done.{Done}
 use Rattle.scheduler.specs.Jobs.{IsResultOf}
@@ -27,13 +27,13 @@ pub hands-set : (lent : List (Option JobView)) (k : ℕ) (o : Option JobView) �
 hands-set [] zero o = refl
 hands-set [] (suc k) o = refl
 hands-set (x ∷ lent) zero o = refl
-hands-set (x ∷ lent) (suc k) o = ap (λ (l : List Holding). lent_hand x ∷ l) (hands-set lent k o)
+hands-set (x ∷ lent) (suc k) o = ap (λ (l : List HandContent). lent_hand x ∷ l) (hands-set lent k o)
 
-set-twice : (hands : List Holding) (k : ℕ) (a b : Holding) → set (set hands k a) k b ≡ set hands k b
+set-twice : (hands : List HandContent) (k : ℕ) (a b : HandContent) → set (set hands k a) k b ≡ set hands k b
 set-twice [] zero a b = refl
 set-twice [] (suc k) a b = refl
 set-twice (x ∷ hands) zero a b = refl
-set-twice (x ∷ hands) (suc k) a b = ap (λ (l : List Holding). x ∷ l) (set-twice hands k a b)
+set-twice (x ∷ hands) (suc k) a b = ap (λ (l : List HandContent). x ∷ l) (set-twice hands k a b)
 
 read_at : {A : Type 0} (xs : List A) (k : ℕ) (d x : A) → k < length xs → get_or xs k d ≡ x → slice_get xs k ≡ Some x
 read_at xs k d x lt e = slice_get-get_or xs k d lt ∙ ap (λ (y : _). Some y) e
@@ -49,10 +49,10 @@ set-length (y ∷ xs) (suc k) x = ap suc (set-length xs k x)
 module _ (keeps : Type 0) (core : CoreView) (lent : List (Option JobView)) (none : core.failed ≡ false → core.doubt ≡ [])
     (recovers : keeps → RecoversNow core) (h : HandsHaveJobs (machine_with_jobs core lent)) (k : ℕ) (within : k < length lent) (job : JobView) (done : Done)
     (is : lent_at lent k ≡ Some job) (run : IsJobRun job done) where
-  abbrev hands : List Holding
+  abbrev hands : List HandContent
   hands = map lent_hand lent
 
-  abbrev ran : List Holding
+  abbrev ran : List HandContent
   ran = set hands k (has.Result done)
 
   job_there : slice_get hands k ≡ Some (has.Job job)
@@ -75,7 +75,7 @@ module _ (keeps : Type 0) (core : CoreView) (lent : List (Option JobView)) (none
   module _ (new : CoreView) (geometry : new.geometry ≡ core.geometry) (same : new.medium ≡ core.medium) (found : Entry × List Entry)
       (one_out : find_in_flight (core_state_of core) done.ticket ≡ Some found) (reply_pairs : found.0 ≡ (done.ticket, done.message))
       (state_after : core_state_of new ≡ give_back core.geometry (core_state_of core) found) where
-    abbrev at : List Holding → CoreView → MachineView
+    abbrev at : List HandContent → CoreView → MachineView
     at l c = record { core = c; hands = l }
 
     emptied : set ran k has.Empty ≡ map lent_hand (set lent k None)
@@ -86,7 +86,7 @@ module _ (keeps : Type 0) (core : CoreView) (lent : List (Option JobView)) (none
         (step_passes (back_step keeps core ran none recovers moved.1 k done result_there new geometry same found one_out reply_pairs state_after))
 
     pub gives_back : IsInternal keeps (machine_with_jobs core lent) (machine_with_jobs new (set lent k None))
-    gives_back = subst (λ (l : List Holding). IsInternal keeps (at hands core) (at l new)) emptied (record {
+    gives_back = subst (λ (l : List HandContent). IsInternal keeps (at hands core) (at l new)) emptied (record {
       holds = back_holds keeps core ran none recovers moved.1 k done result_there new geometry same found one_out reply_pairs state_after;
       segment = segment;
     })

@@ -17,7 +17,7 @@ use Rattle.legal_runs.specs.declared.outcomes.Step.TheVariants as steps
 use Rattle.runs.proofs.Events.{core_holds, core_step}
 use Rattle.runs.specs.Machine.{MachineView, machine_of}
 use Rattle.runs.specs.Steps.{IsCoreStep, IsMachineStep}
-use Rattle.runs.specs.declared.hands.Holding.{Holding}
+use Rattle.runs.specs.declared.hands.HandContent.{HandContent}
 use Rattle.messages.specs.declared.Reply.{Reply}
 use Rattle.scheduler.specs.Calls.{CountsFailure, IsCallEvent, IsLogStep, log_device_failed, log_outcome, checkpoint_device_failed, step_outcome}
 use Rattle.scheduler.specs.CoreView.{CoreView, RecoversThroughout, core_state_of}
@@ -82,7 +82,7 @@ still_failed {old} p failed =
     ap (λ (w : MachineState). w.core.failed) (sym p.ends) ∙ run_fails old.core.geometry (machine_of old) _ p.legal failed
 
 -- A step of the core alone, in which nothing arrives or is answered, and nothing is dispatched or collected.
-pub core_is_quiet : {keeps : Type 0} {old new : CoreView} {hands : List Holding} (step : Step) (outcome : Outcome) → IsCoreStep keeps old new step outcome
+pub core_is_quiet : {keeps : Type 0} {old new : CoreView} {hands : List HandContent} (step : Step) (outcome : Outcome) → IsCoreStep keeps old new step outcome
     → dispatches_or_returns step ≡ false → arrives step outcome ≡ [] → answers outcome ≡ [] → HandsHaveJobs (record { core = old; hands = hands })
     → IsInternal keeps (record { core = old; hands = hands }) (record { core = new; hands = hands })
 core_is_quiet {keeps} {old} {new} {hands} step outcome k still none_come none_told h =
@@ -130,7 +130,7 @@ no_answer_of_point made none (Err why) = refl
 module _ (keeps : Type 0) (old new : CoreView) (geometry : new.geometry ≡ old.geometry) where
   abbrev IsStepOf : Step → Outcome → Bool → Type 0
   IsStepOf step outcome device_failed = IsCallEvent old.geometry (core_state_of old) (core_state_of new) step outcome device_failed → CountsFailure device_failed old.medium.faults new.medium.faults
-      → (hands : List Holding) → HandsHaveJobs (record { core = old; hands = hands })
+      → (hands : List HandContent) → HandsHaveJobs (record { core = old; hands = hands })
       → IsInternal keeps (record { core = old; hands = hands }) (record { core = new; hands = hands })
 
   pub log_is_quiet : (n : ℕ) (r : Result ℕ CoreFault) → (keeps → RecoversThroughout (batch (core_state_of old) n) old new)

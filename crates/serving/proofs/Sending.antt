@@ -15,8 +15,8 @@ use Rattle.legal_runs.specs.Runs.{answers}
 use Rattle.runs.proofs.Events.{failed_step, grant_holds, grant_step, no_grant_step, position_within, still_holds}
 use Rattle.runs.specs.Machine.{MachineView, hand_of as to_hand}
 use Rattle.runs.specs.Steps.{IsMachineStep}
-use Rattle.runs.specs.declared.hands.Holding.{Holding}
-use Rattle.runs.specs.declared.hands.Holding.TheVariants as has
+use Rattle.runs.specs.declared.hands.HandContent.{HandContent}
+use Rattle.runs.specs.declared.hands.HandContent.TheVariants as has
 use Rattle.messages.specs.declared.Reply.{Reply}
 use Rattle.parcel.specs.Run.{JobView}
 use Rattle.scheduler.specs.Calls.{IsGrantOf, IsGranted, IsNoGrant}
@@ -32,7 +32,7 @@ use Rattle.workers.specs.Rule.{lent_at}
 
 -- ---- the first place where nothing is lent is the least empty hand
 
-abbrev vacant : Holding → Bool
+abbrev vacant : HandContent → Bool
 vacant h = is_empty (to_hand h)
 
 same_test : (o : Option JobView) → vacant (lent_hand o) ≡ is_none o
@@ -65,14 +65,14 @@ offered o P Q none h = subst (λ (o : Option JobView). MatchOption o P Q) none h
 module _ (keeps : Type 0) (old new : CoreView) (lent : List (Option JobView)) (none : old.failed ≡ false → old.doubt ≡ [])
     (recovers : keeps → RecoversNow old) (geometry : new.geometry ≡ old.geometry) (same : new.medium ≡ old.medium)
     (h : HandsHaveJobs (machine_with_jobs old lent)) (k : ℕ) (first : position is_none lent ≡ Some k) where
-  abbrev hands : List Holding
+  abbrev hands : List HandContent
   hands = map lent_hand lent
 
   least : position vacant hands ≡ Some k
   least = first_place lent ∙ first
 
   -- a step that answers nothing
-  quiet : (after : List Holding) (outcome : Outcome) → answers outcome ≡ [] → HandsHaveJobs (record { core = new; hands = after })
+  quiet : (after : List HandContent) (outcome : Outcome) → answers outcome ≡ [] → HandsHaveJobs (record { core = new; hands = after })
       → IsMachineStep keeps (record { core = old; hands = hands }) (record { core = new; hands = after }) steps.Grant outcome
       → IsInternal keeps (machine_with_jobs old lent) (record { core = new; hands = after })
   quiet after outcome none_told holds step =
@@ -85,7 +85,7 @@ module _ (keeps : Type 0) (old new : CoreView) (lent : List (Option JobView)) (n
 
   goes_out : (job : JobView) → IsGrantOf old.geometry (core_state_of old) (core_state_of new) job
       → IsInternal keeps (machine_with_jobs old lent) (machine_with_jobs new (set lent k (Some job)))
-  goes_out job g = subst (λ (l : List Holding). IsInternal keeps (machine_with_jobs old lent) (record { core = new; hands = l })) (sym (hands-set lent k (Some job)))
+  goes_out job g = subst (λ (l : List HandContent). IsInternal keeps (machine_with_jobs old lent) (record { core = new; hands = l })) (sym (hands-set lent k (Some job)))
       (quiet (set hands k (has.Job job)) (outcomes.Granted k job.ticket) refl
       (grant_holds keeps old new hands none recovers geometry same k least job g h (position_within hands k least))
       (grant_step keeps old new hands none recovers geometry same k least job g))

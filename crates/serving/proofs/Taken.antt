@@ -8,7 +8,7 @@ use Rattle.legal_runs.specs.declared.outcomes.ArriveRefusal.{ArriveRefusal}
 use Rattle.legal_runs.specs.declared.outcomes.ArriveRefusal.TheVariants as arrivals
 use Rattle.runs.proofs.Events.{arrive_step}
 use Rattle.runs.specs.Machine.{MachineView}
-use Rattle.runs.specs.declared.hands.Holding.{Holding}
+use Rattle.runs.specs.declared.hands.HandContent.{HandContent}
 use Rattle.messages.specs.Grammar.{message_of}
 use Rattle.messages.specs.FirstLine.{GivesLine, IsAtEndOf, HasWholeFirstLine, PassesLine}
 use Rattle.messages.specs.declared.Msg.{Msg}
@@ -29,7 +29,7 @@ takes_none keeps m h = record { holds = h; segment = stays keeps m; is_known = t
 -- ---- a line that has come to the core
 
 module _ (keeps : Type 0) (old new : CoreView) (none : old.failed ≡ false → old.doubt ≡ []) (recovers : keeps → RecoversNow old)
-    (geometry : new.geometry ≡ old.geometry) (same : new.medium ≡ old.medium) (hands : List Holding) (h : HandsHaveJobs (record { core = old; hands = hands })) where
+    (geometry : new.geometry ≡ old.geometry) (same : new.medium ≡ old.medium) (hands : List HandContent) (h : HandsHaveJobs (record { core = old; hands = hands })) where
   abbrev was : MachineView
   was = record { core = old; hands = hands }
 

@@ -8,7 +8,7 @@ use Rattle.legal_runs.specs.Laws.{IsIdle}
 use Rattle.legal_runs.specs.Runs.{IsLegal, answered, arrived, end_state}
 use Rattle.runs.specs.Machine.{MachineView, machine_of}
 use Rattle.runs.specs.DeviceEvents.{AreSafe, DeviceEvent, RecoversForRun, device_after, events_of}
-use Rattle.runs.specs.declared.hands.Holding.{Holding}
+use Rattle.runs.specs.declared.hands.HandContent.{HandContent}
 use Rattle.messages.specs.Grammar.{message_of}
 use Rattle.messages.specs.Lines.{lines}
 use Rattle.messages.specs.Messages.{is_in_range}
@@ -57,7 +57,7 @@ pub record HasRunLines (keeps : Type 0) (start : MachineView) (new : CoreView)
     (input : Option (List ℕ)) (consumed : List (List ℕ)) (device_events : List DeviceEvent) : Type 0 where
   pub first : AreFirst input consumed
   pub legal : IsLegal start.core.geometry (machine_of start) (events_of device_events)
-  pub hands : List Holding
+  pub hands : List HandContent
   pub ends : end_state (machine_of start) (events_of device_events) ≡ machine_of (record { core = new; hands = hands })
   pub geometry : new.geometry ≡ start.core.geometry
   pub arrived_are : arrived (events_of device_events) ≡ ticketed start.core.next (admitted start.core.geometry consumed)

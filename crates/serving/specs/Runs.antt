@@ -5,8 +5,8 @@ use Rattle.legal_runs.specs.Runs.{IsLegal, answered, arrived, end_state}
 use Rattle.legal_runs.specs.CoreState.{Entry, CoreState, held}
 use Rattle.runs.specs.Machine.{MachineView, HoldsJobs, machine_of}
 use Rattle.runs.specs.DeviceEvents.{AreSafe, DeviceEvent, device_after, events_of}
-use Rattle.runs.specs.declared.hands.Holding.{Holding}
-use Rattle.runs.specs.declared.hands.Holding.TheVariants as has
+use Rattle.runs.specs.declared.hands.HandContent.{HandContent}
+use Rattle.runs.specs.declared.hands.HandContent.TheVariants as has
 use Rattle.messages.specs.declared.Reply.{Reply}
 use Rattle.parcel.specs.Run.{JobView}
 use Rattle.scheduler.specs.CoreView.{CoreView, core_state_of}
@@ -14,7 +14,7 @@ use Rattle.scheduler.specs.CoreView.{CoreView, core_state_of}
 -- ---- the core and the places
 
 -- each place is a hand: empty where nothing is lent, and else with the job that is lent there
-abbrev pub lent_hand : Option JobView → Holding
+abbrev pub lent_hand : Option JobView → HandContent
 lent_hand None = has.Empty
 lent_hand (Some job) = has.Job job
 

@@ -1,4 +1,4 @@
--- Statement for operators: What a server promises of its whole call, by its result.
+-- Statement for operators: What a call of `serve` promises, by its result.
 use Rattle.std.specs.Prelude.{◌≡◌, ◌≢◌, ℕ, false, List, [], Option, Some, None, Result, Ok, Err, OnOk, replicate}
 use Rattle.runs.specs.Machine.{MachineView}
 use Rattle.runs.specs.DeviceEvents.{DeviceEvent}
@@ -24,8 +24,9 @@ pub record HasServedAll (keeps : Type 0) (start : MachineView) (new : CoreView) 
   pub served : HasServed keeps start new [] input before written
   pub all : AreAll input served.consumed
 
--- A run led to what was written. Each line that was consumed is answered in the output, but for the last ones where the device
--- failed: the first of these has no reply yet. Where the output failed it is unknown what was written.
+-- A run led to what was written, and each line that was consumed is answered in the output. Where the device failed, some last lines may
+-- have no answer there: from the first on that has no reply yet. Where the output failed it is unknown what was written; `device_events`
+-- are the events of the run, each with the device after it.
 abbrev pub HasRunWith : Type 0 → MachineView → CoreView → Option (List ℕ) → Option (List ℕ) → Option (List ℕ)
     → Result (Unit {0}) ServeFault → Type 0
 HasRunWith keeps start new input before written (Ok _) = HasServedAll keeps start new input before written
@@ -54,7 +55,7 @@ abbrev pub handed_back : {D : Type 0} → Result CoreView (ServeError D) → Cor
 handed_back (Ok core) = (core, Ok tt)
 handed_back (Err e) = (e.core, Err e.fault)
 
--- What a server promises of its whole call, from the core that it was given to what it hands back.
+-- What a call of `serve` promises, from the core that it was given to what it hands back.
 pub record ServePromise (keeps : Type 0) (workers : ℕ) (old : CoreView) (back : CoreView × Result (Unit {0}) ServeFault)
     (input remaining before written : Option (List ℕ)) : Type 0 where
   -- a run led to what was written, from the given core with an empty hand for each worker

@@ -39,14 +39,17 @@ pub record SessionView : Type 0 where
   pub sent : Option (List ℕ)
   -- how many lines were read and their replies not sent
   pub outstanding : ℕ
-  -- whether sending has failed; and why no more is read (`None`: reading goes on)
+  -- whether sending has failed
   pub output_failed : Bool
+  -- why no more is read (`None`: reading goes on)
   pub read_end : Option ReadEnd
-  -- what is unread of the input; whether its end was seen and all lines were given; whether its end was seen; and what remains in the
-  -- reader after what is buffered
+  -- what is unread of the input
   pub unread : Option (List ℕ)
+  -- whether the end of the input was seen, and all its lines were given
   pub drained : Bool
+  -- whether the end of the input was seen
   pub ended : Bool
+  -- what remains in the reader after what is buffered
   pub remaining : Option (List ℕ)
 
 -- the session's machine: its core, with the lent jobs in its hands

@@ -37,7 +37,7 @@ struct Batch {
     budget: usize,
     /// Whether one of them changed something, so that it has to be written to the log.
     changed: bool,
-    /// Whether dispatch ended last because no message was eligible, and some message lacked only room in the log.
+    /// Whether the last dispatch ended because no message was eligible, and some message lacked only room in the log.
     lacks_room: bool,
 }
 

@@ -2,7 +2,7 @@
 
 ghost use Rattle.std.specs.Prelude.{◌≡◌, ◌<◌, ◌↔◌, ◌+◌, ◌++◌, List, [], ◌∷◌, IsTrue, None, OnErr, is_none, length};
 ghost use Rattle.messages.specs.Grammar.{message_of};
-ghost use Rattle.runs.specs.declared.hands.Holding.{Holding};
+ghost use Rattle.runs.specs.declared.hands.HandContent.{HandContent};
 ghost use Rattle.serving.specs.Lines.{Pending};
 ghost use Rattle.serving.specs.Reads.{TakesLine};
 ghost use Rattle.reorder_buffer.specs.ReorderBuffer.{AreConsecutive, with_tickets};
@@ -27,7 +27,7 @@ fn take<D: Disk>(
 ) -> Result<(), ReadEnd>
     requires room { length reorder_buffer.old.lines < reorder_buffer.old.slots }
     requires order { AreConsecutive (with_tickets reorder_buffer.old.lines ++ Pending core.old.next ∷ []) }
-    ensures takes { (hands : List Holding) → HandsHaveJobs (record { core = core.old; hands = hands })
+    ensures takes { (hands : List HandContent) → HandsHaveJobs (record { core = core.old; hands = hands })
         → TakesLine D.keeps (record { core = core.old; hands = hands }) reorder_buffer.old.lines
         (record { core = core.new; hands = hands }) reorder_buffer.new.lines (message_of line.now) result }
     ensures slots { reorder_buffer.new.slots ≡ reorder_buffer.old.slots }

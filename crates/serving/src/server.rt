@@ -20,8 +20,8 @@ use std::sync::Wait;
 use std::thread::Threads;
 use workers::{Bench, DispatchSeat, Gate, WorkSeat, know_returned};
 
-/// How many bytes are read at a time: some 240 lines with a full block. It is filled again only when it has no whole line and no line is
-/// outstanding. So it also limits how many lines are outstanding, however many slots there are.
+/// The size of the input buffer in bytes: some 240 lines with a full block. The buffer is filled again only when it has no whole line and
+/// no line is outstanding. So its size also limits how many lines are outstanding, however many slots there are.
 const READ_SIZE: usize = 262_144;
 
 /// Why a server ended before the end of its input.

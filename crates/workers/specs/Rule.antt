@@ -1,5 +1,5 @@
--- Statement for engineers: The one rule of the table: the state of each place, by its word, and what each seat knows of it. It holds
--- between any two steps.
+-- Statement for engineers: The invariant of the bench's table of atomic words: the state of each place, and what each seat knows of it.
+-- It holds between any two steps.
 use Rattle.std.specs.Prelude.{◌≡◌, ℕ, ◌+◌, ◌<◌, ◌≤◌, List, length, slice_index, slice_index_or, Option, None, Some}
 use mathlib.Core.Option.{none, some}
 use lib.ListN.{get_elem?}
@@ -27,12 +27,13 @@ abbrev pub lent_at : LentJobs → ℕ → Option JobView
 lent_at lent k = slice_index_or lent k None
 
 -- Word 0 is the stop word; 1 and 2 are the event counts of offers and of deliveries; 3 and 4 count the workers that sleep and that spin;
--- 5 is the count of deliveries at which the dispatcher slept last. The rule leaves these six free. Behind them each place has its word.
+-- 5 is the count of deliveries at which the dispatcher slept last. The rule says nothing of these six. Behind them each place has its word.
 abbrev pub word_of : ℕ → ℕ
 word_of k = k + 6
 
 -- The state of place k, by its word, by what is lent there and by where its slot is. While the bench is being opened, the dispatcher's
--- seat takes the slots from the last place down: those of the places below `untaken` are still in the table. Then `untaken` is 0.
+-- seat takes the slots from the last place down: those of the places below `untaken` are still in the table. Once the bench is open,
+-- `untaken` is 0.
 pub data PlaceState (untaken k word : ℕ) (lent : Option JobView) (slot : SlotState) : Type 0 where
   is_empty : word ≡ 0 → lent ≡ None → (k < untaken → slot ≡ some None) → (untaken ≤ k → slot ≡ none) → PlaceState untaken k word lent slot
   is_offered : (job : JobView) → word ≡ 1 → lent ≡ Some job → slot ≡ some (Some (Offered job)) → PlaceState untaken k word lent slot

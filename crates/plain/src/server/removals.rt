@@ -13,7 +13,7 @@ use super::Server;
 use affinity::{Geometry, group_of};
 
 impl Server {
-    /// Notes one block fewer of a stripe.
+    /// Lowers the count of a stripe's blocks by one.
     fn note_one_less(&mut self, a: u16, v: u16, s: u16)
         requires some { 0 < noted self.old (a, v, s) }
         ensures noted { (k : StripeKey) → noted self.new k + one_if (is_stripe a v s k) ≡ noted self.old k }

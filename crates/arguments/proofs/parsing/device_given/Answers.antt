@@ -1,4 +1,4 @@
--- The file is the first value given to its option, and the empty text where there is none.
+-- The path of the device is the first value of its argument, and the empty text where there is none.
 use Rattle.std.proofs.Common.{◌∙◌, ap, Bor, List, [], ℕ, refl}
 use Rattle.std.specs.Prelude.{unwrap_or}
 use Rattle.clap.specs.Words.{found_of}

@@ -14,4 +14,4 @@ returns c =
     let name = c.args.name.now in
     let got = got_number _ (λ bs r. ParsesUnsigned 16 10 bs r × ExplainsUnsignedError 10 bs r × HasUnsignedDigitsIfOk bs r) (λ t x g. g.0)
     (one_text found name) c.get_one.result c.get_one.ensures.none c.get_one.ensures.value in
-    c.unwrap_or.ensures ∙ ap (λ r. unwrap_or r c.args.standard) (got ∙ ap (option_and_then number_of) (one_text-rows found name))
+    c.unwrap_or.ensures ∙ ap (λ r. unwrap_or r c.args.default_value) (got ∙ ap (option_and_then number_of) (one_text-rows found name))

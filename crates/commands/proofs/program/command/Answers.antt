@@ -3,7 +3,7 @@ use Rattle.std.proofs.Common.{map, string_bytes, inr, inl, refl, Ok, Err}
 use Rattle.commands.proofs.Ending.{formatted, formatted_nothing, helped, is_refused, is_reported, refused_by, served, served_nothing, served_on, served_on_nothing, shown, shown_nothing}
 use Rattle.arguments.proofs.Asking.{ask_for_nothing}
 use Rattle.arguments.proofs.Examples.{asks_alone}
-use Rattle.affinity.specs.Geometry.{standard}
+use Rattle.affinity.specs.Geometry.{default_geometry}
 use Rattle.commands.proofs.program.command.Goals as goal
 
 pub returns-in-Err-clause-served_plain : goal.returns-in-Err-clause-served_plain
@@ -81,16 +81,16 @@ pub returns-in-Err-run-clause-unserved : goal.returns-in-Err-run-clause-unserved
 returns-in-Err-run-clause-unserved g c = λ no_service.
     rw c.report.ensures (inl (helped (map string_bytes c.args.arguments.now) c.in-Ok.request (Err c.in-Err-run.fault) _ _ no_service c.in-Ok.ensures.ok c.in-Err-run.ensures))
 
--- the word `plain` alone asks for the standard geometry
+-- the word `plain` alone asks for the default geometry
 
 pub returns-in-Err-clause-plain : goal.returns-in-Err-clause-plain
-returns-in-Err-clause-plain g c = λ program are. returns-in-Err-clause-served_plain g c standard (asks_alone (map string_bytes c.args.arguments.now) program are)
+returns-in-Err-clause-plain g c = λ program are. returns-in-Err-clause-served_plain g c default_geometry (asks_alone (map string_bytes c.args.arguments.now) program are)
 
 pub returns-in-Ok-run-clause-plain : goal.returns-in-Ok-run-clause-plain
-returns-in-Ok-run-clause-plain g c = λ program are. returns-in-Ok-run-clause-served_plain g c standard (asks_alone (map string_bytes c.args.arguments.now) program are)
+returns-in-Ok-run-clause-plain g c = λ program are. returns-in-Ok-run-clause-served_plain g c default_geometry (asks_alone (map string_bytes c.args.arguments.now) program are)
 
 pub returns-in-Err-run-clause-plain : goal.returns-in-Err-run-clause-plain
-returns-in-Err-run-clause-plain g c = λ program are. returns-in-Err-run-clause-served_plain g c standard (asks_alone (map string_bytes c.args.arguments.now) program are)
+returns-in-Err-run-clause-plain g c = λ program are. returns-in-Err-run-clause-served_plain g c default_geometry (asks_alone (map string_bytes c.args.arguments.now) program are)
 
 -- a fault has a status of its own, and so has a refusal
 

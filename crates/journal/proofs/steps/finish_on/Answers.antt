@@ -1,4 +1,5 @@
--- The other area gets the image of what the named one holds by itself; its records are in force before and after.
+-- A cut is finished: the other area gets the image of what the named one holds without the other half's records, which are in force
+-- before and after.
 use Rattle.std.proofs.Common.{◌≡◌, ◌<◌, ℕ, sym, ◌∙◌, subst, arith, true≢false}
 use Rattle.std.proofs.lemmas.Result.{err_from_is_err_and}
 use Rattle.affinity.specs.declared.geometry.Geometry.{Geometry}

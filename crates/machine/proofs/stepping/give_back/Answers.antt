@@ -5,7 +5,7 @@ use Rattle.std.proofs.lemmas.Option.{slice_get-get_or}
 use Rattle.runs.proofs.Events.{back_holds, back_nowhere, back_step, no_result, taken, was_result}
 use Rattle.runs.specs.Machine.{HoldsJobs}
 use Rattle.runs.specs.Steps.{IsMachineStep}
-use Rattle.runs.specs.declared.hands.Holding.{Holding}
+use Rattle.runs.specs.declared.hands.HandContent.{HandContent}
 use Rattle.legal_runs.specs.declared.outcomes.Outcome.TheVariants as outcomes
 use Rattle.legal_runs.specs.declared.outcomes.Step.TheVariants as steps
 use Rattle.scheduler.specs.CoreView.{core_state_of}
@@ -33,7 +33,7 @@ give_back-requires g c =
     (get_or c.args.hands.now c.args.hand c.index-hands-hand.result) c.take_result.new.hand c.in-Some.done c.in-Some.ensures in
     let read = slice_get-get_or c.args.hands.now c.args.hand c.index-hands-hand.result c.if-hand-hands.false in
     was_result g.D.Disk.keeps c.args.core.now c.args.hands.now c.know_recovery.ensures.no_doubt c.know_recovery.ensures.now c.requires c.args.hand
-    c.in-Some.done (read ∙ ap (λ (h : Holding). Some h) t.0)
+    c.in-Some.done (read ∙ ap (λ (h : HandContent). Some h) t.0)
 
 pub returns-clause-step : goal.returns-clause-step
 returns-clause-step g c =
@@ -43,11 +43,11 @@ returns-clause-step g c =
     subst (λ (ticket : ℕ). IsMachineStep g.D.Disk.keeps (record { core = c.args.core.now; hands = c.args.hands.now })
     (record { core = c.give_back.new.self; hands = slice_set c.args.hands.now c.args.hand c.take_result.new.hand }) (steps.Back c.args.hand)
     (outcomes.Back ticket)) (sym c.ticket-ticket.ensures)
-    (subst (λ (h : Holding). IsMachineStep g.D.Disk.keeps (record { core = c.args.core.now; hands = c.args.hands.now })
+    (subst (λ (h : HandContent). IsMachineStep g.D.Disk.keeps (record { core = c.args.core.now; hands = c.args.hands.now })
     (record { core = c.give_back.new.self; hands = slice_set c.args.hands.now c.args.hand h }) (steps.Back c.args.hand)
     (outcomes.Back c.in-Some.done.ticket)) (sym t.1)
     (back_step g.D.Disk.keeps c.args.core.now c.args.hands.now c.know_recovery.ensures.no_doubt c.know_recovery.ensures.now c.requires c.args.hand
-    c.in-Some.done (read ∙ ap (λ (h : Holding). Some h) t.0) c.give_back.new.self c.give_back.ensures.geometry c.give_back.ensures.untouched
+    c.in-Some.done (read ∙ ap (λ (h : HandContent). Some h) t.0) c.give_back.new.self c.give_back.ensures.geometry c.give_back.ensures.untouched
     c.give_back.ensures.state_after.0 c.give_back.ensures.state_after.1 c.give_back.ensures.state_after.2 c.give_back.ensures.state_after.3))
 
 pub returns-clause-holds : goal.returns-clause-holds
@@ -55,8 +55,8 @@ returns-clause-holds g c =
     let t = taken g.D.Disk.keeps c.args.core.now c.args.hands.now c.know_recovery.ensures.no_doubt c.know_recovery.ensures.now c.requires c.args.hand
     (get_or c.args.hands.now c.args.hand c.index-hands-hand.result) c.take_result.new.hand c.in-Some.done c.in-Some.ensures in
     let read = slice_get-get_or c.args.hands.now c.args.hand c.index-hands-hand.result c.if-hand-hands.false in
-    subst (λ (h : Holding). HoldsJobs c.give_back.new.self.geometry (core_state_of c.give_back.new.self) (slice_set c.args.hands.now c.args.hand h))
+    subst (λ (h : HandContent). HoldsJobs c.give_back.new.self.geometry (core_state_of c.give_back.new.self) (slice_set c.args.hands.now c.args.hand h))
     (sym t.1)
     (back_holds g.D.Disk.keeps c.args.core.now c.args.hands.now c.know_recovery.ensures.no_doubt c.know_recovery.ensures.now c.requires c.args.hand
-    c.in-Some.done (read ∙ ap (λ (h : Holding). Some h) t.0) c.give_back.new.self c.give_back.ensures.geometry c.give_back.ensures.untouched
+    c.in-Some.done (read ∙ ap (λ (h : HandContent). Some h) t.0) c.give_back.new.self c.give_back.ensures.geometry c.give_back.ensures.untouched
     c.give_back.ensures.state_after.0 c.give_back.ensures.state_after.1 c.give_back.ensures.state_after.2 c.give_back.ensures.state_after.3)

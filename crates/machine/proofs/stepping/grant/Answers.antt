@@ -4,7 +4,7 @@ use Rattle.std.specs.Prelude.{slice_set}
 use Rattle.legal_runs.specs.declared.outcomes.Outcome.TheVariants as outcomes
 use Rattle.legal_runs.specs.declared.outcomes.Step.TheVariants as steps
 use Rattle.runs.specs.Steps.{IsMachineStep}
-use Rattle.runs.specs.declared.hands.Holding.TheVariants as has
+use Rattle.runs.specs.declared.hands.HandContent.TheVariants as has
 use Rattle.runs.proofs.Events.{failed_step, grant_holds, grant_step, no_grant_step, no_hand, position_within, still_holds}
 use Rattle.machine.proofs.stepping.grant.Goals as goal
 

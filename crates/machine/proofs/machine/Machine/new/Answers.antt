@@ -2,12 +2,12 @@
 use Rattle.std.proofs.Common.{List, map, ap, sym, subst, ◌∙◌}
 use Rattle.machine.proofs.Starting.{all_empty, empty_hold}
 use Rattle.runs.specs.Machine.{HoldsJobs, hand_of}
-use Rattle.runs.specs.declared.hands.Holding.{Holding}
+use Rattle.runs.specs.declared.hands.HandContent.{HandContent}
 use Rattle.scheduler.specs.CoreView.{core_state_of}
 use Rattle.machine.proofs.machine.Machine.new.Goals as goal
 
 pub invariant_of-result : goal.invariant_of-result
-invariant_of-result g c = subst (λ (hs : List Holding). HoldsJobs c.args.core.geometry (core_state_of c.args.core) hs) (sym c.in-Ok.ensures)
+invariant_of-result g c = subst (λ (hs : List HandContent). HoldsJobs c.args.core.geometry (core_state_of c.args.core) hs) (sym c.in-Ok.ensures)
     (empty_hold c.args.core.geometry (core_state_of c.args.core) c.args.hands c.slots.ensures.sound)
 
 pub returns-in-Ok-clause-made : goal.returns-in-Ok-clause-made

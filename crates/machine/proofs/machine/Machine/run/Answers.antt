@@ -8,7 +8,7 @@ use Rattle.legal_runs.specs.declared.outcomes.Outcome.{Outcome}
 use Rattle.legal_runs.specs.declared.outcomes.Step.{Step}
 use Rattle.runs.proofs.Running.{has_run, next_device_events, no_device_events}
 use Rattle.runs.specs.Machine.{MachineView, HasDeviceEvents, HoldsJobs}
-use Rattle.runs.specs.declared.hands.Holding.{Holding}
+use Rattle.runs.specs.declared.hands.HandContent.{HandContent}
 use Rattle.scheduler.specs.CoreView.{core_state_of}
 use Rattle.machine.proofs.machine.Machine.run.Goals as goal
 
@@ -35,7 +35,7 @@ loop-i-preserved g c =
     let kept : (with_items c.loop-i.self-inside.hands c.make_step.new.hands).items ≡ c.make_step.new.hands =
     with_items_is c.loop-i.self-inside.hands c.make_step.new.hands (c.make_step.auto.hands ∙ c.deref_mut.ensures.len) in
     record {
-      ran = subst (λ (hands : List Holding). HasDeviceEvents g.D.Disk.keeps c.args.self.now (record { core = c.make_step.new.core; hands = hands })
+      ran = subst (λ (hands : List HandContent). HasDeviceEvents g.D.Disk.keeps c.args.self.now (record { core = c.make_step.new.core; hands = hands })
           (take (c.loop-i.i + 1) c.args.steps.now) (take (c.loop-i.i + 1) (slice_set c.loop-i.outcomes c.loop-i.i c.make_step.result)))
           (sym kept) more;
       holds = subst (HoldsJobs c.make_step.new.core.geometry (core_state_of c.make_step.new.core)) (sym kept) c.make_step.ensures.holds;

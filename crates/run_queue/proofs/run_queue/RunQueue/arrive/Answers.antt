@@ -15,7 +15,7 @@ pub push-requires-clause-number : goal.push-requires-clause-number
 push-requires-clause-number c =
     let placed = subst (λ (q : RunQueueView). IsAffinity q.geometry c.args.queued.affinity) (sym c.self.view_is) c.requires.placed in
     let below = number-below c.self.inside.geometry c.args.queued.affinity placed in
-    let all = c.self.invariant.rows.queues c.self.inside.geometry in
+    let all = c.self.invariant.queued.queues c.self.inside.geometry in
     omega (arith, below, all)
 
 pub push-requires-clause-not_full : goal.push-requires-clause-not_full
@@ -23,7 +23,7 @@ push-requires-clause-not_full c =
     let t = c.args.queued in
     let there = subst (λ (q : RunQueueView). t.slot < q.slots) (sym c.self.view_is) c.requires.slot in
     let new = subst (λ (q : RunQueueView). list_any (has_slot t.slot) (q.waiting ++ q.held) ≡ false) (sym c.self.view_is) c.requires.new_slot in
-    room-for-arrived t c.self.invariant.rows there new
+    room-for-arrived t c.self.invariant.queued there new
 
 pub update_ready-requires-clause-ascends : goal.update_ready-requires-clause-ascends
 update_ready-requires-clause-ascends c =
@@ -32,9 +32,9 @@ update_ready-requires-clause-ascends c =
     let later = subst (λ (q : RunQueueView). CameBefore t.ticket q.waiting) (sym c.self.view_is) c.requires.later in
     let there = subst (λ (q : RunQueueView). t.slot < q.slots) (sym c.self.view_is) c.requires.slot in
     let new = subst (λ (q : RunQueueView). list_any (has_slot t.slot) (q.waiting ++ q.held) ≡ false) (sym c.self.view_is) c.requires.new_slot in
-    let rows = subst (λ (w : Waiting). AreQueued c.self.inside.geometry c.self.inside.slots w c.self.inside.held) (sym c.push.ensures)
-    (messages-arrived t c.self.invariant.rows placed later there new) in
-    rows.ascends
+    let queued = subst (λ (w : Waiting). AreQueued c.self.inside.geometry c.self.inside.slots w c.self.inside.held) (sym c.push.ensures)
+    (messages-arrived t c.self.invariant.queued placed later there new) in
+    queued.ascends
 
 -- whatever waits in this slot, at this affinity
 pub invariant_of-self : goal.invariant_of-self
@@ -44,10 +44,10 @@ invariant_of-self c =
     let later = subst (λ (q : RunQueueView). CameBefore t.ticket q.waiting) (sym c.self.view_is) c.requires.later in
     let there = subst (λ (q : RunQueueView). t.slot < q.slots) (sym c.self.view_is) c.requires.slot in
     let new = subst (λ (q : RunQueueView). list_any (has_slot t.slot) (q.waiting ++ q.held) ≡ false) (sym c.self.view_is) c.requires.new_slot in
-    let rows = subst (λ (w : Waiting). AreQueued c.self.inside.geometry c.self.inside.slots w c.self.inside.held) (sym c.push.ensures)
-    (messages-arrived t c.self.invariant.rows placed later there new) in
+    let queued = subst (λ (w : Waiting). AreQueued c.self.inside.geometry c.self.inside.slots w c.self.inside.held) (sym c.push.ensures)
+    (messages-arrived t c.self.invariant.queued placed later there new) in
     let number : c.from-number.result ≡ t.affinity.number = omega arith in
-    kept-arrived t c.self.invariant rows c.push.ensures later c.update_ready.ensures.others
+    kept-arrived t c.self.invariant queued c.push.ensures later c.update_ready.ensures.others
     (λ none. subst (λ n. IsEntryRight c.self.inside.held.messages c.push.new.self.messages c.update_ready.new.ready_table n) number c.update_ready.ensures.right)
 
 pub invariant_of-self-else-is_first : goal.invariant_of-self-else-is_first
@@ -57,9 +57,9 @@ invariant_of-self-else-is_first c =
     let later = subst (λ (q : RunQueueView). CameBefore t.ticket q.waiting) (sym c.self.view_is) c.requires.later in
     let there = subst (λ (q : RunQueueView). t.slot < q.slots) (sym c.self.view_is) c.requires.slot in
     let new = subst (λ (q : RunQueueView). list_any (has_slot t.slot) (q.waiting ++ q.held) ≡ false) (sym c.self.view_is) c.requires.new_slot in
-    let rows = subst (λ (w : Waiting). AreQueued c.self.inside.geometry c.self.inside.slots w c.self.inside.held) (sym c.push.ensures)
-    (messages-arrived t c.self.invariant.rows placed later there new) in
+    let queued = subst (λ (w : Waiting). AreQueued c.self.inside.geometry c.self.inside.slots w c.self.inside.held) (sym c.push.ensures)
+    (messages-arrived t c.self.invariant.queued placed later there new) in
     let number : c.from-number.result ≡ t.affinity.number = omega arith in
     let some : is_some c.front.result ≡ true = c.is_none-is_first.ensures ∙ ap not c.if-is_first.false in
-    kept-arrived t c.self.invariant rows c.push.ensures later (refl, λ n right. right)
+    kept-arrived t c.self.invariant queued c.push.ensures later (refl, λ n right. right)
     (λ none. absurd (true≢false (sym some ∙ ap is_some (c.front.ensures.first ∙ ap (λ n. find (has_number n) c.self.inside.waiting.messages) number ∙ none))))

@@ -2,59 +2,59 @@
 use Rattle.std.proofs.Common.{◌≡◌, arith, sym, subst, find, Some, refl}
 use Rattle.run_queue.specs.RunQueue.{RunQueueView, IsNext, has_number}
 use Rattle.run_queue.proofs.Nearby.{number-below}
-use Rattle.run_queue.proofs.QueueCalls.{next-placed, next-first, next-free, rows-gone, kept-gone}
+use Rattle.run_queue.proofs.QueueCalls.{next-placed, next-first, next-free, queued-gone, kept-gone}
 use Rattle.run_queue.proofs.run_queue.RunQueue.dispatch.Goals as goal
 
 pub hold-requires-clause-number : goal.hold-requires-clause-number
 hold-requires-clause-number c =
     let next = subst (λ (q : RunQueueView). IsNext q c.args.queued) (sym c.self.view_is) c.requires in
-    let placed = next-placed c.self.inside.geometry c.self.inside.slots c.self.inside.waiting c.self.inside.held c.self.invariant.rows c.args.queued next.0 next.1 in
+    let placed = next-placed c.self.inside.geometry c.self.inside.slots c.self.inside.waiting c.self.inside.held c.self.invariant.queued c.args.queued next.0 next.1 in
     let below = number-below c.self.inside.geometry c.args.queued.affinity placed in
-    let all = c.self.invariant.rows.entries c.self.inside.geometry in
+    let all = c.self.invariant.queued.entries c.self.inside.geometry in
     omega (arith, below, all)
 
 pub hold-requires-clause-free : goal.hold-requires-clause-free
 hold-requires-clause-free c =
     let next = subst (λ (q : RunQueueView). IsNext q c.args.queued) (sym c.self.view_is) c.requires in
-    next-free c.self.inside.geometry c.self.inside.slots c.self.inside.waiting c.self.inside.held c.self.invariant.rows c.args.queued next.0 next.1
+    next-free c.self.inside.geometry c.self.inside.slots c.self.inside.waiting c.self.inside.held c.self.invariant.queued c.args.queued next.0 next.1
 
 pub update_ready-requires-clause-held_placed : goal.update_ready-requires-clause-held_placed
 update_ready-requires-clause-held_placed c =
     let next = subst (λ (q : RunQueueView). IsNext q c.args.queued) (sym c.self.view_is) c.requires in
     let number : c.from-number.result ≡ c.args.queued.affinity.number = omega arith in
-    let rows = rows-gone c.self.inside.geometry c.self.inside.slots c.self.inside.waiting c.pop.new.self c.self.inside.held c.hold.new.self
-    c.args.queued c.self.invariant.rows next c.from-number.result number c.pop.ensures c.hold.ensures.rest c.hold.ensures.messages in
-    rows.held_placed
+    let queued = queued-gone c.self.inside.geometry c.self.inside.slots c.self.inside.waiting c.pop.new.self c.self.inside.held c.hold.new.self
+    c.args.queued c.self.invariant.queued next c.from-number.result number c.pop.ensures c.hold.ensures.rest c.hold.ensures.messages in
+    queued.held_placed
 
 pub update_ready-requires-clause-waiting_placed : goal.update_ready-requires-clause-waiting_placed
 update_ready-requires-clause-waiting_placed c =
     let next = subst (λ (q : RunQueueView). IsNext q c.args.queued) (sym c.self.view_is) c.requires in
     let number : c.from-number.result ≡ c.args.queued.affinity.number = omega arith in
-    let rows = rows-gone c.self.inside.geometry c.self.inside.slots c.self.inside.waiting c.pop.new.self c.self.inside.held c.hold.new.self
-    c.args.queued c.self.invariant.rows next c.from-number.result number c.pop.ensures c.hold.ensures.rest c.hold.ensures.messages in
-    rows.waiting_placed
+    let queued = queued-gone c.self.inside.geometry c.self.inside.slots c.self.inside.waiting c.pop.new.self c.self.inside.held c.hold.new.self
+    c.args.queued c.self.invariant.queued next c.from-number.result number c.pop.ensures c.hold.ensures.rest c.hold.ensures.messages in
+    queued.waiting_placed
 
 pub update_ready-requires-clause-ascends : goal.update_ready-requires-clause-ascends
 update_ready-requires-clause-ascends c =
     let next = subst (λ (q : RunQueueView). IsNext q c.args.queued) (sym c.self.view_is) c.requires in
     let number : c.from-number.result ≡ c.args.queued.affinity.number = omega arith in
-    let rows = rows-gone c.self.inside.geometry c.self.inside.slots c.self.inside.waiting c.pop.new.self c.self.inside.held c.hold.new.self
-    c.args.queued c.self.invariant.rows next c.from-number.result number c.pop.ensures c.hold.ensures.rest c.hold.ensures.messages in
-    rows.ascends
+    let queued = queued-gone c.self.inside.geometry c.self.inside.slots c.self.inside.waiting c.pop.new.self c.self.inside.held c.hold.new.self
+    c.args.queued c.self.invariant.queued next c.from-number.result number c.pop.ensures c.hold.ensures.rest c.hold.ensures.messages in
+    queued.ascends
 
 pub invariant_of-self : goal.invariant_of-self
 invariant_of-self c =
     let next = subst (λ (q : RunQueueView). IsNext q c.args.queued) (sym c.self.view_is) c.requires in
     let number : c.from-number.result ≡ c.args.queued.affinity.number = omega arith in
     kept-gone c.self.inside.geometry c.self.inside.slots c.self.inside.waiting c.pop.new.self c.self.inside.held c.hold.new.self
-    c.args.queued c.self.invariant.rows next c.from-number.result number c.pop.ensures c.hold.ensures.rest c.hold.ensures.messages
+    c.args.queued c.self.invariant.queued next c.from-number.result number c.pop.ensures c.hold.ensures.rest c.hold.ensures.messages
     c.self.inside.ready_table c.update_ready.new.ready_table c.self.invariant.right c.update_ready.ensures.others c.update_ready.ensures.right
 
 pub returns-clause-waiting : goal.returns-clause-waiting
 returns-clause-waiting c =
     let t = c.args.queued in
     let next = subst (λ (q : RunQueueView). IsNext q t) (sym c.self.view_is) c.requires in
-    let first = next-first c.self.inside.geometry c.self.inside.slots c.self.inside.waiting c.self.inside.held c.self.invariant.rows t next.0 next.1 in
+    let first = next-first c.self.inside.geometry c.self.inside.slots c.self.inside.waiting c.self.inside.held c.self.invariant.queued t next.0 next.1 in
     let at : c.from-number.result ≡ t.affinity.number = omega arith in
     let gone = c.pop.ensures t (subst (λ n. find (has_number n) c.self.inside.waiting.messages ≡ Some t) (sym at) first) in
     rw (← c.self.view_is, gone) refl

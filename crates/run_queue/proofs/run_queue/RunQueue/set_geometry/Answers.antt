@@ -9,6 +9,6 @@ invariant_of-self c =
     let waits = subst (λ (q : RunQueueView). q.waiting ≡ []) (sym c.self.view_is) c.requires.none_waits in
     let held = subst (λ (q : RunQueueView). q.held ≡ []) (sym c.self.view_is) c.requires.none_held in
     record {
-      rows = messages-begun c.self.inside.geometry c.args.geometry.now c.self.inside.slots c.self.inside.waiting c.self.inside.held c.self.invariant.rows waits held;
+      queued = messages-begun c.self.inside.geometry c.args.geometry.now c.self.inside.slots c.self.inside.waiting c.self.inside.held c.self.invariant.queued waits held;
       right = c.self.invariant.right;
     }

@@ -1,4 +1,4 @@
-//! What a message carries, made known to proofs: its block has 512 bytes, its label 32.
+//! The sizes of what is in a message, made known to proofs: a block has 512 bytes, a label 32.
 
 ghost use Rattle.messages.specs.Messages.{AreSizedBytes, IsBlock, IsMessage};
 
